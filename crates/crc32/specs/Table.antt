@@ -1,0 +1,63 @@
+-- The rule of the register's table. Its entries are computed, so that the code's table can be held against them as a whole.
+-- Assumes nothing.
+use Prim.Native.Nat.{ℕ, zero, suc, _+_, _*_, _/_, _%_, _^_, _≤_, _<_}
+use mathlib.Core.Path.{_≡_, refl, sym, _∙_, ap}
+use mathlib.Core.Bool.{Bool, true, false}
+use mathlib.Core.List.{List, [], _∷_}
+use native.Mathlib.Nat.{not-suc-le-zero, pow-suc, zero-add}
+use native.Mathlib.Omega.{arith}
+use lib.Dec.{eqb}
+use lib.ListN.{getD}
+use lib.Bits.{bitXor, differ, xor-step, xor-lt}
+use Rattle.octets.specs.Base.{pick}
+use Rattle.crc32.specs.Division.{polynomial, shifted}
+use Rattle.crc32.specs.Register.{shift, shifts}
+
+-- ---- any table
+
+-- the table of n entries that has f i, f (i + 1), ..
+abbrev pub tabulated : (ℕ → ℕ) → ℕ → ℕ → List ℕ
+tabulated f i zero = []
+tabulated f i (suc n) = f i ∷ tabulated f (suc i) n
+
+entry-is : (f : ℕ → ℕ) (n i k : ℕ) → k < n → getD (tabulated f i n) k 0 ≡ f (i + k)
+entry-is f zero i k h = absurd (not-suc-le-zero h)
+entry-is f (suc n) i zero h = let e : i + 0 ≡ i = omega arith in rw e
+entry-is f (suc n) i (suc k) h = let e : i + suc k ≡ suc i + k = omega arith in rw e (entry-is f n (suc i) k (omega arith))
+
+-- ---- shifts, by an exclusive or that computes on numerals
+
+abbrev xorBits : ℕ → ℕ → ℕ → ℕ
+xorBits zero a b = 0
+xorBits (suc k) a b = xorBits k (a / 2) (b / 2) * 2 + differ (a % 2) (b % 2)
+
+xor-bits : (k a b : ℕ) → a < 2 ^ k → b < 2 ^ k → xorBits k a b ≡ bitXor a b
+xor-bits zero a b ha hb = let ea : a ≡ 0 = omega arith in let eb : b ≡ 0 = omega arith in rw (ea, eb)
+xor-bits (suc k) a b ha hb =
+    ap (λ (x : ℕ). x * 2 + differ (a % 2) (b % 2)) (xor-bits k (a / 2) (b / 2) (omega (arith, pow-suc 2 k)) (omega (arith, pow-suc 2 k)))
+    ∙ sym (xor-step a b)
+
+abbrev pub computed : ℕ → ℕ → ℕ
+computed zero c = c
+computed (suc n) c = computed n (pick (eqb (c % 2) 1) (xorBits 32 (c / 2) polynomial) (c / 2))
+
+shift-lt : (c : ℕ) → c < 2 ^ 32 → shift c < 2 ^ 32
+unfolding shift
+shift-lt c h = go (eqb (c % 2) 1)
+  where
+    go : (t : Bool) → shifted polynomial t c < 2 ^ 32
+    go true = xor-lt 32 (c / 2) polynomial (omega arith) (omega arith)
+    go false = omega arith
+
+shift-computed : (c : ℕ) → c < 2 ^ 32 → pick (eqb (c % 2) 1) (xorBits 32 (c / 2) polynomial) (c / 2) ≡ shift c
+unfolding shift
+shift-computed c h = rw (xor-bits 32 (c / 2) polynomial (omega arith) (omega arith))
+
+shifts-computed : (n c : ℕ) → c < 2 ^ 32 → computed n c ≡ shifts n c
+unfolding shifts
+shifts-computed zero c h = refl
+shifts-computed (suc n) c h = ap (computed n) (shift-computed c h) ∙ shifts-computed n (shift c) (shift-lt c h)
+
+-- The table's rule. That the code's table is this one is for antt to compute, entry by entry, where the law is cited.
+pub entry-shifts : (k : ℕ) → k < 256 → getD (tabulated (computed 8) 0 256) k 0 ≡ shifts 8 k
+entry-shifts k h = entry-is (computed 8) 256 0 k h ∙ ap (computed 8) (zero-add k) ∙ shifts-computed 8 k (omega arith)

@@ -1,0 +1,14 @@
+use Rattle.frame.specs.Limits.{maxFrame}
+use mathlib.Core.Path.{refl}
+use Rattle.frame.proofs.limits.max_frame.Statement.{statement}
+use Rattle.frame.proofs.limits.max_frame.Tie as tie
+use Rattle.frame.proofs.limits.max_frame.Reads as reads
+use Rattle.frame.proofs.limits.max_frame.Lts as lts
+
+-- src/limits.rt:21:1
+returns : tie.Need-returns
+unfolding maxFrame
+returns c = refl
+
+pub max-frame-spec : {M : Type 1} → statement M
+max-frame-spec = tie.close (tie.spec returns)

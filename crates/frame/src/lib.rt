@@ -1,0 +1,4 @@
+// Building and opening frames (document 01, "Frames").
+
+pub mod builder;
+mod limits;

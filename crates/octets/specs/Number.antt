@@ -1,0 +1,24 @@
+-- Numbers of w octets, high octet first (document 01: "All high octet first").
+-- The laws are in NumberLaws. Assumes nothing.
+use Prim.Native.Nat.{ℕ, zero, suc, _+_, _*_, _/_, _%_}
+use mathlib.Core.List.{List, [], _∷_, _++_}
+use lib.Seq.{sets}
+use Rattle.octets.specs.Store.{part}
+
+-- the number that octets spell, from what the octets before them spelled
+abbrev pub numberFrom : ℕ → List ℕ → ℕ
+numberFrom n [] = n
+numberFrom n (x ∷ l) = numberFrom (n * 256 + x) l
+
+-- the number of the w octets from `at` on
+unfoldable pub get : ℕ → List ℕ → ℕ → ℕ
+get w l at = numberFrom 0 (part l at w)
+
+-- the w octets that spell v; of a larger number its w low octets
+unfoldable pub spelled : ℕ → ℕ → List ℕ
+spelled zero v = []
+spelled (suc w) v = spelled w (v / 256) ++ (v % 256 ∷ [])
+
+-- the list with the number v written over the w octets from `at` on
+unfoldable pub put : ℕ → List ℕ → ℕ → ℕ → List ℕ
+put w l at v = sets l at (spelled w v)

@@ -1,0 +1,63 @@
+// Numbers of several octets, and stores of octets into lent slices.
+
+ghost use mathlib.Core.Path.{_≡_};
+ghost use Prim.Native.Nat.{_+_, _<_, _≤_};
+ghost use lib.ListN.{length};
+ghost use lib.Seq.{sets};
+ghost use Rattle.octets.specs.Number.{get, put};
+ghost use Rattle.octets.specs.Equal.{equal};
+
+// An octet as a wider number. That it is below 256 is said here once, so that no caller shows that a sum of octets fits.
+pub fn wide(x: u8) -> u32
+    ensures value { λ r. ⌜ r ≡ x ⌝ }
+    ensures small { λ r. ⌜ r < 256 ⌝ }
+{
+    x as u32
+}
+
+// The number of two octets at `at`, high octet first.
+pub fn get16(s: &[u8], at: usize) -> u32
+    requires { ⌜ at + 2 ≤ length (now s) ⌝ }
+    ensures value { λ r. ⌜ r ≡ get 2 (now (s .entry)) at ⌝ }
+    ensures small { λ r. ⌜ r < 65536 ⌝ }
+{
+    wide(s[at]) * 256 + wide(s[at + 1])
+}
+
+// Writes the number v over the two octets from `at` on, high octet first.
+pub fn put16(s: &mut [u8], at: usize, v: u16)
+    requires { ⌜ at + 2 ≤ length (now s) ⌝ }
+    ensures { λ r. ⌜ now (s .exit) ≡ put 2 (now (s .entry)) at v ⌝ }
+{
+    s[at] = (v / 256 % 256) as u8;
+    s[at + 1] = (v % 256) as u8;
+}
+
+// Stores all of `src` into `s` from index `at` on.
+pub fn store(s: &mut [u8], at: usize, src: &[u8])
+    requires { ⌜ at + length (now src) ≤ length (now s) ⌝ }
+    ensures { λ r. ⌜ now (s .exit) ≡ sets (now (s .entry)) at (now (src .entry)) ⌝ }
+{
+    let mut i = 0;
+    while i < src.len() {
+        s[at + i] = src[i];
+        i += 1;
+    }
+}
+
+// Whether the two hold the same octets.
+pub fn same(a: &[u8], b: &[u8]) -> bool
+    ensures { λ r. ⌜ r ≡ equal (now (a .entry)) (now (b .entry)) ⌝ }
+{
+    if a.len() != b.len() {
+        return false;
+    }
+    let mut i = 0;
+    while i < a.len() {
+        if a[i] != b[i] {
+            return false;
+        }
+        i += 1;
+    }
+    true
+}
