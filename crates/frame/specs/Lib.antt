@@ -1,3 +1,5 @@
 pub mod Limits
 pub mod Build
 pub mod BuildLaws
+pub mod Open
+pub mod OpenLaws
