@@ -3,3 +3,5 @@ pub mod Build
 pub mod BuildLaws
 pub mod Open
 pub mod OpenLaws
+pub mod RoundTrip
+pub mod Cases

@@ -148,8 +148,8 @@ fair-ok : (f : List ℕ) (m : ℕ) → 64 ≤ length f → m ≤ length f - 18 �
 fair-ok f m h k =
     record {
       handed = λ n p. let e : m ≡ n = ap (λ (r : Answer). getD (r .values) 1 0) p in
-      record { octets = part-field f m k ∙ ap (part f 14) e; room = omega arith };
-      none = λ q. absurd (q m refl)
+          record { octets = part-field f m k ∙ ap (part f 14) e; room = omega arith };
+      none = λ q. absurd (q m refl);
     }
 
 fair-rules : (f : List ℕ) (v : ℕ) → 64 ≤ length f → Fair f (unpadded v (dataField f))

@@ -1,7 +1,6 @@
 // The builder.
 
 use super::limits;
-
 ghost use mathlib.Core.Path.{_≡_};
 ghost use Prim.Native.Nat.{_+_, _-_, _≤_};
 ghost use lib.ListN.{length};
@@ -57,7 +56,13 @@ fn seal(out: &mut [u8], end: usize)
 }
 
 // Builds a frame at the front of out, or refuses (11, 15) and leaves out as it was. What stands after the frame stays.
-pub fn build(out: &mut [u8], destination: [u8; 6], source: [u8; 6], value: u16, payload: &[u8]) -> Built
+pub fn build(
+    out: &mut [u8],
+    destination: [u8; 6],
+    source: [u8; 6],
+    value: u16,
+    payload: &[u8],
+) -> Built
     ensures { λ r. ⌜ outcome (builtAnswer r) (now (out .exit)) ≡ built (now (out .entry)) destination source value (now (payload .entry)) ⌝ }
 {
     let v = value as usize;

@@ -5,8 +5,11 @@ ghost use Prim.Native.Nat.{_-_, _≤_};
 ghost use Rattle.frame.specs.Limits.{maxData, maxFrame, refusesValue, minData};
 
 pub const MIN_DATA: usize = 46;
+
 pub const MIN_FRAME: usize = 64;
+
 pub const MAX_LENGTH: usize = 1500;
+
 pub const MIN_TYPE: usize = 1536;
 
 // The largest data under a length/type value.

@@ -1,7 +1,6 @@
 // The opener.
 
 use super::limits;
-
 ghost use mathlib.Core.Path.{_≡_};
 ghost use mathlib.Core.Bool.{false};
 ghost use Prim.Native.Nat.{_+_, _≤_, max};
@@ -46,7 +45,11 @@ fn check_error(excess: u32) -> ReceiveStatus
 fn padded_size(n: usize) -> usize
     ensures { λ r. ⌜ r ≡ max minData n ⌝ }
 {
-    if n < limits::MIN_DATA { limits::MIN_DATA } else { n }
+    if n < limits::MIN_DATA {
+        limits::MIN_DATA
+    } else {
+        n
+    }
 }
 
 // The length and padding rules, on the part of a frame from octet 14 on, up to its check sequence.

@@ -1,44 +1,32 @@
+-- `octets::get16` meets its contract. Assumes nothing.
 use native.Mathlib.Omega.{arith}
-use Prim.Native.Nat.{_≤_, _-_}
-use mathlib.Core.Path.{_≡_, refl}
-use lib.ListN.{length, take, drop, length-set}
+use Prim.Native.Nat.{_-_}
 use Rattle.octets.specs.NumberLaws.{get-two}
 use borrow.Author.Needs.{needs}
 use Rattle.octets.proofs.get16.Statement.{statement}
 use Rattle.octets.proofs.get16.Tie as tie
-use Rattle.octets.proofs.get16.Reads as reads
-use Rattle.octets.proofs.get16.Lts as lts
-use Rattle.octets.proofs.wide.Reads as wide-reads
 
--- src/lib.rt:24:10
 shared-slice-read-wide : tie.Need-shared-slice-read-wide
 shared-slice-read-wide c = search needs
 
--- src/lib.rt:24:5
 wide-requires : tie.Need-wide-requires
 wide-requires c κs = search needs
 
--- src/lib.rt:24:5
 mul-result : tie.Need-mul-result
 mul-result c = search needs
 
--- src/lib.rt:24:32
 add-wide : tie.Need-add-wide
 add-wide c = search needs
 
--- src/lib.rt:24:30
 shared-slice-read-wide-2 : tie.Need-shared-slice-read-wide-2
 shared-slice-read-wide-2 c = search needs
 
--- src/lib.rt:24:25
 wide-requires-2 : tie.Need-wide-requires-2
 wide-requires-2 c κs = search needs
 
--- src/lib.rt:24:5
 add-result : tie.Need-add-result
 add-result c = search needs
 
--- src/lib.rt:19:1
 returns : tie.Need-returns
 returns c = (search get-two, omega arith)
 

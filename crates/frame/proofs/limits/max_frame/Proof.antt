@@ -1,11 +1,9 @@
+-- `frame::limits::max_frame` meets its contract. Assumes nothing.
 use Rattle.frame.specs.Limits.{maxFrame}
 use mathlib.Core.Path.{refl}
 use Rattle.frame.proofs.limits.max_frame.Statement.{statement}
 use Rattle.frame.proofs.limits.max_frame.Tie as tie
-use Rattle.frame.proofs.limits.max_frame.Reads as reads
-use Rattle.frame.proofs.limits.max_frame.Lts as lts
 
--- src/limits.rt:21:1
 returns : tie.Need-returns
 unfolding maxFrame
 returns c = refl

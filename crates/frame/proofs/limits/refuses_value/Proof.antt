@@ -1,14 +1,11 @@
+-- `frame::limits::refuses_value` meets its contract. Assumes nothing.
 use Rattle.frame.specs.BuildLaws.{refuses-length, refuses-type}
 use Rattle.frame.proofs.limits.refuses_value.Statement.{statement}
 use Rattle.frame.proofs.limits.refuses_value.Tie as tie
-use Rattle.frame.proofs.limits.refuses_value.Reads as reads
-use Rattle.frame.proofs.limits.refuses_value.Lts as lts
 
--- src/limits.rt:39:9
 returns : tie.Need-returns
 returns c = search refuses-length
 
--- src/limits.rt:35:1
 returns-2 : tie.Need-returns-2
 returns-2 c = search refuses-type
 

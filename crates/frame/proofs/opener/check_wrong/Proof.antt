@@ -1,57 +1,42 @@
+-- `frame::opener::check_wrong` meets its contract. Assumes nothing.
 use Rattle.frame.specs.OpenLaws.{wrong-spoiled, wrong-clean}
 use borrow.Author.Needs.{needs}
 use Rattle.frame.proofs.opener.check_wrong.Statement.{statement}
 use Rattle.frame.proofs.opener.check_wrong.Tie as tie
-use Rattle.frame.proofs.opener.check_wrong.Reads as reads
-use Rattle.frame.proofs.opener.check_wrong.Lts as lts
-use Rattle.crc32.proofs.check_sequence.Reads as check-sequence-reads
-use Rattle.octets.proofs.same.Reads as same-reads
 
--- src/opener.rt:29:9
 returns : tie.Need-returns
 returns c = search wrong-spoiled
 
--- src/opener.rt:31:15
 sub-end : tie.Need-sub-end
 sub-end c = search needs
 
--- src/opener.rt:32:39
 sub-check-sequence : tie.Need-sub-check-sequence
 sub-check-sequence c = search needs
 
--- src/opener.rt:32:39
 part-check-sequence-start : tie.Need-part-check-sequence-start
 part-check-sequence-start c = search needs
 
--- src/opener.rt:32:39
 part-check-sequence-end : tie.Need-part-check-sequence-end
 part-check-sequence-end c = search needs
 
--- src/opener.rt:32:17
 check-sequence-requires : tie.Need-check-sequence-requires
 check-sequence-requires c κs = search needs
 
--- src/opener.rt:33:19
 sub-same : tie.Need-sub-same
 sub-same c = search needs
 
--- src/opener.rt:33:19
 part-same-start : tie.Need-part-same-start
 part-same-start c = search needs
 
--- src/opener.rt:33:19
 part-same-end : tie.Need-part-same-end
 part-same-end c = search needs
 
--- src/opener.rt:33:34
 slice-aggregate-same : tie.Need-slice-aggregate-same
 slice-aggregate-same c = search needs
 
--- src/opener.rt:33:6
 same-requires : tie.Need-same-requires
 same-requires c κs = search needs
 
--- src/opener.rt:24:1
 returns-2 : tie.Need-returns-2
 returns-2 c = search wrong-clean
 

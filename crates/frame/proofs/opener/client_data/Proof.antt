@@ -1,3 +1,4 @@
+-- `frame::opener::client_data` meets its contract. Assumes nothing.
 use Prim.Native.Nat.{ℕ, _+_, _≤_, _<_}
 use lib.ListN.{length}
 use mathlib.Core.Path.{_≡_}
@@ -15,9 +16,6 @@ use Rattle.frame.specs.declared.opener.ReceiveStatus.the-variants.{Refus
 use Rattle.frame.proofs.opener.ReceiveStatus.{the-type}
 use Rattle.frame.proofs.opener.client_data.Statement.{statement}
 use Rattle.frame.proofs.opener.client_data.Tie as tie
-use Rattle.frame.proofs.opener.client_data.Reads as reads
-use Rattle.frame.proofs.opener.client_data.Lts as lts
-use Rattle.frame.proofs.opener.status.Reads as status-reads
 
 -- the way of `else`: the status is one of the first six
 low : (x : ℕ) → OneOf (0 ∷ 1 ∷ 2 ∷ 3 ∷ 4 ∷ 5 ∷ []) x → x < 6
@@ -36,39 +34,30 @@ other-way f e r p h = client-none f e r p (not-ok r (low (tagOf the-type r) h))
     not-ok LengthError h n q = other-status 4 n (λ z. omega arith) q
     not-ok (ReceiveOk k) h n q = absurd (omega arith)
 
--- src/opener.rt:102:39
 status-requires : tie.Need-status-requires
 status-requires c κs = search needs
 
--- src/opener.rt:102:34
 enum-known-n : tie.Need-enum-known-n
 enum-known-n c = search needs
 
--- src/opener.rt:103:9
 slice-aggregate-result : tie.Need-slice-aggregate-result
 slice-aggregate-result c = search needs
 
--- src/opener.rt:103:9
 returns : tie.Need-returns
 returns c = search other-way
 
--- src/opener.rt:105:15
 add-end : tie.Need-add-end
 add-end c = let h : 14 + c .before .n .given .0 .0 ≤ length (c .before .before .before .before .before .args .frame .now) = search client-room in omega arith
 
--- src/opener.rt:106:5
 sub-result : tie.Need-sub-result
 sub-result c = search needs
 
--- src/opener.rt:106:5
 part-result-start : tie.Need-part-result-start
 part-result-start c = search needs
 
--- src/opener.rt:106:5
 part-result-end : tie.Need-part-result-end
 part-result-end c = search client-room
 
--- src/opener.rt:99:1
 returns-2 : tie.Need-returns-2
 returns-2 c = search client-ok
 
