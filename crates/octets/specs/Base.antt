@@ -1,13 +1,23 @@
--- What every crate's definitions use: a choice by a test, an answer in document 01's numbers, and what a call leaves.
--- Assumes nothing.
-use Prim.Native.Nat.{ℕ}
-use mathlib.Core.Bool.{Bool, true, false}
+-- What every crate's definitions use: a choice by a test, a search, a range, an answer in document 01's numbers, what a call leaves.
+-- The laws are in BaseLaws. Assumes nothing.
+use Prim.Native.Nat.{ℕ, zero, suc}
+use mathlib.Core.Bool.{Bool, true, false, _||_}
 use mathlib.Core.List.{List, []}
+use lib.Dec.{ltb}
 
 -- a where the test holds, else b
 abbrev pub pick : {A : Type 0} → Bool → A → A → A
 pick true a b = a
 pick false a b = b
+
+-- whether some number below n passes the test
+unfoldable pub some : (ℕ → Bool) → ℕ → Bool
+some t zero = false
+some t (suc n) = some t n || t n
+
+-- whether x is outside a..b
+unfoldable pub outside : (x a b : ℕ) → Bool
+outside x a b = ltb x a || ltb b x
 
 -- An answer as document 01 gives it: the number of its refusal, 0 where there is none, and its values.
 -- "A refusal returns its number alone."

@@ -1,4 +1,5 @@
 pub mod Base
+pub mod BaseLaws
 pub mod Number
 pub mod NumberLaws
 pub mod Store

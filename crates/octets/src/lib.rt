@@ -1,9 +1,11 @@
 // Numbers of several octets, and stores of octets into lent slices.
 
 ghost use mathlib.Core.Path.{_≡_};
+ghost use mathlib.Core.Bool.{_||_, _&&_};
 ghost use Prim.Native.Nat.{_+_, _<_, _≤_};
 ghost use lib.ListN.{length};
 ghost use lib.Seq.{sets};
+ghost use Rattle.octets.specs.Base.{outside};
 ghost use Rattle.octets.specs.Number.{get, put};
 ghost use Rattle.octets.specs.Equal.{equal};
 
@@ -60,4 +62,25 @@ pub fn same(a: &[u8], b: &[u8]) -> bool
         i += 1;
     }
     true
+}
+
+// Whether either holds. A test that a contract speaks of is put together by this and `both`: || and && branch.
+pub fn either(a: bool, b: bool) -> bool
+    ensures { λ r. ⌜ r ≡ (a || b) ⌝ }
+{
+    if a { true } else { b }
+}
+
+// Whether both hold.
+pub fn both(a: bool, b: bool) -> bool
+    ensures { λ r. ⌜ r ≡ (a && b) ⌝ }
+{
+    if a { b } else { false }
+}
+
+// Whether x is outside least..most.
+pub fn out_of(x: u32, least: u32, most: u32) -> bool
+    ensures { λ r. ⌜ r ≡ outside x least most ⌝ }
+{
+    either(x < least, most < x)
 }

@@ -6,8 +6,10 @@
 
 mod crc;
 mod frames;
+mod sheets;
 
 fn main() {
     crc::print_all();
     frames::print_all();
+    sheets::print_all();
 }

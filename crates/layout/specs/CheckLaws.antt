@@ -1,0 +1,191 @@
+-- Laws of the checks 5 to 8, one for each way through the code, and what a layout that passes is known to be.
+-- Assumes nothing.
+use Prim.Native.Nat.{ℕ, zero, suc, _+_, _-_, _*_, _%_, _≤_, _<_, min}
+use mathlib.Core.Path.{_≡_, refl, sym, _∙_, ap, ap₂}
+use mathlib.Core.Bool.{Bool, true, false, _||_, _&&_, true≢false}
+use mathlib.Core.List.{List, [], _∷_}
+use native.Mathlib.Numerals.{add-one}
+use native.Mathlib.Omega.{arith}
+use borrow.Author.Tests.{ltb-false, leb-false, ne-eqb}
+use lib.Dec.{ltb, leb, eqb}
+use lib.ListN.{getD}
+use Rattle.octets.specs.Base.{pick, some, outside, refused, accepted}
+use Rattle.octets.specs.BaseLaws.{neither, within, none-below}
+use Rattle.octets.specs.Equal.{equal}
+use Rattle.octets.specs.EqualLaws.{equal-refl}
+use Rattle.layout.specs.declared.Figures.{Figures}
+use Rattle.layout.specs.declared.Tap.{Tap}
+use Rattle.layout.specs.declared.Layout.{Layout}
+use Rattle.layout.specs.Layout.{places, tapAt, positionAt, addressAt, gapOf, spanOf, fitsWell}
+use Rattle.layout.specs.Fit.{fitOf}
+use Rattle.layout.specs.Check.{gap1Out, figuresOut, positionOut, falls, isGroup, sameAddress, addressWrong, refusalOf}
+
+-- ---- the code's tests
+
+pub tap-is : (y : Layout) (i : ℕ) → getD (y .stations) i (record { position = 0; address = [] }) ≡ tapAt y i
+unfolding tapAt
+tap-is y i = refl
+
+pub gap1-is : (f : Figures) (b r : Bool) → r ≡ (b || ltb (2 * f .gap2) (f .gap1)) → b ≡ outside (f .gap1) 0 255 → r ≡ gap1Out f
+unfolding gap1Out
+gap1-is f b r p q = rw q at p
+
+pub figures-is : (f : Figures) (s g h j l b lb r₃ r₂ r₁ r : Bool) → r ≡ (s || r₁) → r₁ ≡ (g || r₂) → r₂ ≡ (h || r₃) → r₃ ≡ (j || lb) → lb ≡ (l || b)
+    → b ≡ outside (f .backoff) 1 10 → l ≡ outside (f .limit) 1 16 → j ≡ outside (f .jam) 1 64 → h ≡ outside (f .gap2) 1 255 → g ≡ gap1Out f
+    → s ≡ outside (f .slot) 64 512 → r ≡ figuresOut f
+unfolding figuresOut
+figures-is f s g h j l b lb r₃ r₂ r₁ r p p₁ p₂ p₃ q eb el ej eh eg es = p ∙ rw (p₁, p₂, p₃, q, eb, el, ej, eh, eg, es)
+
+module _ (y : Layout) (i : ℕ) where
+  pub position-is : (t : Tap) → t ≡ tapAt y i → ltb 255 (t .position) ≡ positionOut y i
+  position-is t p = ap (λ (u : Tap). ltb 255 (u .position)) p
+
+  pub falls-is : (t u : Tap) → u ≡ tapAt y (i + 1) → t ≡ tapAt y i → leb (u .position) (t .position) ≡ falls y i
+  falls-is t u p q = ap₂ (λ (a b : Tap). leb (a .position) (b .position)) (p ∙ ap (tapAt y) (add-one i)) q
+
+  pub same-is : (j : ℕ) (t u : Tap) (b : Bool) → b ≡ equal (u .address) (t .address) → u ≡ tapAt y j → t ≡ tapAt y i → b ≡ sameAddress y i j
+  same-is j t u b p q r = p ∙ ap₂ (λ (a c : Tap). equal (a .address) (c .address)) q r
+
+  pub wrong-is : (t : Tap) (g q r : Bool) → r ≡ (g || q) → q ≡ some (sameAddress y i) i → g ≡ isGroup (t .address) → t ≡ tapAt y i → r ≡ addressWrong y i
+  unfolding addressWrong
+  wrong-is t g q r p e f h = p ∙ ap₂ (λ (a b : Bool). a || b) (f ∙ ap (λ (u : Tap). isGroup (u .address)) h) e
+
+-- ---- the order of the checks
+
+module _ (y : Layout) (n : ℕ) (b₁ b₂ b₃ b₄ b₅ : Bool) where
+  pub refusal-figures : b₁ ≡ figuresOut (y .figures) → b₁ ≡ true → 5 ≡ refusalOf y
+  unfolding refusalOf
+  refusal-figures p q = rw (← p, q)
+
+  pub refusal-position : b₁ ≡ figuresOut (y .figures) → b₁ ≡ false → n ≡ min (y .count) 16 → b₂ ≡ some (positionOut y) n → b₂ ≡ true → 5 ≡ refusalOf y
+  unfolding refusalOf
+  refusal-position p q e r s = rw (← p, q, ← e, ← r, s)
+
+  pub refusal-count : b₁ ≡ figuresOut (y .figures) → b₁ ≡ false → n ≡ min (y .count) 16 → b₂ ≡ some (positionOut y) n → b₂ ≡ false
+      → b₃ ≡ outside (y .count) 2 16 → b₃ ≡ true → 6 ≡ refusalOf y
+  unfolding refusalOf
+  refusal-count p q e r s t u = rw (← p, q, ← e, ← r, s, ← t, u)
+
+  pub refusal-order : b₁ ≡ figuresOut (y .figures) → b₁ ≡ false → n ≡ min (y .count) 16 → b₂ ≡ some (positionOut y) n → b₂ ≡ false
+      → b₃ ≡ outside (y .count) 2 16 → b₃ ≡ false → b₄ ≡ some (falls y) (y .count - 1) → b₄ ≡ true → 7 ≡ refusalOf y
+  unfolding refusalOf
+  refusal-order p q e r s t u v w = rw (← p, q, ← e, ← r, s, ← t, u, ← v, w)
+
+  pub refusal-address : b₁ ≡ figuresOut (y .figures) → b₁ ≡ false → n ≡ min (y .count) 16 → b₂ ≡ some (positionOut y) n → b₂ ≡ false
+      → b₃ ≡ outside (y .count) 2 16 → b₃ ≡ false → b₄ ≡ some (falls y) (y .count - 1) → b₄ ≡ false
+      → b₅ ≡ some (addressWrong y) (y .count) → b₅ ≡ true → 8 ≡ refusalOf y
+  unfolding refusalOf
+  refusal-address p q e r s t u v w a z = rw (← p, q, ← e, ← r, s, ← t, u, ← v, w, ← a, z)
+
+  pub refusal-none : b₁ ≡ figuresOut (y .figures) → b₁ ≡ false → n ≡ min (y .count) 16 → b₂ ≡ some (positionOut y) n → b₂ ≡ false
+      → b₃ ≡ outside (y .count) 2 16 → b₃ ≡ false → b₄ ≡ some (falls y) (y .count - 1) → b₄ ≡ false
+      → b₅ ≡ some (addressWrong y) (y .count) → b₅ ≡ false → 0 ≡ refusalOf y
+  unfolding refusalOf
+  refusal-none p q e r s t u v w a z = rw (← p, q, ← e, ← r, s, ← t, u, ← v, w, ← a, z)
+
+pub count-above : (y : Layout) (b : Bool) → b ≡ outside (y .count) 2 16 → b ≡ false → 1 ≤ y .count
+count-above y b p q = let w = within (y .count) 2 16 (sym p ∙ q) in omega arith
+
+pub count-below : (y : Layout) (b : Bool) → b ≡ outside (y .count) 2 16 → b ≡ false → y .count - 1 < 16
+count-below y b p q = let w = within (y .count) 2 16 (sym p ∙ q) in omega arith
+
+-- ---- what a layout that passes is known to be
+
+-- a figure within its range
+pub record Figured (f : Figures) : Type 0 where
+  pub slot : (64 ≤ f .slot) × (f .slot ≤ 512)
+  pub gap1 : (f .gap1 ≤ 255) × (f .gap1 ≤ 2 * f .gap2)
+  pub gap2 : (1 ≤ f .gap2) × (f .gap2 ≤ 255)
+  pub jam : (1 ≤ f .jam) × (f .jam ≤ 64)
+  pub limit : (1 ≤ f .limit) × (f .limit ≤ 16)
+  pub backoff : (1 ≤ f .backoff) × (f .backoff ≤ 10)
+
+pub record Sound (y : Layout) : Type 0 where
+  pub figures : Figured (y .figures)
+  pub count : (2 ≤ y .count) × (y .count ≤ 16)
+  pub position : (i : ℕ) → i < y .count → positionAt y i ≤ 255
+  pub rising : (i : ℕ) → suc i < y .count → positionAt y i < positionAt y (suc i)
+  pub individual : (i : ℕ) → i < y .count → isGroup (addressAt y i) ≡ false
+  pub distinct : (i j : ℕ) → i < y .count → j < i → addressAt y j ≡ addressAt y i → ⊥
+
+figured : (f : Figures) → figuresOut f ≡ false → Figured f
+unfolding figuresOut gap1Out
+figured f h =
+    let a = neither (outside (f .slot) 64 512) _ h in
+    let b = neither (outside (f .gap1) 0 255 || ltb (2 * f .gap2) (f .gap1)) _ (a .1) in
+    let c = neither (outside (f .gap2) 1 255) _ (b .1) in
+    let d = neither (outside (f .jam) 1 64) _ (c .1) in
+    let e = neither (outside (f .limit) 1 16) (outside (f .backoff) 1 10) (d .1) in
+    let g = neither (outside (f .gap1) 0 255) (ltb (2 * f .gap2) (f .gap1)) (b .0) in
+    record {
+      slot = within (f .slot) 64 512 (a .0);
+      gap1 = (within (f .gap1) 0 255 (g .0) .1, ltb-false (2 * f .gap2) (f .gap1) (g .1));
+      gap2 = within (f .gap2) 1 255 (c .0);
+      jam = within (f .jam) 1 64 (d .0);
+      limit = within (f .limit) 1 16 (e .0);
+      backoff = within (f .backoff) 1 10 (e .1);
+    }
+
+-- a check that does not refuse, and those after it
+passed : (b : Bool) (k r : ℕ) → (k ≡ 0 → ⊥) → pick b k r ≡ 0 → (b ≡ false) × (r ≡ 0)
+passed true k r h p = absurd (h p)
+passed false k r h p = (refl, p)
+
+pub sound : (y : Layout) → refusalOf y ≡ 0 → Sound y
+unfolding refusalOf addressWrong
+sound y h =
+    let a = passed (figuresOut (y .figures)) 5 _ (λ z. omega arith) h in
+    let b = passed (some (positionOut y) (min (y .count) 16)) 5 _ (λ z. omega arith) (a .1) in
+    let c = passed (outside (y .count) 2 16) 6 _ (λ z. omega arith) (b .1) in
+    let d = passed (some (falls y) (y .count - 1)) 7 _ (λ z. omega arith) (c .1) in
+    let e = passed (some (addressWrong y) (y .count)) 8 0 (λ z. omega arith) (d .1) in
+    let n = within (y .count) 2 16 (c .0) in
+    record {
+      figures = figured (y .figures) (a .0);
+      count = n;
+      position = λ i p. ltb-false 255 (positionAt y i) (none-below (positionOut y) (min (y .count) 16) i (b .0) (omega arith));
+      rising = λ i p. leb-false (positionAt y (suc i)) (positionAt y i) (none-below (falls y) (y .count - 1) i (d .0) (omega arith));
+      individual = λ i p. neither (isGroup (addressAt y i)) (some (sameAddress y i) i) (none-below (addressWrong y) (y .count) i (e .0) p) .0;
+      distinct = λ i j p q r. unequal (addressAt y j) (addressAt y i) (none-below (sameAddress y i) i j (neither (isGroup (addressAt y i)) (some (sameAddress y i) i) (none-below (addressWrong y) (y .count) i (e .0) p) .1) q) r;
+    }
+  where
+    unequal : (a b : List ℕ) → equal a b ≡ false → a ≡ b → ⊥
+    unequal a b p q = true≢false (sym (equal-refl a) ∙ ap (equal a) q ∙ p)
+
+-- for the fit: there is a first and a last station
+pub counted-low : (y : Layout) (n : ℕ) → n ≡ refusalOf y → n ≡ 0 → 0 < y .count
+counted-low y n p q = let c = sound y (sym p ∙ q) .count in omega arith
+
+pub counted-high : (y : Layout) (n : ℕ) → n ≡ refusalOf y → n ≡ 0 → y .count ≤ 16
+counted-high y n p q = sound y (sym p ∙ q) .count .1
+
+-- ---- the fit
+
+pub gap-is : (f : Figures) → f .gap1 + f .gap2 ≡ gapOf f
+unfolding gapOf
+gap-is f = refl
+
+pub span-apart : (y : Layout) (t u : Tap) → u ≡ tapAt y (y .count - 1) → t ≡ tapAt y 0 → u .position - t .position ≡ spanOf y
+unfolding spanOf
+span-apart y t u p q = ap₂ (λ (a b : Tap). a .position - b .position) p q
+
+pub span-none : (y : Layout) (t u : Tap) → u ≡ tapAt y (y .count - 1) → t ≡ tapAt y 0 → u .position ≤ t .position → 0 ≡ spanOf y
+span-none y t u p q h = let e : 0 ≡ u .position - t .position = omega arith in e ∙ span-apart y t u p q
+
+pub fits-is : (y : Layout) (g s : ℕ) (r : Bool) → r ≡ (leb (2 * s + g) (y .figures .slot) && leb g (64 + y .figures .jam))
+    → s ≡ spanOf y → g ≡ gapOf (y .figures) → r ≡ fitsWell y
+unfolding fitsWell
+fits-is y g s r p q e = p ∙ rw (q, e)
+
+module _ (y : Layout) (n : ℕ) where
+  pub fit-refused : n ≡ refusalOf y → (n ≡ 0 → ⊥) → refused n ≡ fitOf y
+  unfolding fitOf
+  fit-refused p q = rw (← p, ne-eqb n 0 q)
+
+  pub fit-yes : (b : Bool) → n ≡ refusalOf y → n ≡ 0 → b ≡ fitsWell y → b ≡ true → accepted (1 ∷ []) ≡ fitOf y
+  unfolding fitOf
+  fit-yes b p q r s = rw (← p, q, ← r, s)
+
+  pub fit-no : (b : Bool) → n ≡ refusalOf y → n ≡ 0 → b ≡ fitsWell y → b ≡ false → accepted (0 ∷ []) ≡ fitOf y
+  unfolding fitOf
+  fit-no b p q r s = rw (← p, q, ← r, s)

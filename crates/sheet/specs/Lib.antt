@@ -1,0 +1,4 @@
+pub mod Sheet
+pub mod SheetLaws
+pub mod SheetTheorems
+pub mod Cases
