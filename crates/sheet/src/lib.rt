@@ -1,7 +1,8 @@
 // Reading a sheet (document 01, "The sheet").
 
-use layout::{Figures, Layout, Tap};
-
+use layout::Figures;
+use layout::Layout;
+use layout::Tap;
 ghost use mathlib.Core.Path.{_≡_};
 ghost use Prim.Native.Nat.{_+_, _*_, _/_, _%_, _<_, _≤_};
 ghost use lib.Dec.{eqb};

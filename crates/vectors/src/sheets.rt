@@ -1,9 +1,9 @@
 // Sheets, a line of hexadecimal digits each on standard input.
 
-use libc::STDIN_FILENO;
-use libc::STDOUT_FILENO;
 use layout::Fit;
 use layout::Layout;
+use libc::STDIN_FILENO;
+use libc::STDOUT_FILENO;
 use sheet::SheetRead;
 ghost use Prim.Native.Nat.{_<_, _≤_};
 ghost use lib.ListN.{length};
