@@ -4,26 +4,15 @@ use Prim.Native.Nat.{ℕ, zero, suc, _+_, _*_, _/_, _%_, _^_, _≤_, _<_}
 use mathlib.Core.Path.{_≡_, refl, sym, _∙_, ap}
 use mathlib.Core.Bool.{Bool, true, false}
 use mathlib.Core.List.{List, [], _∷_}
-use native.Mathlib.Nat.{not-suc-le-zero, pow-suc, zero-add}
+use native.Mathlib.Nat.{pow-suc}
 use native.Mathlib.Omega.{arith}
 use lib.Dec.{eqb}
 use lib.ListN.{getD}
 use lib.Bits.{bitXor, differ, xor-step, xor-lt}
 use Rattle.octets.specs.Base.{pick}
+use Rattle.octets.specs.Table.{tabulated, entry}
 use Rattle.crc32.specs.Division.{polynomial, shifted}
 use Rattle.crc32.specs.Register.{shift, shifts}
-
--- ---- any table
-
--- the table of n entries that has f i, f (i + 1), ..
-abbrev pub tabulated : (ℕ → ℕ) → ℕ → ℕ → List ℕ
-tabulated f i zero = []
-tabulated f i (suc n) = f i ∷ tabulated f (suc i) n
-
-entry-is : (f : ℕ → ℕ) (n i k : ℕ) → k < n → getD (tabulated f i n) k 0 ≡ f (i + k)
-entry-is f zero i k h = absurd (not-suc-le-zero h)
-entry-is f (suc n) i zero h = let e : i + 0 ≡ i = omega arith in rw e
-entry-is f (suc n) i (suc k) h = let e : i + suc k ≡ suc i + k = omega arith in rw e (entry-is f n (suc i) k (omega arith))
 
 -- ---- shifts, by an exclusive or that computes on numerals
 
@@ -58,6 +47,6 @@ unfolding shifts
 shifts-computed zero c h = refl
 shifts-computed (suc n) c h = ap (computed n) (shift-computed c h) ∙ shifts-computed n (shift c) (shift-lt c h)
 
--- The table's rule. That the code's table is this one is for antt to compute, entry by entry, where the law is cited.
+-- The table's rule.
 pub entry-shifts : (k : ℕ) → k < 256 → getD (tabulated (computed 8) 0 256) k 0 ≡ shifts 8 k
-entry-shifts k h = entry-is (computed 8) 256 0 k h ∙ ap (computed 8) (zero-add k) ∙ shifts-computed 8 k (omega arith)
+entry-shifts k h = entry (computed 8) 0 256 k h ∙ shifts-computed 8 k (omega arith)

@@ -7,3 +7,5 @@ pub mod Equal
 pub mod EqualLaws
 pub mod Bits
 pub mod BitsLaws
+pub mod Table
+pub mod Variant

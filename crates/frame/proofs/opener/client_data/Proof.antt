@@ -4,11 +4,11 @@ use lib.ListN.{length}
 use mathlib.Core.Path.{_≡_}
 use mathlib.Core.Bool.{false}
 use mathlib.Core.List.{List, [], _∷_}
-use mathlib.Core.Logic.{⊎-elim}
 use native.Mathlib.Omega.{arith}
 use types.Run.{OneOf}
 use denote.Enum.Declared.{tagOf}
 use borrow.Author.Needs.{needs}
+use Rattle.octets.specs.Variant.{first-six}
 use Rattle.frame.specs.Open.{statusAnswer, receiveOK, opened}
 use Rattle.frame.specs.OpenLaws.{client-room, client-ok, client-none, other-status, refused-status}
 use Rattle.frame.specs.declared.opener.ReceiveStatus.{ReceiveStatus}
@@ -18,12 +18,9 @@ use Rattle.frame.proofs.opener.client_data.Statement.{statement}
 use Rattle.frame.proofs.opener.client_data.Tie as tie
 
 -- the way of `else`: the status is one of the first six
-low : (x : ℕ) → OneOf (0 ∷ 1 ∷ 2 ∷ 3 ∷ 4 ∷ 5 ∷ []) x → x < 6
-low x = ⊎-elim (λ e. omega arith) (⊎-elim (λ e. omega arith) (⊎-elim (λ e. omega arith) (⊎-elim (λ e. omega arith) (⊎-elim (λ e. omega arith) (λ e. omega arith)))))
-
 other-way : (f : List ℕ) (e : ℕ) (r : ReceiveStatus) → statusAnswer r ≡ opened false f e .status
     → OneOf (0 ∷ 1 ∷ 2 ∷ 3 ∷ 4 ∷ 5 ∷ []) (tagOf the-type r) → [] ≡ opened false f e .clientData
-other-way f e r p h = client-none f e r p (not-ok r (low (tagOf the-type r) h))
+other-way f e r p h = client-none f e r p (not-ok r (first-six (tagOf the-type r) h))
   where
     not-ok : (r : ReceiveStatus) → tagOf the-type r < 6 → (n : ℕ) → statusAnswer r ≡ receiveOK n → ⊥
     not-ok (Refused k) h n q = refused-status k n q

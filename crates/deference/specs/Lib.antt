@@ -1,0 +1,2 @@
+pub mod Defer
+pub mod DeferLaws

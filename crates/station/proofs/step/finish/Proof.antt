@@ -1,0 +1,21 @@
+-- `station::step::finish` meets its contract. Assumes nothing.
+use Rattle.station.specs.StepLaws.{finished-is}
+use borrow.Author.Needs.{needs}
+use Rattle.station.proofs.step.finish.Statement.{statement}
+use Rattle.station.proofs.step.finish.Tie as tie
+
+is-waiting-requires : tie.Need-is-waiting-requires
+is-waiting-requires c κs = search needs
+
+draw-after-requires : tie.Need-draw-after-requires
+draw-after-requires c κs = search needs
+
+deferred-after-requires : tie.Need-deferred-after-requires
+deferred-after-requires c κs = search needs
+
+returns : tie.Need-returns
+returns c = search finished-is
+
+pub finish-spec : {M : Type 1} → statement M
+finish-spec =
+    tie.close (tie.spec is-waiting-requires draw-after-requires deferred-after-requires returns)

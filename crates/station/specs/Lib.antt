@@ -1,0 +1,6 @@
+pub mod Step
+pub mod StepLaws
+pub mod Events
+pub mod Count
+pub mod CountLaws
+pub mod Cases

@@ -1,0 +1,139 @@
+// One station by value, and its step.
+
+use deference::Deference;
+use deference::Deferred;
+use layout::Figures;
+use packet::Emission;
+use packet::Heard;
+use receiver::ReceiveEvent;
+use receiver::Received;
+use receiver::Receiver;
+use receiver::Stored;
+use transmitter::TransmitEvent;
+use transmitter::Transmitted;
+use transmitter::Transmitter;
+ghost use mathlib.Core.Path.{_≡_};
+ghost use Prim.Native.Nat.{_+_, _<_, _≤_};
+ghost use lib.ListN.{length};
+ghost use Rattle.station.specs.Step.{Roomy, triesAfter, drawAfter, deferredAfter, stepped};
+ghost use Rattle.station.specs.StepLaws.{finished};
+
+// A station: its address; deference, transmitter and receiver; the octets and attempts of the frame it holds; the place of its next draw;
+// whether that frame did not start in its first step; whether it emitted in the last step.
+pub struct Station {
+    pub address: [u8; 6],
+    pub deference: Deference,
+    pub transmitter: Transmitter,
+    pub receiver: Receiver,
+    pub frame: u32,
+    pub attempts: u32,
+    pub draw: u32,
+    pub deferred: bool,
+    pub emitted: bool,
+}
+
+// What a step leads to: the next state, what is emitted, whether a frame started, the events, the collected bit to store.
+pub struct Stepped {
+    pub station: Station,
+    pub emission: Emission,
+    pub start: bool,
+    pub sent: TransmitEvent,
+    pub got: ReceiveEvent,
+    pub stored: Stored,
+}
+
+// The attempts of a frame, with one that starts in this step.
+fn tries_after(attempts: u32, start: bool) -> u32
+    requires { ⌜ attempts < 4294967295 ⌝ }
+    ensures { λ r. ⌜ r ≡ triesAfter attempts start ⌝ }
+{
+    if start { attempts + 1 } else { attempts }
+}
+
+// The place of the next draw: in turn, then from the first again.
+fn draw_after(place: u32, draws: u32, drew: bool) -> u32
+    requires { ⌜ place < 4294967295 ⌝ }
+    ensures { λ r. ⌜ r ≡ drawAfter place draws drew ⌝ }
+{
+    if drew {
+        if place + 1 == draws {
+            return 0;
+        }
+        return place + 1;
+    }
+    place
+}
+
+// Whether the frame did not start in its first step: it waits, was never tried, and does not start now.
+fn deferred_after(deferred: bool, waits: bool, attempts: u32, start: bool) -> bool
+    ensures { λ r. ⌜ r ≡ deferredAfter deferred waits attempts start ⌝ }
+{
+    octets::either(
+        deferred,
+        octets::both(waits, octets::both(attempts == 0, !start)),
+    )
+}
+
+// The next state and what the step leads to, from its three parts.
+fn finish(
+    s: Station,
+    draws: u32,
+    d: Deferred,
+    o: Transmitted,
+    q: Received,
+    tries: u32,
+    emits: bool,
+) -> Stepped
+    requires { ⌜ s .draw < 4294967295 ⌝ }
+    ensures { λ r. ⌜ r ≡ finished s draws d o q tries emits ⌝ }
+{
+    let waiting = s.transmitter;
+    let waits = transmitter::is_waiting(waiting);
+    let address = s.address;
+    let deference = d.phase;
+    let transmitter = o.phase;
+    let receiver = q.receiver;
+    let station = Station {
+        address,
+        deference,
+        transmitter,
+        receiver,
+        frame: s.frame,
+        attempts: tries,
+        draw: draw_after(s.draw, draws, o.drew),
+        deferred: deferred_after(s.deferred, waits, s.attempts, d.start),
+        emitted: emits,
+    };
+    let emission = o.emission;
+    let sent = o.event;
+    let got = q.event;
+    let stored = q.stored;
+    Stepped {
+        station,
+        emission,
+        start: d.start,
+        sent,
+        got,
+        stored,
+    }
+}
+
+// One step of a station that hears this, has this draw next of so many, and collected these octets.
+pub fn step(f: Figures, s: Station, draws: u32, draw: u32, buffer: &[u8], h: Heard) -> Stepped
+    requires { ⌜ Roomy f s (length (now buffer)) ⌝ }
+    ensures { λ r. ⌜ r ≡ stepped f s draws draw (now (buffer .entry)) h ⌝ }
+{
+    let phase = s.deference;
+    let t = s.transmitter;
+    let r = s.receiver;
+    let address = s.address;
+    let hears = packet::hears_any(h);
+    let waits = transmitter::is_waiting(t);
+    let d = deference::defer(f, phase, hears, s.emitted, waits);
+    let tries = tries_after(s.attempts, d.start);
+    let o = transmitter::transmit(f, t, s.frame, tries, draw, d.start, hears);
+    let emission = o.emission;
+    let emits = packet::is_emission(emission);
+    let q = receiver::receive(address, buffer, r, h, emits);
+    finish(s, draws, d, o, q, tries, emits)
+}

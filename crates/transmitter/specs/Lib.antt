@@ -1,0 +1,2 @@
+pub mod Transmit
+pub mod TransmitLaws
