@@ -6,6 +6,9 @@ use mathlib.Core.List.{List}
 use lib.Dec.{leb, eqb}
 use lib.ListN.{getD, set}
 use Rattle.octets.specs.Base.{pick}
+use Rattle.receiver.specs.declared.Receiver.{Receiver}
+use Rattle.receiver.specs.declared.Receiver.the-variants.{Listening, Readable, Seeking, Collecting}
+use Rattle.station.specs.declared.step.Stepped.{Stepped}
 use Rattle.transmitter.specs.declared.TransmitEvent.{TransmitEvent}
 use Rattle.transmitter.specs.declared.TransmitEvent.the-variants.{NoTransmit, Collision, Late, Sent, GivenUp}
 use Rattle.receiver.specs.declared.ReceiveEvent.{ReceiveEvent}
@@ -100,3 +103,18 @@ countReceive cs (GotTooLong n) z = added cs tooLong 1
 countReceive cs (GotAlignment n) z = added cs alignmentErrors 1
 countReceive cs (GotCheck n) z = added cs checkErrors 1
 countReceive cs (GotLength n) z = added cs lengthErrors 1
+
+-- the octets of a frame that can be read
+abbrev pub octetsIn : Receiver → ℕ
+octetsIn Listening = 0
+octetsIn (Readable n) = n
+octetsIn (Seeking row spoiled own) = 0
+octetsIn (Collecting n spoiled own) = 0
+
+-- What a step adds: its start an attempt, its transmit event, its receive event, of the frame that it leaves to be read.
+unfoldable pub counted : List ℕ → Stepped → List ℕ
+counted cs o =
+    countReceive
+    (countTransmit (addedIf (o .start) cs attempts) (o .sent) (o .station .frame) (o .station .deferred))
+    (o .got)
+    (octetsIn (o .station .receiver))

@@ -7,11 +7,14 @@ use native.Mathlib.Omega.{arith}
 use lib.Dec.{leb, eqb}
 use lib.ListN.{getD, set}
 use Rattle.octets.specs.Base.{pick}
+use Rattle.receiver.specs.declared.Receiver.{Receiver}
+use Rattle.receiver.specs.declared.Receiver.the-variants.{Readable}
+use Rattle.station.specs.declared.step.Stepped.{Stepped}
 use Rattle.transmitter.specs.declared.TransmitEvent.{TransmitEvent}
 use Rattle.transmitter.specs.declared.TransmitEvent.the-variants.{NoTransmit, Collision, Late, Sent, GivenUp}
 use Rattle.receiver.specs.declared.ReceiveEvent.{ReceiveEvent}
 use Rattle.receiver.specs.declared.ReceiveEvent.the-variants.{NoReceive, GotOk, GotTooLong, GotAlignment, GotCheck, GotLength}
-use Rattle.station.specs.Count.{added, addedIf, countSent, countTransmit, countReceive}
+use Rattle.station.specs.Count.{added, addedIf, countSent, countTransmit, countReceive, octetsIn, counted}
 
 pub added-more : (cs : List ℕ) (k n : ℕ) → n ≤ 4294967295 → getD cs k 0 ≤ 4294967295 - n → set cs k (getD cs k 0 + n) ≡ added cs k n
 unfolding added
@@ -79,3 +82,11 @@ module _ (cs r : List ℕ) (v : ReceiveEvent) (z : ℕ) where
   pub receive-length : (n : ℕ) → v ≡ GotLength n → r ≡ added cs 15 1 → r ≡ countReceive cs v z
   unfolding countReceive
   receive-length n p q = rw p q
+
+pub octets-is : (r : Receiver) (n : ℕ) → r ≡ Readable n → n ≡ octetsIn r
+octets-is r n p = rw p
+
+pub counted-is : (cs a b r : List ℕ) (o : Stepped) (z : ℕ) → r ≡ countReceive b (o .got) z → z ≡ octetsIn (o .station .receiver)
+    → b ≡ countTransmit a (o .sent) (o .station .frame) (o .station .deferred) → a ≡ addedIf (o .start) cs 1 → r ≡ counted cs o
+unfolding counted
+counted-is cs a b r o z p q e f = p ∙ rw (q, e, f)

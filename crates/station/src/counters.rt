@@ -1,10 +1,12 @@
 // A station's sixteen counters, in the order that document 01 lists them.
 
+use crate::step::Stepped;
 use receiver::ReceiveEvent;
+use receiver::Receiver;
 use transmitter::TransmitEvent;
 ghost use mathlib.Core.Path.{_≡_};
 ghost use Prim.Native.Nat.{_-_, _<_};
-ghost use Rattle.station.specs.Count.{added, addedIf, countSent, countTransmit, countReceive};
+ghost use Rattle.station.specs.Count.{added, addedIf, countSent, countTransmit, countReceive, octetsIn, counted};
 
 pub const OFFERED: usize = 0;
 
@@ -118,4 +120,37 @@ pub fn count_receive(counters: [u32; 16], event: ReceiveEvent, frame: u32) -> [u
         ReceiveEvent::GotCheck(_) => add(counters, CHECK_ERRORS, 1),
         ReceiveEvent::GotLength(_) => add(counters, LENGTH_ERRORS, 1),
     }
+}
+
+// The octets of a frame that can be read.
+fn octets_in(r: Receiver) -> u32
+    ensures { λ n. ⌜ n ≡ octetsIn r ⌝ }
+{
+    match r {
+        Receiver::Listening => 0,
+        Receiver::Readable(n) => n,
+        Receiver::Seeking {
+            row: _,
+            spoiled: _,
+            own: _,
+        } => 0,
+        Receiver::Collecting {
+            bits: _,
+            spoiled: _,
+            own: _,
+        } => 0,
+    }
+}
+
+// The counters after a step.
+pub fn count(counters: [u32; 16], o: Stepped) -> [u32; 16]
+    ensures { λ r. ⌜ r ≡ counted counters o ⌝ }
+{
+    let next = o.station;
+    let r = next.receiver;
+    let sent = o.sent;
+    let got = o.got;
+    let a = add_if(o.start, counters, ATTEMPTS);
+    let b = count_transmit(a, sent, next.frame, next.deferred);
+    count_receive(b, got, octets_in(r))
 }
