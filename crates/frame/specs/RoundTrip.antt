@@ -11,8 +11,8 @@ use lib.Seq.{take-at, drop-at, take-append-seam, take-length, take-all, sets}
 use Rattle.octets.specs.Base.{pick, Answer, refused, accepted, Outcome, outcome}
 use Rattle.octets.specs.Equal.{equal}
 use Rattle.octets.specs.EqualLaws.{equal-refl}
-use Rattle.octets.specs.Number.{numberFrom, get, spelled}
-use Rattle.octets.specs.NumberLaws.{length-spelled, number-spelled}
+use Rattle.octets.specs.Number.{get, spelled}
+use Rattle.octets.specs.NumberLaws.{length-spelled, get-spelled, get-front, get-after}
 use Rattle.octets.specs.Store.{part, take-sets}
 use Rattle.crc32.specs.Crc.{checkSequence}
 use Rattle.crc32.specs.Division.{length-sequence}
@@ -102,14 +102,12 @@ module _ (d s : List ℕ) (v : ℕ) (x : List ℕ) (hd : length d ≡ 6) (hs : l
       rw (after-destination, drop-at d (s ++ (spelled 2 v ++ (padded x ++ check))) 6 hd) (take-at s (spelled 2 v ++ (padded x ++ check)) 6 hs)
 
   built-value : v < 65536 → valueOf (frameOf d s v x) ≡ v
-  unfolding valueOf get
+  unfolding valueOf
   built-value h =
-      rw (
-        after-source,
-        drop-at (d ++ s) (spelled 2 v ++ (padded x ++ check)) 12 (length-append d s ∙ omega arith),
-        take-at (spelled 2 v) (padded x ++ check) 2 (length-spelled 2 v),
-      )
-      (number-spelled 2 v h)
+      ap (λ (f : List ℕ). get 2 f 12) after-source
+      ∙ get-after 2 (d ++ s) (spelled 2 v ++ (padded x ++ check)) 12 (omega (arith, length-append d s))
+      ∙ get-front 2 (spelled 2 v) (padded x ++ check) 0 (omega (arith, length-spelled 2 v))
+      ∙ get-spelled 2 v h
 
   built-field : dataField (frameOf d s v x) ≡ padded x
   unfolding dataField

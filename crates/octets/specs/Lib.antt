@@ -3,6 +3,9 @@ pub mod BaseLaws
 pub mod Number
 pub mod NumberLaws
 pub mod Store
+pub mod Words
+pub mod WordsLaws
+pub mod Region
 pub mod Equal
 pub mod EqualLaws
 pub mod Bits

@@ -2,17 +2,14 @@
 -- The laws are in NumberLaws. Assumes nothing.
 use Prim.Native.Nat.{ℕ, zero, suc, _+_, _*_, _/_, _%_}
 use mathlib.Core.List.{List, [], _∷_, _++_}
+use lib.ListN.{getD}
 use lib.Seq.{sets}
-use Rattle.octets.specs.Store.{part}
-
--- the number that octets spell, from what the octets before them spelled
-abbrev pub numberFrom : ℕ → List ℕ → ℕ
-numberFrom n [] = n
-numberFrom n (x ∷ l) = numberFrom (n * 256 + x) l
 
 -- the number of the w octets from `at` on
 unfoldable pub get : ℕ → List ℕ → ℕ → ℕ
-get w l at = numberFrom 0 (part l at w)
+get zero l at = 0
+get (suc zero) l at = getD l at 0
+get (suc (suc w)) l at = get (suc w) l at * 256 + getD l (at + suc w) 0
 
 -- the w octets that spell v; of a larger number its w low octets
 unfoldable pub spelled : ℕ → ℕ → List ℕ

@@ -2,11 +2,12 @@
 
 ghost use mathlib.Core.Path.{_≡_};
 ghost use mathlib.Core.Bool.{_||_, _&&_};
-ghost use Prim.Native.Nat.{_+_, _<_, _≤_};
+ghost use Prim.Native.Nat.{_+_, _*_, _<_, _≤_};
 ghost use lib.ListN.{length};
 ghost use lib.Seq.{sets};
 ghost use Rattle.octets.specs.Base.{outside};
 ghost use Rattle.octets.specs.Number.{get, put};
+ghost use Rattle.octets.specs.Words.{putWords, wordsAt};
 ghost use Rattle.octets.specs.Equal.{equal};
 
 // An octet as a wider number. That it is below 256 is said here once, so that no caller shows that a sum of octets fits.
@@ -24,6 +25,49 @@ pub fn get16(s: &[u8], at: usize) -> u32
     ensures small { λ r. ⌜ r < 65536 ⌝ }
 {
     wide(s[at]) * 256 + wide(s[at + 1])
+}
+
+// The number of four octets at `at`, high octet first.
+pub fn get32(s: &[u8], at: usize) -> u32
+    requires { ⌜ at + 4 ≤ length (now s) ⌝ }
+    ensures { λ r. ⌜ r ≡ get 4 (now (s .entry)) at ⌝ }
+{
+    ((wide(s[at]) * 256 + wide(s[at + 1])) * 256 + wide(s[at + 2])) * 256 + wide(s[at + 3])
+}
+
+// Writes the number v over the four octets from `at` on, high octet first.
+pub fn put32(s: &mut [u8], at: usize, v: u32)
+    requires { ⌜ at + 4 ≤ length (now s) ⌝ }
+    ensures { λ r. ⌜ now (s .exit) ≡ put 4 (now (s .entry)) at v ⌝ }
+{
+    s[at] = (v / 256 / 256 / 256 % 256) as u8;
+    s[at + 1] = (v / 256 / 256 % 256) as u8;
+    s[at + 2] = (v / 256 % 256) as u8;
+    s[at + 3] = (v % 256) as u8;
+}
+
+// Writes 32-bit words one after the other from octet `at` on.
+pub fn store_words(s: &mut [u8], at: usize, words: &[u32])
+    requires { ⌜ at + 4 * length (now words) ≤ length (now s) ⌝ }
+    ensures { λ r. ⌜ now (s .exit) ≡ putWords (length (now (words .entry))) (now (s .entry)) at (now (words .entry)) ⌝ }
+{
+    let mut k = 0;
+    while k < words.len() {
+        put32(s, at + 4 * k, words[k]);
+        k += 1;
+    }
+}
+
+// Fills `words` with the 32-bit words that stand from octet `at` on.
+pub fn load_words(s: &[u8], at: usize, words: &mut [u32])
+    requires { ⌜ at + 4 * length (now words) ≤ length (now s) ⌝ }
+    ensures { λ r. ⌜ now (words .exit) ≡ wordsAt (length (now (words .entry))) (now (s .entry)) at ⌝ }
+{
+    let mut k = 0;
+    while k < words.len() {
+        words[k] = get32(s, at + 4 * k);
+        k += 1;
+    }
 }
 
 // Writes the number v over the two octets from `at` on, high octet first.

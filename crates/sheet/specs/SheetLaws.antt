@@ -93,9 +93,9 @@ pub field-absent : (l : List ℕ) (at w absent : ℕ) → w ≡ 0 → absent ≡
 unfolding fieldOf
 field-absent l at w absent p = rw (eq-eqb w 0 p)
 
-pub field-one : (l : List ℕ) (at w absent x : ℕ) → x ≡ getD l at 0 → w ≡ 1 → at + w ≤ length l → x ≡ fieldOf l at w absent
+pub field-one : (l : List ℕ) (at w absent x : ℕ) → x ≡ getD l at 0 → w ≡ 1 → x ≡ fieldOf l at w absent
 unfolding fieldOf get
-field-one l at w absent x p q h = let k : at < length l = omega arith in p ∙ rw (q, drop-cons l at 0 k) (omega arith)
+field-one l at w absent x p q = p ∙ rw q
 
 pub field-two : (l : List ℕ) (at w absent x : ℕ) → x ≡ get 2 l at → (w ≡ 0 → ⊥) → (w ≡ 1 → ⊥) → w ≤ 2 → x ≡ fieldOf l at w absent
 unfolding fieldOf

@@ -11,7 +11,8 @@ use lib.Dec.{ltb, eqb}
 use lib.ListN.{length, getD, take, drop, length-append, List·getD-append, take-append-drop, length-drop}
 use lib.Seq.{take-append-le, drop-append-le, length-take-le}
 use Rattle.octets.specs.Base.{pick, Answer, refused, accepted}
-use Rattle.octets.specs.Number.{numberFrom, get}
+use Rattle.octets.specs.Number.{get}
+use Rattle.octets.specs.NumberLaws.{get-front}
 use Rattle.octets.specs.Store.{part}
 use Rattle.layout.specs.declared.Figures.{Figures}
 use Rattle.layout.specs.declared.Tap.{Tap}
@@ -61,10 +62,6 @@ module _ (a z : List ℕ) where
   part-front at n h =
       rw (drop-append-le at a z (omega arith)) (take-append-le n (drop at a) z (omega (arith, length-drop at a)))
 
-  get-front : (w at : ℕ) → at + w ≤ length a → get w (a ++ z) at ≡ get w a at
-  unfolding get
-  get-front w at h = ap (numberFrom 0) (part-front at w h)
-
 -- the fields follow one another
 fields-rise : (m j d : ℕ) → fieldAt m j ≤ fieldAt m (d + j)
 unfolding fieldAt
@@ -103,7 +100,7 @@ module _ (a z : List ℕ) (h : sheetSize a ≤ length a) where
       go true p =
           let g : d + suc k ≡ 6 = omega arith in
           let w : fieldAt (mapOf a) (suc k) ≤ fieldAt (mapOf a) 6 = subst (λ (n : ℕ). fieldAt (mapOf a) (suc k) ≤ fieldAt (mapOf a) n) g (fields-rise (mapOf a) (suc k) d) in
-          get-front a z (width k) (fieldAt (mapOf a) k) (omega (arith, front, field-ends (mapOf a) k p))
+          get-front (width k) a z (fieldAt (mapOf a) k) (omega (arith, front, field-ends (mapOf a) k p))
       go false p = refl
 
   figures-front : figuresIn (a ++ z) ≡ figuresIn a

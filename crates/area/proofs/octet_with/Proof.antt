@@ -1,0 +1,42 @@
+-- `area::octet_with` meets its contract. Assumes nothing.
+use Rattle.area.specs.CodeLaws.{bit-one, bit-zero}
+use borrow.Author.Needs.{needs}
+use Rattle.area.proofs.octet_with.Statement.{statement}
+use Rattle.area.proofs.octet_with.Tie as tie
+
+power-requires : tie.Need-power-requires
+power-requires c κs = search needs
+
+wide-requires : tie.Need-wide-requires
+wide-requires c κs = search needs
+
+remainder-requires : tie.Need-remainder-requires
+remainder-requires c κs = search needs
+
+add-result : tie.Need-add-result
+add-result c = search needs
+
+cast-result : tie.Need-cast-result
+cast-result c = search needs
+
+returns : tie.Need-returns
+returns c = search bit-one
+
+cast-result-2 : tie.Need-cast-result-2
+cast-result-2 c = search needs
+
+returns-2 : tie.Need-returns-2
+returns-2 c = search bit-zero
+
+pub octet-with-spec : {M : Type 1} → statement M
+octet-with-spec =
+    tie.close
+    (tie.spec
+    power-requires
+    wide-requires
+    remainder-requires
+    add-result
+    cast-result
+    returns
+    cast-result-2
+    returns-2)

@@ -1,0 +1,128 @@
+-- Reading and writing the work area, by name. The laws are in AreaLaws. Assumes nothing.
+use Prim.Native.Nat.{ℕ, zero, suc, _+_, _-_, _*_, _/_, _%_, _^_, min}
+use mathlib.Core.Bool.{Bool, true, false}
+use mathlib.Core.List.{List, [], _∷_, _++_}
+use lib.Dec.{ltb, eqb}
+use lib.ListN.{getD, set, replicate}
+use Rattle.octets.specs.Base.{pick}
+use Rattle.octets.specs.Bits.{digit}
+use Rattle.octets.specs.Number.{get, put}
+use Rattle.octets.specs.Store.{part}
+use Rattle.octets.specs.Words.{wordsAt, putWords}
+use Rattle.layout.specs.declared.Figures.{Figures}
+use Rattle.layout.specs.declared.Tap.{Tap}
+use Rattle.layout.specs.declared.Layout.{Layout}
+use Rattle.layout.specs.Layout.{places, blankTap}
+use Rattle.packet.specs.declared.Heard.{Heard}
+use Rattle.packet.specs.declared.Heard.the-variants.{Nothing, Clean, Jammed, Several}
+use Rattle.packet.specs.declared.Symbol.{Symbol}
+use Rattle.packet.specs.declared.Symbol.the-variants.{Silence, Bit, Jam}
+use Rattle.station.specs.declared.step.Station.{Station}
+use Rattle.record.specs.Codec.{decoded, encoded}
+
+-- ---- the clock and the draws
+
+unfoldable pub clockAt : List ℕ → ℕ
+clockAt a = get 4 a 0
+
+unfoldable pub withClock : List ℕ → ℕ → List ℕ
+withClock a t = put 4 a 0 t
+
+-- D, and draw k of station i
+unfoldable pub depthAt : List ℕ → ℕ
+depthAt a = get 4 a 4
+
+unfoldable pub drawAt : List ℕ → ℕ → ℕ → ℕ
+drawAt a i k = get 2 a (320 + 32 * i + 2 * k)
+
+-- ---- the layout
+
+unfoldable pub figuresAt : List ℕ → Figures
+figuresAt a = record { slot = get 4 a 8; gap1 = get 4 a 12; gap2 = get 4 a 16; jam = get 4 a 20; limit = get 4 a 24; backoff = get 4 a 28 }
+
+unfoldable pub countAt : List ℕ → ℕ
+countAt a = get 4 a 32
+
+unfoldable pub positionAt : List ℕ → ℕ → ℕ
+positionAt a i = get 4 a (64 + 16 * i)
+
+unfoldable pub addressAt : List ℕ → ℕ → List ℕ
+addressAt a i = part a (68 + 16 * i) 6
+
+-- |p(i) − p(j)|
+unfoldable pub distance : ℕ → ℕ → ℕ
+distance p q = (p - q) + (q - p)
+
+unfoldable pub spaceAt : List ℕ → ℕ → ℕ → ℕ
+spaceAt a i j = distance (positionAt a i) (positionAt a j)
+
+-- ---- a station
+
+unfoldable pub countersAt : List ℕ → ℕ → List ℕ
+countersAt a i = wordsAt 16 a (1024 + 64 * i)
+
+unfoldable pub withCounters : List ℕ → ℕ → List ℕ → List ℕ
+withCounters a i cs = putWords 16 a (1024 + 64 * i) cs
+
+unfoldable pub stationAt : List ℕ → ℕ → Station
+stationAt a i = decoded (wordsAt 14 a (2048 + 64 * i)) (addressAt a i)
+
+unfoldable pub withStation : List ℕ → ℕ → Station → List ℕ
+withStation a i s = putWords 14 a (2048 + 64 * i) (encoded s)
+
+-- the n octets of its frame
+unfoldable pub frameAt : List ℕ → ℕ → ℕ → List ℕ
+frameAt a i n = part a (8192 + 1536 * i) n
+
+-- what it collected, as much as is kept
+unfoldable pub bufferAt : List ℕ → ℕ → List ℕ
+bufferAt a i = part a (32768 + 1536 * i) 1518
+
+-- an octet with bit p stored: the bits below it stay, those above it are 0
+unfoldable pub octetWith : ℕ → ℕ → Bool → ℕ
+octetWith x p b = x % 2 ^ p + digit b * 2 ^ p
+
+-- collected bit k stored, "low bit first"
+unfoldable pub withBit : List ℕ → ℕ → ℕ → Bool → List ℕ
+withBit a i k b = set a (32768 + 1536 * i + k / 8) (octetWith (getD a (32768 + 1536 * i + k / 8) 0) (k % 8) b)
+
+-- ---- delay lines: what reaches station i in step u
+
+-- 0 nothing, 1 and 2 the bits 0 and 1, 3 jam, 4 several
+abbrev pub heardCode : Heard → ℕ
+heardCode Nothing = 0
+heardCode (Clean false) = 1
+heardCode (Clean true) = 2
+heardCode Jammed = 3
+heardCode Several = 4
+
+unfoldable pub heardOf : ℕ → Heard
+heardOf c =
+    pick (eqb c 0) Nothing
+    (pick (eqb c 1) (Clean false)
+    (pick (eqb c 2) (Clean true)
+    (pick (eqb c 3) Jammed
+    Several)))
+
+unfoldable pub arrivalAt : List ℕ → ℕ → ℕ → Heard
+arrivalAt a i u = heardOf (getD a (4096 + 256 * i + u % 256) 0)
+
+unfoldable pub withArrival : List ℕ → ℕ → ℕ → Heard → List ℕ
+withArrival a i u h = set a (4096 + 256 * i + u % 256) (heardCode h)
+
+-- one symbol more: "any symbol heard from two or more" is several
+abbrev pub alone : Symbol → Heard
+alone Silence = Nothing
+alone (Bit b) = Clean b
+alone Jam = Jammed
+
+abbrev pub overlaid : Heard → Symbol → Heard
+overlaid h Silence = h
+overlaid h (Bit b) = Several
+overlaid h Jam = Several
+
+abbrev pub joined : Heard → Symbol → Heard
+joined Nothing s = alone s
+joined (Clean b) s = overlaid (Clean b) s
+joined Jammed s = overlaid Jammed s
+joined Several s = overlaid Several s

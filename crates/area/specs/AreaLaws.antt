@@ -1,0 +1,192 @@
+-- The laws of the work area. A reader goes by its part alone; a writer keeps every part that is off its own. Any reader after any
+-- writer elsewhere follows from the two; besides, what was written is read back. Assumes nothing.
+use Prim.Native.Nat.{ℕ, zero, suc, _+_, _*_, _-_, _/_, _%_, _^_, _≤_, _<_}
+use mathlib.Core.Path.{_≡_, refl, _∙_, ap, ap₂, sym}
+use mathlib.Core.Bool.{Bool, true, false}
+use mathlib.Core.List.{List, [], _∷_}
+use native.Mathlib.Omega.{arith}
+use lib.ListN.{length, getD, set, length-set}
+use lib.Seq.{sets, length-sets, getD-set-same}
+use Rattle.octets.specs.Number.{get, put}
+use Rattle.octets.specs.NumberLaws.{length-put, get-put-same}
+use Rattle.octets.specs.Store.{part, part-same}
+use Rattle.octets.specs.Region.{Same, same-refl, same-part, same-trans, set-leaves, sets-leaves, put-leaves, words-leave, get-goes-by, words-go-by, part-goes-by}
+use Rattle.octets.specs.Words.{wordsAt, putWords}
+use Rattle.octets.specs.WordsLaws.{Small, length-put-words, words-same}
+use Rattle.layout.specs.declared.Figures.{Figures}
+use Rattle.packet.specs.declared.Heard.{Heard}
+use Rattle.packet.specs.declared.Heard.the-variants.{Nothing, Clean, Jammed, Several}
+use Rattle.station.specs.declared.step.Station.{Station}
+use Rattle.record.specs.Codec.{decoded, encoded}
+use Rattle.record.specs.CodecLaws.{Fit, decoded-encoded, encoded-small, length-encoded}
+use Rattle.area.specs.Places.{Part, clock, depth, layout, draws, counters, station, frame, buffer, place, at, size, Off, Keeps}
+use Rattle.area.specs.Area.{clockAt, withClock, depthAt, drawAt, figuresAt, countAt, positionAt, addressAt, distance, spaceAt, countersAt, withCounters, stationAt, withStation, frameAt, bufferAt, octetWith, withBit, heardOf, heardCode, arrivalAt, withArrival}
+
+-- ---- parts
+
+pub keeps-refl : (p : Part) (l : List ℕ) → Keeps p l l
+unfolding Keeps
+keeps-refl p l = same-refl (at p) (size p) l
+
+pub keeps-trans : (p : Part) (l m o : List ℕ) → Keeps p l m → Keeps p m o → Keeps p l o
+unfolding Keeps
+keeps-trans p l m o s t = same-trans (at p) (size p) l m o s t
+
+-- ---- readers
+
+module _ (l m : List ℕ) where
+  pub clock-by : Keeps clock l m → clockAt l ≡ clockAt m
+  unfolding clockAt Keeps
+  clock-by k = get-goes-by 4 0 l m k
+
+  pub depth-by : Keeps depth l m → depthAt l ≡ depthAt m
+  unfolding depthAt Keeps
+  depth-by k = get-goes-by 4 4 l m k
+
+  pub draw-by : (i k : ℕ) → i < 16 → k < 16 → Keeps draws l m → drawAt l i k ≡ drawAt m i k
+  unfolding drawAt Keeps
+  draw-by i k h g s = get-goes-by 2 (320 + 32 * i + 2 * k) l m (same-part 320 512 (320 + 32 * i + 2 * k) 2 l m (omega arith) (omega arith) s)
+
+  word-by : (b : ℕ) → Keeps layout l m → 8 ≤ b → b + 4 ≤ 320 → get 4 l b ≡ get 4 m b
+  unfolding Keeps
+  word-by b k p q = get-goes-by 4 b l m (same-part 8 312 b 4 l m p (omega arith) k)
+
+  pub figures-by : Keeps layout l m → figuresAt l ≡ figuresAt m
+  unfolding figuresAt
+  figures-by k =
+      λ i. record {
+        slot = word-by 8 k (omega arith) (omega arith) i;
+        gap1 = word-by 12 k (omega arith) (omega arith) i;
+        gap2 = word-by 16 k (omega arith) (omega arith) i;
+        jam = word-by 20 k (omega arith) (omega arith) i;
+        limit = word-by 24 k (omega arith) (omega arith) i;
+        backoff = word-by 28 k (omega arith) (omega arith) i;
+      }
+
+  pub count-by : Keeps layout l m → countAt l ≡ countAt m
+  unfolding countAt
+  count-by k = word-by 32 k (omega arith) (omega arith)
+
+  pub position-by : (i : ℕ) → i < 16 → Keeps layout l m → positionAt l i ≡ positionAt m i
+  unfolding positionAt
+  position-by i h k = word-by (64 + 16 * i) k (omega arith) (omega arith)
+
+  pub space-by : (i j : ℕ) → i < 16 → j < 16 → Keeps layout l m → spaceAt l i j ≡ spaceAt m i j
+  unfolding spaceAt
+  space-by i j hi hj k = ap₂ distance (position-by i hi k) (position-by j hj k)
+
+  pub address-by : (i : ℕ) → i < 16 → 57344 ≤ length l → 57344 ≤ length m → Keeps layout l m → addressAt l i ≡ addressAt m i
+  unfolding addressAt Keeps
+  address-by i h p q k =
+      part-goes-by 6 (68 + 16 * i) l m (omega arith) (omega arith) (same-part 8 312 (68 + 16 * i) 6 l m (omega arith) (omega arith) k)
+
+  pub counters-by : (i : ℕ) → Keeps (counters i) l m → countersAt l i ≡ countersAt m i
+  unfolding countersAt Keeps
+  counters-by i k = words-go-by 16 (1024 + 64 * i) l m k
+
+  pub station-by : (i : ℕ) → i < 16 → 57344 ≤ length l → 57344 ≤ length m → Keeps layout l m → Keeps (station i) l m → stationAt l i ≡ stationAt m i
+  unfolding stationAt Keeps
+  station-by i h p q k s =
+      ap₂ decoded
+      (words-go-by 14 (2048 + 64 * i) l m (same-part (2048 + 64 * i) 64 (2048 + 64 * i) 56 l m (omega arith) (omega arith) s))
+      (address-by i h p q k)
+
+  pub arrival-by : (i u : ℕ) → Keeps (place i u) l m → arrivalAt l i u ≡ arrivalAt m i u
+  unfolding arrivalAt Keeps Same
+  arrival-by i u k = ap heardOf (k (4096 + 256 * i + u % 256) (omega arith) (omega arith))
+
+  pub frame-by : (i n : ℕ) → i < 16 → n ≤ 1536 → 57344 ≤ length l → 57344 ≤ length m → Keeps (frame i) l m → frameAt l i n ≡ frameAt m i n
+  unfolding frameAt Keeps
+  frame-by i n h g p q k =
+      part-goes-by n (8192 + 1536 * i) l m (omega arith) (omega arith) (same-part (8192 + 1536 * i) 1536 (8192 + 1536 * i) n l m (omega arith) (omega arith) k)
+
+  pub buffer-by : (i : ℕ) → i < 16 → 57344 ≤ length l → 57344 ≤ length m → Keeps (buffer i) l m → bufferAt l i ≡ bufferAt m i
+  unfolding bufferAt Keeps
+  buffer-by i h p q k =
+      part-goes-by 1518 (32768 + 1536 * i) l m (omega arith) (omega arith)
+      (same-part (32768 + 1536 * i) 1536 (32768 + 1536 * i) 1518 l m (omega arith) (omega arith) k)
+
+-- ---- writers
+
+module _ (p : Part) (a : List ℕ) where
+  pub clock-keeps : (t : ℕ) → Off p clock → Keeps p (withClock a t) a
+  unfolding withClock Keeps
+  clock-keeps t o = put-leaves (at p) (size p) 4 0 t a o
+
+  pub counters-keeps : (i : ℕ) (cs : List ℕ) → Off p (counters i) → Keeps p (withCounters a i cs) a
+  unfolding withCounters Keeps
+  counters-keeps i cs o = words-leave (at p) (size p) 16 (1024 + 64 * i) a cs o
+
+  pub station-keeps : (i : ℕ) (s : Station) → Off p (station i) → Keeps p (withStation a i s) a
+  unfolding withStation Keeps
+  station-keeps i s o = words-leave (at p) (size p) 14 (2048 + 64 * i) a (encoded s) (λ x y. o (omega arith) (omega arith))
+
+  pub arrival-keeps : (i u : ℕ) (h : Heard) → Off p (place i u) → Keeps p (withArrival a i u h) a
+  unfolding withArrival Keeps
+  arrival-keeps i u h o = set-leaves (at p) (size p) (4096 + 256 * i + u % 256) (heardCode h) a o
+
+  pub bit-keeps : (i k : ℕ) (b : Bool) → k < 12144 → Off p (buffer i) → Keeps p (withBit a i k b) a
+  unfolding withBit Keeps
+  bit-keeps i k b h o =
+      set-leaves (at p) (size p) (32768 + 1536 * i + k / 8) (octetWith (getD a (32768 + 1536 * i + k / 8) 0) (k % 8) b) a
+      (λ x y. o (omega arith) (omega arith))
+
+module _ (a : List ℕ) where
+  pub length-clock : (t : ℕ) → length (withClock a t) ≡ length a
+  unfolding withClock
+  length-clock t = length-put 4 a 0 t
+
+  pub length-counters : (i : ℕ) (cs : List ℕ) → length (withCounters a i cs) ≡ length a
+  unfolding withCounters
+  length-counters i cs = length-put-words 16 a (1024 + 64 * i) cs
+
+  pub length-station : (i : ℕ) (s : Station) → length (withStation a i s) ≡ length a
+  unfolding withStation
+  length-station i s = length-put-words 14 a (2048 + 64 * i) (encoded s)
+
+  pub length-arrival : (i u : ℕ) (h : Heard) → length (withArrival a i u h) ≡ length a
+  unfolding withArrival
+  length-arrival i u h = length-set a (4096 + 256 * i + u % 256) (heardCode h)
+
+  pub length-bit : (i k : ℕ) (b : Bool) → length (withBit a i k b) ≡ length a
+  unfolding withBit
+  length-bit i k b = length-set a (32768 + 1536 * i + k / 8) (octetWith (getD a (32768 + 1536 * i + k / 8) 0) (k % 8) b)
+
+-- ---- what was written is read back
+
+heard-back : (h : Heard) → heardOf (heardCode h) ≡ h
+unfolding heardOf
+heard-back Nothing = refl
+heard-back (Clean true) = refl
+heard-back (Clean false) = refl
+heard-back Jammed = refl
+heard-back Several = refl
+
+module _ (a : List ℕ) (big : 57344 ≤ length a) where
+  pub clock-same : (t : ℕ) → t < 256 ^ 4 → clockAt (withClock a t) ≡ t
+  unfolding clockAt withClock
+  clock-same t b = get-put-same 4 a 0 t (omega arith) b
+
+  pub counters-same : (i : ℕ) (cs : List ℕ) → i < 16 → length cs ≡ 16 → Small cs → countersAt (withCounters a i cs) i ≡ cs
+  unfolding countersAt withCounters
+  counters-same i cs h n s = words-same 16 a (1024 + 64 * i) cs n (omega arith) s
+
+  words-back : (i : ℕ) (s : Station) → i < 16 → Fit s → wordsAt 14 (withStation a i s) (2048 + 64 * i) ≡ encoded s
+  unfolding withStation
+  words-back i s h f = words-same 14 a (2048 + 64 * i) (encoded s) (length-encoded s) (omega arith) (encoded-small s f)
+
+  -- the address stands with the layout, which the record does not touch
+  pub station-same : (i : ℕ) (s : Station) → i < 16 → Fit s → s .address ≡ addressAt a i → stationAt (withStation a i s) i ≡ s
+  unfolding stationAt
+  station-same i s h f e =
+      let k : Keeps layout (withStation a i s) a = station-keeps layout a i s (λ x y. omega arith) in
+      ap₂ decoded (words-back i s h f) (address-by (withStation a i s) a i h (omega (arith, length-station a i s)) big k ∙ sym e) ∙ decoded-encoded s
+
+  -- places are counted modulo 256
+  pub arrival-same : (i u v : ℕ) (h : Heard) → i < 16 → u % 256 ≡ v % 256 → arrivalAt (withArrival a i u h) i v ≡ h
+  unfolding arrivalAt withArrival
+  arrival-same i u v h k e = rw e (ap heardOf (getD-set-same a (4096 + 256 * i + v % 256) (heardCode h) 0 (omega arith)) ∙ heard-back h)
+
+pub arrival-turn : (a : List ℕ) (i u v : ℕ) → u % 256 ≡ v % 256 → arrivalAt a i u ≡ arrivalAt a i v
+unfolding arrivalAt
+arrival-turn a i u v e = rw e

@@ -1,0 +1,196 @@
+-- A law for each way through the code that reads and writes. Assumes nothing.
+use Prim.Native.Nat.{ℕ, suc, _+_, _-_, _*_, _/_, _%_, _^_, _≤_, _<_}
+use mathlib.Core.Path.{_≡_, refl, sym, _∙_, ap}
+use mathlib.Core.Bool.{Bool, true, false}
+use mathlib.Core.List.{List, [], _∷_}
+use native.Mathlib.Nat.{mod-lt}
+use native.Mathlib.Omega.{arith}
+use borrow.Author.Tests.{eq-eqb, ne-eqb}
+use lib.Pow.{pow-pos, pow-mono}
+use lib.ListN.{length, getD, set, take, drop}
+use lib.Seq.{drop-cons}
+use Rattle.octets.specs.Base.{pick}
+use Rattle.octets.specs.Bits.{digit}
+use Rattle.octets.specs.Number.{get, put}
+use Rattle.octets.specs.Store.{part}
+use Rattle.octets.specs.Table.{tabulated, entry}
+use Rattle.octets.specs.Words.{wordsAt, putWords}
+use Rattle.layout.specs.declared.Figures.{Figures}
+use Rattle.packet.specs.declared.Heard.{Heard}
+use Rattle.packet.specs.declared.Heard.the-variants.{Nothing, Clean, Jammed, Several}
+use Rattle.packet.specs.declared.Symbol.{Symbol}
+use Rattle.packet.specs.declared.Symbol.the-variants.{Silence, Bit, Jam}
+use Rattle.station.specs.declared.step.Station.{Station}
+use Rattle.record.specs.Codec.{decoded, encoded}
+use Rattle.area.specs.Area.{clockAt, withClock, depthAt, drawAt, figuresAt, countAt, positionAt, addressAt, distance, spaceAt, countersAt, withCounters, stationAt, withStation, octetWith, withBit, heardOf, heardCode, arrivalAt, withArrival, alone, overlaid, joined}
+
+-- ---- numbers
+
+module _ (a : List ℕ) where
+  pub clock-is : (x : ℕ) → x ≡ get 4 a 0 → x ≡ clockAt a
+  unfolding clockAt
+  clock-is x p = p
+
+  pub with-clock-is : (b : List ℕ) (t : ℕ) → b ≡ put 4 a 0 t → b ≡ withClock a t
+  unfolding withClock
+  with-clock-is b t p = p
+
+  pub depth-is : (x : ℕ) → x ≡ get 4 a 4 → x ≡ depthAt a
+  unfolding depthAt
+  depth-is x p = p
+
+  pub draw-is : (i k x : ℕ) → x ≡ get 2 a (320 + 32 * i + 2 * k) → x ≡ drawAt a i k
+  unfolding drawAt
+  draw-is i k x p = p
+
+  pub count-is : (x : ℕ) → x ≡ get 4 a 32 → x ≡ countAt a
+  unfolding countAt
+  count-is x p = p
+
+  pub position-is : (i x : ℕ) → x ≡ get 4 a (64 + 16 * i) → x ≡ positionAt a i
+  unfolding positionAt
+  position-is i x p = p
+
+  pub figures-are : (s g h j l b : ℕ) → b ≡ get 4 a 28 → l ≡ get 4 a 24 → j ≡ get 4 a 20 → h ≡ get 4 a 16 → g ≡ get 4 a 12 → s ≡ get 4 a 8
+      → record { slot = s; gap1 = g; gap2 = h; jam = j; limit = l; backoff = b } ≡ figuresAt a
+  unfolding figuresAt
+  figures-are s g h j l b pb pl pj ph pg ps = λ i. record { slot = ps i; gap1 = pg i; gap2 = ph i; jam = pj i; limit = pl i; backoff = pb i }
+
+  pub space-is : (i j d p q : ℕ) → d ≡ distance p q → q ≡ positionAt a j → p ≡ positionAt a i → d ≡ spaceAt a i j
+  unfolding spaceAt
+  space-is i j d p q e f g = e ∙ rw (f, g)
+
+pub apart-less : (p q : ℕ) → p < q → q - p ≡ distance p q
+unfolding distance
+apart-less p q h = omega arith
+
+pub apart-more : (p q : ℕ) → q ≤ p → p - q ≡ distance p q
+unfolding distance
+apart-more p q h = omega arith
+
+-- ---- an address, a record, counters
+
+six-octets : (a : List ℕ) (at : ℕ) → at + 6 ≤ length a
+    → getD a at 0 ∷ getD a (at + 1) 0 ∷ getD a (at + 2) 0 ∷ getD a (at + 3) 0 ∷ getD a (at + 4) 0 ∷ getD a (at + 5) 0 ∷ [] ≡ part a at 6
+six-octets a at h =
+    let e₁ : at + 1 ≡ suc at = omega arith in
+    let e₂ : at + 2 ≡ suc (suc at) = omega arith in
+    let e₃ : at + 3 ≡ suc (suc (suc at)) = omega arith in
+    let e₄ : at + 4 ≡ suc (suc (suc (suc at))) = omega arith in
+    let e₅ : at + 5 ≡ suc (suc (suc (suc (suc at)))) = omega arith in
+    let h₀ : at < length a = omega arith in
+    let h₁ : suc at < length a = omega arith in
+    let h₂ : suc (suc at) < length a = omega arith in
+    let h₃ : suc (suc (suc at)) < length a = omega arith in
+    let h₄ : suc (suc (suc (suc at))) < length a = omega arith in
+    let h₅ : suc (suc (suc (suc (suc at)))) < length a = omega arith in
+    rw (
+      e₁,
+      e₂,
+      e₃,
+      e₄,
+      e₅,
+      drop-cons a at 0 h₀,
+      drop-cons a (suc at) 0 h₁,
+      drop-cons a (suc (suc at)) 0 h₂,
+      drop-cons a (suc (suc (suc at))) 0 h₃,
+      drop-cons a (suc (suc (suc (suc at)))) 0 h₄,
+      drop-cons a (suc (suc (suc (suc (suc at))))) 0 h₅,
+    )
+
+pub address-is : (a : List ℕ) (i : ℕ) → i < 16 → 57344 ≤ length a
+    → getD a (68 + 16 * i) 0 ∷ getD a (68 + 16 * i + 1) 0 ∷ getD a (68 + 16 * i + 2) 0 ∷ getD a (68 + 16 * i + 3) 0 ∷ getD a (68 + 16 * i + 4) 0 ∷ getD a (68 + 16 * i + 5) 0 ∷ []
+    ≡ addressAt a i
+unfolding addressAt
+address-is a i h k = six-octets a (68 + 16 * i) (omega arith)
+
+pub station-is : (a w d : List ℕ) (i : ℕ) (s : Station) → s ≡ decoded w d → d ≡ addressAt a i → w ≡ wordsAt 14 a (2048 + 64 * i) → s ≡ stationAt a i
+unfolding stationAt
+station-is a w d i s p q r = p ∙ rw (q, r)
+
+pub with-station-is : (a b w : List ℕ) (i : ℕ) (s : Station) → b ≡ putWords (length w) a (2048 + 64 * i) w → w ≡ encoded s → b ≡ withStation a i s
+unfolding withStation encoded
+with-station-is a b w i s p q = rw q at p
+
+pub counters-are : (a w : List ℕ) (i : ℕ) → w ≡ wordsAt 16 a (1024 + 64 * i) → w ≡ countersAt a i
+unfolding countersAt
+counters-are a w i p = p
+
+pub with-counters-is : (a b cs : List ℕ) (i : ℕ) → b ≡ putWords (length cs) a (1024 + 64 * i) cs → length cs ≡ 16 → b ≡ withCounters a i cs
+unfolding withCounters
+with-counters-is a b cs i p e = rw e at p
+
+-- ---- delay lines
+
+module _ (c : ℕ) where
+  pub heard-nothing : c ≡ 0 → Nothing ≡ heardOf c
+  unfolding heardOf
+  heard-nothing p = rw (eq-eqb c 0 p)
+
+  pub heard-zero : (c ≡ 0 → ⊥) → c ≡ 1 → Clean false ≡ heardOf c
+  unfolding heardOf
+  heard-zero p q = rw (ne-eqb c 0 p, eq-eqb c 1 q)
+
+  pub heard-one : (c ≡ 0 → ⊥) → (c ≡ 1 → ⊥) → c ≡ 2 → Clean true ≡ heardOf c
+  unfolding heardOf
+  heard-one p q r = rw (ne-eqb c 0 p, ne-eqb c 1 q, eq-eqb c 2 r)
+
+  pub heard-jam : (c ≡ 0 → ⊥) → (c ≡ 1 → ⊥) → (c ≡ 2 → ⊥) → c ≡ 3 → Jammed ≡ heardOf c
+  unfolding heardOf
+  heard-jam p q r s = rw (ne-eqb c 0 p, ne-eqb c 1 q, ne-eqb c 2 r, eq-eqb c 3 s)
+
+  pub heard-several : (c ≡ 0 → ⊥) → (c ≡ 1 → ⊥) → (c ≡ 2 → ⊥) → (c ≡ 3 → ⊥) → Several ≡ heardOf c
+  unfolding heardOf
+  heard-several p q r s = rw (ne-eqb c 0 p, ne-eqb c 1 q, ne-eqb c 2 r, ne-eqb c 3 s)
+
+pub arrival-is : (a : List ℕ) (i u : ℕ) (h : Heard) → h ≡ heardOf (getD a (4096 + 256 * i + u % 256) 0) → h ≡ arrivalAt a i u
+unfolding arrivalAt
+arrival-is a i u h p = p
+
+pub with-arrival-is : (a : List ℕ) (i u x : ℕ) (h : Heard) → x ≡ heardCode h → set a (4096 + 256 * i + u % 256) x ≡ withArrival a i u h
+unfolding withArrival
+with-arrival-is a i u x h p = rw p
+
+pub alone-bit : (s : Symbol) (b : Bool) → s ≡ Bit b → Clean b ≡ alone s
+alone-bit s b p = rw p
+
+module _ (h : Heard) (s : Symbol) (r : Heard) where
+  pub joined-nothing : h ≡ Nothing → r ≡ alone s → r ≡ joined h s
+  joined-nothing p q = rw p q
+
+  pub joined-clean : (b : Bool) → h ≡ Clean b → r ≡ overlaid (Clean b) s → r ≡ joined h s
+  joined-clean b p q = rw p q
+
+  pub joined-jammed : h ≡ Jammed → r ≡ overlaid Jammed s → r ≡ joined h s
+  joined-jammed p q = rw p q
+
+  pub joined-several : h ≡ Several → r ≡ overlaid Several s → r ≡ joined h s
+  joined-several p q = rw p q
+
+-- ---- a collected bit
+
+pub power-is : (p : ℕ) → p < 8 → getD (tabulated (λ k. 2 ^ k) 0 8) p 0 ≡ 2 ^ p
+power-is p h = entry (λ k. 2 ^ k) 0 8 p h
+
+pub power-small : (p : ℕ) → p < 8 → (0 < getD (tabulated (λ k. 2 ^ k) 0 8) p 0) × (getD (tabulated (λ k. 2 ^ k) 0 8) p 0 ≤ 128)
+power-small p h =
+    let e : getD (tabulated (λ k. 2 ^ k) 0 8) p 0 ≡ 2 ^ p = power-is p h in
+    let g : p ≤ 7 = omega arith in
+    let l : 2 ^ p ≤ 2 ^ 7 = pow-mono g in
+    (omega (arith, pow-pos p), omega arith)
+
+pub low-small : (x u : ℕ) → 0 < u → x % u < u
+low-small x u h = mod-lt x h
+
+pub bit-one : (x y z p u : ℕ) (b : Bool) → z ≡ y % u → y ≡ x → u ≡ 2 ^ p → b ≡ true → z + u ≡ octetWith x p b
+unfolding octetWith
+bit-one x y z p u b d e f g = rw (d, g, f, e) (omega arith)
+
+pub bit-zero : (x y z p u : ℕ) (b : Bool) → z ≡ y % u → y ≡ x → u ≡ 2 ^ p → b ≡ false → z ≡ octetWith x p b
+unfolding octetWith
+bit-zero x y z p u b d e f g = d ∙ rw (g, f, e) (omega arith)
+
+pub with-bit-is : (a : List ℕ) (i k x : ℕ) (b : Bool) → x ≡ octetWith (getD a (32768 + 1536 * i + k / 8) 0) (k % 8) b
+    → set a (32768 + 1536 * i + k / 8) x ≡ withBit a i k b
+unfolding withBit
+with-bit-is a i k x b p = rw p

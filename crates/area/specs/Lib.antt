@@ -1,0 +1,4 @@
+pub mod Places
+pub mod Area
+pub mod CodeLaws
+pub mod AreaLaws

@@ -1,0 +1,265 @@
+// The work area: where each thing lies, read and written by name. All numbers are high octet first.
+//
+// | octets from | holds |
+// |---|---|
+// | 0 | the clock, 4 octets |
+// | 4 | D, 4 octets |
+// | 8 | slot, gap1, gap2, jam, attempt limit, backoff limit, N, 4 octets each |
+// | 64 + 16 i | station i: position, 4 octets; address, 6 octets |
+// | 320 + 32 i + 2 k | draw k of station i, 2 octets |
+// | 1024 + 64 i | the sixteen counters of station i, 4 octets each |
+// | 2048 + 64 i | the record of station i, fourteen words of 4 octets |
+// | 4096 + 256 i + u % 256 | what reaches station i in step u: 0 nothing, 1 a zero, 2 a one, 3 jam, 4 several |
+// | 8192 + 1536 i | the frame of station i, up to 1518 octets |
+// | 32768 + 1536 i | what station i collected, up to 1518 octets |
+
+use layout::Figures;
+use packet::Heard;
+use packet::Symbol;
+use station::step::Station;
+ghost use mathlib.Core.Path.{_≡_};
+ghost use Prim.Native.Nat.{_+_, _*_, _/_, _%_, _^_, _<_, _≤_};
+ghost use lib.ListN.{length};
+ghost use Rattle.area.specs.Area.{clockAt, withClock, depthAt, drawAt, figuresAt, countAt, positionAt, addressAt, distance, spaceAt, countersAt, withCounters, stationAt, withStation, withBit, heardOf, heardCode, arrivalAt, withArrival, alone, overlaid, joined, octetWith};
+
+// 2^p at place p.
+const POWERS: [u32; 8] = [1, 2, 4, 8, 16, 32, 64, 128];
+
+// The octets of a work area.
+pub const AREA: usize = 57344;
+
+pub fn read_clock(area: &[u8]) -> u32
+    requires { ⌜ 57344 ≤ length (now area) ⌝ }
+    ensures { λ r. ⌜ r ≡ clockAt (now (area .entry)) ⌝ }
+{
+    octets::get32(area, 0)
+}
+
+pub fn write_clock(area: &mut [u8], t: u32)
+    requires { ⌜ 57344 ≤ length (now area) ⌝ }
+    ensures { λ r. ⌜ now (area .exit) ≡ withClock (now (area .entry)) t ⌝ }
+{
+    octets::put32(area, 0, t);
+}
+
+// D.
+pub fn read_depth(area: &[u8]) -> u32
+    requires { ⌜ 57344 ≤ length (now area) ⌝ }
+    ensures { λ r. ⌜ r ≡ depthAt (now (area .entry)) ⌝ }
+{
+    octets::get32(area, 4)
+}
+
+// Draw k of station i.
+pub fn read_draw(area: &[u8], i: usize, k: usize) -> u32
+    requires { ⌜ (i < 16) × (k < 16) × (57344 ≤ length (now area)) ⌝ }
+    ensures { λ r. ⌜ r ≡ drawAt (now (area .entry)) i k ⌝ }
+{
+    octets::get16(area, 320 + 32 * i + 2 * k)
+}
+
+pub fn read_figures(area: &[u8]) -> Figures
+    requires { ⌜ 57344 ≤ length (now area) ⌝ }
+    ensures { λ r. ⌜ r ≡ figuresAt (now (area .entry)) ⌝ }
+{
+    Figures {
+        slot: octets::get32(area, 8),
+        gap1: octets::get32(area, 12),
+        gap2: octets::get32(area, 16),
+        jam: octets::get32(area, 20),
+        limit: octets::get32(area, 24),
+        backoff: octets::get32(area, 28),
+    }
+}
+
+// N.
+pub fn read_count(area: &[u8]) -> u32
+    requires { ⌜ 57344 ≤ length (now area) ⌝ }
+    ensures { λ r. ⌜ r ≡ countAt (now (area .entry)) ⌝ }
+{
+    octets::get32(area, 32)
+}
+
+pub fn read_position(area: &[u8], i: usize) -> u32
+    requires { ⌜ (i < 16) × (57344 ≤ length (now area)) ⌝ }
+    ensures { λ r. ⌜ r ≡ positionAt (now (area .entry)) i ⌝ }
+{
+    octets::get32(area, 64 + 16 * i)
+}
+
+pub fn read_address(area: &[u8], i: usize) -> [u8; 6]
+    requires { ⌜ (i < 16) × (57344 ≤ length (now area)) ⌝ }
+    ensures { λ r. ⌜ r ≡ addressAt (now (area .entry)) i ⌝ }
+{
+    let at = 68 + 16 * i;
+    [
+        area[at],
+        area[at + 1],
+        area[at + 2],
+        area[at + 3],
+        area[at + 4],
+        area[at + 5],
+    ]
+}
+
+fn apart(p: u32, q: u32) -> u32
+    ensures { λ r. ⌜ r ≡ distance p q ⌝ }
+{
+    if p < q { q - p } else { p - q }
+}
+
+// The distance of two stations in bit times.
+pub fn space(area: &[u8], i: usize, j: usize) -> u32
+    requires { ⌜ (i < 16) × (j < 16) × (57344 ≤ length (now area)) ⌝ }
+    ensures { λ r. ⌜ r ≡ spaceAt (now (area .entry)) i j ⌝ }
+{
+    apart(read_position(area, i), read_position(area, j))
+}
+
+pub fn read_counters(area: &[u8], i: usize) -> [u32; 16]
+    requires { ⌜ (i < 16) × (57344 ≤ length (now area)) ⌝ }
+    ensures { λ r. ⌜ r ≡ countersAt (now (area .entry)) i ⌝ }
+{
+    let mut w = [0u32; 16];
+    octets::load_words(area, 1024 + 64 * i, &mut w);
+    w
+}
+
+pub fn write_counters(area: &mut [u8], i: usize, counters: [u32; 16])
+    requires { ⌜ (i < 16) × (57344 ≤ length (now area)) ⌝ }
+    ensures { λ r. ⌜ now (area .exit) ≡ withCounters (now (area .entry)) i counters ⌝ }
+{
+    octets::store_words(area, 1024 + 64 * i, &counters);
+}
+
+pub fn read_station(area: &[u8], i: usize) -> Station
+    requires { ⌜ (i < 16) × (57344 ≤ length (now area)) ⌝ }
+    ensures { λ r. ⌜ r ≡ stationAt (now (area .entry)) i ⌝ }
+{
+    let mut w = [0u32; 14];
+    octets::load_words(area, 2048 + 64 * i, &mut w);
+    let address = read_address(area, i);
+    record::decode(w, address)
+}
+
+pub fn write_station(area: &mut [u8], i: usize, s: Station)
+    requires { ⌜ (i < 16) × (57344 ≤ length (now area)) ⌝ }
+    ensures { λ r. ⌜ now (area .exit) ≡ withStation (now (area .entry)) i s ⌝ }
+{
+    let w = record::encode(s);
+    octets::store_words(area, 2048 + 64 * i, &w);
+}
+
+fn heard_of(code: u8) -> Heard
+    ensures { λ r. ⌜ r ≡ heardOf code ⌝ }
+{
+    if code == 0 {
+        return Heard::Nothing;
+    }
+    if code == 1 {
+        return Heard::Clean(false);
+    }
+    if code == 2 {
+        return Heard::Clean(true);
+    }
+    if code == 3 {
+        return Heard::Jammed;
+    }
+    Heard::Several
+}
+
+fn heard_code(h: Heard) -> u8
+    ensures { λ r. ⌜ r ≡ heardCode h ⌝ }
+{
+    match h {
+        Heard::Nothing => 0,
+        Heard::Clean(b) => { if b { 2 } else { 1 } }
+        Heard::Jammed => 3,
+        Heard::Several => 4,
+    }
+}
+
+// What reaches station i in step u.
+pub fn arrival(area: &[u8], i: usize, u: usize) -> Heard
+    requires { ⌜ (i < 16) × (57344 ≤ length (now area)) ⌝ }
+    ensures { λ r. ⌜ r ≡ arrivalAt (now (area .entry)) i u ⌝ }
+{
+    heard_of(area[4096 + 256 * i + u % 256])
+}
+
+pub fn put_arrival(area: &mut [u8], i: usize, u: usize, h: Heard)
+    requires { ⌜ (i < 16) × (57344 ≤ length (now area)) ⌝ }
+    ensures { λ r. ⌜ now (area .exit) ≡ withArrival (now (area .entry)) i u h ⌝ }
+{
+    area[4096 + 256 * i + u % 256] = heard_code(h);
+}
+
+fn alone_heard(s: Symbol) -> Heard
+    ensures { λ r. ⌜ r ≡ alone s ⌝ }
+{
+    match s {
+        Symbol::Silence => Heard::Nothing,
+        Symbol::Bit(b) => Heard::Clean(b),
+        Symbol::Jam => Heard::Jammed,
+    }
+}
+
+fn overlay(h: Heard, s: Symbol) -> Heard
+    ensures { λ r. ⌜ r ≡ overlaid h s ⌝ }
+{
+    match s {
+        Symbol::Silence => h,
+        Symbol::Bit(_) => Heard::Several,
+        Symbol::Jam => Heard::Several,
+    }
+}
+
+// What is heard with one symbol more.
+pub fn join(h: Heard, s: Symbol) -> Heard
+    ensures { λ r. ⌜ r ≡ joined h s ⌝ }
+{
+    match h {
+        Heard::Nothing => alone_heard(s),
+        Heard::Clean(b) => overlay(Heard::Clean(b), s),
+        Heard::Jammed => overlay(Heard::Jammed, s),
+        Heard::Several => overlay(Heard::Several, s),
+    }
+}
+
+fn power(p: usize) -> u32
+    requires { ⌜ p < 8 ⌝ }
+    ensures value { λ r. ⌜ r ≡ 2 ^ p ⌝ }
+    ensures some { λ r. ⌜ (0 < r) × (r ≤ 128) ⌝ }
+{
+    POWERS[p]
+}
+
+fn remainder(x: u32, unit: u32) -> u32
+    requires { ⌜ 0 < unit ⌝ }
+    ensures value { λ r. ⌜ r ≡ x % unit ⌝ }
+    ensures small { λ r. ⌜ r < unit ⌝ }
+{
+    x % unit
+}
+
+// An octet with bit p stored: the bits below it stay, those above it are 0.
+fn octet_with(x: u8, p: usize, one: bool) -> u8
+    requires { ⌜ p < 8 ⌝ }
+    ensures { λ r. ⌜ r ≡ octetWith x p one ⌝ }
+{
+    let unit = power(p);
+    let low = remainder(octets::wide(x), unit);
+    if one {
+        return (low + unit) as u8;
+    }
+    low as u8
+}
+
+// Stores collected bit k of station i.
+pub fn store_bit(area: &mut [u8], i: usize, k: usize, one: bool)
+    requires { ⌜ (i < 16) × (k < 12144) × (57344 ≤ length (now area)) ⌝ }
+    ensures { λ r. ⌜ now (area .exit) ≡ withBit (now (area .entry)) i k one ⌝ }
+{
+    let at = 32768 + 1536 * i + k / 8;
+    area[at] = octet_with(area[at], k % 8, one);
+}
