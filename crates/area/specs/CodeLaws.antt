@@ -8,7 +8,6 @@ use native.Mathlib.Omega.{arith}
 use borrow.Author.Tests.{eq-eqb, ne-eqb}
 use lib.Pow.{pow-pos, pow-mono}
 use lib.ListN.{length, getD, set, take, drop}
-use lib.Seq.{drop-cons}
 use Rattle.octets.specs.Base.{pick}
 use Rattle.octets.specs.Bits.{digit}
 use Rattle.octets.specs.Number.{get, put}
@@ -70,39 +69,9 @@ apart-more p q h = omega arith
 
 -- ---- an address, a record, counters
 
-six-octets : (a : List ℕ) (at : ℕ) → at + 6 ≤ length a
-    → getD a at 0 ∷ getD a (at + 1) 0 ∷ getD a (at + 2) 0 ∷ getD a (at + 3) 0 ∷ getD a (at + 4) 0 ∷ getD a (at + 5) 0 ∷ [] ≡ part a at 6
-six-octets a at h =
-    let e₁ : at + 1 ≡ suc at = omega arith in
-    let e₂ : at + 2 ≡ suc (suc at) = omega arith in
-    let e₃ : at + 3 ≡ suc (suc (suc at)) = omega arith in
-    let e₄ : at + 4 ≡ suc (suc (suc (suc at))) = omega arith in
-    let e₅ : at + 5 ≡ suc (suc (suc (suc (suc at)))) = omega arith in
-    let h₀ : at < length a = omega arith in
-    let h₁ : suc at < length a = omega arith in
-    let h₂ : suc (suc at) < length a = omega arith in
-    let h₃ : suc (suc (suc at)) < length a = omega arith in
-    let h₄ : suc (suc (suc (suc at))) < length a = omega arith in
-    let h₅ : suc (suc (suc (suc (suc at)))) < length a = omega arith in
-    rw (
-      e₁,
-      e₂,
-      e₃,
-      e₄,
-      e₅,
-      drop-cons a at 0 h₀,
-      drop-cons a (suc at) 0 h₁,
-      drop-cons a (suc (suc at)) 0 h₂,
-      drop-cons a (suc (suc (suc at))) 0 h₃,
-      drop-cons a (suc (suc (suc (suc at)))) 0 h₄,
-      drop-cons a (suc (suc (suc (suc (suc at))))) 0 h₅,
-    )
-
-pub address-is : (a : List ℕ) (i : ℕ) → i < 16 → 57344 ≤ length a
-    → getD a (68 + 16 * i) 0 ∷ getD a (68 + 16 * i + 1) 0 ∷ getD a (68 + 16 * i + 2) 0 ∷ getD a (68 + 16 * i + 3) 0 ∷ getD a (68 + 16 * i + 4) 0 ∷ getD a (68 + 16 * i + 5) 0 ∷ []
-    ≡ addressAt a i
+pub address-is : (a r : List ℕ) (i : ℕ) → r ≡ part a (68 + 16 * i) 6 → r ≡ addressAt a i
 unfolding addressAt
-address-is a i h k = six-octets a (68 + 16 * i) (omega arith)
+address-is a r i p = p
 
 pub station-is : (a w d : List ℕ) (i : ℕ) (s : Station) → s ≡ decoded w d → d ≡ addressAt a i → w ≡ wordsAt 14 a (2048 + 64 * i) → s ≡ stationAt a i
 unfolding stationAt

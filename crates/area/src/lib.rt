@@ -91,15 +91,7 @@ pub fn read_address(area: &[u8], i: usize) -> [u8; 6]
     requires { ⌜ (i < 16) × (57344 ≤ length (now area)) ⌝ }
     ensures { λ r. ⌜ r ≡ addressAt (now (area .entry)) i ⌝ }
 {
-    let at = 68 + 16 * i;
-    [
-        area[at],
-        area[at + 1],
-        area[at + 2],
-        area[at + 3],
-        area[at + 4],
-        area[at + 5],
-    ]
+    octets::six(area, 68 + 16 * i)
 }
 
 fn apart(p: u32, q: u32) -> u32

@@ -264,7 +264,7 @@ const TABLE: [u32; 256] = [
 ];
 
 // What eight shifts make of a register that holds an octet alone.
-pub fn entry(k: usize) -> u32
+pub(crate) fn entry(k: usize) -> u32
     requires { ⌜ k < 256 ⌝ }
     ensures { λ r. ⌜ r ≡ shifts 8 k ⌝ }
 {

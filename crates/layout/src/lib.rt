@@ -40,7 +40,7 @@ pub enum Fit {
 }
 
 // Station i.
-pub fn tap_at(y: Layout, i: usize) -> Tap
+fn tap_at(y: Layout, i: usize) -> Tap
     requires { ⌜ i < 16 ⌝ }
     ensures { λ r. ⌜ r ≡ tapAt y i ⌝ }
 {

@@ -8,7 +8,7 @@ use native.Mathlib.Nat.{add-zero}
 use native.Mathlib.Numerals.{add-one}
 use native.Mathlib.Omega.{arith}
 use lib.ListN.{length, getD, set, take, drop, length-set, length-drop}
-use lib.Seq.{sets, length-sets, take-suc, take-all, getD-set-same, getD-set-other, getD-take, getD-drop, ext-getD, length-take-le}
+use lib.Seq.{sets, length-sets, take-suc, take-all, drop-cons, getD-set-same, getD-set-other, getD-take, getD-drop, ext-getD, length-take-le}
 
 -- the n octets from `at` on
 abbrev pub part : List ℕ → ℕ → ℕ → List ℕ
@@ -61,6 +61,35 @@ part-same vs l at h =
 -- what was stored at the front is the front
 pub take-sets : (vs l : List ℕ) (n : ℕ) → n ≡ length vs → length vs ≤ length l → take n (sets l 0 vs) ≡ vs
 take-sets vs l n p h = rw p (part-same vs l 0 (omega arith))
+
+-- six octets, as an address has, one by one
+pub six-octets : (a : List ℕ) (at : ℕ) → at + 6 ≤ length a
+    → getD a at 0 ∷ getD a (at + 1) 0 ∷ getD a (at + 2) 0 ∷ getD a (at + 3) 0 ∷ getD a (at + 4) 0 ∷ getD a (at + 5) 0 ∷ [] ≡ part a at 6
+six-octets a at h =
+    let e₁ : at + 1 ≡ suc at = omega arith in
+    let e₂ : at + 2 ≡ suc (suc at) = omega arith in
+    let e₃ : at + 3 ≡ suc (suc (suc at)) = omega arith in
+    let e₄ : at + 4 ≡ suc (suc (suc (suc at))) = omega arith in
+    let e₅ : at + 5 ≡ suc (suc (suc (suc (suc at)))) = omega arith in
+    let h₀ : at < length a = omega arith in
+    let h₁ : suc at < length a = omega arith in
+    let h₂ : suc (suc at) < length a = omega arith in
+    let h₃ : suc (suc (suc at)) < length a = omega arith in
+    let h₄ : suc (suc (suc (suc at))) < length a = omega arith in
+    let h₅ : suc (suc (suc (suc (suc at)))) < length a = omega arith in
+    rw (
+      e₁,
+      e₂,
+      e₃,
+      e₄,
+      e₅,
+      drop-cons a at 0 h₀,
+      drop-cons a (suc at) 0 h₁,
+      drop-cons a (suc (suc at)) 0 h₂,
+      drop-cons a (suc (suc (suc at))) 0 h₃,
+      drop-cons a (suc (suc (suc (suc at)))) 0 h₄,
+      drop-cons a (suc (suc (suc (suc (suc at))))) 0 h₅,
+    )
 
 -- ---- stores in a row
 

@@ -9,6 +9,7 @@ ghost use Rattle.octets.specs.Base.{outside};
 ghost use Rattle.octets.specs.Number.{get, put};
 ghost use Rattle.octets.specs.Words.{putWords, wordsAt};
 ghost use Rattle.octets.specs.Equal.{equal};
+ghost use Rattle.octets.specs.Store.{part};
 
 // An octet as a wider number. That it is below 256 is said here once, so that no caller shows that a sum of octets fits.
 pub fn wide(x: u8) -> u32
@@ -89,6 +90,14 @@ pub fn store(s: &mut [u8], at: usize, src: &[u8])
         s[at + i] = src[i];
         i += 1;
     }
+}
+
+// The six octets from `at` on.
+pub fn six(s: &[u8], at: usize) -> [u8; 6]
+    requires { ⌜ at + 6 ≤ length (now s) ⌝ }
+    ensures { λ r. ⌜ r ≡ part (now (s .entry)) at 6 ⌝ }
+{
+    [s[at], s[at + 1], s[at + 2], s[at + 3], s[at + 4], s[at + 5]]
 }
 
 // Whether the two hold the same octets.

@@ -103,42 +103,9 @@ field-two l at w absent x p q r h = let e : w ≡ 2 = omega arith in p ∙ rw e
 
 -- ---- a station, and all of them
 
-pub tap-in : (l : List ℕ) (at x : ℕ) → x ≡ getD l at 0 → at + 7 ≤ length l
-    → record {
-      position = x;
-      address = getD l (at + 1) 0 ∷ getD l (at + 2) 0 ∷ getD l (at + 3) 0 ∷ getD l (at + 4) 0 ∷ getD l (at + 5) 0 ∷ getD l (at + 6) 0 ∷ [];
-    } ≡ tapIn l at
+pub tap-in : (l d : List ℕ) (at x : ℕ) → x ≡ getD l at 0 → d ≡ part l (at + 1) 6 → record { position = x; address = d } ≡ tapIn l at
 unfolding tapIn
-tap-in l at x p h = λ i. record { position = p i; address = six i }
-  where
-    six : getD l (at + 1) 0 ∷ getD l (at + 2) 0 ∷ getD l (at + 3) 0 ∷ getD l (at + 4) 0 ∷ getD l (at + 5) 0 ∷ getD l (at + 6) 0 ∷ [] ≡ part l (at + 1) 6
-    six =
-        let e₁ : at + 1 ≡ suc at = omega arith in
-        let e₂ : at + 2 ≡ suc (suc at) = omega arith in
-        let e₃ : at + 3 ≡ suc (suc (suc at)) = omega arith in
-        let e₄ : at + 4 ≡ suc (suc (suc (suc at))) = omega arith in
-        let e₅ : at + 5 ≡ suc (suc (suc (suc (suc at)))) = omega arith in
-        let e₆ : at + 6 ≡ suc (suc (suc (suc (suc (suc at))))) = omega arith in
-        let h₁ : suc at < length l = omega arith in
-        let h₂ : suc (suc at) < length l = omega arith in
-        let h₃ : suc (suc (suc at)) < length l = omega arith in
-        let h₄ : suc (suc (suc (suc at))) < length l = omega arith in
-        let h₅ : suc (suc (suc (suc (suc at)))) < length l = omega arith in
-        let h₆ : suc (suc (suc (suc (suc (suc at))))) < length l = omega arith in
-        rw (
-          e₁,
-          e₂,
-          e₃,
-          e₄,
-          e₅,
-          e₆,
-          drop-cons l (suc at) 0 h₁,
-          drop-cons l (suc (suc at)) 0 h₂,
-          drop-cons l (suc (suc (suc at))) 0 h₃,
-          drop-cons l (suc (suc (suc (suc at)))) 0 h₄,
-          drop-cons l (suc (suc (suc (suc (suc at))))) 0 h₅,
-          drop-cons l (suc (suc (suc (suc (suc (suc at)))))) 0 h₆,
-        )
+tap-in l d at x p q = λ i. record { position = p i; address = q i }
 
 pub length-taps : (n : ℕ) (l : List ℕ) (at : ℕ) → length (tapsIn n l at) ≡ n
 unfolding tapsIn

@@ -104,14 +104,7 @@ fn read_tap(s: &[u8], at: usize) -> Tap
     requires { ⌜ at + 7 ≤ length (now s) ⌝ }
     ensures { λ r. ⌜ r ≡ tapIn (now (s .entry)) at ⌝ }
 {
-    let address = [
-        s[at + 1],
-        s[at + 2],
-        s[at + 3],
-        s[at + 4],
-        s[at + 5],
-        s[at + 6],
-    ];
+    let address = octets::six(s, at + 1);
     let position = octets::wide(s[at]);
     Tap { position, address }
 }

@@ -129,7 +129,7 @@ fn least(a: u32, b: u32) -> u32
 }
 
 // The backoff range after attempt n.
-pub fn range_after(n: u32, backoff: u32) -> u32
+fn range_after(n: u32, backoff: u32) -> u32
     requires { ⌜ backoff < 16 ⌝ }
     ensures value { λ r. ⌜ r ≡ backoffRange n backoff ⌝ }
     ensures some { λ r. ⌜ (0 < r) × (r < 65536) ⌝ }

@@ -40,7 +40,7 @@ fn print_texts() {
     print_text(b"The quick brown fox jumps over the lazy dog");
 }
 
-pub fn print_all() {
+pub(crate) fn print_all() {
     print_one(b"(no octets)", b"");
     print_autosar();
     print_texts();

@@ -162,7 +162,7 @@ fn print_damaged() {
     print_opened(&out, 64, 3);
 }
 
-pub fn print_all() {
+pub(crate) fn print_all() {
     print_sizes();
     print_published();
     print_damaged();

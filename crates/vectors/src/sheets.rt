@@ -105,7 +105,7 @@ fn print_lines(text: &[u8]) {
     }
 }
 
-pub fn print_all() {
+pub(crate) fn print_all() {
     let mut text = io::large_buffer();
     let n = io::read_full(STDIN_FILENO, &mut text);
     print_lines(&text[..n]);

@@ -1,66 +1,26 @@
--- `area::read_address` meets its contract. Assumes nothing.
 use Rattle.area.specs.CodeLaws.{address-is}
 use borrow.Author.Needs.{needs}
 use Rattle.area.proofs.read_address.Statement.{statement}
 use Rattle.area.proofs.read_address.Tie as tie
+use Rattle.area.proofs.read_address.Reads as reads
+use Rattle.area.proofs.read_address.Lts as lts
+use Rattle.octets.proofs.six.Reads as six-reads
 
-mul-at : tie.Need-mul-at
-mul-at c = search needs
+-- src/lib.rt:94:28
+mul-six : tie.Need-mul-six
+mul-six c = search needs
 
-add-at : tie.Need-add-at
-add-at c = search needs
+-- src/lib.rt:94:23
+add-six : tie.Need-add-six
+add-six c = search needs
 
-shared-slice-read-t6 : tie.Need-shared-slice-read-t6
-shared-slice-read-t6 c = search needs
+-- src/lib.rt:94:5
+six-requires : tie.Need-six-requires
+six-requires c κs = search needs
 
-add-t4 : tie.Need-add-t4
-add-t4 c = search needs
-
-shared-slice-read-t8 : tie.Need-shared-slice-read-t8
-shared-slice-read-t8 c = search needs
-
-add-t9 : tie.Need-add-t9
-add-t9 c = search needs
-
-shared-slice-read-t11 : tie.Need-shared-slice-read-t11
-shared-slice-read-t11 c = search needs
-
-add-t12 : tie.Need-add-t12
-add-t12 c = search needs
-
-shared-slice-read-t14 : tie.Need-shared-slice-read-t14
-shared-slice-read-t14 c = search needs
-
-add-t15 : tie.Need-add-t15
-add-t15 c = search needs
-
-shared-slice-read-t17 : tie.Need-shared-slice-read-t17
-shared-slice-read-t17 c = search needs
-
-add-t18 : tie.Need-add-t18
-add-t18 c = search needs
-
-shared-slice-read-t20 : tie.Need-shared-slice-read-t20
-shared-slice-read-t20 c = search needs
-
+-- src/lib.rt:90:1
 returns : tie.Need-returns
 returns c = search address-is
 
 pub read-address-spec : {M : Type 1} → statement M
-read-address-spec =
-    tie.close
-    (tie.spec
-    mul-at
-    add-at
-    shared-slice-read-t6
-    add-t4
-    shared-slice-read-t8
-    add-t9
-    shared-slice-read-t11
-    add-t12
-    shared-slice-read-t14
-    add-t15
-    shared-slice-read-t17
-    add-t18
-    shared-slice-read-t20
-    returns)
+read-address-spec = tie.close (tie.spec mul-six add-six six-requires returns)
