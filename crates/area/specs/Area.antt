@@ -12,7 +12,8 @@ use Rattle.octets.specs.Words.{wordsAt, putWords}
 use Rattle.layout.specs.declared.Figures.{Figures}
 use Rattle.layout.specs.declared.Tap.{Tap}
 use Rattle.layout.specs.declared.Layout.{Layout}
-use Rattle.layout.specs.Layout.{places, blankTap}
+use Rattle.layout.specs.Layout.{places}
+use Rattle.layout.specs.Taps.{placesOf}
 use Rattle.packet.specs.declared.Heard.{Heard}
 use Rattle.packet.specs.declared.Heard.the-variants.{Nothing, Clean, Jammed, Several}
 use Rattle.packet.specs.declared.Symbol.{Symbol}
@@ -49,6 +50,13 @@ positionAt a i = get 4 a (64 + 16 * i)
 unfoldable pub addressAt : List ℕ → ℕ → List ℕ
 addressAt a i = part a (68 + 16 * i) 6
 
+-- station i, and the layout, blank after its stations
+abbrev pub tapAt : List ℕ → ℕ → Tap
+tapAt a i = record { position = positionAt a i; address = addressAt a i }
+
+unfoldable pub layoutAt : List ℕ → Layout
+layoutAt a = record { figures = figuresAt a; count = countAt a; stations = placesOf (tapAt a) (min (countAt a) places) }
+
 -- |p(i) − p(j)|
 unfoldable pub distance : ℕ → ℕ → ℕ
 distance p q = (p - q) + (q - p)
@@ -64,8 +72,12 @@ countersAt a i = wordsAt 16 a (1024 + 64 * i)
 unfoldable pub withCounters : List ℕ → ℕ → List ℕ → List ℕ
 withCounters a i cs = putWords 16 a (1024 + 64 * i) cs
 
+-- its record, and the state that it stands for
+unfoldable pub recordAt : List ℕ → ℕ → List ℕ
+recordAt a i = wordsAt 14 a (2048 + 64 * i)
+
 unfoldable pub stationAt : List ℕ → ℕ → Station
-stationAt a i = decoded (wordsAt 14 a (2048 + 64 * i)) (addressAt a i)
+stationAt a i = decoded (recordAt a i) (addressAt a i)
 
 unfoldable pub withStation : List ℕ → ℕ → Station → List ℕ
 withStation a i s = putWords 14 a (2048 + 64 * i) (encoded s)
@@ -104,8 +116,12 @@ heardOf c =
     (pick (eqb c 3) Jammed
     Several)))
 
+-- the code at place u, counted modulo 256, and what it stands for
+unfoldable pub symbolAt : List ℕ → ℕ → ℕ → ℕ
+symbolAt a i u = getD a (4096 + 256 * i + u % 256) 0
+
 unfoldable pub arrivalAt : List ℕ → ℕ → ℕ → Heard
-arrivalAt a i u = heardOf (getD a (4096 + 256 * i + u % 256) 0)
+arrivalAt a i u = heardOf (symbolAt a i u)
 
 unfoldable pub withArrival : List ℕ → ℕ → ℕ → Heard → List ℕ
 withArrival a i u h = set a (4096 + 256 * i + u % 256) (heardCode h)

@@ -20,7 +20,7 @@ use Rattle.station.specs.declared.step.Station.{Station}
 use Rattle.record.specs.Codec.{decoded, encoded}
 use Rattle.record.specs.CodecLaws.{Fit, decoded-encoded, encoded-small, length-encoded}
 use Rattle.area.specs.Places.{Part, clock, depth, layout, draws, counters, station, frame, buffer, place, at, size, Off, Keeps}
-use Rattle.area.specs.Area.{clockAt, withClock, depthAt, drawAt, figuresAt, countAt, positionAt, addressAt, distance, spaceAt, countersAt, withCounters, stationAt, withStation, frameAt, bufferAt, octetWith, withBit, heardOf, heardCode, arrivalAt, withArrival}
+use Rattle.area.specs.Area.{clockAt, withClock, depthAt, drawAt, figuresAt, countAt, positionAt, addressAt, distance, spaceAt, countersAt, withCounters, recordAt, stationAt, withStation, frameAt, bufferAt, octetWith, withBit, heardOf, heardCode, symbolAt, arrivalAt, withArrival}
 
 -- ---- parts
 
@@ -85,14 +85,14 @@ module _ (l m : List ℕ) where
   counters-by i k = words-go-by 16 (1024 + 64 * i) l m k
 
   pub station-by : (i : ℕ) → i < 16 → 57344 ≤ length l → 57344 ≤ length m → Keeps layout l m → Keeps (station i) l m → stationAt l i ≡ stationAt m i
-  unfolding stationAt Keeps
+  unfolding stationAt recordAt Keeps
   station-by i h p q k s =
       ap₂ decoded
       (words-go-by 14 (2048 + 64 * i) l m (same-part (2048 + 64 * i) 64 (2048 + 64 * i) 56 l m (omega arith) (omega arith) s))
       (address-by i h p q k)
 
   pub arrival-by : (i u : ℕ) → Keeps (place i u) l m → arrivalAt l i u ≡ arrivalAt m i u
-  unfolding arrivalAt Keeps Same
+  unfolding arrivalAt symbolAt Keeps Same
   arrival-by i u k = ap heardOf (k (4096 + 256 * i + u % 256) (omega arith) (omega arith))
 
   pub frame-by : (i n : ℕ) → i < 16 → n ≤ 1536 → 57344 ≤ length l → 57344 ≤ length m → Keeps (frame i) l m → frameAt l i n ≡ frameAt m i n
@@ -177,16 +177,16 @@ module _ (a : List ℕ) (big : 57344 ≤ length a) where
 
   -- the address stands with the layout, which the record does not touch
   pub station-same : (i : ℕ) (s : Station) → i < 16 → Fit s → s .address ≡ addressAt a i → stationAt (withStation a i s) i ≡ s
-  unfolding stationAt
+  unfolding stationAt recordAt
   station-same i s h f e =
       let k : Keeps layout (withStation a i s) a = station-keeps layout a i s (λ x y. omega arith) in
       ap₂ decoded (words-back i s h f) (address-by (withStation a i s) a i h (omega (arith, length-station a i s)) big k ∙ sym e) ∙ decoded-encoded s
 
   -- places are counted modulo 256
   pub arrival-same : (i u v : ℕ) (h : Heard) → i < 16 → u % 256 ≡ v % 256 → arrivalAt (withArrival a i u h) i v ≡ h
-  unfolding arrivalAt withArrival
+  unfolding arrivalAt symbolAt withArrival
   arrival-same i u v h k e = rw e (ap heardOf (getD-set-same a (4096 + 256 * i + v % 256) (heardCode h) 0 (omega arith)) ∙ heard-back h)
 
 pub arrival-turn : (a : List ℕ) (i u v : ℕ) → u % 256 ≡ v % 256 → arrivalAt a i u ≡ arrivalAt a i v
-unfolding arrivalAt
+unfolding arrivalAt symbolAt
 arrival-turn a i u v e = rw e

@@ -1,5 +1,5 @@
 -- A law for each way through the code that reads and writes. Assumes nothing.
-use Prim.Native.Nat.{ℕ, suc, _+_, _-_, _*_, _/_, _%_, _^_, _≤_, _<_}
+use Prim.Native.Nat.{ℕ, suc, _+_, _-_, _*_, _/_, _%_, _^_, _≤_, _<_, min}
 use mathlib.Core.Path.{_≡_, refl, sym, _∙_, ap}
 use mathlib.Core.Bool.{Bool, true, false}
 use mathlib.Core.List.{List, [], _∷_}
@@ -15,13 +15,16 @@ use Rattle.octets.specs.Store.{part}
 use Rattle.octets.specs.Table.{tabulated, entry}
 use Rattle.octets.specs.Words.{wordsAt, putWords}
 use Rattle.layout.specs.declared.Figures.{Figures}
+use Rattle.layout.specs.declared.Tap.{Tap}
+use Rattle.layout.specs.declared.Layout.{Layout}
+use Rattle.layout.specs.Taps.{placesOf}
 use Rattle.packet.specs.declared.Heard.{Heard}
 use Rattle.packet.specs.declared.Heard.the-variants.{Nothing, Clean, Jammed, Several}
 use Rattle.packet.specs.declared.Symbol.{Symbol}
 use Rattle.packet.specs.declared.Symbol.the-variants.{Silence, Bit, Jam}
 use Rattle.station.specs.declared.step.Station.{Station}
 use Rattle.record.specs.Codec.{decoded, encoded}
-use Rattle.area.specs.Area.{clockAt, withClock, depthAt, drawAt, figuresAt, countAt, positionAt, addressAt, distance, spaceAt, countersAt, withCounters, stationAt, withStation, octetWith, withBit, heardOf, heardCode, arrivalAt, withArrival, alone, overlaid, joined}
+use Rattle.area.specs.Area.{clockAt, withClock, depthAt, drawAt, figuresAt, countAt, positionAt, addressAt, tapAt, layoutAt, distance, spaceAt, countersAt, withCounters, recordAt, stationAt, withStation, octetWith, withBit, heardOf, heardCode, symbolAt, arrivalAt, withArrival, alone, overlaid, joined}
 
 -- ---- numbers
 
@@ -73,7 +76,11 @@ pub address-is : (a r : List ℕ) (i : ℕ) → r ≡ part a (68 + 16 * i) 6 →
 unfolding addressAt
 address-is a r i p = p
 
-pub station-is : (a w d : List ℕ) (i : ℕ) (s : Station) → s ≡ decoded w d → d ≡ addressAt a i → w ≡ wordsAt 14 a (2048 + 64 * i) → s ≡ stationAt a i
+pub record-is : (a w : List ℕ) (i : ℕ) → w ≡ wordsAt 14 a (2048 + 64 * i) → w ≡ recordAt a i
+unfolding recordAt
+record-is a w i p = p
+
+pub station-is : (a w d : List ℕ) (i : ℕ) (s : Station) → s ≡ decoded w d → d ≡ addressAt a i → w ≡ recordAt a i → s ≡ stationAt a i
 unfolding stationAt
 station-is a w d i s p q r = p ∙ rw (q, r)
 
@@ -88,6 +95,14 @@ counters-are a w i p = p
 pub with-counters-is : (a b cs : List ℕ) (i : ℕ) → b ≡ putWords (length cs) a (1024 + 64 * i) cs → length cs ≡ 16 → b ≡ withCounters a i cs
 unfolding withCounters
 with-counters-is a b cs i p e = rw e at p
+
+pub layout-is : (a : List ℕ) (f : Figures) (n k : ℕ) (ts : List Tap) → ts ≡ placesOf (tapAt a) k → k ≡ min n 16 → n ≡ countAt a → f ≡ figuresAt a
+    → record { figures = f; count = n; stations = ts } ≡ layoutAt a
+unfolding layoutAt
+layout-is a f n k ts p q e g = λ i. record { figures = g i; count = e i; stations = (p ∙ ap (placesOf (tapAt a)) (q ∙ ap (λ (m : ℕ). min m 16) e)) i }
+
+pub tap-is : (a d : List ℕ) (i x : ℕ) → x ≡ positionAt a i → d ≡ addressAt a i → record { position = x; address = d } ≡ tapAt a i
+tap-is a d i x p q = λ k. record { position = p k; address = q k }
 
 -- ---- delay lines
 
@@ -112,9 +127,13 @@ module _ (c : ℕ) where
   unfolding heardOf
   heard-several p q r s = rw (ne-eqb c 0 p, ne-eqb c 1 q, ne-eqb c 2 r, ne-eqb c 3 s)
 
-pub arrival-is : (a : List ℕ) (i u : ℕ) (h : Heard) → h ≡ heardOf (getD a (4096 + 256 * i + u % 256) 0) → h ≡ arrivalAt a i u
+pub symbol-is : (a : List ℕ) (i u : ℕ) → getD a (4096 + 256 * i + u % 256) 0 ≡ symbolAt a i u
+unfolding symbolAt
+symbol-is a i u = refl
+
+pub arrival-is : (a : List ℕ) (i u x : ℕ) (h : Heard) → h ≡ heardOf x → x ≡ symbolAt a i u → h ≡ arrivalAt a i u
 unfolding arrivalAt
-arrival-is a i u h p = p
+arrival-is a i u x h p q = p ∙ ap heardOf q
 
 pub with-arrival-is : (a : List ℕ) (i u x : ℕ) (h : Heard) → x ≡ heardCode h → set a (4096 + 256 * i + u % 256) x ≡ withArrival a i u h
 unfolding withArrival

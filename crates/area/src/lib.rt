@@ -14,13 +14,16 @@
 // | 32768 + 1536 i | what station i collected, up to 1518 octets |
 
 use layout::Figures;
+use layout::Layout;
+use layout::Tap;
 use packet::Heard;
 use packet::Symbol;
 use station::step::Station;
 ghost use mathlib.Core.Path.{_≡_};
 ghost use Prim.Native.Nat.{_+_, _*_, _/_, _%_, _^_, _<_, _≤_};
 ghost use lib.ListN.{length};
-ghost use Rattle.area.specs.Area.{clockAt, withClock, depthAt, drawAt, figuresAt, countAt, positionAt, addressAt, distance, spaceAt, countersAt, withCounters, stationAt, withStation, withBit, heardOf, heardCode, arrivalAt, withArrival, alone, overlaid, joined, octetWith};
+ghost use Rattle.layout.specs.Taps.{placesOf};
+ghost use Rattle.area.specs.Area.{clockAt, withClock, depthAt, drawAt, figuresAt, countAt, positionAt, addressAt, tapAt, layoutAt, distance, spaceAt, countersAt, withCounters, recordAt, stationAt, withStation, withBit, heardOf, heardCode, symbolAt, arrivalAt, withArrival, alone, overlaid, joined, octetWith};
 
 // 2^p at place p.
 const POWERS: [u32; 8] = [1, 2, 4, 8, 16, 32, 64, 128];
@@ -94,6 +97,48 @@ pub fn read_address(area: &[u8], i: usize) -> [u8; 6]
     octets::six(area, 68 + 16 * i)
 }
 
+fn read_tap(area: &[u8], i: usize) -> Tap
+    requires { ⌜ (i < 16) × (57344 ≤ length (now area)) ⌝ }
+    ensures { λ r. ⌜ r ≡ tapAt (now (area .entry)) i ⌝ }
+{
+    let position = read_position(area, i);
+    let address = read_address(area, i);
+    Tap { position, address }
+}
+
+// The first n stations, and blank places after them.
+fn read_taps(area: &[u8], n: usize) -> [Tap; 16]
+    requires { ⌜ (n ≤ 16) × (57344 ≤ length (now area)) ⌝ }
+    ensures { λ r. ⌜ r ≡ placesOf (tapAt (now (area .entry))) n ⌝ }
+{
+    let blank = Tap {
+        position: 0,
+        address: [0u8; 6],
+    };
+    let mut all = [blank; 16];
+    let mut i: usize = 0;
+    while i < n {
+        let t = read_tap(area, i);
+        all[i] = t;
+        i += 1;
+    }
+    all
+}
+
+pub fn read_layout(area: &[u8]) -> Layout
+    requires { ⌜ 57344 ≤ length (now area) ⌝ }
+    ensures { λ r. ⌜ r ≡ layoutAt (now (area .entry)) ⌝ }
+{
+    let figures = read_figures(area);
+    let count = read_count(area);
+    let stations = read_taps(area, layout::places(count));
+    Layout {
+        figures,
+        count,
+        stations,
+    }
+}
+
 fn apart(p: u32, q: u32) -> u32
     ensures { λ r. ⌜ r ≡ distance p q ⌝ }
 {
@@ -124,12 +169,21 @@ pub fn write_counters(area: &mut [u8], i: usize, counters: [u32; 16])
     octets::store_words(area, 1024 + 64 * i, &counters);
 }
 
+// The words of the record of station i.
+pub fn read_record(area: &[u8], i: usize) -> [u32; 14]
+    requires { ⌜ (i < 16) × (57344 ≤ length (now area)) ⌝ }
+    ensures { λ r. ⌜ r ≡ recordAt (now (area .entry)) i ⌝ }
+{
+    let mut w = [0u32; 14];
+    octets::load_words(area, 2048 + 64 * i, &mut w);
+    w
+}
+
 pub fn read_station(area: &[u8], i: usize) -> Station
     requires { ⌜ (i < 16) × (57344 ≤ length (now area)) ⌝ }
     ensures { λ r. ⌜ r ≡ stationAt (now (area .entry)) i ⌝ }
 {
-    let mut w = [0u32; 14];
-    octets::load_words(area, 2048 + 64 * i, &mut w);
+    let w = read_record(area, i);
     let address = read_address(area, i);
     record::decode(w, address)
 }
@@ -171,12 +225,20 @@ fn heard_code(h: Heard) -> u8
     }
 }
 
+// The code of what reaches station i in step u.
+pub fn read_symbol(area: &[u8], i: usize, u: usize) -> u8
+    requires { ⌜ (i < 16) × (57344 ≤ length (now area)) ⌝ }
+    ensures { λ r. ⌜ r ≡ symbolAt (now (area .entry)) i u ⌝ }
+{
+    area[4096 + 256 * i + u % 256]
+}
+
 // What reaches station i in step u.
 pub fn arrival(area: &[u8], i: usize, u: usize) -> Heard
     requires { ⌜ (i < 16) × (57344 ≤ length (now area)) ⌝ }
     ensures { λ r. ⌜ r ≡ arrivalAt (now (area .entry)) i u ⌝ }
 {
-    heard_of(area[4096 + 256 * i + u % 256])
+    heard_of(read_symbol(area, i, u))
 }
 
 pub fn put_arrival(area: &mut [u8], i: usize, u: usize, h: Heard)

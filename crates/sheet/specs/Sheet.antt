@@ -16,6 +16,7 @@ use Rattle.sheet.specs.declared.SheetRead.the-variants.{Refused, Used}
 use Rattle.sheet.specs.declared.Sheet.{Sheet}
 use Rattle.layout.specs.Layout.{places, blankTap, blankLayout}
 use Rattle.layout.specs.Check.{refusalOf}
+use Rattle.layout.specs.Taps.{placesOf}
 
 -- ---- the map and its fields
 
@@ -66,14 +67,9 @@ countIn l = getD l (countPlace l) 0
 unfoldable pub tapIn : List ℕ → ℕ → Tap
 tapIn l at = record { position = getD l at 0; address = part l (at + 1) 6 }
 
--- the first n of them, from octet `at` on
-unfoldable pub tapsIn : ℕ → List ℕ → ℕ → List Tap
-tapsIn zero l at = []
-tapsIn (suc n) l at = tapsIn n l at ++ (tapIn l (at + 7 * n) ∷ [])
-
--- the places of a layout: these, and blank ones after them
-unfoldable pub placesIn : ℕ → List ℕ → ℕ → List Tap
-placesIn n l at = tapsIn n l at ++ replicate (places - n) blankTap
+-- station i, of those that begin at octet `at`
+abbrev pub tapsFrom : List ℕ → ℕ → ℕ → Tap
+tapsFrom l at i = tapIn l (at + 7 * i)
 
 -- the layout as it is written; of more than sixteen stations the first sixteen
 unfoldable pub layoutIn : List ℕ → Layout
@@ -81,7 +77,7 @@ layoutIn l =
     record {
       figures = figuresIn l;
       count = countIn l;
-      stations = placesIn (min (countIn l) places) l (countPlace l + 1);
+      stations = placesOf (tapsFrom l (countPlace l + 1)) (min (countIn l) places);
     }
 
 -- ---- reading

@@ -18,7 +18,8 @@ use Rattle.layout.specs.declared.Layout.{Layout}
 use Rattle.sheet.specs.declared.Sizes.{Sizes}
 use Rattle.layout.specs.Layout.{places, blankTap, blankLayout}
 use Rattle.layout.specs.Check.{refusalOf}
-use Rattle.sheet.specs.Sheet.{mapOf, stands, width, fieldAt, field, figuresIn, countPlace, countIn, tapIn, tapsIn, placesIn, layoutIn, sheetSize, Reading, unread, readSheet}
+use Rattle.layout.specs.Taps.{placesOf}
+use Rattle.sheet.specs.Sheet.{mapOf, stands, width, fieldAt, field, figuresIn, countPlace, countIn, tapIn, tapsFrom, layoutIn, sheetSize, Reading, unread, readSheet}
 
 -- ---- the fields, by the octets that they take
 
@@ -76,12 +77,12 @@ unfolding figuresOf
 figures-of l z a b c d e f pf pe pd pc pb pa = λ i. record { slot = pa i; gap1 = pb i; gap2 = pc i; jam = pd i; limit = pe i; backoff = pf i }
 
 unfoldable pub layoutOf : List ℕ → Sizes → ℕ → ℕ → Layout
-layoutOf l z end n = record { figures = figuresOf l z; count = n; stations = placesIn (min n 16) l (end + 1) }
+layoutOf l z end n = record { figures = figuresOf l z; count = n; stations = placesOf (tapsFrom l (end + 1)) (min n 16) }
 
-pub layout-of : (l : List ℕ) (z : Sizes) (end n k : ℕ) (f : Figures) (ts : List Tap) → ts ≡ placesIn k l (end + 1) → k ≡ min n 16 → f ≡ figuresOf l z
+pub layout-of : (l : List ℕ) (z : Sizes) (end n k : ℕ) (f : Figures) (ts : List Tap) → ts ≡ placesOf (tapsFrom l (end + 1)) k → k ≡ min n 16 → f ≡ figuresOf l z
     → record { figures = f; count = n; stations = ts } ≡ layoutOf l z end n
 unfolding layoutOf
-layout-of l z end n k f ts p q r = λ i. record { figures = r i; count = n; stations = (p ∙ ap (λ (m : ℕ). placesIn m l (end + 1)) q) i }
+layout-of l z end n k f ts p q r = λ i. record { figures = r i; count = n; stations = (p ∙ ap (placesOf (tapsFrom l (end + 1))) q) i }
 
 pub ends-is : (z : Sizes) → 1 + z .slot + z .gap1 + z .gap2 + z .jam + z .limit + z .backoff ≡ ends z
 unfolding ends
@@ -106,26 +107,6 @@ field-two l at w absent x p q r h = let e : w ≡ 2 = omega arith in p ∙ rw e
 pub tap-in : (l d : List ℕ) (at x : ℕ) → x ≡ getD l at 0 → d ≡ part l (at + 1) 6 → record { position = x; address = d } ≡ tapIn l at
 unfolding tapIn
 tap-in l d at x p q = λ i. record { position = p i; address = q i }
-
-pub length-taps : (n : ℕ) (l : List ℕ) (at : ℕ) → length (tapsIn n l at) ≡ n
-unfolding tapsIn
-length-taps zero l at = refl
-length-taps (suc n) l at = length-append (tapsIn n l at) (tapIn l (at + 7 * n) ∷ []) ∙ omega (arith, length-taps n l at)
-
-pub places-none : (l : List ℕ) (at : ℕ) → replicate 16 blankTap ≡ placesIn 0 l at
-unfolding placesIn tapsIn
-places-none l at = refl
-
-pub places-more : (i n : ℕ) (l : List ℕ) (at : ℕ) (ts : List Tap) (t : Tap) → t ≡ tapIn l (at + 7 * i) → i < n → n ≤ 16 → ts ≡ placesIn i l at
-    → set ts i t ≡ placesIn (i + 1) l at
-unfolding placesIn tapsIn
-places-more i n l at ts t p h k q =
-    let e : 16 - i ≡ suc (16 - (i + 1)) = omega arith in
-    rw (q, e, set-at (tapsIn i l at) blankTap (replicate (16 - (i + 1)) blankTap) t i (length-taps i l at), add-one i, p)
-    (sym (append-snoc (tapsIn i l at) (tapIn l (at + 7 * i)) (replicate (16 - suc i) blankTap)))
-
-pub places-end : (n i : ℕ) (l : List ℕ) (at : ℕ) (ts : List Tap) → i ≤ n → n ≤ i → ts ≡ placesIn i l at → ts ≡ placesIn n l at
-places-end n i l at ts p q r = let e : i ≡ n = omega arith in rw e at r
 
 -- ---- the code's sizes are the map's
 
@@ -176,7 +157,7 @@ module _ (l : List ℕ) (m : ℕ) (z : Sizes) (e : ℕ) (hm : m ≡ getD l 0 0) 
         λ i. record {
           figures = (ap (figuresOf l) (hz ∙ ap sizesOf hm) ∙ figures-in l) i;
           count = count i;
-          stations = placesIn (min (count i) 16) l (place i + 1);
+          stations = placesOf (tapsFrom l (place i + 1)) (min (count i) 16);
         }
 
 module _ (l : List ℕ) (r : Reading) where

@@ -18,8 +18,9 @@ use Rattle.layout.specs.declared.Figures.{Figures}
 use Rattle.layout.specs.declared.Tap.{Tap}
 use Rattle.layout.specs.declared.Layout.{Layout}
 use Rattle.layout.specs.Check.{refusalOf}
+use Rattle.layout.specs.Taps.{placesOf, places-same}
 use Rattle.layout.specs.CheckLaws.{Sound, sound}
-use Rattle.sheet.specs.Sheet.{mapOf, stands, width, fieldAt, field, figuresIn, countPlace, countIn, tapIn, tapsIn, placesIn, layoutIn, sheetSize, Reading, unread, readSheet}
+use Rattle.sheet.specs.Sheet.{mapOf, stands, width, fieldAt, field, figuresIn, countPlace, countIn, tapIn, tapsFrom, layoutIn, sheetSize, Reading, unread, readSheet}
 
 -- ---- a sheet that is read
 
@@ -119,14 +120,11 @@ module _ (a z : List ℕ) (h : sheetSize a ≤ length a) where
   unfolding tapIn
   tap-front at g = λ i. record { position = octet-front a z at (omega arith) i; address = part-front a z (at + 1) 6 (omega arith) i }
 
-  taps-front : (n at : ℕ) → at + 7 * n ≤ length a → tapsIn n (a ++ z) at ≡ tapsIn n a at
-  unfolding tapsIn
-  taps-front zero at g = refl
-  taps-front (suc n) at g = ap₂ (λ (ts : List Tap) (t : Tap). ts ++ (t ∷ [])) (taps-front n at (omega arith)) (tap-front (at + 7 * n) (omega arith))
-
-  places-front : placesIn (min (countIn (a ++ z)) 16) (a ++ z) (countPlace (a ++ z) + 1) ≡ placesIn (min (countIn a) 16) a (countPlace a + 1)
-  unfolding placesIn
-  places-front = rw (count-front, place-front, taps-front (min (countIn a) 16) (countPlace a + 1) (omega (arith, front)))
+  places-front : placesOf (tapsFrom (a ++ z) (countPlace (a ++ z) + 1)) (min (countIn (a ++ z)) 16) ≡ placesOf (tapsFrom a (countPlace a + 1)) (min (countIn a) 16)
+  places-front =
+      rw (count-front, place-front)
+      (places-same (tapsFrom (a ++ z) (countPlace a + 1)) (tapsFrom a (countPlace a + 1)) (min (countIn a) 16)
+      (λ i g. tap-front (countPlace a + 1 + 7 * i) (omega (arith, front))))
 
   layout-front : layoutIn (a ++ z) ≡ layoutIn a
   unfolding layoutIn

@@ -8,8 +8,8 @@ ghost use Prim.Native.Nat.{_+_, _*_, _/_, _%_, _<_, _≤_};
 ghost use lib.Dec.{eqb};
 ghost use lib.ListN.{length};
 ghost use Rattle.octets.specs.Base.{pick};
-ghost use Rattle.layout.specs.Layout.{blankTap};
-ghost use Rattle.sheet.specs.Sheet.{tapIn, placesIn, unread, readSheet, sheetReading};
+ghost use Rattle.layout.specs.Taps.{placesOf};
+ghost use Rattle.sheet.specs.Sheet.{tapIn, tapsFrom, unread, readSheet, sheetReading};
 ghost use Rattle.sheet.specs.SheetLaws.{sizesOf, ends, fieldOf, figuresOf, layoutOf};
 
 // The reader's answer: a refusal by its number, or the octets used.
@@ -112,7 +112,7 @@ fn read_tap(s: &[u8], at: usize) -> Tap
 // The n stations from octet `at` on, and blank places after them.
 fn read_taps(s: &[u8], at: usize, n: usize) -> [Tap; 16]
     requires { ⌜ (n ≤ 16) × (at + 7 * n ≤ length (now s)) ⌝ }
-    ensures { λ r. ⌜ r ≡ placesIn n (now (s .entry)) at ⌝ }
+    ensures { λ r. ⌜ r ≡ placesOf (tapsFrom (now (s .entry)) at) n ⌝ }
 {
     let blank = Tap {
         position: 0,

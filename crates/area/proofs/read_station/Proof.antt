@@ -4,17 +4,8 @@ use borrow.Author.Needs.{needs}
 use Rattle.area.proofs.read_station.Statement.{statement}
 use Rattle.area.proofs.read_station.Tie as tie
 
-mul-load-words : tie.Need-mul-load-words
-mul-load-words c = search needs
-
-add-load-words : tie.Need-add-load-words
-add-load-words c = search needs
-
-slice-aggregate-load-words : tie.Need-slice-aggregate-load-words
-slice-aggregate-load-words c = search needs
-
-load-words-requires : tie.Need-load-words-requires
-load-words-requires c κs = search needs
+read-record-requires : tie.Need-read-record-requires
+read-record-requires c κs = search needs
 
 read-address-requires : tie.Need-read-address-requires
 read-address-requires c κs = search needs
@@ -27,12 +18,4 @@ returns c = search station-is
 
 pub read-station-spec : {M : Type 1} → statement M
 read-station-spec =
-    tie.close
-    (tie.spec
-    mul-load-words
-    add-load-words
-    slice-aggregate-load-words
-    load-words-requires
-    read-address-requires
-    decode-requires
-    returns)
+    tie.close (tie.spec read-record-requires read-address-requires decode-requires returns)

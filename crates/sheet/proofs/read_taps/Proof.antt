@@ -4,13 +4,13 @@ use borrow.Author.Needs.{needs}
 use Prim.Native.Nat.{_≤_, _-_}
 use mathlib.Core.Path.{_≡_, refl}
 use lib.ListN.{length, length-set}
-use Rattle.sheet.specs.Sheet.{placesIn}
-use Rattle.sheet.specs.SheetLaws.{places-none, places-more, places-end}
+use Rattle.sheet.specs.Sheet.{tapsFrom}
+use Rattle.layout.specs.Taps.{placesOf, places-none, places-more, places-end}
 use Rattle.sheet.proofs.read_taps.Statement.{statement}
 use Rattle.sheet.proofs.read_taps.Tie as tie
 
 abbrev Inv-loop : tie.InvT-loop
-Inv-loop s at n all₀ i₀ all i = (i ≤ n) × (length all ≡ 16) × (all ≡ placesIn i s at)
+Inv-loop s at n all₀ i₀ all i = (i ≤ n) × (length all ≡ 16) × (all ≡ placesOf (tapsFrom s at) i)
 
 abbrev μ-loop : tie.MeasureT-loop
 μ-loop s at n all₀ i₀ all i = n - i

@@ -1,0 +1,55 @@
+-- `area::read_taps` meets its contract. Assumes nothing.
+use native.Mathlib.Omega.{arith}
+use borrow.Author.Needs.{needs}
+use mathlib.Core.Path.{_≡_, refl}
+use Prim.Native.Nat.{_≤_, _-_}
+use lib.ListN.{length, length-set}
+use Rattle.area.specs.Area.{tapAt}
+use Rattle.layout.specs.Taps.{placesOf, places-none, places-more, places-end}
+use Rattle.area.proofs.read_taps.Statement.{statement}
+use Rattle.area.proofs.read_taps.Tie as tie
+
+abbrev Inv-loop : tie.InvT-loop
+Inv-loop area n all₀ i₀ all i = (i ≤ n) × (length all ≡ 16) × (all ≡ placesOf (tapAt area) i)
+
+abbrev μ-loop : tie.MeasureT-loop
+μ-loop area n all₀ i₀ all i = n - i
+
+loop-holds : tie.Need-loop-holds Inv-loop μ-loop
+loop-holds c = (omega arith, refl, search places-none)
+
+read-tap-requires : tie.Need-read-tap-requires Inv-loop μ-loop
+read-tap-requires c κs = omega arith
+
+mul-all : tie.Need-mul-all Inv-loop μ-loop
+mul-all c = omega arith
+
+array-set-from-all : tie.Need-array-set-from-all Inv-loop μ-loop
+array-set-from-all c = omega arith
+
+add-i : tie.Need-add-i Inv-loop μ-loop
+add-i c = omega arith
+
+loop-less : tie.Need-loop-less Inv-loop μ-loop
+loop-less c = omega arith
+
+loop-again : tie.Need-loop-again Inv-loop μ-loop
+loop-again c = (omega arith, simp length-set (search needs), search places-more)
+
+returns : tie.Need-returns Inv-loop μ-loop
+returns c = search places-end
+
+pub read-taps-spec : {M : Type 1} → statement M
+read-taps-spec =
+    tie.close
+    (tie.spec
+    Inv-loop
+    μ-loop
+    loop-holds
+    read-tap-requires
+    mul-all
+    array-set-from-all
+    add-i
+    loop-less
+    loop-again
+    returns)

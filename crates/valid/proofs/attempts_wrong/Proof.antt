@@ -1,0 +1,17 @@
+-- `valid::attempts_wrong` meets its contract. Assumes nothing.
+use Rattle.valid.specs.RecordLaws.{attempts-1, attempts-2}
+use borrow.Author.Needs.{needs}
+use Rattle.valid.proofs.attempts_wrong.Statement.{statement}
+use Rattle.valid.proofs.attempts_wrong.Tie as tie
+
+returns : tie.Need-returns
+returns c = search attempts-1
+
+out-of-requires : tie.Need-out-of-requires
+out-of-requires c κs = search needs
+
+returns-2 : tie.Need-returns-2
+returns-2 c = search attempts-2
+
+pub attempts-wrong-spec : {M : Type 1} → statement M
+attempts-wrong-spec = tie.close (tie.spec returns out-of-requires returns-2)

@@ -1,0 +1,43 @@
+-- `valid::station_wrong` meets its contract. Assumes nothing.
+use Rattle.valid.specs.AreaCheckLaws.{gap-of, slot-of}
+use Rattle.valid.specs.AreaCheckLaws.{station-is}
+use borrow.Author.Needs.{needs}
+use Rattle.valid.proofs.station_wrong.Statement.{statement}
+use Rattle.valid.proofs.station_wrong.Tie as tie
+
+read-figures-requires : tie.Need-read-figures-requires
+read-figures-requires c κs = search needs
+
+read-depth-requires : tie.Need-read-depth-requires
+read-depth-requires c κs = search needs
+
+read-clock-requires : tie.Need-read-clock-requires
+read-clock-requires c κs = search needs
+
+read-record-requires : tie.Need-read-record-requires
+read-record-requires c κs = search needs
+
+record-wrong-requires : tie.Need-record-wrong-requires
+record-wrong-requires c κs = (search gap-of, search slot-of)
+
+line-wrong-requires : tie.Need-line-wrong-requires
+line-wrong-requires c κs = search needs
+
+either-requires : tie.Need-either-requires
+either-requires c κs = search needs
+
+returns : tie.Need-returns
+returns c = search station-is
+
+pub station-wrong-spec : {M : Type 1} → statement M
+station-wrong-spec =
+    tie.close
+    (tie.spec
+    read-figures-requires
+    read-depth-requires
+    read-clock-requires
+    read-record-requires
+    record-wrong-requires
+    line-wrong-requires
+    either-requires
+    returns)

@@ -1,0 +1,83 @@
+-- A law for each way through the code that checks a work area. Assumes nothing.
+use Prim.Native.Nat.{ℕ, suc, _+_, _≤_, _<_}
+use mathlib.Core.Path.{_≡_, refl, sym, _∙_, ap, ap₂}
+use mathlib.Core.Bool.{Bool, true, false, _||_}
+use mathlib.Core.List.{List}
+use native.Mathlib.Omega.{arith}
+use borrow.Author.Tests.{lt-ltb, le-ltb, eq-eqb, ne-eqb}
+use lib.Dec.{ltb, eqb}
+use lib.ListN.{length}
+use Rattle.octets.specs.Base.{pick, some, outside}
+use Rattle.layout.specs.declared.Figures.{Figures}
+use Rattle.layout.specs.declared.Layout.{Layout}
+use Rattle.layout.specs.Check.{refusalOf}
+use Rattle.layout.specs.CheckLaws.{Sound, sound}
+use Rattle.area.specs.Area.{clockAt, depthAt, figuresAt, countAt, layoutAt, recordAt, symbolAt}
+use Rattle.valid.specs.Valid.{recordWrong, symbolWrong, stationWrong, areaWrong, areaRefusal}
+
+pub symbol-is : (a : List ℕ) (i u x : ℕ) → x ≡ symbolAt a i u → ltb 4 x ≡ symbolWrong a i u
+unfolding symbolWrong
+symbol-is a i u x p = ap (ltb 4) p
+
+pub station-is : (a w : List ℕ) (i d t : ℕ) (f : Figures) (r b c : Bool) → r ≡ (b || c) → c ≡ some (symbolWrong a i) 256
+    → b ≡ recordWrong f d t w → w ≡ recordAt a i → f ≡ figuresAt a → d ≡ depthAt a → t ≡ clockAt a → r ≡ stationWrong a i
+unfolding stationWrong
+station-is a w i d t f r b c p q e ew ef ed et = p ∙ rw (q, e, ew, ef, ed, et)
+
+module _ (a : List ℕ) (y : Layout) (k d t : ℕ) where
+  pub wrong-layout : k ≡ refusalOf y → y ≡ layoutAt a → (k ≡ 0 → ⊥) → true ≡ areaWrong a
+  unfolding areaWrong
+  wrong-layout p q h = let e : refusalOf (layoutAt a) ≡ k = ap refusalOf (sym q) ∙ sym p in rw (e, ne-eqb k 0 h)
+
+  pub wrong-depth : (b : Bool) → k ≡ refusalOf y → y ≡ layoutAt a → k ≡ 0 → d ≡ depthAt a → b ≡ outside d 1 16 → b ≡ true → true ≡ areaWrong a
+  unfolding areaWrong
+  wrong-depth b p q h ed eb et =
+      let e : refusalOf (layoutAt a) ≡ 0 = ap refusalOf (sym q) ∙ sym p ∙ h in rw (e, ← ed, ← eb, et)
+
+  pub wrong-clock : (b : Bool) → k ≡ refusalOf y → y ≡ layoutAt a → k ≡ 0 → d ≡ depthAt a → b ≡ outside d 1 16 → b ≡ false
+      → t ≡ clockAt a → 16777216 < t → true ≡ areaWrong a
+  unfolding areaWrong
+  wrong-clock b p q h ed eb ef et g =
+      let e : refusalOf (layoutAt a) ≡ 0 = ap refusalOf (sym q) ∙ sym p ∙ h in rw (e, ← ed, ← eb, ef, ← et, lt-ltb 16777216 t g)
+
+  pub wrong-station : (b r : Bool) (n : ℕ) → r ≡ some (stationWrong a) n → n ≡ countAt a → k ≡ refusalOf y → y ≡ layoutAt a → k ≡ 0 → d ≡ depthAt a
+      → b ≡ outside d 1 16 → b ≡ false → t ≡ clockAt a → t ≤ 16777216 → r ≡ areaWrong a
+  unfolding areaWrong
+  wrong-station b r n er en p q h ed eb ef et g =
+      let e : refusalOf (layoutAt a) ≡ 0 = ap refusalOf (sym q) ∙ sym p ∙ h in
+      er ∙ rw (e, ← ed, ← eb, ef, ← et, le-ltb 16777216 t g, en)
+
+-- what the checks of a record need of a layout that passed
+module _ (a : List ℕ) (y : Layout) (k : ℕ) (p : k ≡ refusalOf y) (h : k ≡ 0) (q : y ≡ layoutAt a) where
+  passed : Sound (layoutAt a)
+  passed = sound (layoutAt a) (ap refusalOf (sym q) ∙ sym p ∙ h)
+
+  pub count-small : (n : ℕ) → n ≡ countAt a → n ≤ 16
+  unfolding layoutAt
+  count-small n e = let c = passed .count .1 in omega arith
+
+  pub gap-small : figuresAt a .gap1 + figuresAt a .gap2 < 65536
+  unfolding layoutAt
+  gap-small = omega (arith, passed .figures .gap1, passed .figures .gap2)
+
+  pub slot-small : figuresAt a .slot < 65536
+  unfolding layoutAt
+  slot-small = omega (arith, passed .figures .slot)
+
+pub gap-of : (a : List ℕ) (f : Figures) → f ≡ figuresAt a → figuresAt a .gap1 + figuresAt a .gap2 < 65536 → f .gap1 + f .gap2 < 65536
+gap-of a f p h = rw p h
+
+pub slot-of : (a : List ℕ) (f : Figures) → f ≡ figuresAt a → figuresAt a .slot < 65536 → f .slot < 65536
+slot-of a f p h = rw p h
+
+pub refusal-short : (a : List ℕ) → length a < 57344 → 1 ≡ areaRefusal a
+unfolding areaRefusal
+refusal-short a h = rw (lt-ltb (length a) 57344 h)
+
+pub refusal-wrong : (a : List ℕ) (b : Bool) → 57344 ≤ length a → b ≡ areaWrong a → b ≡ true → 2 ≡ areaRefusal a
+unfolding areaRefusal
+refusal-wrong a b h p q = rw (le-ltb (length a) 57344 h, ← p, q)
+
+pub refusal-none : (a : List ℕ) (b : Bool) → 57344 ≤ length a → b ≡ areaWrong a → b ≡ false → 0 ≡ areaRefusal a
+unfolding areaRefusal
+refusal-none a b h p q = rw (le-ltb (length a) 57344 h, ← p, q)

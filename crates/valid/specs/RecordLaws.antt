@@ -1,0 +1,133 @@
+-- A law for each way through the code that checks a record, numbered as its returns stand. Assumes nothing.
+use Prim.Native.Nat.{ℕ, _+_, _*_, _≤_, _<_}
+use mathlib.Core.Path.{_≡_, refl, sym, _∙_, ap}
+use mathlib.Core.Bool.{Bool, true, false}
+use mathlib.Core.List.{List}
+use borrow.Author.Tests.{lt-ltb, le-ltb, le-leb, lt-leb, eq-eqb, ne-eqb}
+use native.Mathlib.Omega.{arith}
+use lib.Dec.{ltb, leb, eqb}
+use lib.ListN.{getD}
+use Rattle.octets.specs.Base.{pick, outside}
+use Rattle.octets.specs.BaseLaws.{within-high}
+use Rattle.layout.specs.declared.Figures.{Figures}
+use Rattle.layout.specs.Layout.{gapOf}
+use Rattle.valid.specs.Valid.{deferenceWrong, attemptsWrong, numberWrong, transmitterWrong, receiverWrong, recordWrong}
+
+pub deference-1 : (f : Figures) (w : List ℕ) → 2 < getD w 0 0 → true ≡ deferenceWrong f w
+unfolding deferenceWrong gapOf
+deference-1 f w h0 = rw (lt-ltb (2) (getD w 0 0) h0)
+
+pub deference-2 : (f : Figures) (w : List ℕ) → getD w 0 0 ≤ 2 → getD w 0 0 ≡ 0 → false ≡ deferenceWrong f w
+unfolding deferenceWrong gapOf
+deference-2 f w h0 h1 = rw (le-ltb (2) (getD w 0 0) h0, eq-eqb (getD w 0 0) (0) h1)
+
+pub deference-3 : (f : Figures) (w : List ℕ) → getD w 0 0 ≤ 2 → (getD w 0 0 ≡ 0 → ⊥) → 1 < getD w 1 0 → true ≡ deferenceWrong f w
+unfolding deferenceWrong gapOf
+deference-3 f w h0 h1 h2 = rw (le-ltb (2) (getD w 0 0) h0, ne-eqb (getD w 0 0) (0) h1, lt-ltb (1) (getD w 1 0) h2)
+
+pub deference-4 : (f : Figures) (w : List ℕ) → getD w 0 0 ≤ 2 → (getD w 0 0 ≡ 0 → ⊥) → getD w 1 0 ≤ 1 → getD w 0 0 ≡ 1 → false ≡ deferenceWrong f w
+unfolding deferenceWrong gapOf
+deference-4 f w h0 h1 h2 h3 = rw (le-ltb (2) (getD w 0 0) h0, ne-eqb (getD w 0 0) (0) h1, le-ltb (1) (getD w 1 0) h2, eq-eqb (getD w 0 0) (1) h3)
+
+pub deference-5 : (f : Figures) (w : List ℕ) (r : Bool) → getD w 0 0 ≤ 2 → (getD w 0 0 ≡ 0 → ⊥) → getD w 1 0 ≤ 1 → (getD w 0 0 ≡ 1 → ⊥) → r ≡ outside (getD w 2 0) 1 (f .gap1 + f .gap2) → r ≡ deferenceWrong f w
+unfolding deferenceWrong gapOf
+deference-5 f w r h0 h1 h2 h3 h4 = h4 ∙ rw (le-ltb (2) (getD w 0 0) h0, ne-eqb (getD w 0 0) (0) h1, le-ltb (1) (getD w 1 0) h2, ne-eqb (getD w 0 0) (1) h3)
+
+pub attempts-1 : (limit code n : ℕ) → code ≤ 2 → leb limit n ≡ attemptsWrong limit code n
+unfolding attemptsWrong
+attempts-1 limit code n h0 = rw (le-leb (code) (2) h0)
+
+pub attempts-2 : (limit code n : ℕ) (r : Bool) → 2 < code → r ≡ outside n 1 limit → r ≡ attemptsWrong limit code n
+unfolding attemptsWrong
+attempts-2 limit code n r h0 h1 = h1 ∙ rw (lt-leb (code) (2) h0)
+
+pub number-1 : (f : Figures) (code n z : ℕ) → code ≡ 1 → false ≡ numberWrong f code n z
+unfolding numberWrong
+number-1 f code n z h0 = rw (eq-eqb (code) (1) h0)
+
+pub number-2 : (f : Figures) (code n z : ℕ) (r : Bool) → (code ≡ 1 → ⊥) → code ≡ 2 → r ≡ outside n 1 (f .slot * 1023) → r ≡ numberWrong f code n z
+unfolding numberWrong
+number-2 f code n z r h0 h1 h2 = h2 ∙ rw (ne-eqb (code) (1) h0, eq-eqb (code) (2) h1)
+
+pub number-3 : (f : Figures) (code n z : ℕ) (r : Bool) → (code ≡ 1 → ⊥) → (code ≡ 2 → ⊥) → code ≤ 4 → r ≡ outside n 1 (64 + 8 * z) → r ≡ numberWrong f code n z
+unfolding numberWrong
+number-3 f code n z r h0 h1 h2 h3 = h3 ∙ rw (ne-eqb (code) (1) h0, ne-eqb (code) (2) h1, le-leb (code) (4) h2)
+
+pub number-4 : (f : Figures) (code n z : ℕ) (r : Bool) → (code ≡ 1 → ⊥) → (code ≡ 2 → ⊥) → 4 < code → r ≡ outside n 1 (f .jam) → r ≡ numberWrong f code n z
+unfolding numberWrong
+number-4 f code n z r h0 h1 h2 h3 = h3 ∙ rw (ne-eqb (code) (1) h0, ne-eqb (code) (2) h1, lt-leb (code) (4) h2)
+
+pub transmitter-1 : (f : Figures) (w : List ℕ) → 5 < getD w 3 0 → true ≡ transmitterWrong f w
+unfolding transmitterWrong
+transmitter-1 f w h0 = rw (lt-ltb (5) (getD w 3 0) h0)
+
+pub transmitter-2 : (f : Figures) (w : List ℕ) → getD w 3 0 ≤ 5 → getD w 3 0 ≡ 0 → false ≡ transmitterWrong f w
+unfolding transmitterWrong
+transmitter-2 f w h0 h1 = rw (le-ltb (5) (getD w 3 0) h0, eq-eqb (getD w 3 0) (0) h1)
+
+pub transmitter-3 : (f : Figures) (w : List ℕ) (b0 : Bool) → getD w 3 0 ≤ 5 → (getD w 3 0 ≡ 0 → ⊥) → b0 ≡ outside (getD w 9 0) 64 1518 → b0 ≡ true → true ≡ transmitterWrong f w
+unfolding transmitterWrong
+transmitter-3 f w b0 h0 h1 h2 h3 = rw (le-ltb (5) (getD w 3 0) h0, ne-eqb (getD w 3 0) (0) h1, ← h2, h3)
+
+pub transmitter-4 : (f : Figures) (w : List ℕ) (b0 : Bool) → getD w 3 0 ≤ 5 → (getD w 3 0 ≡ 0 → ⊥) → b0 ≡ outside (getD w 9 0) 64 1518 → b0 ≡ false → 1 < getD w 12 0 → true ≡ transmitterWrong f w
+unfolding transmitterWrong
+transmitter-4 f w b0 h0 h1 h2 h3 h4 = rw (le-ltb (5) (getD w 3 0) h0, ne-eqb (getD w 3 0) (0) h1, ← h2, h3, lt-ltb (1) (getD w 12 0) h4)
+
+pub transmitter-5 : (f : Figures) (w : List ℕ) (b0 b1 : Bool) → getD w 3 0 ≤ 5 → (getD w 3 0 ≡ 0 → ⊥) → b0 ≡ outside (getD w 9 0) 64 1518 → b0 ≡ false → getD w 12 0 ≤ 1 → b1 ≡ attemptsWrong (f .limit) (getD w 3 0) (getD w 10 0) → b1 ≡ true → true ≡ transmitterWrong f w
+unfolding transmitterWrong
+transmitter-5 f w b0 b1 h0 h1 h2 h3 h4 h5 h6 = rw (le-ltb (5) (getD w 3 0) h0, ne-eqb (getD w 3 0) (0) h1, ← h2, h3, le-ltb (1) (getD w 12 0) h4, ← h5, h6)
+
+pub transmitter-6 : (f : Figures) (w : List ℕ) (b0 b1 r : Bool) → getD w 3 0 ≤ 5 → (getD w 3 0 ≡ 0 → ⊥) → b0 ≡ outside (getD w 9 0) 64 1518 → b0 ≡ false → getD w 12 0 ≤ 1 → b1 ≡ attemptsWrong (f .limit) (getD w 3 0) (getD w 10 0) → b1 ≡ false → r ≡ numberWrong f (getD w 3 0) (getD w 4 0) (getD w 9 0) → r ≡ transmitterWrong f w
+unfolding transmitterWrong
+transmitter-6 f w b0 b1 r h0 h1 h2 h3 h4 h5 h6 h7 = h7 ∙ rw (le-ltb (5) (getD w 3 0) h0, ne-eqb (getD w 3 0) (0) h1, ← h2, h3, le-ltb (1) (getD w 12 0) h4, ← h5, h6)
+
+pub receiver-1 : (t : ℕ) (w : List ℕ) → 3 < getD w 5 0 → true ≡ receiverWrong t w
+unfolding receiverWrong
+receiver-1 t w h0 = rw (lt-ltb (3) (getD w 5 0) h0)
+
+pub receiver-2 : (t : ℕ) (w : List ℕ) → getD w 5 0 ≤ 3 → getD w 5 0 ≡ 0 → false ≡ receiverWrong t w
+unfolding receiverWrong
+receiver-2 t w h0 h1 = rw (le-ltb (3) (getD w 5 0) h0, eq-eqb (getD w 5 0) (0) h1)
+
+pub receiver-3 : (t : ℕ) (w : List ℕ) (r : Bool) → getD w 5 0 ≤ 3 → (getD w 5 0 ≡ 0 → ⊥) → getD w 5 0 ≡ 1 → r ≡ outside (getD w 6 0) 64 1518 → r ≡ receiverWrong t w
+unfolding receiverWrong
+receiver-3 t w r h0 h1 h2 h3 = h3 ∙ rw (le-ltb (3) (getD w 5 0) h0, ne-eqb (getD w 5 0) (0) h1, eq-eqb (getD w 5 0) (1) h2)
+
+pub receiver-4 : (t : ℕ) (w : List ℕ) → getD w 5 0 ≤ 3 → (getD w 5 0 ≡ 0 → ⊥) → (getD w 5 0 ≡ 1 → ⊥) → 1 < getD w 7 0 → true ≡ receiverWrong t w
+unfolding receiverWrong
+receiver-4 t w h0 h1 h2 h3 = rw (le-ltb (3) (getD w 5 0) h0, ne-eqb (getD w 5 0) (0) h1, ne-eqb (getD w 5 0) (1) h2, lt-ltb (1) (getD w 7 0) h3)
+
+pub receiver-5 : (t : ℕ) (w : List ℕ) → getD w 5 0 ≤ 3 → (getD w 5 0 ≡ 0 → ⊥) → (getD w 5 0 ≡ 1 → ⊥) → getD w 7 0 ≤ 1 → 1 < getD w 8 0 → true ≡ receiverWrong t w
+unfolding receiverWrong
+receiver-5 t w h0 h1 h2 h3 h4 = rw (le-ltb (3) (getD w 5 0) h0, ne-eqb (getD w 5 0) (0) h1, ne-eqb (getD w 5 0) (1) h2, le-ltb (1) (getD w 7 0) h3, lt-ltb (1) (getD w 8 0) h4)
+
+pub receiver-6 : (t : ℕ) (w : List ℕ) (r : Bool) → getD w 5 0 ≤ 3 → (getD w 5 0 ≡ 0 → ⊥) → (getD w 5 0 ≡ 1 → ⊥) → getD w 7 0 ≤ 1 → getD w 8 0 ≤ 1 → getD w 5 0 ≡ 2 → r ≡ outside (getD w 6 0) 1 511 → r ≡ receiverWrong t w
+unfolding receiverWrong
+receiver-6 t w r h0 h1 h2 h3 h4 h5 h6 = h6 ∙ rw (le-ltb (3) (getD w 5 0) h0, ne-eqb (getD w 5 0) (0) h1, ne-eqb (getD w 5 0) (1) h2, le-ltb (1) (getD w 7 0) h3, le-ltb (1) (getD w 8 0) h4, eq-eqb (getD w 5 0) (2) h5)
+
+pub receiver-7 : (t : ℕ) (w : List ℕ) → getD w 5 0 ≤ 3 → (getD w 5 0 ≡ 0 → ⊥) → (getD w 5 0 ≡ 1 → ⊥) → getD w 7 0 ≤ 1 → getD w 8 0 ≤ 1 → (getD w 5 0 ≡ 2 → ⊥) → ltb t (getD w 6 0) ≡ receiverWrong t w
+unfolding receiverWrong
+receiver-7 t w h0 h1 h2 h3 h4 h5 = rw (le-ltb (3) (getD w 5 0) h0, ne-eqb (getD w 5 0) (0) h1, ne-eqb (getD w 5 0) (1) h2, le-ltb (1) (getD w 7 0) h3, le-ltb (1) (getD w 8 0) h4, ne-eqb (getD w 5 0) (2) h5)
+
+pub record-1 : (f : Figures) (depth t : ℕ) (w : List ℕ) (b0 : Bool) → b0 ≡ deferenceWrong f w → b0 ≡ true → true ≡ recordWrong f depth t w
+unfolding recordWrong
+record-1 f depth t w b0 h0 h1 = rw (← h0, h1)
+
+pub record-2 : (f : Figures) (depth t : ℕ) (w : List ℕ) (b0 b1 : Bool) → b0 ≡ deferenceWrong f w → b0 ≡ false → b1 ≡ transmitterWrong f w → b1 ≡ true → true ≡ recordWrong f depth t w
+unfolding recordWrong
+record-2 f depth t w b0 b1 h0 h1 h2 h3 = rw (← h0, h1, ← h2, h3)
+
+pub record-3 : (f : Figures) (depth t : ℕ) (w : List ℕ) (b0 b1 b2 : Bool) → b0 ≡ deferenceWrong f w → b0 ≡ false → b1 ≡ transmitterWrong f w → b1 ≡ false → b2 ≡ receiverWrong t w → b2 ≡ true → true ≡ recordWrong f depth t w
+unfolding recordWrong
+record-3 f depth t w b0 b1 b2 h0 h1 h2 h3 h4 h5 = rw (← h0, h1, ← h2, h3, ← h4, h5)
+
+pub record-4 : (f : Figures) (depth t : ℕ) (w : List ℕ) (b0 b1 b2 : Bool) → b0 ≡ deferenceWrong f w → b0 ≡ false → b1 ≡ transmitterWrong f w → b1 ≡ false → b2 ≡ receiverWrong t w → b2 ≡ false → depth ≤ getD w 11 0 → true ≡ recordWrong f depth t w
+unfolding recordWrong
+record-4 f depth t w b0 b1 b2 h0 h1 h2 h3 h4 h5 h6 = rw (← h0, h1, ← h2, h3, ← h4, h5, le-leb (depth) (getD w 11 0) h6)
+
+pub record-5 : (f : Figures) (depth t : ℕ) (w : List ℕ) (b0 b1 b2 : Bool) → b0 ≡ deferenceWrong f w → b0 ≡ false → b1 ≡ transmitterWrong f w → b1 ≡ false → b2 ≡ receiverWrong t w → b2 ≡ false → getD w 11 0 < depth → ltb 1 (getD w 13 0) ≡ recordWrong f depth t w
+unfolding recordWrong
+record-5 f depth t w b0 b1 b2 h0 h1 h2 h3 h4 h5 h6 = rw (← h0, h1, ← h2, h3, ← h4, h5, lt-leb (depth) (getD w 11 0) h6)
+
+pub frame-small : (z : ℕ) (b : Bool) → b ≡ outside z 64 1518 → b ≡ false → z < 65536
+frame-small z b p q = let h : z ≤ 1518 = within-high z 64 1518 b p q in omega arith
