@@ -3,12 +3,15 @@ use Prim.Native.Nat.{ℕ, zero, suc, _+_, _-_, _*_, _/_, _%_, _^_, min}
 use mathlib.Core.Bool.{Bool, true, false}
 use mathlib.Core.List.{List, [], _∷_, _++_}
 use lib.Dec.{ltb, eqb}
-use lib.ListN.{getD, set, replicate}
-use Rattle.octets.specs.Base.{pick}
+use lib.ListN.{length, getD, set}
+use lib.Seq.{sets}
+use Rattle.octets.specs.Base.{pick, refused, accepted, Outcome, outcome}
 use Rattle.octets.specs.Bits.{digit}
 use Rattle.octets.specs.Number.{get, put}
 use Rattle.octets.specs.Store.{part}
 use Rattle.octets.specs.Words.{wordsAt, putWords}
+use Rattle.frame.specs.Limits.{refusesData}
+use Rattle.frame.specs.Build.{frameOf}
 use Rattle.layout.specs.declared.Figures.{Figures}
 use Rattle.layout.specs.declared.Tap.{Tap}
 use Rattle.layout.specs.declared.Layout.{Layout}
@@ -86,6 +89,10 @@ withStation a i s = putWords 14 a (2048 + 64 * i) (encoded s)
 unfoldable pub frameAt : List ℕ → ℕ → ℕ → List ℕ
 frameAt a i n = part a (8192 + 1536 * i) n
 
+-- a frame written over its place
+unfoldable pub withFrame : List ℕ → ℕ → List ℕ → List ℕ
+withFrame a i f = sets a (8192 + 1536 * i) f
+
 -- what it collected, as much as is kept
 unfoldable pub bufferAt : List ℕ → ℕ → List ℕ
 bufferAt a i = part a (32768 + 1536 * i) 1518
@@ -142,3 +149,10 @@ joined Nothing s = alone s
 joined (Clean b) s = overlaid (Clean b) s
 joined Jammed s = overlaid Jammed s
 joined Several s = overlaid Several s
+
+-- ---- building a frame at its place, with the station's own address as source
+
+unfoldable pub frameBuilt : List ℕ → ℕ → (d : List ℕ) (v : ℕ) (x : List ℕ) → Outcome
+frameBuilt a i d v x =
+    pick (refusesData v (length x)) (outcome (refused 11) a)
+    (outcome (accepted (length (frameOf d (addressAt a i) v x) ∷ [])) (withFrame a i (frameOf d (addressAt a i) v x)))

@@ -20,7 +20,7 @@ use Rattle.station.specs.declared.step.Station.{Station}
 use Rattle.record.specs.Codec.{decoded, encoded}
 use Rattle.record.specs.CodecLaws.{Fit, decoded-encoded, encoded-small, length-encoded}
 use Rattle.area.specs.Places.{Part, clock, depth, layout, draws, counters, station, frame, buffer, place, at, size, Off, Keeps}
-use Rattle.area.specs.Area.{clockAt, withClock, depthAt, drawAt, figuresAt, countAt, positionAt, addressAt, distance, spaceAt, countersAt, withCounters, recordAt, stationAt, withStation, frameAt, bufferAt, octetWith, withBit, heardOf, heardCode, symbolAt, arrivalAt, withArrival}
+use Rattle.area.specs.Area.{clockAt, withClock, depthAt, drawAt, figuresAt, countAt, positionAt, addressAt, distance, spaceAt, countersAt, withCounters, recordAt, stationAt, withStation, frameAt, withFrame, bufferAt, octetWith, withBit, heardOf, heardCode, symbolAt, arrivalAt, withArrival}
 
 -- ---- parts
 
@@ -125,6 +125,10 @@ module _ (p : Part) (a : List ℕ) where
   unfolding withArrival Keeps
   arrival-keeps i u h o = set-leaves (at p) (size p) (4096 + 256 * i + u % 256) (heardCode h) a o
 
+  pub frame-keeps : (i : ℕ) (f : List ℕ) → length f ≤ 1536 → Off p (frame i) → Keeps p (withFrame a i f) a
+  unfolding withFrame Keeps
+  frame-keeps i f h o = sets-leaves (at p) (size p) (8192 + 1536 * i) f a (λ x y. o (omega arith) y)
+
   pub bit-keeps : (i k : ℕ) (b : Bool) → k < 12144 → Off p (buffer i) → Keeps p (withBit a i k b) a
   unfolding withBit Keeps
   bit-keeps i k b h o =
@@ -147,6 +151,10 @@ module _ (a : List ℕ) where
   pub length-arrival : (i u : ℕ) (h : Heard) → length (withArrival a i u h) ≡ length a
   unfolding withArrival
   length-arrival i u h = length-set a (4096 + 256 * i + u % 256) (heardCode h)
+
+  pub length-frame : (i : ℕ) (f : List ℕ) → length (withFrame a i f) ≡ length a
+  unfolding withFrame
+  length-frame i f = length-sets a (8192 + 1536 * i) f
 
   pub length-bit : (i k : ℕ) (b : Bool) → length (withBit a i k b) ≡ length a
   unfolding withBit
@@ -181,6 +189,10 @@ module _ (a : List ℕ) (big : 57344 ≤ length a) where
   station-same i s h f e =
       let k : Keeps layout (withStation a i s) a = station-keeps layout a i s (λ x y. omega arith) in
       ap₂ decoded (words-back i s h f) (address-by (withStation a i s) a i h (omega (arith, length-station a i s)) big k ∙ sym e) ∙ decoded-encoded s
+
+  pub frame-same : (i : ℕ) (f : List ℕ) → i < 16 → length f ≤ 1536 → frameAt (withFrame a i f) i (length f) ≡ f
+  unfolding frameAt withFrame
+  frame-same i f h n = part-same f a (8192 + 1536 * i) (omega arith)
 
   -- places are counted modulo 256
   pub arrival-same : (i u v : ℕ) (h : Heard) → i < 16 → u % 256 ≡ v % 256 → arrivalAt (withArrival a i u h) i v ≡ h

@@ -5,15 +5,21 @@ use mathlib.Core.Bool.{Bool, true, false}
 use mathlib.Core.List.{List, [], _∷_}
 use native.Mathlib.Nat.{mod-lt}
 use native.Mathlib.Omega.{arith}
-use borrow.Author.Tests.{eq-eqb, ne-eqb}
+use borrow.Author.Tests.{eq-eqb, ne-eqb, le-ltb}
 use lib.Pow.{pow-pos, pow-mono}
 use lib.ListN.{length, getD, set, take, drop}
-use Rattle.octets.specs.Base.{pick}
+use lib.Seq.{sets}
+use Rattle.octets.specs.Base.{pick, Answer, refused, accepted, Outcome, outcome}
+use Rattle.octets.specs.Lent.{lent-store}
 use Rattle.octets.specs.Bits.{digit}
 use Rattle.octets.specs.Number.{get, put}
-use Rattle.octets.specs.Store.{part}
+use Rattle.octets.specs.Store.{part, length-part}
 use Rattle.octets.specs.Table.{tabulated, entry}
 use Rattle.octets.specs.Words.{wordsAt, putWords}
+use borrow.Rule.Slice.PartMut.{midOf, putMid, put-same}
+use Rattle.frame.specs.Limits.{refusesData}
+use Rattle.frame.specs.Build.{frameOf, built}
+use Rattle.frame.specs.RoundTrip.{frame-size, data-within}
 use Rattle.layout.specs.declared.Figures.{Figures}
 use Rattle.layout.specs.declared.Tap.{Tap}
 use Rattle.layout.specs.declared.Layout.{Layout}
@@ -24,7 +30,7 @@ use Rattle.packet.specs.declared.Symbol.{Symbol}
 use Rattle.packet.specs.declared.Symbol.the-variants.{Silence, Bit, Jam}
 use Rattle.station.specs.declared.step.Station.{Station}
 use Rattle.record.specs.Codec.{decoded, encoded}
-use Rattle.area.specs.Area.{clockAt, withClock, depthAt, drawAt, figuresAt, countAt, positionAt, addressAt, tapAt, layoutAt, distance, spaceAt, countersAt, withCounters, recordAt, stationAt, withStation, octetWith, withBit, heardOf, heardCode, symbolAt, arrivalAt, withArrival, alone, overlaid, joined}
+use Rattle.area.specs.Area.{clockAt, withClock, depthAt, drawAt, figuresAt, countAt, positionAt, addressAt, tapAt, layoutAt, distance, spaceAt, countersAt, withCounters, recordAt, stationAt, withStation, octetWith, withBit, heardOf, heardCode, symbolAt, arrivalAt, withArrival, alone, overlaid, joined, withFrame, frameBuilt}
 
 -- ---- numbers
 
@@ -182,3 +188,44 @@ pub with-bit-is : (a : List ℕ) (i k x : ℕ) (b : Bool) → x ≡ octetWith (g
     → set a (32768 + 1536 * i + k / 8) x ≡ withBit a i k b
 unfolding withBit
 with-bit-is a i k x b p = rw p
+
+-- ---- a frame, built into a lent part of the area
+
+-- the area after k octets of it from b on were lent, and came back so
+after : ℕ → ℕ → List ℕ → Outcome → Outcome
+after b k a o = outcome (o .answer) (putMid b k a (o .octets))
+
+module _ (a d s : List ℕ) (v : ℕ) (x : List ℕ) (b : ℕ) where
+  lent-refused : refusesData v (length x) ≡ true → after b 1518 a (built (midOf b 1518 a) d s v x) ≡ outcome (refused 11) a
+  unfolding after built
+  lent-refused h = rw h (ap (outcome (refused 11)) (put-same b 1518 a))
+
+  lent-built : refusesData v (length x) ≡ false → length d ≡ 6 → length s ≡ 6 → b + 1518 ≤ length a
+      → after b 1518 a (built (midOf b 1518 a) d s v x) ≡ outcome (accepted (length (frameOf d s v x) ∷ [])) (sets a b (frameOf d s v x))
+  unfolding after built
+  lent-built h hd hs g =
+      let n : length (frameOf d s v x) ≤ 1518 = omega (arith, frame-size d s v x hd hs, data-within v (length x) h) in
+      rw (h, le-ltb (length (midOf b 1518 a)) (length (frameOf d s v x)) (omega (arith, length-part a b 1518 g)), lent-store (frameOf d s v x) b 1518 a n)
+
+lent-frame : (a d s : List ℕ) (v : ℕ) (x : List ℕ) (i : ℕ) → s ≡ addressAt a i → length d ≡ 6 → length s ≡ 6 → i < 16 → 57344 ≤ length a
+    → after (8192 + 1536 * i) 1518 a (built (midOf (8192 + 1536 * i) 1518 a) d s v x) ≡ frameBuilt a i d v x
+unfolding frameBuilt withFrame
+lent-frame a d s v x i es hd hs hi hl = go (refusesData v (length x)) refl
+  where
+    go : (t : Bool) → refusesData v (length x) ≡ t
+        → after (8192 + 1536 * i) 1518 a (built (midOf (8192 + 1536 * i) 1518 a) d s v x)
+        ≡ pick t (outcome (refused 11) a) (outcome (accepted (length (frameOf d (addressAt a i) v x) ∷ [])) (sets a (8192 + 1536 * i) (frameOf d (addressAt a i) v x)))
+    go true p = lent-refused a d s v x (8192 + 1536 * i) p
+    go false p =
+        lent-built a d s v x (8192 + 1536 * i) p hd hs (omega arith)
+        ∙ ap (λ (q : List ℕ). outcome (accepted (length (frameOf d q v x) ∷ [])) (sets a (8192 + 1536 * i) (frameOf d q v x))) es
+
+pub built-is : (a d s : List ℕ) (v : ℕ) (x : List ℕ) (i : ℕ) (r : Answer) (m : List ℕ)
+    → outcome r m ≡ built (midOf (8192 + 1536 * i) (8192 + 1536 * i + 1518 - (8192 + 1536 * i)) a) d s v x → s ≡ addressAt a i
+    → length d ≡ 6 → length s ≡ 6 → i < 16 → 57344 ≤ length a
+    → outcome r (putMid (8192 + 1536 * i) (8192 + 1536 * i + 1518 - (8192 + 1536 * i)) a m) ≡ frameBuilt a i d v x
+unfolding after
+built-is a d s v x i r m p es hd hs hi hl =
+    let k : 8192 + 1536 * i + 1518 - (8192 + 1536 * i) ≡ 1518 = omega arith in
+    let q : outcome r m ≡ built (midOf (8192 + 1536 * i) 1518 a) d s v x = rw k at p in
+    rw k (ap (after (8192 + 1536 * i) 1518 a) q ∙ lent-frame a d s v x i es hd hs hi hl)

@@ -13,6 +13,7 @@
 // | 8192 + 1536 i | the frame of station i, up to 1518 octets |
 // | 32768 + 1536 i | what station i collected, up to 1518 octets |
 
+use frame::builder::Built;
 use layout::Figures;
 use layout::Layout;
 use layout::Tap;
@@ -23,7 +24,9 @@ ghost use mathlib.Core.Path.{_≡_};
 ghost use Prim.Native.Nat.{_+_, _*_, _/_, _%_, _^_, _<_, _≤_};
 ghost use lib.ListN.{length};
 ghost use Rattle.layout.specs.Taps.{placesOf};
-ghost use Rattle.area.specs.Area.{clockAt, withClock, depthAt, drawAt, figuresAt, countAt, positionAt, addressAt, tapAt, layoutAt, distance, spaceAt, countersAt, withCounters, recordAt, stationAt, withStation, withBit, heardOf, heardCode, symbolAt, arrivalAt, withArrival, alone, overlaid, joined, octetWith};
+ghost use Rattle.area.specs.Area.{clockAt, withClock, depthAt, drawAt, figuresAt, countAt, positionAt, addressAt, tapAt, layoutAt, distance, spaceAt, countersAt, withCounters, recordAt, stationAt, withStation, withBit, heardOf, heardCode, symbolAt, arrivalAt, withArrival, alone, overlaid, joined, octetWith, frameBuilt};
+ghost use Rattle.octets.specs.Base.{outcome};
+ghost use Rattle.frame.specs.Build.{builtAnswer};
 
 // 2^p at place p.
 const POWERS: [u32; 8] = [1, 2, 4, 8, 16, 32, 64, 128];
@@ -316,4 +319,21 @@ pub fn store_bit(area: &mut [u8], i: usize, k: usize, one: bool)
 {
     let at = 32768 + 1536 * i + k / 8;
     area[at] = octet_with(area[at], k % 8, one);
+}
+
+// Builds a frame of station i, with its own address as source, at its place, or refuses (11) and leaves the area as it was.
+pub fn build_frame(
+    area: &mut [u8],
+    i: usize,
+    destination: [u8; 6],
+    value: u16,
+    payload: &[u8],
+) -> Built
+    requires { ⌜ (i < 16) × (57344 ≤ length (now area)) ⌝ }
+    ensures { λ r. ⌜ outcome (builtAnswer r) (now (area .exit)) ≡ frameBuilt (now (area .entry)) i destination value (now (payload .entry)) ⌝ }
+{
+    let source = read_address(area, i);
+    let at = 8192 + 1536 * i;
+    let end = at + 1518;
+    frame::builder::build(&mut area[at..end], destination, source, value, payload)
 }

@@ -27,6 +27,14 @@ pub refuses-type : (v n : ℕ) → 1500 < v → ltb v 1536 ≡ refusesValue v n
 unfolding refusesValue
 refuses-type v n h = rw (lt-leb v 1500 h)
 
+pub refuses-over : (v n k : ℕ) → k ≡ maxData v → k < n → true ≡ refusesData v n
+unfolding refusesData
+refuses-over v n k p h = rw (← p, lt-ltb k n h)
+
+pub refuses-rest : (v n k : ℕ) (b : Bool) → k ≡ maxData v → n ≤ k → b ≡ refusesValue v n → b ≡ refusesData v n
+unfolding refusesData
+refuses-rest v n k b p h q = q ∙ rw (← p, le-ltb k n h)
+
 -- ---- sizes
 
 pub length-header : (d s : List ℕ) (v : ℕ) → length d ≡ 6 → length s ≡ 6 → length (header d s v) ≡ 14

@@ -71,6 +71,10 @@ least : (v : ℕ) → 64 ≤ maxFrame v
 unfolding maxFrame
 least v = omega arith
 
+pub data-within : (v n : ℕ) → refusesData v n ≡ false → n ≤ 1500
+unfolding maxData
+data-within v n h = within v n h
+
 -- ---- the fields of a built frame
 
 module _ (d s : List ℕ) (v : ℕ) (x : List ℕ) (hd : length d ≡ 6) (hs : length s ≡ 6) where

@@ -2,10 +2,11 @@
 
 use super::limits;
 ghost use mathlib.Core.Path.{_≡_};
-ghost use Prim.Native.Nat.{_+_, _-_, _≤_};
+ghost use Prim.Native.Nat.{_+_, _-_, _≤_, max};
 ghost use lib.ListN.{length};
 ghost use lib.Seq.{sets};
 ghost use Rattle.octets.specs.Base.{outcome};
+ghost use Rattle.frame.specs.Limits.{minData, refusesData};
 ghost use Rattle.frame.specs.Build.{header, padded, covered, built, builtAnswer};
 ghost use Rattle.frame.specs.BuildLaws.{sealed};
 
@@ -53,6 +54,27 @@ fn seal(out: &mut [u8], end: usize)
 {
     let check = crc32::check_sequence(&out[0..end]);
     octets::store(out, end, &check);
+}
+
+// Whether refusal 11 stands against a length/type value and data.
+pub fn refuses(value: u16, payload: &[u8]) -> bool
+    ensures { λ r. ⌜ r ≡ refusesData value (length (now (payload .entry))) ⌝ }
+{
+    let v = value as usize;
+    let n = payload.len();
+    if limits::max_data(v) < n {
+        return true;
+    }
+    limits::refuses_value(v, n)
+}
+
+// The octets of a frame with such data, of which there are not too many.
+pub fn frame_size(payload: &[u8]) -> u32
+    requires { ⌜ length (now payload) ≤ 65535 ⌝ }
+    ensures { λ r. ⌜ r ≡ max minData (length (now (payload .entry))) + 18 ⌝ }
+{
+    let n = payload.len();
+    (n + limits::pad_size(n) + 18) as u32
 }
 
 // Builds a frame at the front of out, or refuses (11, 15) and leaves out as it was. What stands after the frame stays.

@@ -12,3 +12,4 @@ pub mod Bits
 pub mod BitsLaws
 pub mod Table
 pub mod Variant
+pub mod Lent

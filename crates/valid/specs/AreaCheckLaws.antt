@@ -1,10 +1,10 @@
 -- A law for each way through the code that checks a work area. Assumes nothing.
 use Prim.Native.Nat.{ℕ, suc, _+_, _≤_, _<_}
 use mathlib.Core.Path.{_≡_, refl, sym, _∙_, ap, ap₂}
-use mathlib.Core.Bool.{Bool, true, false, _||_}
+use mathlib.Core.Bool.{Bool, true, false, _||_, true≢false}
 use mathlib.Core.List.{List}
 use native.Mathlib.Omega.{arith}
-use borrow.Author.Tests.{lt-ltb, le-ltb, eq-eqb, ne-eqb}
+use borrow.Author.Tests.{lt-ltb, le-ltb, eq-eqb, ne-eqb, ltb-false, eqb-true}
 use lib.Dec.{ltb, eqb}
 use lib.ListN.{length}
 use Rattle.octets.specs.Base.{pick, some, outside}
@@ -81,3 +81,35 @@ refusal-wrong a b h p q = rw (le-ltb (length a) 57344 h, ← p, q)
 pub refusal-none : (a : List ℕ) (b : Bool) → 57344 ≤ length a → b ≡ areaWrong a → b ≡ false → 0 ≡ areaRefusal a
 unfolding areaRefusal
 refusal-none a b h p q = rw (le-ltb (length a) 57344 h, ← p, q)
+
+-- ---- what an area that passes is known to be
+
+passes-right : (a : List ℕ) → areaRefusal a ≡ 0 → (57344 ≤ length a) × (areaWrong a ≡ false)
+unfolding areaRefusal
+passes-right a = go (ltb (length a) 57344) (areaWrong a) refl refl
+  where
+    go : (s t : Bool) → ltb (length a) 57344 ≡ s → areaWrong a ≡ t → _≡_ {A = ℕ} (pick s 1 (pick t 2 0)) 0 → (57344 ≤ length a) × (areaWrong a ≡ false)
+    go true t p q h = absurd (omega arith)
+    go false true p q h = absurd (omega arith)
+    go false false p q h = (ltb-false (length a) 57344 p, q)
+
+layout-passes : (a : List ℕ) → areaWrong a ≡ false → refusalOf (layoutAt a) ≡ 0
+unfolding areaWrong
+layout-passes a = go (eqb (refusalOf (layoutAt a)) 0) refl
+  where
+    go : (s : Bool) → eqb (refusalOf (layoutAt a)) 0 ≡ s
+        → pick s (pick (outside (depthAt a) 1 16) true (pick (ltb 16777216 (clockAt a)) true (some (stationWrong a) (countAt a)))) true ≡ false
+        → refusalOf (layoutAt a) ≡ 0
+    go true p h = eqb-true (refusalOf (layoutAt a)) 0 p
+    go false p h = absurd (true≢false h)
+
+pub passes-long : (a : List ℕ) (n : ℕ) → n ≡ areaRefusal a → n ≡ 0 → 57344 ≤ length a
+passes-long a n p q = passes-right a (sym p ∙ q) .0
+
+pub passes-layout : (a : List ℕ) → areaRefusal a ≡ 0 → Sound (layoutAt a)
+passes-layout a h = sound (layoutAt a) (layout-passes a (passes-right a h .1))
+
+-- a station that the layout counts has a place
+pub passes-station : (a : List ℕ) (n k i : ℕ) → n ≡ areaRefusal a → n ≡ 0 → k ≡ countAt a → i < k → i < 16
+unfolding layoutAt
+passes-station a n k i p q e h = let c = passes-layout a (sym p ∙ q) .count .1 in omega arith

@@ -1,55 +1,42 @@
+-- `octets::six` meets its contract. Assumes nothing.
 use Rattle.octets.specs.Store.{six-octets}
 use borrow.Author.Needs.{needs}
 use Rattle.octets.proofs.six.Statement.{statement}
 use Rattle.octets.proofs.six.Tie as tie
-use Rattle.octets.proofs.six.Reads as reads
-use Rattle.octets.proofs.six.Lts as lts
 
--- src/lib.rt:100:6
 shared-slice-read-t4 : tie.Need-shared-slice-read-t4
 shared-slice-read-t4 c = search needs
 
--- src/lib.rt:100:15
 add-t5 : tie.Need-add-t5
 add-t5 c = search needs
 
--- src/lib.rt:100:13
 shared-slice-read-t7 : tie.Need-shared-slice-read-t7
 shared-slice-read-t7 c = search needs
 
--- src/lib.rt:100:26
 add-t8 : tie.Need-add-t8
 add-t8 c = search needs
 
--- src/lib.rt:100:24
 shared-slice-read-t10 : tie.Need-shared-slice-read-t10
 shared-slice-read-t10 c = search needs
 
--- src/lib.rt:100:37
 add-t11 : tie.Need-add-t11
 add-t11 c = search needs
 
--- src/lib.rt:100:35
 shared-slice-read-t13 : tie.Need-shared-slice-read-t13
 shared-slice-read-t13 c = search needs
 
--- src/lib.rt:100:48
 add-t14 : tie.Need-add-t14
 add-t14 c = search needs
 
--- src/lib.rt:100:46
 shared-slice-read-t16 : tie.Need-shared-slice-read-t16
 shared-slice-read-t16 c = search needs
 
--- src/lib.rt:100:59
 add-t17 : tie.Need-add-t17
 add-t17 c = search needs
 
--- src/lib.rt:100:57
 shared-slice-read-t19 : tie.Need-shared-slice-read-t19
 shared-slice-read-t19 c = search needs
 
--- src/lib.rt:96:1
 returns : tie.Need-returns
 returns c = search six-octets
 

@@ -1,0 +1,3 @@
+pub mod Offer
+pub mod Counters
+pub mod OfferLaws
