@@ -104,13 +104,13 @@ unfoldable pub register : List Bool → ℕ → ℕ
 register [] c = c
 register (b ∷ bs) c = register bs (advance b c)
 
-pub advance-lt : (b : Bool) (c : ℕ) → c < 2 ^ 32 → advance b c < 2 ^ 32
+pub shifted-lt : (t : Bool) (c : ℕ) → c < 2 ^ 32 → shifted polynomial t c < 2 ^ 32
+shifted-lt true c h = xor-lt 32 (c / 2) polynomial (omega arith) (omega arith)
+shifted-lt false c h = omega arith
+
+advance-lt : (b : Bool) (c : ℕ) → c < 2 ^ 32 → advance b c < 2 ^ 32
 unfolding advance
-advance-lt b c h = go (xor b (eqb (c % 2) 1))
-  where
-    go : (t : Bool) → shifted polynomial t c < 2 ^ 32
-    go true = xor-lt 32 (c / 2) polynomial (omega arith) (omega arith)
-    go false = omega arith
+advance-lt b c h = shifted-lt (xor b (eqb (c % 2) 1)) c h
 
 pub register-lt : (bs : List Bool) (c : ℕ) → c < 2 ^ 32 → register bs c < 2 ^ 32
 unfolding register

@@ -8,10 +8,10 @@ use native.Mathlib.Nat.{pow-suc}
 use native.Mathlib.Omega.{arith}
 use lib.Dec.{eqb}
 use lib.ListN.{getD}
-use lib.Bits.{bitXor, differ, xor-step, xor-lt}
+use lib.Bits.{bitXor, differ, xor-step}
 use Rattle.octets.specs.Base.{pick}
 use Rattle.octets.specs.Table.{tabulated, entry}
-use Rattle.crc32.specs.Division.{polynomial, shifted}
+use Rattle.crc32.specs.Division.{polynomial, shifted-lt}
 use Rattle.crc32.specs.Register.{shift, shifts}
 
 -- ---- shifts, by an exclusive or that computes on numerals
@@ -32,11 +32,7 @@ computed (suc n) c = computed n (pick (eqb (c % 2) 1) (xorBits 32 (c / 2) polyno
 
 shift-lt : (c : ℕ) → c < 2 ^ 32 → shift c < 2 ^ 32
 unfolding shift
-shift-lt c h = go (eqb (c % 2) 1)
-  where
-    go : (t : Bool) → shifted polynomial t c < 2 ^ 32
-    go true = xor-lt 32 (c / 2) polynomial (omega arith) (omega arith)
-    go false = omega arith
+shift-lt c h = shifted-lt (eqb (c % 2) 1) c h
 
 shift-computed : (c : ℕ) → c < 2 ^ 32 → pick (eqb (c % 2) 1) (xorBits 32 (c / 2) polynomial) (c / 2) ≡ shift c
 unfolding shift

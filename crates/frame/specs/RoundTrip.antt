@@ -8,6 +8,7 @@ use borrow.Author.Tests.{lt-ltb, le-ltb, le-leb, lt-leb, eq-eqb, ltb-false, leb-
 use lib.Dec.{ltb, leb, eqb}
 use lib.ListN.{length, getD, take, drop, replicate, length-append}
 use lib.Seq.{take-at, drop-at, take-append-seam, take-length, take-all, sets}
+use Rattle.octets.specs.BaseLaws.{refused-none}
 use Rattle.octets.specs.Base.{pick, Answer, refused, accepted, Outcome, outcome}
 use Rattle.octets.specs.Equal.{equal}
 use Rattle.octets.specs.EqualLaws.{equal-refl}
@@ -188,9 +189,6 @@ opens-frame d s v x e hd hs hv h he =
     }
 
 -- where the builder answers a length, the data were accepted and its octets begin with the frame
-refused-none : {C : Type 0} (k : ℕ) (vs : List ℕ) → (k ≡ 0 → ⊥) → refused k ≡ accepted vs → C
-refused-none k vs h p = absurd (h (ap (λ (r : Answer). r .number) p))
-
 record Begins (l d s : List ℕ) (v : ℕ) (x : List ℕ) (n : ℕ) (o : Outcome) : Type 0 where
   taken : refusesData v (length x) ≡ false
   front : take n (o .octets) ≡ frameOf d s v x

@@ -1,14 +1,19 @@
--- Laws of a choice, of a search and of a range. Assumes nothing.
+-- Laws of answers, of a search and of a range. Assumes nothing.
 use Prim.Native.Nat.{ℕ, zero, suc, _+_, _≤_, _<_}
 use mathlib.Core.Path.{_≡_, refl, sym, _∙_, ap}
 use mathlib.Core.Bool.{Bool, true, false, _||_, or-true, true≢false}
+use mathlib.Core.List.{List}
 use native.Mathlib.Decide.{decLt}
 use native.Mathlib.Nat.{not-suc-le-zero}
 use native.Mathlib.Numerals.{add-one}
 use native.Mathlib.Omega.{arith}
 use borrow.Author.Tests.{ltb-false}
 use lib.Dec.{ltb}
-use Rattle.octets.specs.Base.{some, outside}
+use Rattle.octets.specs.Base.{some, outside, Answer, refused, accepted}
+
+-- a refusal is no accepted answer
+pub refused-none : {C : Type 0} (k : ℕ) (vs : List ℕ) → (k ≡ 0 → ⊥) → refused k ≡ accepted vs → C
+refused-none k vs h p = absurd (h (ap (λ (r : Answer). r .number) p))
 
 -- neither of two
 pub neither : (a b : Bool) → (a || b) ≡ false → (a ≡ false) × (b ≡ false)

@@ -10,6 +10,7 @@ use borrow.Author.Tests.{ltb-false, le-ltb, eqb-true, eqb-false}
 use lib.Dec.{ltb, eqb}
 use lib.ListN.{length, getD, take, drop, length-append, List·getD-append, take-append-drop, length-drop}
 use lib.Seq.{take-append-le, drop-append-le, length-take-le}
+use Rattle.octets.specs.BaseLaws.{refused-none}
 use Rattle.octets.specs.Base.{pick, Answer, refused, accepted}
 use Rattle.octets.specs.Number.{get}
 use Rattle.octets.specs.NumberLaws.{get-front}
@@ -29,9 +30,6 @@ pub record Read (l : List ℕ) (n : ℕ) (r : Reading) : Type 0 where
   pub within : n ≤ length l
   pub layout : r .layout ≡ layoutIn l
   pub sound : Sound (r .layout)
-
-refused-none : {C : Type 0} (k : ℕ) (vs : List ℕ) → (k ≡ 0 → ⊥) → refused k ≡ accepted vs → C
-refused-none k vs h p = absurd (h (ap (λ (r : Answer). r .number) p))
 
 pub read-sound : (l : List ℕ) (n : ℕ) → readSheet l .answer ≡ accepted (n ∷ []) → Read l n (readSheet l)
 unfolding readSheet
