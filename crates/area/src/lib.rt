@@ -86,14 +86,14 @@ pub fn read_count(area: &[u8]) -> u32
     octets::get32(area, 32)
 }
 
-pub fn read_position(area: &[u8], i: usize) -> u32
+fn read_position(area: &[u8], i: usize) -> u32
     requires { ⌜ (i < 16) × (57344 ≤ length (now area)) ⌝ }
     ensures { λ r. ⌜ r ≡ positionAt (now (area .entry)) i ⌝ }
 {
     octets::get32(area, 64 + 16 * i)
 }
 
-pub fn read_address(area: &[u8], i: usize) -> [u8; 6]
+fn read_address(area: &[u8], i: usize) -> [u8; 6]
     requires { ⌜ (i < 16) × (57344 ≤ length (now area)) ⌝ }
     ensures { λ r. ⌜ r ≡ addressAt (now (area .entry)) i ⌝ }
 {

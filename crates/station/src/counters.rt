@@ -56,7 +56,7 @@ pub fn add(counters: [u32; 16], k: usize, n: u32) -> [u32; 16]
 }
 
 // Counter k with one more where the test holds.
-pub fn add_if(test: bool, counters: [u32; 16], k: usize) -> [u32; 16]
+fn add_if(test: bool, counters: [u32; 16], k: usize) -> [u32; 16]
     requires { ⌜ k < 16 ⌝ }
     ensures { λ r. ⌜ r ≡ addedIf test counters k ⌝ }
 {
@@ -85,7 +85,7 @@ fn count_sent(counters: [u32; 16], n: u32, frame: u32, deferred: bool) -> [u32; 
 }
 
 // What a transmit event adds, of a frame of so many octets.
-pub fn count_transmit(
+fn count_transmit(
     counters: [u32; 16],
     event: TransmitEvent,
     frame: u32,
@@ -106,7 +106,7 @@ pub fn count_transmit(
 }
 
 // What a receive event adds, of a frame of so many octets.
-pub fn count_receive(counters: [u32; 16], event: ReceiveEvent, frame: u32) -> [u32; 16]
+fn count_receive(counters: [u32; 16], event: ReceiveEvent, frame: u32) -> [u32; 16]
     ensures { λ r. ⌜ r ≡ countReceive counters event frame ⌝ }
 {
     match event {

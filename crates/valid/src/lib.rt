@@ -103,7 +103,7 @@ fn receiver_wrong(clock: u32, w: [u32; 14]) -> bool
 }
 
 // Whether a record's words hold what no call would leave, on a layout with these figures, so many draws and this clock.
-pub fn record_wrong(f: Figures, depth: u32, clock: u32, w: [u32; 14]) -> bool
+fn record_wrong(f: Figures, depth: u32, clock: u32, w: [u32; 14]) -> bool
     requires { ⌜ (f .gap1 + f .gap2 < 65536) × (f .slot < 65536) ⌝ }
     ensures { λ r. ⌜ r ≡ recordWrong f depth clock w ⌝ }
 {
