@@ -15,8 +15,7 @@ use Rattle.frame.specs.Build.{frameOf}
 use Rattle.layout.specs.declared.Figures.{Figures}
 use Rattle.layout.specs.declared.Tap.{Tap}
 use Rattle.layout.specs.declared.Layout.{Layout}
-use Rattle.layout.specs.Layout.{places}
-use Rattle.layout.specs.Taps.{placesOf}
+use Rattle.layout.specs.Layout.{places, placesOf}
 use Rattle.packet.specs.declared.Heard.{Heard}
 use Rattle.packet.specs.declared.Heard.the-variants.{Nothing, Clean, Jammed, Several}
 use Rattle.packet.specs.declared.Symbol.{Symbol}

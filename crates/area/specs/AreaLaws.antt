@@ -4,9 +4,10 @@ use Prim.Native.Nat.{ℕ, zero, suc, _+_, _*_, _-_, _/_, _%_, _^_, _≤_, _<_}
 use mathlib.Core.Path.{_≡_, refl, _∙_, ap, ap₂, sym}
 use mathlib.Core.Bool.{Bool, true, false}
 use mathlib.Core.List.{List, [], _∷_}
+use native.Mathlib.Decide.{ℕ-discrete}
 use native.Mathlib.Omega.{arith}
 use lib.ListN.{length, getD, set, length-set}
-use lib.Seq.{sets, length-sets, getD-set-same}
+use lib.Seq.{sets, length-sets, getD-set-same, getD-set-other}
 use Rattle.octets.specs.Number.{get, put}
 use Rattle.octets.specs.NumberLaws.{length-put, get-put-same}
 use Rattle.octets.specs.Store.{part, part-same}
@@ -84,16 +85,21 @@ module _ (l m : List ℕ) where
   unfolding countersAt Keeps
   counters-by i k = words-go-by 16 (1024 + 64 * i) l m k
 
+  pub record-by : (i : ℕ) → Keeps (station i) l m → recordAt l i ≡ recordAt m i
+  unfolding recordAt Keeps
+  record-by i s = words-go-by 14 (2048 + 64 * i) l m (same-part (2048 + 64 * i) 64 (2048 + 64 * i) 56 l m (omega arith) (omega arith) s)
+
   pub station-by : (i : ℕ) → i < 16 → 57344 ≤ length l → 57344 ≤ length m → Keeps layout l m → Keeps (station i) l m → stationAt l i ≡ stationAt m i
-  unfolding stationAt recordAt Keeps
-  station-by i h p q k s =
-      ap₂ decoded
-      (words-go-by 14 (2048 + 64 * i) l m (same-part (2048 + 64 * i) 64 (2048 + 64 * i) 56 l m (omega arith) (omega arith) s))
-      (address-by i h p q k)
+  unfolding stationAt
+  station-by i h p q k s = ap₂ decoded (record-by i s) (address-by i h p q k)
+
+  pub symbol-by : (i u : ℕ) → Keeps (place i u) l m → symbolAt l i u ≡ symbolAt m i u
+  unfolding symbolAt Keeps Same
+  symbol-by i u k = k (4096 + 256 * i + u % 256) (omega arith) (omega arith)
 
   pub arrival-by : (i u : ℕ) → Keeps (place i u) l m → arrivalAt l i u ≡ arrivalAt m i u
-  unfolding arrivalAt symbolAt Keeps Same
-  arrival-by i u k = ap heardOf (k (4096 + 256 * i + u % 256) (omega arith) (omega arith))
+  unfolding arrivalAt
+  arrival-by i u k = ap heardOf (symbol-by i u k)
 
   pub frame-by : (i n : ℕ) → i < 16 → n ≤ 1536 → 57344 ≤ length l → 57344 ≤ length m → Keeps (frame i) l m → frameAt l i n ≡ frameAt m i n
   unfolding frameAt Keeps
@@ -170,6 +176,13 @@ heard-back (Clean false) = refl
 heard-back Jammed = refl
 heard-back Several = refl
 
+pub code-small : (h : Heard) → heardCode h ≤ 4
+code-small Nothing = omega arith
+code-small (Clean true) = omega arith
+code-small (Clean false) = omega arith
+code-small Jammed = omega arith
+code-small Several = omega arith
+
 module _ (a : List ℕ) (big : 57344 ≤ length a) where
   pub clock-same : (t : ℕ) → t < 256 ^ 4 → clockAt (withClock a t) ≡ t
   unfolding clockAt withClock
@@ -179,16 +192,25 @@ module _ (a : List ℕ) (big : 57344 ≤ length a) where
   unfolding countersAt withCounters
   counters-same i cs h n s = words-same 16 a (1024 + 64 * i) cs n (omega arith) s
 
-  words-back : (i : ℕ) (s : Station) → i < 16 → Fit s → wordsAt 14 (withStation a i s) (2048 + 64 * i) ≡ encoded s
-  unfolding withStation
-  words-back i s h f = words-same 14 a (2048 + 64 * i) (encoded s) (length-encoded s) (omega arith) (encoded-small s f)
+  pub record-same : (i : ℕ) (s : Station) → i < 16 → Fit s → recordAt (withStation a i s) i ≡ encoded s
+  unfolding withStation recordAt
+  record-same i s h f = words-same 14 a (2048 + 64 * i) (encoded s) (length-encoded s) (omega arith) (encoded-small s f)
 
   -- the address stands with the layout, which the record does not touch
   pub station-same : (i : ℕ) (s : Station) → i < 16 → Fit s → s .address ≡ addressAt a i → stationAt (withStation a i s) i ≡ s
-  unfolding stationAt recordAt
+  unfolding stationAt
   station-same i s h f e =
       let k : Keeps layout (withStation a i s) a = station-keeps layout a i s (λ x y. omega arith) in
-      ap₂ decoded (words-back i s h f) (address-by (withStation a i s) a i h (omega (arith, length-station a i s)) big k ∙ sym e) ∙ decoded-encoded s
+      ap₂ decoded (record-same i s h f) (address-by (withStation a i s) a i h (omega (arith, length-station a i s)) big k ∙ sym e) ∙ decoded-encoded s
+
+  -- the code of what was put, at its place, and what was there anywhere else
+  pub symbol-same : (i u j v : ℕ) (h : Heard) (m : ℕ) → i < 16 → j < 16 → heardCode h ≤ m → symbolAt a j v ≤ m → symbolAt (withArrival a i u h) j v ≤ m
+  unfolding symbolAt withArrival
+  symbol-same i u j v h m hi hj p q = go (ℕ-discrete (4096 + 256 * j + v % 256) (4096 + 256 * i + u % 256))
+    where
+      go : Dec (4096 + 256 * j + v % 256 ≡ 4096 + 256 * i + u % 256) → getD (set a (4096 + 256 * i + u % 256) (heardCode h)) (4096 + 256 * j + v % 256) 0 ≤ m
+      go (yes e) = rw (e, getD-set-same a (4096 + 256 * i + u % 256) (heardCode h) 0 (omega arith)) p
+      go (no e) = rw (getD-set-other a (4096 + 256 * i + u % 256) (4096 + 256 * j + v % 256) (heardCode h) 0 e) q
 
   pub frame-same : (i : ℕ) (f : List ℕ) → i < 16 → length f ≤ 1536 → frameAt (withFrame a i f) i (length f) ≡ f
   unfolding frameAt withFrame
@@ -198,6 +220,10 @@ module _ (a : List ℕ) (big : 57344 ≤ length a) where
   pub arrival-same : (i u v : ℕ) (h : Heard) → i < 16 → u % 256 ≡ v % 256 → arrivalAt (withArrival a i u h) i v ≡ h
   unfolding arrivalAt symbolAt withArrival
   arrival-same i u v h k e = rw e (ap heardOf (getD-set-same a (4096 + 256 * i + v % 256) (heardCode h) 0 (omega arith)) ∙ heard-back h)
+
+pub symbol-turn : (a : List ℕ) (i u v : ℕ) → u % 256 ≡ v % 256 → symbolAt a i u ≡ symbolAt a i v
+unfolding symbolAt
+symbol-turn a i u v e = rw e
 
 pub arrival-turn : (a : List ℕ) (i u v : ℕ) → u % 256 ≡ v % 256 → arrivalAt a i u ≡ arrivalAt a i v
 unfolding arrivalAt symbolAt

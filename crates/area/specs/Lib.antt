@@ -2,3 +2,5 @@ pub mod Places
 pub mod Area
 pub mod CodeLaws
 pub mod AreaLaws
+pub mod Fresh
+pub mod FreshLaws

@@ -13,19 +13,23 @@
 // | 8192 + 1536 i | the frame of station i, up to 1518 octets |
 // | 32768 + 1536 i | what station i collected, up to 1518 octets |
 
+pub mod start;
+
 use frame::builder::Built;
 use layout::Figures;
 use layout::Layout;
 use layout::Tap;
+use packet::Emission;
 use packet::Heard;
 use packet::Symbol;
 use station::step::Station;
 ghost use mathlib.Core.Path.{_≡_};
 ghost use Prim.Native.Nat.{_+_, _*_, _/_, _%_, _^_, _<_, _≤_};
 ghost use lib.ListN.{length};
-ghost use Rattle.layout.specs.Taps.{placesOf};
-ghost use Rattle.area.specs.Area.{clockAt, withClock, depthAt, drawAt, figuresAt, countAt, positionAt, addressAt, tapAt, layoutAt, distance, spaceAt, countersAt, withCounters, recordAt, stationAt, withStation, withBit, heardOf, heardCode, symbolAt, arrivalAt, withArrival, alone, overlaid, joined, octetWith, frameBuilt};
+ghost use Rattle.layout.specs.Layout.{placesOf};
+ghost use Rattle.area.specs.Area.{clockAt, withClock, depthAt, drawAt, figuresAt, countAt, positionAt, addressAt, tapAt, layoutAt, distance, spaceAt, countersAt, withCounters, recordAt, stationAt, withStation, withBit, heardOf, heardCode, symbolAt, arrivalAt, withArrival, alone, overlaid, joined, octetWith, frameAt, bufferAt, frameBuilt};
 ghost use Rattle.octets.specs.Base.{outcome};
+ghost use Rattle.packet.specs.Packet.{symbolOf};
 ghost use Rattle.frame.specs.Build.{builtAnswer};
 
 // 2^p at place p.
@@ -319,6 +323,26 @@ pub fn store_bit(area: &mut [u8], i: usize, k: usize, one: bool)
 {
     let at = 32768 + 1536 * i + k / 8;
     area[at] = octet_with(area[at], k % 8, one);
+}
+
+// What station i collected.
+pub fn buffer(area: &[u8], i: usize) -> &[u8]
+    requires { ⌜ (i < 16) × (57344 ≤ length (now area)) ⌝ }
+    ensures { λ r. ⌜ now r ≡ bufferAt (now (area .entry)) i ⌝ }
+{
+    let at = 32768 + 1536 * i;
+    let end = at + 1518;
+    &area[at..end]
+}
+
+// The symbol that an emission of station i is, whose frame has n octets.
+pub fn symbol(area: &[u8], i: usize, n: usize, e: Emission) -> Symbol
+    requires { ⌜ (i < 16) × (n ≤ 1536) × (57344 ≤ length (now area)) ⌝ }
+    ensures { λ r. ⌜ r ≡ symbolOf (frameAt (now (area .entry)) i n) e ⌝ }
+{
+    let at = 8192 + 1536 * i;
+    let end = at + n;
+    packet::symbol_of(&area[at..end], e)
 }
 
 // Builds a frame of station i, with its own address as source, at its place, or refuses (11) and leaves the area as it was.

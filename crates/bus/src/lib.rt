@@ -1,14 +1,21 @@
 // The calls on a work area.
 
+use layout::Layout;
+use pair::Events;
+use receiver::ReceiveEvent;
 use station::step::Station;
+use transmitter::TransmitEvent;
 use transmitter::Transmitter;
 ghost use mathlib.Core.Path.{_≡_};
 ghost use mathlib.Core.Bool.{false};
 ghost use Prim.Native.Nat.{_+_, _-_, _<_, _≤_};
-ghost use lib.ListN.{length};
-ghost use Rattle.octets.specs.Base.{outcome};
+ghost use lib.ListN.{length, replicate};
+ghost use Rattle.octets.specs.Base.{refused, outcome};
+ghost use Rattle.pair.specs.BitTime.{noEvents};
 ghost use Rattle.frame.specs.Limits.{refusesData};
 ghost use Rattle.bus.specs.Offer.{doneAnswer, holds, offeredStation, withHeld, withOffered, withOffer, offered};
+ghost use Rattle.bus.specs.Start.{started};
+ghost use Rattle.bus.specs.Step.{bitTimeOutcome, steppedOnce};
 ghost use Rattle.bus.specs.Counters.{countersReading, countersRead};
 
 // The answer of a call that gives nothing but its being done: a refusal by its number, or done.
@@ -21,6 +28,30 @@ pub enum Done {
 pub struct Counters {
     pub done: Done,
     pub words: [u32; 16],
+}
+
+// What a step answers: the events of each station, none where the call is refused.
+pub struct BitTime {
+    pub done: Done,
+    pub events: [Events; 16],
+}
+
+// A fresh start on this layout, with D and the draws of each station. Refusals 1, 5 to 9.
+pub fn start(area: &mut [u8], y: Layout, depth: u32, draws: [[u16; 16]; 16]) -> Done
+    ensures { λ r. ⌜ outcome (doneAnswer r) (now (area .exit)) ≡ started (now (area .entry)) y depth draws ⌝ }
+{
+    if area.len() < area::AREA {
+        return Done::Refused(1);
+    }
+    let number = layout::refusal(y);
+    if number != 0 {
+        return Done::Refused(number);
+    }
+    if octets::out_of(depth, 1, 16) {
+        return Done::Refused(9);
+    }
+    area::start::write_fresh(area, y, depth, draws);
+    Done::Made
 }
 
 fn has_frame(t: Transmitter) -> bool
@@ -128,5 +159,38 @@ pub fn read_counters(area: &[u8], i: usize) -> Counters
     Counters {
         done: Done::Made,
         words: area::read_counters(area, i),
+    }
+}
+
+// A step refused under this number.
+fn no_step(number: u32) -> BitTime
+    ensures done { λ r. ⌜ doneAnswer (r .done) ≡ refused number ⌝ }
+    ensures events { λ r. ⌜ r .events ≡ replicate 16 noEvents ⌝ }
+{
+    let none = Events {
+        sent: TransmitEvent::NoTransmit,
+        got: ReceiveEvent::NoReceive,
+    };
+    BitTime {
+        done: Done::Refused(number),
+        events: [none; 16],
+    }
+}
+
+// One bit time. Refusals 1, 2, 13.
+pub fn step(area: &mut [u8]) -> BitTime
+    ensures { λ r. ⌜ bitTimeOutcome r (now (area .exit)) ≡ steppedOnce (now (area .entry)) ⌝ }
+{
+    let number = ready::refusal(area);
+    if number != 0 {
+        return no_step(number);
+    }
+    if 16777216 <= area::read_clock(area) {
+        return no_step(13);
+    }
+    let events = pair::step(area);
+    BitTime {
+        done: Done::Made,
+        events,
     }
 }

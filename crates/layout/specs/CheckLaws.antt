@@ -10,7 +10,7 @@ use borrow.Author.Tests.{ltb-false, leb-false, ne-eqb}
 use lib.Dec.{ltb, leb, eqb}
 use lib.ListN.{getD}
 use Rattle.octets.specs.Base.{pick, some, outside, refused, accepted}
-use Rattle.octets.specs.BaseLaws.{neither, within, none-below}
+use Rattle.octets.specs.BaseLaws.{neither, within, none-below, some-same}
 use Rattle.octets.specs.Equal.{equal}
 use Rattle.octets.specs.EqualLaws.{equal-refl}
 use Rattle.layout.specs.declared.Figures.{Figures}
@@ -151,6 +151,34 @@ sound y h =
   where
     unequal : (a b : List ℕ) → equal a b ≡ false → a ≡ b → ⊥
     unequal a b p q = true≢false (sym (equal-refl a) ∙ ap (equal a) q ∙ p)
+
+-- only the stations that are counted matter
+pub refusal-same : (y z : Layout) → y .figures ≡ z .figures → y .count ≡ z .count → y .count ≤ 16 → ((i : ℕ) → i < y .count → tapAt y i ≡ tapAt z i)
+    → refusalOf y ≡ refusalOf z
+unfolding refusalOf addressWrong
+refusal-same y z ef en few et =
+    λ i. pick (figuresOut (ef i)) 5 (pick (positions i) 5 (pick (outside (en i) 2 places) 6 (pick (order i) 7 (pick (addresses i) 8 0))))
+  where
+    positions : some (positionOut y) (min (y .count) places) ≡ some (positionOut z) (min (z .count) places)
+    positions =
+        some-same (positionOut y) (positionOut z) (min (y .count) places) (λ i h. ap (λ (t : Tap). ltb 255 (t .position)) (et i (omega arith)))
+        ∙ ap (λ (n : ℕ). some (positionOut z) (min n places)) en
+
+    order : some (falls y) (y .count - 1) ≡ some (falls z) (z .count - 1)
+    order =
+        some-same (falls y) (falls z) (y .count - 1)
+        (λ i h. ap₂ (λ (t u : Tap). leb (u .position) (t .position)) (et i (omega arith)) (et (suc i) (omega arith)))
+        ∙ ap (λ (n : ℕ). some (falls z) (n - 1)) en
+
+    wrong : (i : ℕ) → i < y .count → (isGroup (addressAt y i) || some (sameAddress y i) i) ≡ (isGroup (addressAt z i) || some (sameAddress z i) i)
+    wrong i h =
+        ap₂ (λ (a b : Bool). a || b) (ap (λ (t : Tap). isGroup (t .address)) (et i h))
+        (some-same (sameAddress y i) (sameAddress z i) i (λ j p. ap₂ (λ (t u : Tap). equal (u .address) (t .address)) (et i h) (et j (omega arith))))
+
+    addresses : some (λ i. isGroup (addressAt y i) || some (sameAddress y i) i) (y .count) ≡ some (λ i. isGroup (addressAt z i) || some (sameAddress z i) i) (z .count)
+    addresses =
+        some-same _ _ (y .count) wrong
+        ∙ ap (λ (n : ℕ). some (λ i. isGroup (addressAt z i) || some (sameAddress z i) i) n) en
 
 -- for the fit: there is a first and a last station
 pub counted-low : (y : Layout) (n : ℕ) → n ≡ refusalOf y → n ≡ 0 → 0 < y .count

@@ -5,6 +5,7 @@ use mathlib.Core.Bool.{Bool, true, false, _&&_}
 use mathlib.Core.List.{List, []}
 use lib.Dec.{leb}
 use lib.ListN.{getD, replicate}
+use Rattle.octets.specs.Filled.{filled}
 use Rattle.layout.specs.declared.Figures.{Figures}
 use Rattle.layout.specs.declared.Tap.{Tap}
 use Rattle.layout.specs.declared.Layout.{Layout}
@@ -16,6 +17,10 @@ places = 16
 -- what stands in a place that no station has
 abbrev pub blankTap : Tap
 blankTap = record { position = 0; address = replicate 6 0 }
+
+-- the places where the first n hold what t gives for each, and the others are blank
+abbrev pub placesOf : (ℕ → Tap) → ℕ → List Tap
+placesOf t n = filled blankTap t n
 
 -- a layout of nothing
 abbrev pub blankFigures : Figures

@@ -1,15 +1,27 @@
 -- Laws of answers, of a search and of a range. Assumes nothing.
 use Prim.Native.Nat.{ℕ, zero, suc, _+_, _≤_, _<_}
-use mathlib.Core.Path.{_≡_, refl, sym, _∙_, ap}
+use mathlib.Core.Path.{_≡_, refl, sym, _∙_, ap, ap₂}
 use mathlib.Core.Bool.{Bool, true, false, _||_, or-true, true≢false}
 use mathlib.Core.List.{List}
-use native.Mathlib.Decide.{decLt}
+use native.Mathlib.Decide.{decLt, ℕ-discrete}
 use native.Mathlib.Nat.{not-suc-le-zero}
 use native.Mathlib.Numerals.{add-one}
 use native.Mathlib.Omega.{arith}
-use borrow.Author.Tests.{ltb-false}
+use borrow.Author.Tests.{ltb-false, le-ltb}
 use lib.Dec.{ltb}
 use Rattle.octets.specs.Base.{some, outside, Answer, refused, accepted}
+
+-- a test with its answer remembered, and two numbers that are equal or not
+pub by-test : {C : Type 0} (b : Bool) → (b ≡ true → C) → (b ≡ false → C) → C
+by-test true f g = f refl
+by-test false f g = g refl
+
+pub by-eq : {C : Type 0} (m n : ℕ) → (m ≡ n → C) → ((m ≡ n → ⊥) → C) → C
+by-eq {C} m n f g = go (ℕ-discrete m n)
+  where
+    go : Dec (m ≡ n) → C
+    go (yes h) = f h
+    go (no h) = g h
 
 -- a refusal is no accepted answer
 pub refused-none : {C : Type 0} (k : ℕ) (vs : List ℕ) → (k ≡ 0 → ⊥) → refused k ≡ accepted vs → C
@@ -53,7 +65,23 @@ module _ (t : ℕ → Bool) where
       go (yes k) g = g k
       go (no k) g = let e : i ≡ n = omega arith in ap t e ∙ neither (some t n) (t n) p .1
 
+  -- where none below n passes
+  pub below-none : (n : ℕ) → ((i : ℕ) → i < n → t i ≡ false) → some t n ≡ false
+  unfolding some
+  below-none zero h = refl
+  below-none (suc n) h = rw (below-none n (λ i p. h i (omega arith)), h n (omega arith))
+
+-- only the numbers below n matter
+pub some-same : (t u : ℕ → Bool) (n : ℕ) → ((i : ℕ) → i < n → t i ≡ u i) → some t n ≡ some u n
+unfolding some
+some-same t u zero h = refl
+some-same t u (suc n) h = ap₂ (λ (a b : Bool). a || b) (some-same t u n (λ i p. h i (omega arith))) (h n (omega arith))
+
 -- ---- a range
+
+pub outside-not : (x a b : ℕ) → a ≤ x → x ≤ b → outside x a b ≡ false
+unfolding outside
+outside-not x a b p q = rw (le-ltb x a p, le-ltb b x q)
 
 pub within : (x a b : ℕ) → outside x a b ≡ false → (a ≤ x) × (x ≤ b)
 unfolding outside

@@ -13,3 +13,5 @@ pub mod BitsLaws
 pub mod Table
 pub mod Variant
 pub mod Lent
+pub mod Turns
+pub mod Filled

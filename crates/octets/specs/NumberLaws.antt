@@ -17,6 +17,21 @@ unfolding get
 get-more zero l at = let e : at + 0 ≡ at = omega arith in rw e (omega arith)
 get-more (suc w) l at = refl
 
+-- ---- numbers of octets
+
+-- each is an octet, and not only a number
+unfoldable pub Octets : List ℕ → Type 0
+Octets l = (k : ℕ) → getD l k 0 < 256
+
+pub octets-by : (l : List ℕ) → ((k : ℕ) → getD l k 0 < 256) → Octets l
+unfolding Octets
+octets-by l h = h
+
+pub get-small : (w : ℕ) (l : List ℕ) (at : ℕ) → Octets l → get w l at < 256 ^ w
+unfolding get Octets
+get-small zero l at o = omega arith
+get-small (suc w) l at o = let ih = get-small w l at o in let z = o (at + w) in omega (arith, get-more w l at, pow-suc 256 w)
+
 -- ---- where octets agree, so do numbers
 
 pub get-by : (w at b : ℕ) (l m : List ℕ) → ((k : ℕ) → k < w → getD l (at + k) 0 ≡ getD m (b + k) 0) → get w l at ≡ get w m b

@@ -10,6 +10,7 @@ ghost use Rattle.octets.specs.Number.{get, put};
 ghost use Rattle.octets.specs.Words.{putWords, wordsAt};
 ghost use Rattle.octets.specs.Equal.{equal};
 ghost use Rattle.octets.specs.Store.{part};
+ghost use Rattle.octets.specs.Turns.{blanked};
 
 // An octet as a wider number. That it is below 256 is said here once, so that no caller shows that a sum of octets fits.
 pub fn wide(x: u8) -> u32
@@ -78,6 +79,18 @@ pub fn put16(s: &mut [u8], at: usize, v: u16)
 {
     s[at] = (v / 256 % 256) as u8;
     s[at + 1] = (v % 256) as u8;
+}
+
+// Writes 0 over the first n octets.
+pub fn blank(s: &mut [u8], n: usize)
+    requires { ⌜ n ≤ length (now s) ⌝ }
+    ensures { λ r. ⌜ now (s .exit) ≡ blanked n (now (s .entry)) ⌝ }
+{
+    let mut k = 0;
+    while k < n {
+        s[k] = 0;
+        k += 1;
+    }
 }
 
 // Stores all of `src` into `s` from index `at` on.

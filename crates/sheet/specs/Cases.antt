@@ -8,7 +8,7 @@ use Rattle.octets.specs.Number.{get}
 use Rattle.layout.specs.Layout.{tapAt, gapOf, spanOf, fitsWell}
 use Rattle.layout.specs.Check.{gap1Out, figuresOut, addressWrong, refusalOf}
 use Rattle.layout.specs.Fit.{fitOf}
-use Rattle.layout.specs.Taps.{tapsOf, placesOf}
+use Rattle.octets.specs.Filled.{listed, filled}
 use Rattle.sheet.specs.Sheet.{fieldAt, field, figuresIn, tapIn, layoutIn}
 
 -- a sheet of two stations so far apart, behind a map and its fields
@@ -21,5 +21,5 @@ rows :
     ≡ accepted (1 ∷ []) ∷ accepted (0 ∷ [])
     -- P2: jam 32 fits with G 96, jam 31 not
     ∷ accepted (1 ∷ []) ∷ accepted (0 ∷ []) ∷ []
-unfolding sheet some outside equal get tapAt gapOf spanOf fitsWell gap1Out figuresOut addressWrong refusalOf fitOf fieldAt field figuresIn tapIn tapsOf placesOf layoutIn
+unfolding sheet some outside equal get tapAt gapOf spanOf fitsWell gap1Out figuresOut addressWrong refusalOf fitOf fieldAt field figuresIn tapIn listed filled layoutIn
 rows = refl

@@ -14,9 +14,8 @@ use Rattle.layout.specs.declared.Layout.{Layout}
 use Rattle.sheet.specs.declared.SheetRead.{SheetRead}
 use Rattle.sheet.specs.declared.SheetRead.the-variants.{Refused, Used}
 use Rattle.sheet.specs.declared.Sheet.{Sheet}
-use Rattle.layout.specs.Layout.{places, blankTap, blankLayout}
+use Rattle.layout.specs.Layout.{places, blankTap, blankLayout, placesOf}
 use Rattle.layout.specs.Check.{refusalOf}
-use Rattle.layout.specs.Taps.{placesOf}
 
 -- ---- the map and its fields
 

@@ -16,9 +16,8 @@ use Rattle.layout.specs.declared.Figures.{Figures}
 use Rattle.layout.specs.declared.Tap.{Tap}
 use Rattle.layout.specs.declared.Layout.{Layout}
 use Rattle.sheet.specs.declared.Sizes.{Sizes}
-use Rattle.layout.specs.Layout.{places, blankTap, blankLayout}
+use Rattle.layout.specs.Layout.{places, blankTap, blankLayout, placesOf}
 use Rattle.layout.specs.Check.{refusalOf}
-use Rattle.layout.specs.Taps.{placesOf}
 use Rattle.sheet.specs.Sheet.{mapOf, stands, width, fieldAt, field, figuresIn, countPlace, countIn, tapIn, tapsFrom, layoutIn, sheetSize, Reading, unread, readSheet}
 
 -- ---- the fields, by the octets that they take

@@ -19,7 +19,8 @@ use Rattle.layout.specs.declared.Figures.{Figures}
 use Rattle.layout.specs.declared.Tap.{Tap}
 use Rattle.layout.specs.declared.Layout.{Layout}
 use Rattle.layout.specs.Check.{refusalOf}
-use Rattle.layout.specs.Taps.{placesOf, places-same}
+use Rattle.octets.specs.Filled.{filled-same}
+use Rattle.layout.specs.Layout.{placesOf, blankTap}
 use Rattle.layout.specs.CheckLaws.{Sound, sound}
 use Rattle.sheet.specs.Sheet.{mapOf, stands, width, fieldAt, field, figuresIn, countPlace, countIn, tapIn, tapsFrom, layoutIn, sheetSize, Reading, unread, readSheet}
 
@@ -121,7 +122,7 @@ module _ (a z : List ℕ) (h : sheetSize a ≤ length a) where
   places-front : placesOf (tapsFrom (a ++ z) (countPlace (a ++ z) + 1)) (min (countIn (a ++ z)) 16) ≡ placesOf (tapsFrom a (countPlace a + 1)) (min (countIn a) 16)
   places-front =
       rw (count-front, place-front)
-      (places-same (tapsFrom (a ++ z) (countPlace a + 1)) (tapsFrom a (countPlace a + 1)) (min (countIn a) 16)
+      (filled-same blankTap (tapsFrom (a ++ z) (countPlace a + 1)) (tapsFrom a (countPlace a + 1)) (min (countIn a) 16)
       (λ i g. tap-front (countPlace a + 1 + 7 * i) (omega (arith, front))))
 
   layout-front : layoutIn (a ++ z) ≡ layoutIn a

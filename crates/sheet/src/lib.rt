@@ -8,7 +8,7 @@ ghost use Prim.Native.Nat.{_+_, _*_, _/_, _%_, _<_, _≤_};
 ghost use lib.Dec.{eqb};
 ghost use lib.ListN.{length};
 ghost use Rattle.octets.specs.Base.{pick};
-ghost use Rattle.layout.specs.Taps.{placesOf};
+ghost use Rattle.layout.specs.Layout.{placesOf};
 ghost use Rattle.sheet.specs.Sheet.{tapIn, tapsFrom, unread, readSheet, sheetReading};
 ghost use Rattle.sheet.specs.SheetLaws.{sizesOf, ends, fieldOf, figuresOf, layoutOf};
 

@@ -15,7 +15,7 @@ use Rattle.station.specs.declared.step.Station.{Station}
 use Rattle.station.specs.declared.step.Stepped.{Stepped}
 use Rattle.packet.specs.Packet.{hearsAny, isEmission}
 use Rattle.deference.specs.Defer.{defer}
-use Rattle.transmitter.specs.Transmit.{waits, numberIn, transmit}
+use Rattle.transmitter.specs.Transmit.{waits, numberIn, octetsHeld, transmit}
 use Rattle.receiver.specs.Receive.{rowIn, bitsIn, receive}
 
 -- "its attempt counts, in the first step .."
@@ -73,7 +73,7 @@ pub record Roomy (f : Figures) (s : Station) (n : ℕ) : Type 0 where
   pub gap : f .gap1 + f .gap2 < 65536
   pub slot : f .slot < 65536
   pub backoff : f .backoff < 16
-  pub frame : s .frame < 65536
+  pub frame : octetsHeld (s .transmitter) (s .frame) < 65536
   pub number : numberIn (s .transmitter) < 4294967295
   pub attempts : s .attempts < 4294967295
   pub draw : s .draw < 4294967295

@@ -16,7 +16,8 @@ use Rattle.station.specs.declared.step.Station.{Station}
 use Rattle.station.specs.declared.step.Stepped.{Stepped}
 use Rattle.packet.specs.Packet.{hearsAny, isEmission}
 use Rattle.deference.specs.Defer.{defer}
-use Rattle.transmitter.specs.Transmit.{waits, transmit}
+use Rattle.transmitter.specs.Transmit.{waits, octetsHeld, transmit}
+use Rattle.transmitter.specs.TransmitLaws.{held-transmits}
 use Rattle.receiver.specs.Receive.{receive}
 use Rattle.station.specs.Step.{triesAfter, drawAfter, deferredAfter, deferring, sending, receiving, nextStation, stepped}
 
@@ -115,10 +116,13 @@ parts : (f : Figures) (s : Station) (draws draw : ℕ) (buffer : List ℕ) (h : 
 unfolding finished stepped nextStation
 parts f s draws draw buffer h = refl
 
-pub step-is : (f : Figures) (s : Station) (draws draw : ℕ) (buffer : List ℕ) (h : Heard) (hears waiting emits : Bool) (tries : ℕ)
+pub step-is : (f : Figures) (s : Station) (draws draw : ℕ) (buffer : List ℕ) (h : Heard) (hears waiting emits : Bool) (tries z : ℕ)
     (d : Deferred) (o : Transmitted) (q : Received) (r : Stepped)
     → r ≡ finished s draws d o q tries emits → q ≡ receive (s .address) buffer (s .receiver) h emits → emits ≡ isEmission (o .emission)
-    → o ≡ transmit f (s .transmitter) (s .frame) tries draw (d .start) hears → tries ≡ triesAfter (s .attempts) (d .start)
+    → o ≡ transmit f (s .transmitter) z tries draw (d .start) hears → z ≡ octetsHeld (s .transmitter) (s .frame) → tries ≡ triesAfter (s .attempts) (d .start)
     → d ≡ defer f (s .deference) hears (s .emitted) waiting → waiting ≡ waits (s .transmitter) → hears ≡ hearsAny h
     → r ≡ stepped f s draws draw buffer h
-step-is f s draws draw buffer h hears waiting emits tries d o q r er eq ee eo et ed ew eh = er ∙ rw (eq, ee, eo, et, ed, ew, eh) (parts f s draws draw buffer h)
+step-is f s draws draw buffer h hears waiting emits tries z d o q r er eq ee eo ez et ed ew eh =
+    let e : o ≡ transmit f (s .transmitter) (s .frame) tries draw (d .start) hears =
+    eo ∙ ap (λ (y : ℕ). transmit f (s .transmitter) y tries draw (d .start) hears) ez ∙ held-transmits f (s .transmitter) (s .frame) tries draw (d .start) hears in
+    er ∙ rw (eq, ee, e, et, ed, ew, eh) (parts f s draws draw buffer h)

@@ -131,7 +131,8 @@ pub fn step(f: Figures, s: Station, draws: u32, draw: u32, buffer: &[u8], h: Hea
     let waits = transmitter::is_waiting(t);
     let d = deference::defer(f, phase, hears, s.emitted, waits);
     let tries = tries_after(s.attempts, d.start);
-    let o = transmitter::transmit(f, t, s.frame, tries, draw, d.start, hears);
+    let frame = transmitter::octets_held(t, s.frame);
+    let o = transmitter::transmit(f, t, frame, tries, draw, d.start, hears);
     let emission = o.emission;
     let emits = packet::is_emission(emission);
     let q = receiver::receive(address, buffer, r, h, emits);

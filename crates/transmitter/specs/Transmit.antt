@@ -31,6 +31,15 @@ numberIn (Sending k) = k
 numberIn (Heading k) = k
 numberIn (Jamming n) = n
 
+-- the octets of the frame that a station holds: what its record has for them, and 0 where it holds none
+abbrev pub octetsHeld : Transmitter → ℕ → ℕ
+octetsHeld NoFrame z = 0
+octetsHeld Waiting z = z
+octetsHeld (BackingOff w) z = z
+octetsHeld (Sending k) z = z
+octetsHeld (Heading k) z = z
+octetsHeld (Jamming n) z = z
+
 -- a step that emits nothing, and one that emits without an event
 abbrev pub resting : Transmitter → Transmitted
 resting t = record { phase = t; emission = Rest; event = NoTransmit; drew = false }

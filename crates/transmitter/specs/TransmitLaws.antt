@@ -19,7 +19,7 @@ use Rattle.packet.specs.declared.Emission.the-variants.{Rest, PacketBit, JamBit
 use Rattle.transmitter.specs.declared.Transmitter.{Transmitter}
 use Rattle.transmitter.specs.declared.Transmitter.the-variants.{NoFrame, Waiting, BackingOff, Sending, Heading, Jamming}
 use Rattle.transmitter.specs.declared.Transmitted.{Transmitted}
-use Rattle.transmitter.specs.Transmit.{numberIn, resting, emitting, packetLength, afterBit, collision, sendBit, headBit, backoffRange, backOff, lastJam, jamBit, backoffBit, waitBit, transmit}
+use Rattle.transmitter.specs.Transmit.{numberIn, octetsHeld, resting, emitting, packetLength, afterBit, collision, sendBit, headBit, backoffRange, backOff, lastJam, jamBit, backoffBit, waitBit, transmit}
 
 pub after-heading : (jam k : ℕ) → k < 64 → Heading (k + 1) ≡ afterBit jam k
 unfolding afterBit
@@ -127,6 +127,16 @@ module _ (f : Figures) (t : Transmitter) (z n draw : ℕ) (start hears : Bool) (
   pub transmit-jams : (left : ℕ) → t ≡ Jamming left → r ≡ jamBit f n draw left → r ≡ transmit f t z n draw start hears
   unfolding transmit
   transmit-jams left p q = rw p q
+
+-- a step looks at the octets of a frame only where one is held
+pub held-transmits : (f : Figures) (t : Transmitter) (z n draw : ℕ) (start hears : Bool) → transmit f t (octetsHeld t z) n draw start hears ≡ transmit f t z n draw start hears
+unfolding transmit
+held-transmits f NoFrame z n draw start hears = refl
+held-transmits f Waiting z n draw start hears = refl
+held-transmits f (BackingOff w) z n draw start hears = refl
+held-transmits f (Sending k) z n draw start hears = refl
+held-transmits f (Heading k) z n draw start hears = refl
+held-transmits f (Jamming left) z n draw start hears = refl
 
 -- ---- bounds for the code's sums and products
 

@@ -4,7 +4,7 @@ use layout::Figures;
 use packet::Emission;
 ghost use mathlib.Core.Path.{_≡_};
 ghost use Prim.Native.Nat.{_+_, _*_, _<_, _≤_, _^_, min};
-ghost use Rattle.transmitter.specs.Transmit.{waits, numberIn, afterBit, collision, sendBit, headBit, jamBit, lastJam, backOff, backoffRange, resting, backoffBit, transmit};
+ghost use Rattle.transmitter.specs.Transmit.{waits, numberIn, octetsHeld, afterBit, collision, sendBit, headBit, jamBit, lastJam, backOff, backoffRange, resting, backoffBit, transmit};
 
 // What a transmitter reports in a step, at most one: a collision or a late one with its bit; sent or given up with the frame's attempts.
 pub enum TransmitEvent {
@@ -64,6 +64,20 @@ pub fn is_waiting(t: Transmitter) -> bool
         Transmitter::Sending(_) => false,
         Transmitter::Heading(_) => false,
         Transmitter::Jamming(_) => false,
+    }
+}
+
+// The octets of the frame that a station holds; 0 where it holds none.
+pub fn octets_held(t: Transmitter, frame: u32) -> u32
+    ensures { λ r. ⌜ r ≡ octetsHeld t frame ⌝ }
+{
+    match t {
+        Transmitter::NoFrame => 0,
+        Transmitter::Waiting => frame,
+        Transmitter::BackingOff(_) => frame,
+        Transmitter::Sending(_) => frame,
+        Transmitter::Heading(_) => frame,
+        Transmitter::Jamming(_) => frame,
     }
 }
 

@@ -84,7 +84,7 @@ refusal-none a b h p q = rw (le-ltb (length a) 57344 h, ← p, q)
 
 -- ---- what an area that passes is known to be
 
-passes-right : (a : List ℕ) → areaRefusal a ≡ 0 → (57344 ≤ length a) × (areaWrong a ≡ false)
+pub passes-right : (a : List ℕ) → areaRefusal a ≡ 0 → (57344 ≤ length a) × (areaWrong a ≡ false)
 unfolding areaRefusal
 passes-right a = go (ltb (length a) 57344) (areaWrong a) refl refl
   where

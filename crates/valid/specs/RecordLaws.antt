@@ -33,13 +33,17 @@ pub deference-5 : (f : Figures) (w : List ℕ) (r : Bool) → getD w 0 0 ≤ 2 �
 unfolding deferenceWrong gapOf
 deference-5 f w r h0 h1 h2 h3 h4 = h4 ∙ rw (le-ltb (2) (getD w 0 0) h0, ne-eqb (getD w 0 0) (0) h1, le-ltb (1) (getD w 1 0) h2, ne-eqb (getD w 0 0) (1) h3)
 
-pub attempts-1 : (limit code n : ℕ) → code ≤ 2 → leb limit n ≡ attemptsWrong limit code n
+pub attempts-1 : (limit code n : ℕ) → code ≡ 0 → ltb limit n ≡ attemptsWrong limit code n
 unfolding attemptsWrong
-attempts-1 limit code n h0 = rw (le-leb (code) (2) h0)
+attempts-1 limit code n h0 = rw (eq-eqb (code) (0) h0)
 
-pub attempts-2 : (limit code n : ℕ) (r : Bool) → 2 < code → r ≡ outside n 1 limit → r ≡ attemptsWrong limit code n
+pub attempts-2 : (limit code n : ℕ) → (code ≡ 0 → ⊥) → code ≤ 2 → leb limit n ≡ attemptsWrong limit code n
 unfolding attemptsWrong
-attempts-2 limit code n r h0 h1 = h1 ∙ rw (lt-leb (code) (2) h0)
+attempts-2 limit code n h0 h1 = rw (ne-eqb (code) (0) h0, le-leb (code) (2) h1)
+
+pub attempts-3 : (limit code n : ℕ) (r : Bool) → (code ≡ 0 → ⊥) → 2 < code → r ≡ outside n 1 limit → r ≡ attemptsWrong limit code n
+unfolding attemptsWrong
+attempts-3 limit code n r h0 h1 h2 = h2 ∙ rw (ne-eqb (code) (0) h0, lt-leb (code) (2) h1)
 
 pub number-1 : (f : Figures) (code n z : ℕ) → code ≡ 1 → false ≡ numberWrong f code n z
 unfolding numberWrong
@@ -61,25 +65,25 @@ pub transmitter-1 : (f : Figures) (w : List ℕ) → 5 < getD w 3 0 → true ≡
 unfolding transmitterWrong
 transmitter-1 f w h0 = rw (lt-ltb (5) (getD w 3 0) h0)
 
-pub transmitter-2 : (f : Figures) (w : List ℕ) → getD w 3 0 ≤ 5 → getD w 3 0 ≡ 0 → false ≡ transmitterWrong f w
+pub transmitter-2 : (f : Figures) (w : List ℕ) (b1 : Bool) → getD w 3 0 ≤ 5 → b1 ≡ attemptsWrong (f .limit) (getD w 3 0) (getD w 10 0) → b1 ≡ true → true ≡ transmitterWrong f w
 unfolding transmitterWrong
-transmitter-2 f w h0 h1 = rw (le-ltb (5) (getD w 3 0) h0, eq-eqb (getD w 3 0) (0) h1)
+transmitter-2 f w b1 h0 h1 h2 = rw (le-ltb (5) (getD w 3 0) h0, ← h1, h2)
 
-pub transmitter-3 : (f : Figures) (w : List ℕ) (b0 : Bool) → getD w 3 0 ≤ 5 → (getD w 3 0 ≡ 0 → ⊥) → b0 ≡ outside (getD w 9 0) 64 1518 → b0 ≡ true → true ≡ transmitterWrong f w
+pub transmitter-3 : (f : Figures) (w : List ℕ) (b1 : Bool) → getD w 3 0 ≤ 5 → b1 ≡ attemptsWrong (f .limit) (getD w 3 0) (getD w 10 0) → b1 ≡ false → getD w 3 0 ≡ 0 → false ≡ transmitterWrong f w
 unfolding transmitterWrong
-transmitter-3 f w b0 h0 h1 h2 h3 = rw (le-ltb (5) (getD w 3 0) h0, ne-eqb (getD w 3 0) (0) h1, ← h2, h3)
+transmitter-3 f w b1 h0 h1 h2 h3 = rw (le-ltb (5) (getD w 3 0) h0, ← h1, h2, eq-eqb (getD w 3 0) (0) h3)
 
-pub transmitter-4 : (f : Figures) (w : List ℕ) (b0 : Bool) → getD w 3 0 ≤ 5 → (getD w 3 0 ≡ 0 → ⊥) → b0 ≡ outside (getD w 9 0) 64 1518 → b0 ≡ false → 1 < getD w 12 0 → true ≡ transmitterWrong f w
+pub transmitter-4 : (f : Figures) (w : List ℕ) (b1 b0 : Bool) → getD w 3 0 ≤ 5 → b1 ≡ attemptsWrong (f .limit) (getD w 3 0) (getD w 10 0) → b1 ≡ false → (getD w 3 0 ≡ 0 → ⊥) → b0 ≡ outside (getD w 9 0) 64 1518 → b0 ≡ true → true ≡ transmitterWrong f w
 unfolding transmitterWrong
-transmitter-4 f w b0 h0 h1 h2 h3 h4 = rw (le-ltb (5) (getD w 3 0) h0, ne-eqb (getD w 3 0) (0) h1, ← h2, h3, lt-ltb (1) (getD w 12 0) h4)
+transmitter-4 f w b1 b0 h0 h1 h2 h3 h4 h5 = rw (le-ltb (5) (getD w 3 0) h0, ← h1, h2, ne-eqb (getD w 3 0) (0) h3, ← h4, h5)
 
-pub transmitter-5 : (f : Figures) (w : List ℕ) (b0 b1 : Bool) → getD w 3 0 ≤ 5 → (getD w 3 0 ≡ 0 → ⊥) → b0 ≡ outside (getD w 9 0) 64 1518 → b0 ≡ false → getD w 12 0 ≤ 1 → b1 ≡ attemptsWrong (f .limit) (getD w 3 0) (getD w 10 0) → b1 ≡ true → true ≡ transmitterWrong f w
+pub transmitter-5 : (f : Figures) (w : List ℕ) (b1 b0 : Bool) → getD w 3 0 ≤ 5 → b1 ≡ attemptsWrong (f .limit) (getD w 3 0) (getD w 10 0) → b1 ≡ false → (getD w 3 0 ≡ 0 → ⊥) → b0 ≡ outside (getD w 9 0) 64 1518 → b0 ≡ false → 1 < getD w 12 0 → true ≡ transmitterWrong f w
 unfolding transmitterWrong
-transmitter-5 f w b0 b1 h0 h1 h2 h3 h4 h5 h6 = rw (le-ltb (5) (getD w 3 0) h0, ne-eqb (getD w 3 0) (0) h1, ← h2, h3, le-ltb (1) (getD w 12 0) h4, ← h5, h6)
+transmitter-5 f w b1 b0 h0 h1 h2 h3 h4 h5 h6 = rw (le-ltb (5) (getD w 3 0) h0, ← h1, h2, ne-eqb (getD w 3 0) (0) h3, ← h4, h5, lt-ltb (1) (getD w 12 0) h6)
 
-pub transmitter-6 : (f : Figures) (w : List ℕ) (b0 b1 r : Bool) → getD w 3 0 ≤ 5 → (getD w 3 0 ≡ 0 → ⊥) → b0 ≡ outside (getD w 9 0) 64 1518 → b0 ≡ false → getD w 12 0 ≤ 1 → b1 ≡ attemptsWrong (f .limit) (getD w 3 0) (getD w 10 0) → b1 ≡ false → r ≡ numberWrong f (getD w 3 0) (getD w 4 0) (getD w 9 0) → r ≡ transmitterWrong f w
+pub transmitter-6 : (f : Figures) (w : List ℕ) (b1 b0 r : Bool) → getD w 3 0 ≤ 5 → b1 ≡ attemptsWrong (f .limit) (getD w 3 0) (getD w 10 0) → b1 ≡ false → (getD w 3 0 ≡ 0 → ⊥) → b0 ≡ outside (getD w 9 0) 64 1518 → b0 ≡ false → getD w 12 0 ≤ 1 → r ≡ numberWrong f (getD w 3 0) (getD w 4 0) (getD w 9 0) → r ≡ transmitterWrong f w
 unfolding transmitterWrong
-transmitter-6 f w b0 b1 r h0 h1 h2 h3 h4 h5 h6 h7 = h7 ∙ rw (le-ltb (5) (getD w 3 0) h0, ne-eqb (getD w 3 0) (0) h1, ← h2, h3, le-ltb (1) (getD w 12 0) h4, ← h5, h6)
+transmitter-6 f w b1 b0 r h0 h1 h2 h3 h4 h5 h6 h7 = h7 ∙ rw (le-ltb (5) (getD w 3 0) h0, ← h1, h2, ne-eqb (getD w 3 0) (0) h3, ← h4, h5, le-ltb (1) (getD w 12 0) h6)
 
 pub receiver-1 : (t : ℕ) (w : List ℕ) → 3 < getD w 5 0 → true ≡ receiverWrong t w
 unfolding receiverWrong

@@ -25,7 +25,7 @@ deferenceWrong f w =
 
 -- "attempts 0..limit (below it while a frame waits, 1 or more while one goes out)": a frame in backoff waits too
 unfoldable pub attemptsWrong : (limit code n : ℕ) → Bool
-attemptsWrong limit code n = pick (leb code 2) (leb limit n) (outside n 1 limit)
+attemptsWrong limit code n = pick (eqb code 0) (ltb limit n) (pick (leb code 2) (leb limit n) (outside n 1 limit))
 
 -- "packet bit 1..64 + 8 × frame, jam left 1..jam, wait 1..slot × 1023"
 unfoldable pub numberWrong : Figures → (code n frame : ℕ) → Bool
@@ -39,10 +39,10 @@ numberWrong f code n frame =
 unfoldable pub transmitterWrong : Figures → List ℕ → Bool
 transmitterWrong f w =
     pick (ltb 5 (getD w 3 0)) true
+    (pick (attemptsWrong (f .limit) (getD w 3 0) (getD w 10 0)) true
     (pick (eqb (getD w 3 0) 0) false
     (pick (outside (getD w 9 0) 64 1518) true
     (pick (ltb 1 (getD w 12 0)) true
-    (pick (attemptsWrong (f .limit) (getD w 3 0) (getD w 10 0)) true
     (numberWrong f (getD w 3 0) (getD w 4 0) (getD w 9 0))))))
 
 -- "collected bits up to the clock"; a readable frame is a frame, 64..1518; a row is 1..511

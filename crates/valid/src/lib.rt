@@ -31,6 +31,9 @@ fn deference_wrong(f: Figures, w: [u32; 14]) -> bool
 fn attempts_wrong(limit: u32, code: u32, n: u32) -> bool
     ensures { λ r. ⌜ r ≡ attemptsWrong limit code n ⌝ }
 {
+    if code == 0 {
+        return limit < n;
+    }
     if code <= 2 {
         return limit <= n;
     }
@@ -62,6 +65,9 @@ fn transmitter_wrong(f: Figures, w: [u32; 14]) -> bool
     if 5 < code {
         return true;
     }
+    if attempts_wrong(f.limit, code, w[10]) {
+        return true;
+    }
     if code == 0 {
         return false;
     }
@@ -69,9 +75,6 @@ fn transmitter_wrong(f: Figures, w: [u32; 14]) -> bool
         return true;
     }
     if 1 < w[12] {
-        return true;
-    }
-    if attempts_wrong(f.limit, code, w[10]) {
         return true;
     }
     number_wrong(f, code, w[4], frame)

@@ -5,7 +5,8 @@ use mathlib.Core.Path.{_≡_, refl}
 use Prim.Native.Nat.{_≤_, _-_}
 use lib.ListN.{length, length-set}
 use Rattle.area.specs.Area.{tapAt}
-use Rattle.layout.specs.Taps.{placesOf, places-none, places-more, places-end}
+use Rattle.octets.specs.Filled.{filled-none, filled-more, filled-end}
+use Rattle.layout.specs.Layout.{placesOf}
 use Rattle.area.proofs.read_taps.Statement.{statement}
 use Rattle.area.proofs.read_taps.Tie as tie
 
@@ -16,7 +17,7 @@ abbrev μ-loop : tie.MeasureT-loop
 μ-loop area n all₀ i₀ all i = n - i
 
 loop-holds : tie.Need-loop-holds Inv-loop μ-loop
-loop-holds c = (omega arith, refl, search places-none)
+loop-holds c = (omega arith, refl, search filled-none)
 
 read-tap-requires : tie.Need-read-tap-requires Inv-loop μ-loop
 read-tap-requires c κs = omega arith
@@ -34,10 +35,10 @@ loop-less : tie.Need-loop-less Inv-loop μ-loop
 loop-less c = omega arith
 
 loop-again : tie.Need-loop-again Inv-loop μ-loop
-loop-again c = (omega arith, simp length-set (search needs), search places-more)
+loop-again c = (omega arith, simp length-set (search needs), search filled-more)
 
 returns : tie.Need-returns Inv-loop μ-loop
-returns c = search places-end
+returns c = search filled-end
 
 pub read-taps-spec : {M : Type 1} → statement M
 read-taps-spec =

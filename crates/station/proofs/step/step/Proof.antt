@@ -16,6 +16,9 @@ defer-requires c κs = search needs
 tries-after-requires : tie.Need-tries-after-requires
 tries-after-requires c κs = search needs
 
+octets-held-requires : tie.Need-octets-held-requires
+octets-held-requires c κs = search needs
+
 transmit-requires : tie.Need-transmit-requires
 transmit-requires c κs = search needs
 
@@ -39,6 +42,7 @@ step-spec =
     is-waiting-requires
     defer-requires
     tries-after-requires
+    octets-held-requires
     transmit-requires
     is-emission-requires
     receive-requires

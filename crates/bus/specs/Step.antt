@@ -1,0 +1,36 @@
+-- A step (document 01, refusals 1, 2, 13). The laws are in StepLaws. Assumes nothing.
+use Prim.Native.Nat.{ℕ, _+_}
+use mathlib.Core.List.{List, []}
+use lib.Dec.{ltb, eqb}
+use lib.ListN.{replicate}
+use Rattle.octets.specs.Base.{pick, Answer, refused, accepted}
+use Rattle.area.specs.Area.{clockAt}
+use Rattle.valid.specs.Valid.{areaRefusal}
+use Rattle.pair.specs.declared.Events.{Events}
+use Rattle.pair.specs.BitTime.{noEvents, eventsAt, stepArea}
+use Rattle.bus.specs.declared.BitTime.{BitTime}
+use Rattle.bus.specs.Offer.{doneAnswer}
+
+-- "clock 0..16,777,216"
+abbrev pub lastClock : ℕ
+lastClock = 16777216
+
+-- what a step leaves: its answer, the events of each station, the area
+pub record Bit : Type 0 where
+  pub answer : Answer
+  pub events : List Events
+  pub octets : List ℕ
+
+abbrev pub bitTimeOutcome : BitTime → List ℕ → Bit
+bitTimeOutcome r a = record { answer = doneAnswer (r .done); events = r .events; octets = a }
+
+abbrev pub unstepped : ℕ → List ℕ → Bit
+unstepped k a = record { answer = refused k; events = replicate 16 noEvents; octets = a }
+
+-- "13. Clock plus the bit times asked exceeds 16,777,216."
+unfoldable pub steppedOnce : List ℕ → Bit
+steppedOnce a =
+    pick (eqb (areaRefusal a) 0)
+    (pick (ltb lastClock (clockAt a + 1)) (unstepped 13 a)
+    (record { answer = accepted []; events = eventsAt a; octets = stepArea a }))
+    (unstepped (areaRefusal a) a)

@@ -1,0 +1,120 @@
+-- A law for each way through the code of a step. Assumes nothing.
+use Prim.Native.Nat.{ℕ, zero, suc, _+_, _≤_, _<_}
+use mathlib.Core.Path.{_≡_, refl, sym, _∙_, ap, ap₂}
+use mathlib.Core.Bool.{Bool, true, false, _||_}
+use mathlib.Core.List.{List}
+use native.Mathlib.Omega.{arith}
+use borrow.Author.Tests.{eq-eqb, ne-eqb}
+use lib.Dec.{eqb}
+use lib.ListN.{length, replicate}
+use Rattle.octets.specs.Base.{pick}
+use Rattle.octets.specs.Filled.{filled-none}
+use Rattle.octets.specs.Turns.{turns, turns-more, turns-end}
+use Rattle.layout.specs.declared.Figures.{Figures}
+use Rattle.packet.specs.declared.Heard.{Heard}
+use Rattle.packet.specs.declared.Heard.the-variants.{Nothing}
+use Rattle.packet.specs.declared.Symbol.{Symbol}
+use Rattle.packet.specs.Packet.{symbolOf}
+use Rattle.receiver.specs.declared.Stored.{Stored}
+use Rattle.receiver.specs.declared.Stored.the-variants.{NoStore, Store}
+use Rattle.transmitter.specs.Transmit.{octetsHeld}
+use Rattle.station.specs.declared.step.Station.{Station}
+use Rattle.station.specs.declared.step.Stepped.{Stepped}
+use Rattle.station.specs.Step.{stepped}
+use Rattle.station.specs.Count.{counted}
+use Rattle.area.specs.Area.{withClock, drawAt, spaceAt, countersAt, withCounters, stationAt, withStation, frameAt, bufferAt, withBit, arrivalAt, withArrival, joined}
+use Rattle.pair.specs.declared.Act.{Act}
+use Rattle.pair.specs.declared.Events.{Events}
+use Rattle.pair.specs.BitTime.{outcomeIn, actIn, sendTo, isSilence, pushed, withStored, isTransmit, isReceive, happened, withCounted, placed, settled, turnedIn, turnIn, advancedIn, eventsOf, noEvents, eventsIn}
+use Rattle.pair.specs.InPlace.{Kept}
+
+module _ (t i : ℕ) (s : Symbol) (j : ℕ) (a : List ℕ) where
+  pub send-own : j ≡ i → a ≡ sendTo t i s j a
+  unfolding sendTo
+  send-own p = rw (eq-eqb j i p)
+
+  pub send-other : (b : List ℕ) (u d : ℕ) (h k : Heard) → b ≡ withArrival a j u k → k ≡ joined h s → h ≡ arrivalAt a j u → u ≡ t + d → d ≡ spaceAt a i j
+      → (j ≡ i → ⊥) → b ≡ sendTo t i s j a
+  unfolding sendTo
+  send-other b u d h k p q r e f n =
+      let w : u ≡ t + spaceAt a i j = e ∙ ap (λ (x : ℕ). t + x) f in
+      p ∙ rw (ne-eqb j i n, q, r, w)
+
+pub push-more : (t i : ℕ) (s : Symbol) (j : ℕ) (a x b : List ℕ) → b ≡ sendTo t i s j x → x ≡ turns (sendTo t i s) j a → b ≡ turns (sendTo t i s) (j + 1) a
+push-more t i s j a x b p q = turns-more (sendTo t i s) j a x b p q
+
+module _ (n t i : ℕ) (s : Symbol) (a b : List ℕ) (c : Bool) where
+  pub push-none : c ≡ isSilence s → c ≡ true → a ≡ pushed n t i s a
+  unfolding pushed
+  push-none p q = rw (← p, q)
+
+  pub push-all : (j : ℕ) → c ≡ isSilence s → c ≡ false → j ≤ n → n ≤ j → b ≡ turns (sendTo t i s) j a → b ≡ pushed n t i s a
+  unfolding pushed
+  push-all j p q h g r = turns-end (sendTo t i s) n j a b h g r ∙ rw (← p, q)
+
+pub bit-room : (o : Stored) (k : ℕ) (b : Bool) → o ≡ Store k b → Kept o → k < 12144
+bit-room o k b e h = rw e at h
+
+pub bit-none : (i : ℕ) (o : Stored) (a : List ℕ) → o ≡ NoStore → a ≡ withStored i o a
+bit-none i o a e = rw e
+
+pub bit-kept : (i : ℕ) (o : Stored) (k : ℕ) (c : Bool) (a b : List ℕ) → o ≡ Store k c → b ≡ withBit a i k c → b ≡ withStored i o a
+bit-kept i o k c a b e p = rw e p
+
+pub happened-is : (o : Stepped) (x y z r : Bool) → r ≡ (o .start || z) → z ≡ (x || y) → y ≡ isReceive (o .got) → x ≡ isTransmit (o .sent) → r ≡ happened o
+unfolding happened
+happened-is o x y z r p q e f = p ∙ rw (q, e, f)
+
+module _ (i : ℕ) (o : Stepped) (a : List ℕ) (c : Bool) where
+  pub count-some : (b cs ds : List ℕ) → b ≡ withCounters a i ds → ds ≡ counted cs o → cs ≡ countersAt a i → c ≡ happened o → c ≡ true → b ≡ withCounted i o a
+  unfolding withCounted
+  count-some b cs ds p q r e f = p ∙ rw (q, r, ← e, f)
+
+  pub count-none : c ≡ happened o → c ≡ false → a ≡ withCounted i o a
+  unfolding withCounted
+  count-none e f = rw (← e, f)
+
+pub placed-is : (t i : ℕ) (o : Stepped) (a x₁ x₂ x₃ b : List ℕ) → b ≡ withArrival x₃ i t Nothing → x₃ ≡ withStored i (o .stored) x₂ → x₂ ≡ withCounted i o x₁
+    → x₁ ≡ withStation a i (o .station) → b ≡ placed t i o a
+unfolding placed
+placed-is t i o a x₁ x₂ x₃ b p q r e = p ∙ rw (q, r, e)
+
+pub settled-is : (n t i : ℕ) (r : Act) (a x b : List ℕ) → b ≡ pushed n t i (r .symbol) x → x ≡ placed t i (r .outcome) a → b ≡ settled n t i r a
+unfolding settled
+settled-is n t i r a x b p q = p ∙ rw q
+
+pub acts-is : (f : Figures) (d t : ℕ) (a : List ℕ) (i w z : ℕ) (s : Station) (h : Heard) (buffer : List ℕ) (o : Stepped) (y : Symbol)
+    → y ≡ symbolOf (frameAt a i z) (o .emission) → o ≡ stepped f s d w buffer h → buffer ≡ bufferAt a i → z ≡ octetsHeld (s .transmitter) (s .frame)
+    → w ≡ drawAt a i (s .draw) → h ≡ arrivalAt a i t → s ≡ stationAt a i → record { outcome = o; symbol = y } ≡ actIn f d t a i
+unfolding actIn outcomeIn
+acts-is f d t a i w z s h buffer o y ey eo eb ez ew eh es =
+    let e : o ≡ stepped f (stationAt a i) d (drawAt a i (stationAt a i .draw)) (bufferAt a i) (arrivalAt a i t) = eo ∙ rw (eb, ew, eh, es) in
+    let k : z ≡ octetsHeld (stationAt a i .transmitter) (stationAt a i .frame) = ez ∙ ap (λ (q : Station). octetsHeld (q .transmitter) (q .frame)) es in
+    λ j. record { outcome = e j; symbol = (ey ∙ ap₂ (λ (m : ℕ) (q : Stepped). symbolOf (frameAt a i m) (q .emission)) k e) j }
+
+module _ (f : Figures) (d n t i : ℕ) (a b : List ℕ) (r : Act) where
+  pub turn-is : b ≡ settled n t i r a → r ≡ actIn f d t a i → b ≡ turnIn f d n t i a
+  unfolding turnIn
+  turn-is p q = p ∙ rw q
+
+  pub turn-events : r ≡ actIn f d t a i → record { sent = r .outcome .sent; got = r .outcome .got } ≡ eventsOf (actIn f d t a i)
+  turn-events q = ap eventsOf q
+
+pub turned-none : (f : Figures) (d n t : ℕ) (a : List ℕ) → a ≡ turnedIn f d n t a 0
+unfolding turnedIn turns
+turned-none f d n t a = refl
+
+pub events-none : (f : Figures) (d t : ℕ) (a : List ℕ) → replicate 16 noEvents ≡ eventsIn f d t a 0
+unfolding eventsIn
+events-none f d t a = filled-none noEvents (λ i. eventsOf (actIn f d t a i))
+
+pub events-end : (f : Figures) (d t : ℕ) (a : List ℕ) (n i : ℕ) (es : List Events) → i ≤ n → n ≤ i → es ≡ eventsIn f d t a i → es ≡ eventsIn f d t a n
+events-end f d t a n i es h g p = let e : i ≡ n = omega arith in rw e at p
+
+module _ (f : Figures) (d n t : ℕ) (a b : List ℕ) where
+  pub turned-end : (i : ℕ) → i ≤ n → n ≤ i → b ≡ turnedIn f d n t a i → b ≡ turnedIn f d n t a n
+  turned-end i h g p = let e : i ≡ n = omega arith in rw e at p
+
+  pub advanced-is : (x : List ℕ) → b ≡ withClock x (t + 1) → x ≡ turnedIn f d n t a n → b ≡ advancedIn f d n t a
+  unfolding advancedIn
+  advanced-is x p q = p ∙ rw q

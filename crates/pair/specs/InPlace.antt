@@ -1,0 +1,218 @@
+-- In place is the same as all at once: nobody reads what the same step wrote. Assumes nothing.
+use Prim.Native.Nat.{ℕ, zero, suc, _+_, _*_, _%_, _≤_, _<_}
+use mathlib.Core.Path.{_≡_, refl, sym, _∙_, ap, ap₂}
+use mathlib.Core.Bool.{Bool, true, false}
+use mathlib.Core.List.{List}
+use native.Mathlib.Omega.{arith}
+use lib.Dec.{ltb, eqb}
+use lib.ListN.{length}
+use borrow.Author.Tests.{eqb-false, ltb-true}
+use Rattle.octets.specs.Base.{pick}
+use Rattle.octets.specs.BaseLaws.{by-test}
+use Rattle.octets.specs.Turns.{turns, length-turns}
+use Rattle.layout.specs.declared.Figures.{Figures}
+use Rattle.packet.specs.declared.Heard.the-variants.{Nothing}
+use Rattle.packet.specs.declared.Symbol.{Symbol}
+use Rattle.packet.specs.Packet.{symbolOf}
+use Rattle.receiver.specs.declared.Stored.{Stored}
+use Rattle.receiver.specs.declared.Stored.the-variants.{NoStore, Store}
+use Rattle.transmitter.specs.Transmit.{octetsHeld}
+use Rattle.station.specs.declared.step.Station.{Station}
+use Rattle.station.specs.declared.step.Stepped.{Stepped}
+use Rattle.station.specs.Step.{stepped}
+use Rattle.station.specs.Count.{counted}
+use Rattle.area.specs.Places.{Part, clock, depth, layout, draws, counters, station, frame, buffer, place, at, size, Off, Keeps}
+use Rattle.area.specs.Area.{clockAt, withClock, depthAt, drawAt, figuresAt, countAt, spaceAt, countersAt, withCounters, stationAt, withStation, frameAt, bufferAt, withBit, arrivalAt, withArrival, joined}
+use Rattle.area.specs.AreaLaws.{keeps-refl, keeps-trans, draw-by, space-by, station-by, arrival-by, frame-by, buffer-by, station-keeps, counters-keeps, arrival-keeps, bit-keeps, length-station, length-counters, length-arrival, length-bit}
+use Rattle.pair.specs.declared.Act.{Act}
+use Rattle.pair.specs.BitTime.{outcomeIn, actIn, sendTo, isSilence, pushed, withStored, happened, withCounted, placed, settled, turnedIn}
+
+-- a bit that the receive buffer holds
+abbrev pub Kept : Stored → Type 0
+Kept NoStore = Unit {0}
+Kept (Store k b) = k < 12144
+
+-- ---- lengths
+
+length-send : (t i : ℕ) (s : Symbol) (j : ℕ) (x : List ℕ) → length (sendTo t i s j x) ≡ length x
+unfolding sendTo
+length-send t i s j x = by-test (eqb j i) (λ e. rw e) (λ e. rw e (length-arrival x j _ _))
+
+pub length-sends : (t i : ℕ) (s : Symbol) (k : ℕ) (x : List ℕ) → length (turns (sendTo t i s) k x) ≡ length x
+length-sends t i s k x = length-turns (sendTo t i s) k x (λ j y. length-send t i s j y)
+
+pub length-pushed : (n t i : ℕ) (s : Symbol) (x : List ℕ) → length (pushed n t i s x) ≡ length x
+unfolding pushed
+length-pushed n t i s x = by-test (isSilence s) (λ e. rw e) (λ e. rw e (length-sends t i s n x))
+
+pub length-stored : (i : ℕ) (o : Stored) (x : List ℕ) → length (withStored i o x) ≡ length x
+length-stored i NoStore x = refl
+length-stored i (Store k b) x = length-bit x i k b
+
+pub length-counted : (i : ℕ) (o : Stepped) (x : List ℕ) → length (withCounted i o x) ≡ length x
+unfolding withCounted
+length-counted i o x = by-test (happened o) (λ e. rw e (length-counters x i _)) (λ e. rw e)
+
+pub length-placed : (t i : ℕ) (o : Stepped) (x : List ℕ) → length (placed t i o x) ≡ length x
+unfolding placed
+length-placed t i o x =
+    length-arrival (withStored i (o .stored) (withCounted i o (withStation x i (o .station)))) i t Nothing
+    ∙ length-stored i (o .stored) (withCounted i o (withStation x i (o .station)))
+    ∙ length-counted i o (withStation x i (o .station))
+    ∙ length-station x i (o .station)
+
+pub length-settled : (n t i : ℕ) (r : Act) (x : List ℕ) → length (settled n t i r x) ≡ length x
+unfolding settled
+length-settled n t i r x = length-pushed n t i (r .symbol) (placed t i (r .outcome) x) ∙ length-placed t i (r .outcome) x
+
+pub length-turned : (f : Figures) (d n t : ℕ) (a : List ℕ) (k : ℕ) → length (turnedIn f d n t a k) ≡ length a
+unfolding turnedIn
+length-turned f d n t a k = length-turns (λ i x. settled n t i (actIn f d t a i) x) k a (λ i x. length-settled n t i (actIn f d t a i) x)
+
+-- ---- what the writers of a step keep
+
+pub send-keeps : (p : Part) (t i : ℕ) (s : Symbol) (j : ℕ) (x : List ℕ) → ((j ≡ i → ⊥) → Off p (place j (t + spaceAt x i j))) → Keeps p (sendTo t i s j x) x
+unfolding sendTo
+send-keeps p t i s j x o =
+    by-test (eqb j i)
+    (λ e. rw e (keeps-refl p x))
+    (λ e. rw e (arrival-keeps p x j (t + spaceAt x i j) (joined (arrivalAt x j (t + spaceAt x i j)) s) (o (eqb-false j i e))))
+
+pub sends-layout : (t i : ℕ) (s : Symbol) (k : ℕ) (x : List ℕ) → Keeps layout (turns (sendTo t i s) k x) x
+unfolding turns
+sends-layout t i s zero x = keeps-refl layout x
+sends-layout t i s (suc k) x =
+    keeps-trans layout (sendTo t i s k (turns (sendTo t i s) k x)) (turns (sendTo t i s) k x) x
+    (send-keeps layout t i s k (turns (sendTo t i s) k x) (λ ne p q. omega arith)) (sends-layout t i s k x)
+
+pub sends-keep : (p : Part) (t i : ℕ) (s : Symbol) (k : ℕ) (x : List ℕ) → i < 16 → k ≤ 16 → ((j : ℕ) → j < k → (j ≡ i → ⊥) → Off p (place j (t + spaceAt x i j)))
+    → Keeps p (turns (sendTo t i s) k x) x
+unfolding turns
+sends-keep p t i s zero x hi hk o = keeps-refl p x
+sends-keep p t i s (suc k) x hi hk o =
+    keeps-trans p (sendTo t i s k (turns (sendTo t i s) k x)) (turns (sendTo t i s) k x) x
+    (send-keeps p t i s k (turns (sendTo t i s) k x) (λ ne. rw (space-by (turns (sendTo t i s) k x) x i k hi hk (sends-layout t i s k x)) (o k (omega arith) ne)))
+    (sends-keep p t i s k x hi (omega arith) (λ j h. o j (omega arith)))
+
+pub push-keeps : (p : Part) (n t i : ℕ) (s : Symbol) (x : List ℕ) → i < 16 → n ≤ 16 → ((j : ℕ) → j < n → (j ≡ i → ⊥) → Off p (place j (t + spaceAt x i j)))
+    → Keeps p (pushed n t i s x) x
+unfolding pushed
+push-keeps p n t i s x hi hn o = by-test (isSilence s) (λ e. rw e (keeps-refl p x)) (λ e. rw e (sends-keep p t i s n x hi hn o))
+
+-- a part that is none of station i's own
+pub record Foreign (p : Part) (t i : ℕ) : Type 0 where
+  pub station : Off p (station i)
+  pub counters : Off p (counters i)
+  pub buffer : Off p (buffer i)
+  pub place : Off p (place i t)
+
+pub stored-keeps : (p : Part) (i : ℕ) (o : Stored) (x : List ℕ) → Kept o → Off p (buffer i) → Keeps p (withStored i o x) x
+stored-keeps p i NoStore x k q = keeps-refl p x
+stored-keeps p i (Store k b) x h q = bit-keeps p x i k b h q
+
+pub counted-keeps : (p : Part) (i : ℕ) (o : Stepped) (x : List ℕ) → Off p (counters i) → Keeps p (withCounted i o x) x
+unfolding withCounted
+counted-keeps p i o x q = by-test (happened o) (λ e. rw e (counters-keeps p x i _ q)) (λ e. rw e (keeps-refl p x))
+
+pub place-keeps : (p : Part) (t i : ℕ) (o : Stepped) (x : List ℕ) → Kept (o .stored) → Foreign p t i → Keeps p (placed t i o x) x
+unfolding placed
+place-keeps p t i o x k q =
+    let x₁ = withStation x i (o .station) in
+    let x₂ = withCounted i o x₁ in
+    let x₃ = withStored i (o .stored) x₂ in
+    keeps-trans p (withArrival x₃ i t Nothing) x₃ x (arrival-keeps p x₃ i t Nothing (q .place))
+    (keeps-trans p x₃ x₂ x (stored-keeps p i (o .stored) x₂ k (q .buffer))
+    (keeps-trans p x₂ x₁ x (counted-keeps p i o x₁ (q .counters)) (station-keeps p x i (o .station) (q .station))))
+
+placed-layout : (t i : ℕ) (o : Stepped) (x : List ℕ) → i < 16 → Kept (o .stored) → Keeps layout (placed t i o x) x
+placed-layout t i o x h k =
+    place-keeps layout t i o x k (record { station = λ p q. omega arith; counters = λ p q. omega arith; buffer = λ p q. omega arith; place = λ p q. omega arith })
+
+-- what station i's turn writes, off a part p: its own parts, and the places that its symbol goes to
+pub settle-keeps : (p : Part) (n t i : ℕ) (r : Act) (x : List ℕ) → i < 16 → n ≤ 16 → Kept (r .outcome .stored) → Foreign p t i
+    → ((j : ℕ) → j < n → (j ≡ i → ⊥) → Off p (place j (t + spaceAt x i j))) → Keeps p (settled n t i r x) x
+unfolding settled
+settle-keeps p n t i r x hi hn k q o =
+    keeps-trans p (pushed n t i (r .symbol) (placed t i (r .outcome) x)) (placed t i (r .outcome) x) x
+    (push-keeps p n t i (r .symbol) (placed t i (r .outcome) x) hi hn
+    (λ j h ne. rw (space-by (placed t i (r .outcome) x) x i j hi (omega arith) (placed-layout t i (r .outcome) x hi k)) (o j h ne)))
+    (place-keeps p t i (r .outcome) x k q)
+
+-- ---- the step
+
+-- the layout that a step needs: at most 16 stations, no two of them at one place, none out of reach of the lines
+pub record Spread (n : ℕ) (a : List ℕ) : Type 0 where
+  pub few : n ≤ 16
+  pub pos : (i j : ℕ) → i < n → j < n → (i ≡ j → ⊥) → 0 < spaceAt a i j
+  pub near : (i j : ℕ) → i < n → j < n → spaceAt a i j < 256
+
+-- x is a where the stations from k on have not had their turn in step t
+pub record Ahead (t k : ℕ) (a x : List ℕ) : Type 0 where
+  pub time : Keeps clock x a
+  pub deep : Keeps depth x a
+  pub plan : Keeps layout x a
+  pub lots : Keeps draws x a
+  pub frames : (i : ℕ) → i < 16 → Keeps (frame i) x a
+  pub record-of : (i : ℕ) → k ≤ i → i < 16 → Keeps (station i) x a
+  pub counts-of : (i : ℕ) → k ≤ i → i < 16 → Keeps (counters i) x a
+  pub buffer-of : (i : ℕ) → k ≤ i → i < 16 → Keeps (buffer i) x a
+  pub place-of : (i : ℕ) → k ≤ i → i < 16 → Keeps (place i t) x a
+
+ahead-start : (t : ℕ) (a : List ℕ) → Ahead t 0 a a
+ahead-start t a =
+    record {
+      time = keeps-refl clock a;
+      deep = keeps-refl depth a;
+      plan = keeps-refl layout a;
+      lots = keeps-refl draws a;
+      frames = λ i h. keeps-refl (frame i) a;
+      record-of = λ i l h. keeps-refl (station i) a;
+      counts-of = λ i l h. keeps-refl (counters i) a;
+      buffer-of = λ i l h. keeps-refl (buffer i) a;
+      place-of = λ i l h. keeps-refl (place i t) a;
+    }
+
+ahead-step : (n t k : ℕ) (r : Act) (a x : List ℕ) → Spread n a → k < n → Kept (r .outcome .stored) → Ahead t k a x → Ahead t (suc k) a (settled n t k r x)
+ahead-step n t k r a x sp hk kept v =
+    record {
+      time = on clock (record { station = λ p q. omega arith; counters = λ p q. omega arith; buffer = λ p q. omega arith; place = λ p q. omega arith }) (λ j h ne p q. omega arith) (v .time);
+      deep = on depth (record { station = λ p q. omega arith; counters = λ p q. omega arith; buffer = λ p q. omega arith; place = λ p q. omega arith }) (λ j h ne p q. omega arith) (v .deep);
+      plan = on layout (record { station = λ p q. omega arith; counters = λ p q. omega arith; buffer = λ p q. omega arith; place = λ p q. omega arith }) (λ j h ne p q. omega arith) (v .plan);
+      lots = on draws (record { station = λ p q. omega arith; counters = λ p q. omega arith; buffer = λ p q. omega arith; place = λ p q. omega arith }) (λ j h ne p q. omega arith) (v .lots);
+      frames = λ i hi. on (frame i) (record { station = λ p q. omega (arith, few); counters = λ p q. omega (arith, few); buffer = λ p q. omega arith; place = λ p q. omega (arith, few) }) (λ j h ne p q. omega (arith, few)) (v .frames i hi);
+      record-of = λ i l hi. on (station i) (record { station = λ p q. omega arith; counters = λ p q. omega (arith, few); buffer = λ p q. omega arith; place = λ p q. omega arith }) (λ j h ne p q. omega arith) (v .record-of i (omega arith) hi);
+      counts-of = λ i l hi. on (counters i) (record { station = λ p q. omega arith; counters = λ p q. omega arith; buffer = λ p q. omega arith; place = λ p q. omega arith }) (λ j h ne p q. omega arith) (v .counts-of i (omega arith) hi);
+      buffer-of = λ i l hi. on (buffer i) (record { station = λ p q. omega (arith, few); counters = λ p q. omega (arith, few); buffer = λ p q. omega arith; place = λ p q. omega (arith, few) }) (λ j h ne p q. omega (arith, few)) (v .buffer-of i (omega arith) hi);
+      place-of = λ i l hi. on (place i t) (record { station = λ p q. omega (arith, few); counters = λ p q. omega (arith, few); buffer = λ p q. omega arith; place = λ p q. omega arith })
+          (λ j h ne p q. omega (arith, sp .pos k j hk h (λ z. ne (sym z)), sp .near k j hk h, space j h)) (v .place-of i (omega arith) hi);
+    }
+  where
+    few : n ≤ 16
+    few = sp .few
+
+    space : (j : ℕ) → j < n → spaceAt x k j ≡ spaceAt a k j
+    space j h = space-by x a k j (omega (arith, few)) (omega (arith, few)) (v .plan)
+
+    on : (p : Part) → Foreign p t k → ((j : ℕ) → j < n → (j ≡ k → ⊥) → Off p (place j (t + spaceAt x k j))) → Keeps p x a → Keeps p (settled n t k r x) a
+    on p q o s = keeps-trans p (settled n t k r x) x a (settle-keeps p n t k r x (omega (arith, few)) few kept q o) s
+
+-- the same of whatever the stations do
+pub ahead-all : (n t k : ℕ) (r : ℕ → Act) (a : List ℕ) → Spread n a → ((i : ℕ) → i < n → Kept (r i .outcome .stored)) → k ≤ n
+    → Ahead t k a (turns (λ i x. settled n t i (r i) x) k a)
+unfolding turns
+ahead-all n t zero r a sp kept hk = ahead-start t a
+ahead-all n t (suc k) r a sp kept hk = ahead-step n t k (r k) a (turns (λ i x. settled n t i (r i) x) k a) sp hk (kept k hk) (ahead-all n t k r a sp kept (omega arith))
+
+-- a station acts the same from x as from a, where x is a but for what others have done in this step
+pub same-act : (f : Figures) (d t k i : ℕ) (a x : List ℕ) → i < 16 → k ≤ i → 57344 ≤ length a → length x ≡ length a → stationAt a i .draw < 16
+    → octetsHeld (stationAt a i .transmitter) (stationAt a i .frame) ≤ 1536 → Ahead t k a x → actIn f d t x i ≡ actIn f d t a i
+unfolding actIn outcomeIn
+same-act f d t k i a x hi hk room el hd hf v =
+    let big : 57344 ≤ length x = omega arith in
+    let s : stationAt x i ≡ stationAt a i = station-by x a i hi big room (v .plan) (v .record-of i hk hi) in
+    let b : bufferAt x i ≡ bufferAt a i = buffer-by x a i hi big room (v .buffer-of i hk hi) in
+    let h : arrivalAt x i t ≡ arrivalAt a i t = arrival-by x a i t (v .place-of i hk hi) in
+    let w : drawAt x i (stationAt a i .draw) ≡ drawAt a i (stationAt a i .draw) = draw-by x a i (stationAt a i .draw) hi hd (v .lots) in
+    let z : frameAt x i (octetsHeld (stationAt a i .transmitter) (stationAt a i .frame)) ≡ frameAt a i (octetsHeld (stationAt a i .transmitter) (stationAt a i .frame)) =
+    frame-by x a i (octetsHeld (stationAt a i .transmitter) (stationAt a i .frame)) hi hf big room (v .frames i hi) in
+    rw (s, b, h, w, z)

@@ -1,0 +1,3 @@
+pub mod After
+pub mod Passes
+pub mod Stays
