@@ -194,6 +194,11 @@ space-some : (a : List ℕ) (i j : ℕ) → (positionAt a i ≡ positionAt a j �
 unfolding spaceAt distance
 space-some a i j h = omega (arith, h)
 
+-- the stations that the area counts are those of its layout
+pub tap-in : (a : List ℕ) (i : ℕ) → countAt a ≤ 16 → i < countAt a → lay.tapAt (layoutAt a) i ≡ tapAt a i
+unfolding layoutAt lay.tapAt
+tap-in a i few h = filled-at lay.blankTap (tapAt a) (min (countAt a) 16) i (record { position = 0; address = [] }) (omega arith)
+
 module _ (a : List ℕ) (ok : refusalOf (layoutAt a) ≡ 0) where
   known : Sound (layoutAt a)
   known = sound (layoutAt a) ok
@@ -202,12 +207,8 @@ module _ (a : List ℕ) (ok : refusalOf (layoutAt a) ≡ 0) where
   unfolding layoutAt
   few = known .count
 
-  tap-there : (i : ℕ) → i < countAt a → lay.tapAt (layoutAt a) i ≡ tapAt a i
-  unfolding layoutAt lay.tapAt
-  tap-there i h = let n = few in filled-at lay.blankTap (tapAt a) (min (countAt a) 16) i (record { position = 0; address = [] }) (omega (arith, n .1))
-
   position-there : (i : ℕ) → i < countAt a → lay.positionAt (layoutAt a) i ≡ positionAt a i
-  position-there i h = ap (λ (t : Tap). t .position) (tap-there i h)
+  position-there i h = ap (λ (t : Tap). t .position) (tap-in a i (few .1) h)
 
   low : (i : ℕ) → i < countAt a → positionAt a i ≤ 255
   unfolding layoutAt

@@ -1,0 +1,331 @@
+-- "Each call gets the area as the call before left it, and nobody else writes there; so none of them is refused under 1 or 2."
+-- A fresh start leaves an area that passes checks 1 and 2; an offer and a step leave one of one. Assumes nothing.
+use Prim.Native.Nat.{ℕ, zero, suc, _+_, _*_, _^_, _≤_, _<_, max, min}
+use mathlib.Core.Path.{_≡_, refl, sym, _∙_, ap, ap₂, subst}
+use mathlib.Core.Bool.{Bool, true, false}
+use mathlib.Core.List.{List, [], _∷_}
+use native.Mathlib.Omega.{arith}
+use borrow.Author.Tests.{eq-eqb, ne-eqb, eqb-true, eqb-false, ltb-true, ltb-false, leb-true, leb-false, le-ltb, lt-leb}
+use lib.Dec.{ltb, leb, eqb}
+use lib.ListN.{length, getD}
+use Rattle.octets.specs.Base.{pick, outside, Answer, refused, accepted, Outcome, outcome}
+use Rattle.octets.specs.BaseLaws.{by-test, by-eq, within}
+use Rattle.octets.specs.Number.{get}
+use Rattle.octets.specs.Words.{wordsAt}
+use Rattle.octets.specs.WordsLaws.{Small, length-words}
+use Rattle.frame.specs.Limits.{refusesData}
+use Rattle.frame.specs.Build.{frameOf}
+use Rattle.frame.specs.RoundTrip.{frame-size, data-within}
+use Rattle.layout.specs.declared.Figures.{Figures}
+use Rattle.layout.specs.declared.Tap.{Tap}
+use Rattle.layout.specs.declared.Layout.{Layout}
+use Rattle.layout.specs.Layout as lay
+use Rattle.layout.specs.Check.{refusalOf}
+use Rattle.layout.specs.CheckLaws.{Figured, Sound, sound, refusal-same}
+use Rattle.deference.specs.declared.Deference.the-variants.{Quiet}
+use Rattle.transmitter.specs.declared.Transmitter.{Transmitter}
+use Rattle.transmitter.specs.declared.Transmitter.the-variants.{NoFrame, Waiting}
+use Rattle.receiver.specs.declared.Receiver.the-variants.{Listening}
+use Rattle.station.specs.declared.step.Station.{Station}
+use Rattle.station.specs.Count.{added}
+use Rattle.record.specs.Codec.{decoded, encoded}
+use Rattle.record.specs.CodecLaws.{Fit, decoded-encoded}
+use Rattle.area.specs.Places.{Part, clock, depth, layout, draws, counters, station, frame, buffer, place, at, size, Off, Keeps}
+use Rattle.area.specs.Area.{clockAt, depthAt, figuresAt, countAt, positionAt, addressAt, tapAt, layoutAt, countersAt, withCounters, recordAt, stationAt, withStation, withFrame, symbolAt}
+use Rattle.area.specs.AreaLaws.{keeps-trans, clock-by, depth-by, figures-by, count-by, address-by, counters-by, record-by, station-by, symbol-by, station-keeps, counters-keeps, frame-keeps, record-same, counters-same, length-station, length-counters, length-frame}
+use Rattle.area.specs.Fresh.{tapIn, fresh}
+use Rattle.area.specs.FreshLaws.{Formed, fresh-length, fresh-clock, fresh-record, fresh-counters, fresh-symbol, fresh-depth, fresh-count, fresh-figures, fresh-position, fresh-address}
+use Rattle.valid.specs.Valid.{recordWrong, areaRefusal}
+use Rattle.pair.specs.BitTime.{stepArea}
+use Rattle.pair.specs.Range.{Fine, fine-fit}
+use Rattle.pair.specs.InPlace.{Spread}
+use Rattle.pair.specs.Ready.{Readiness}
+use Rattle.ready.specs.After.{added-words}
+use Rattle.ready.specs.Passes.{Passing, tap-in, layout-figures, layout-spread, record-right, ready-passes}
+use Rattle.ready.specs.Stays.{layout-by, spread-by, step-passing}
+use Rattle.bus.specs.Offer.{holds, offeredStation, withHeld, withOffered, withOffer, offered}
+use Rattle.bus.specs.OfferLaws.{address-six}
+use Rattle.bus.specs.Start.{started}
+use Rattle.bus.specs.Step.{Bit, steppedOnce}
+
+-- ---- a fresh start
+
+-- "every station quiet, nothing emitted, heard or held, first draws next"
+unfoldable pub freshStation : List ℕ → Station
+freshStation address =
+    record {
+      address = address;
+      deference = Quiet;
+      transmitter = NoFrame;
+      receiver = Listening;
+      frame = 0;
+      attempts = 0;
+      draw = 0;
+      deferred = false;
+      emitted = false;
+    }
+
+fresh-fine : (f : Figures) (d : ℕ) (address : List ℕ) → 1 ≤ d → Fine f d 0 (freshStation address)
+unfolding freshStation
+fresh-fine f d address h =
+    record { gap = tt; number = tt; attempts = omega arith; frame = tt; receiver = tt; draw = h; wide = omega arith }
+
+-- a record of zeros stands for it
+zeros-encode : (address : List ℕ) (at : ℕ) → wordsAt 14 [] at ≡ encoded (freshStation address)
+unfolding wordsAt get encoded freshStation
+zeros-encode address at = refl
+
+fresh-decoded : (address : List ℕ) → decoded (encoded (freshStation address)) address ≡ freshStation address
+unfolding freshStation
+fresh-decoded address = decoded-encoded (freshStation address)
+
+zeros-small : (at : ℕ) → Small (wordsAt 16 [] at)
+unfolding wordsAt get
+zeros-small at = (omega arith, (omega arith, (omega arith, (omega arith, (omega arith, (omega arith, (omega arith, (omega arith, (omega arith, (omega arith, (omega arith, (omega arith, (omega arith, (omega arith, (omega arith, (omega arith, tt))))))))))))))))
+
+module _ (y : Layout) (d : ℕ) (ds : List (List ℕ)) (a : List ℕ) (big : 57344 ≤ length a) (ok : refusalOf y ≡ 0) (low : 1 ≤ d) (high : d ≤ 16)
+    (formed : Formed (y .stations) (y .count)) where
+  s : Sound y
+  s = sound y ok
+
+  few : y .count ≤ 16
+  few = s .count .1
+
+  start-count : countAt (fresh y d ds a) ≡ y .count
+  start-count = fresh-count y d ds a big few high formed (omega (arith, few))
+
+  start-tap : (i : ℕ) → i < y .count → tapAt (fresh y d ds a) i ≡ lay.tapAt y i
+  unfolding lay.tapAt
+  start-tap i h =
+      λ j. record {
+        position = fresh-position y d ds a big few high formed i h (omega (arith, s .position i h)) j;
+        address = fresh-address y d ds a big few high formed i h j;
+      }
+
+  start-layout : refusalOf (layoutAt (fresh y d ds a)) ≡ 0
+  unfolding layoutAt
+  start-layout =
+      refusal-same (layoutAt (fresh y d ds a)) y (fresh-figures y d ds a big few high formed (s .figures)) start-count (omega (arith, start-count, few))
+      (λ i h. tap-in (fresh y d ds a) i (omega (arith, start-count, few)) h ∙ start-tap i (omega (arith, start-count)))
+      ∙ ok
+
+  pub start-station : (i : ℕ) → i < y .count → stationAt (fresh y d ds a) i ≡ freshStation (lay.addressAt y i)
+  unfolding stationAt lay.tapAt
+  start-station i h =
+      ap₂ decoded (fresh-record y d ds a big few high formed i (omega (arith, few)) ∙ zeros-encode (lay.addressAt y i) (2048 + 64 * i))
+      (fresh-address y d ds a big few high formed i h)
+      ∙ fresh-decoded (lay.addressAt y i)
+
+  pub start-passing : Passing (fresh y d ds a)
+  start-passing =
+      let n = start-count in
+      let e : depthAt (fresh y d ds a) ≡ d = fresh-depth y d ds a big few high formed (omega arith) in
+      let t : clockAt (fresh y d ds a) ≡ 0 = fresh-clock y d ds a big few high formed in
+      record {
+        ready = record {
+          long = omega (arith, fresh-length y d ds a big few high formed);
+          sound = start-layout;
+          figures = layout-figures (fresh y d ds a) start-layout;
+          spread = layout-spread (fresh y d ds a) start-layout;
+          depth = rw e (low, high);
+          clock = rw t (omega arith);
+          fine = λ i h. rw (e, t, start-station i (omega arith)) (fresh-fine (figuresAt (fresh y d ds a)) d (lay.addressAt y i) low);
+          codes = λ i u h. rw (fresh-symbol y d ds a big few high formed i u (omega (arith, few))) (omega arith);
+          counts = λ i h. rw (fresh-counters y d ds a big few high formed i (omega (arith, few))) (zeros-small (1024 + 64 * i));
+        };
+        records = λ i h.
+            rw (e, t, fresh-record y d ds a big few high formed i (omega (arith, few)), zeros-encode (lay.addressAt y i) (2048 + 64 * i))
+            (record-right (figuresAt (fresh y d ds a)) d 0 (freshStation (lay.addressAt y i)) (fresh-fine (figuresAt (fresh y d ds a)) d (lay.addressAt y i) low));
+      }
+
+pub started-passes : (a : List ℕ) (y : Layout) (d : ℕ) (ds : List (List ℕ)) → Formed (y .stations) (y .count) → started a y d ds .answer ≡ accepted []
+    → Passing (started a y d ds .octets)
+unfolding started
+started-passes a y d ds w =
+    by-test (ltb (length a) 57344)
+    (λ c. rw c (λ h. absurd (let z : _≡_ {A = ℕ} 1 0 = ap (λ (r : Answer). r .number) h in omega arith)))
+    (λ c. by-test (eqb (refusalOf y) 0)
+    (λ e. by-test (outside d 1 16)
+    (λ o. rw (c, e, o) (λ h. absurd (let z : _≡_ {A = ℕ} 9 0 = ap (λ (r : Answer). r .number) h in omega arith)))
+    (λ o. let q = within d 1 16 o in rw (c, e, o) (λ h. start-passing y d ds a (ltb-false (length a) 57344 c) (eqb-true (refusalOf y) 0 e) (q .0) (q .1) w)))
+    (λ e. rw (c, e) (λ h. absurd (eqb-false (refusalOf y) 0 e (ap (λ (r : Answer). r .number) h)))))
+
+-- ---- an offer
+
+offered-fine : (f : Figures) → Figured f → (d t : ℕ) (s : Station) (n : ℕ) → 64 ≤ n → n ≤ 1518 → Fine f d t s → Fine f d t (offeredStation s n)
+unfolding offeredStation
+offered-fine f g d t s n p q v =
+    record { gap = v .gap; number = tt; attempts = g .limit .0; frame = (p, q); receiver = v .receiver; draw = v .draw; wide = omega arith }
+
+kept-address : (w address : List ℕ) (n : ℕ) → address ≡ offeredStation (decoded w address) n .address
+unfolding offeredStation decoded
+kept-address w address n = refl
+
+-- what an accepted offer leaves, whatever the frame
+abbrev pub holding : (a f : List ℕ) (i : ℕ) → List ℕ
+holding a f i = withOffered (withHeld (withFrame a i f) i (length f)) i
+
+-- what an accepted offer leaves, whatever frame is written, of 64..1518 octets
+module _ (a f : List ℕ) (i : ℕ) (v : Passing a) (hi : i < countAt a) (low : 64 ≤ length f) (high : length f ≤ 1518) where
+  r : Readiness a
+  r = v .ready
+
+  small : i < 16
+  small = let few = r .spread .few in omega arith
+
+  b₁ : List ℕ
+  b₁ = withFrame a i f
+
+  b₂ : List ℕ
+  b₂ = withHeld b₁ i (length f)
+
+  long₁ : length b₁ ≡ length a
+  unfolding b₁
+  long₁ = length-frame a i f
+
+  long₂ : length b₂ ≡ length a
+  unfolding b₂ withHeld
+  long₂ = length-station b₁ i _ ∙ long₁
+
+  long₃ : length (holding a f i) ≡ length a
+  unfolding withOffered b₂ b₁
+  long₃ = length-counters b₂ i _ ∙ long₂
+
+  framed : (p : Part) → Off p (frame i) → Keeps p b₁ a
+  unfolding b₁
+  framed p o = frame-keeps p a i f (omega arith) o
+
+  held : (p : Part) → Off p (frame i) → Off p (station i) → Keeps p b₂ a
+  unfolding b₂ withHeld
+  held p o q = keeps-trans p b₂ b₁ a (station-keeps p b₁ i _ q) (framed p o)
+
+  -- a part that is none of those three is as it was
+  elsewhere : (p : Part) → Off p (frame i) → Off p (station i) → Off p (counters i) → Keeps p (holding a f i) a
+  unfolding withOffered b₂ b₁
+  elsewhere p o q c = keeps-trans p (holding a f i) b₂ a (counters-keeps p b₂ i _ c) (held p o q)
+
+  pub offer-layout : Keeps layout (holding a f i) a
+  offer-layout = elsewhere layout (λ p q. omega arith) (λ p q. omega arith) (λ p q. omega arith)
+
+  pub offer-depth : depthAt (holding a f i) ≡ depthAt a
+  offer-depth = depth-by (holding a f i) a (elsewhere depth (λ p q. omega arith) (λ p q. omega arith) (λ p q. omega arith))
+
+  pub offer-clock : clockAt (holding a f i) ≡ clockAt a
+  offer-clock = clock-by (holding a f i) a (elsewhere clock (λ p q. omega arith) (λ p q. omega arith) (λ p q. omega arith))
+
+  -- the station that holds the frame now
+  before : stationAt b₁ i ≡ stationAt a i
+  before =
+      station-by b₁ a i small (omega (arith, long₁, r .long)) (r .long) (framed layout (λ p q. omega arith)) (framed (station i) (λ p q. omega arith))
+
+  now-fine : Fine (figuresAt a) (depthAt a) (clockAt a) (offeredStation (stationAt a i) (length f))
+  now-fine = offered-fine (figuresAt a) (r .figures) (depthAt a) (clockAt a) (stationAt a i) (length f) low high (r .fine i hi)
+
+  now-fit : Fit (offeredStation (stationAt a i) (length f))
+  now-fit = fine-fit (figuresAt a) (r .figures) (depthAt a) (clockAt a) (offeredStation (stationAt a i) (length f)) (r .depth .1) (omega (arith, r .clock)) now-fine
+
+  own-record : recordAt (holding a f i) i ≡ encoded (offeredStation (stationAt a i) (length f))
+  unfolding withOffered b₂ withHeld b₁
+  own-record =
+      record-by (holding a f i) b₂ i (counters-keeps (station i) b₂ i _ (λ p q. omega arith))
+      ∙ ap (λ (x : Station). recordAt (withStation b₁ i (offeredStation x (length f))) i) before
+      ∙ record-same b₁ (omega (arith, long₁, r .long)) i (offeredStation (stationAt a i) (length f)) small now-fit
+
+  other-record : (j : ℕ) → j < 16 → (j ≡ i → ⊥) → recordAt (holding a f i) j ≡ recordAt a j
+  other-record j h ne = record-by (holding a f i) a j (elsewhere (station j) (λ p q. omega arith) (λ p q. ne (omega arith)) (λ p q. omega (arith, small)))
+
+  address-there : (j : ℕ) → j < 16 → addressAt (holding a f i) j ≡ addressAt a j
+  address-there j h = address-by (holding a f i) a j h (omega (arith, long₃, r .long)) (r .long) offer-layout
+
+  pub offer-own : stationAt (holding a f i) i ≡ offeredStation (stationAt a i) (length f)
+  unfolding stationAt
+  offer-own =
+      ap₂ decoded own-record (address-there i small ∙ kept-address (recordAt a i) (addressAt a i) (length f))
+      ∙ decoded-encoded (offeredStation (decoded (recordAt a i) (addressAt a i)) (length f))
+
+  pub offer-other : (j : ℕ) → j < 16 → (j ≡ i → ⊥) → stationAt (holding a f i) j ≡ stationAt a j
+  unfolding stationAt
+  offer-other j h ne = ap₂ decoded (other-record j h ne) (address-there j h)
+
+  -- its counters, with the offer
+  counters-there : countersAt b₂ i ≡ countersAt a i
+  counters-there = counters-by b₂ a i (held (counters i) (λ p q. omega arith) (λ p q. omega arith))
+
+  pub offer-counters : countersAt (holding a f i) i ≡ added (countersAt a i) 0 1
+  unfolding withOffered countersAt b₂ b₁
+  offer-counters =
+      let w = added-words (countersAt b₂ i) 0 1 (length-words 16 b₂ (1024 + 64 * i), subst Small (sym counters-there) (r .counts i hi)) in
+      counters-same b₂ (omega (arith, long₂, r .long)) i (added (countersAt b₂ i) 0 1) small (w .0) (w .1)
+      ∙ ap (λ (cs : List ℕ). added cs 0 1) counters-there
+
+  pub offer-counters-other : (j : ℕ) → j < 16 → (j ≡ i → ⊥) → countersAt (holding a f i) j ≡ countersAt a j
+  offer-counters-other j h ne = counters-by (holding a f i) a j (elsewhere (counters j) (λ p q. omega arith) (λ p q. omega arith) (λ p q. ne (omega arith)))
+
+  counts-there : (j : ℕ) → j < countAt a → Small (countersAt (holding a f i) j)
+  unfolding countersAt
+  counts-there j h =
+      by-eq j i
+      (λ e. rw e (subst Small (sym offer-counters) (added-words (countersAt a i) 0 1 (length-words 16 a (1024 + 64 * i), r .counts i hi) .1)))
+      (λ ne. subst Small (sym (offer-counters-other j (let few = r .spread .few in omega arith) ne)) (r .counts j h))
+
+  fine-there : (j : ℕ) → j < countAt a → Fine (figuresAt a) (depthAt a) (clockAt a) (stationAt (holding a f i) j)
+  fine-there j h =
+      by-eq j i
+      (λ e. rw e (rw offer-own now-fine))
+      (λ ne. rw (offer-other j (let few = r .spread .few in omega arith) ne) (r .fine j h))
+
+  right-there : (j : ℕ) → j < countAt a → recordWrong (figuresAt a) (depthAt a) (clockAt a) (recordAt (holding a f i) j) ≡ false
+  right-there j h =
+      by-eq j i
+      (λ e. rw e (rw own-record (record-right (figuresAt a) (depthAt a) (clockAt a) (offeredStation (stationAt a i) (length f)) now-fine)))
+      (λ ne. rw (other-record j (let few = r .spread .few in omega arith) ne) (v .records j h))
+
+  pub offer-passing : Passing (holding a f i)
+  offer-passing =
+      let n = count-by (holding a f i) a offer-layout in
+      let g = figures-by (holding a f i) a offer-layout in
+      let few = r .spread .few in
+      let big : 57344 ≤ length (holding a f i) = omega (arith, long₃, r .long) in
+      record {
+        ready = record {
+          long = big;
+          sound = ap refusalOf (layout-by (holding a f i) a big (r .long) offer-layout) ∙ r .sound;
+          figures = subst Figured (sym g) (r .figures);
+          spread = subst (λ (m : ℕ). Spread m (holding a f i)) (sym n) (spread-by (countAt a) (holding a f i) a offer-layout (r .spread));
+          depth = rw offer-depth (r .depth);
+          clock = rw offer-clock (r .clock);
+          fine = λ j h. rw (g, offer-depth, offer-clock) (fine-there j (omega arith));
+          codes = λ j u h.
+              rw (symbol-by (holding a f i) a j u (elsewhere (place j u) (λ p q. omega arith) (λ p q. omega arith) (λ p q. omega arith))) (r .codes j u (omega arith));
+          counts = λ j h. counts-there j (omega arith);
+        };
+        records = λ j h. rw (g, offer-depth, offer-clock) (right-there j (omega arith));
+      }
+
+-- the frame of an accepted offer is one
+pub frame-range : (d s : List ℕ) (v : ℕ) (x : List ℕ) → length d ≡ 6 → length s ≡ 6 → refusesData v (length x) ≡ false
+    → (64 ≤ length (frameOf d s v x)) × (length (frameOf d s v x) ≤ 1518)
+frame-range d s v x hd hs h = let n = frame-size d s v x hd hs in let w = data-within v (length x) h in (omega arith, omega arith)
+
+pub offered-passes : (a : List ℕ) (i : ℕ) (d : List ℕ) (v : ℕ) (x : List ℕ) → length d ≡ 6 → Passing a → Passing (offered a i d v x .octets)
+unfolding offered withOffer
+offered-passes a i d v x six p =
+    let few = p .ready .spread .few in
+    rw (eq-eqb (areaRefusal a) 0 (ready-passes a p))
+    (by-test (leb (countAt a) i)
+    (λ c. rw c p)
+    (λ c. by-test (refusesData v (length x))
+    (λ e. rw (c, e) p)
+    (λ e. by-test (holds (stationAt a i .transmitter))
+    (λ h. rw (c, e, h) p)
+    (λ h. let hi = leb-false (countAt a) i c in
+    let z = frame-range d (addressAt a i) v x six (address-six a i (omega arith) (p .ready .long)) e in
+    rw (c, e, h) (offer-passing a (frameOf d (addressAt a i) v x) i p hi (z .0) (z .1))))))
+
+-- ---- a step
+
+pub stepped-passes : (a : List ℕ) → Passing a → Passing (steppedOnce a .octets)
+unfolding steppedOnce
+stepped-passes a p =
+    rw (eq-eqb (areaRefusal a) 0 (ready-passes a p))
+    (by-test (ltb 16777216 (clockAt a + 1)) (λ c. rw c p) (λ c. rw c (step-passing a p (let h = ltb-false 16777216 (clockAt a + 1) c in omega arith))))
