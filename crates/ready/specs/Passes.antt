@@ -181,7 +181,7 @@ record-right f d t s v =
       gap-right f (encoded s) (s .deference) refl refl refl (v .gap),
       sender-right f (encoded s) (s .transmitter) (s .deferred) refl refl refl (v .number) (v .attempts) (v .frame),
       receiver-right t (encoded s) (s .receiver) refl refl refl refl (v .receiver),
-      lt-leb d (s .draw) (v .draw)
+      lt-leb d (s .draw) (v .draw),
     ) (flag-right (s .emitted))
 
 -- ---- the layout
@@ -314,5 +314,5 @@ ready-passes a v =
       eq-eqb (refusalOf (layoutAt a)) 0 (r .sound),
       outside-not (depthAt a) 1 16 (r .depth .0) (r .depth .1),
       le-ltb 16777216 (clockAt a) (r .clock),
-      below-none (stationWrong a) (countAt a) each
+      below-none (stationWrong a) (countAt a) each,
     )

@@ -7,9 +7,11 @@
 mod crc;
 mod frames;
 mod sheets;
+mod steps;
 
 fn main() {
     crc::print_all();
     frames::print_all();
     sheets::print_all();
+    steps::print_all();
 }

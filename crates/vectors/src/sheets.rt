@@ -1,4 +1,4 @@
-// Sheets, a line of hexadecimal digits each on standard input.
+// Sheets, a line of hexadecimal digits each on standard input; and, behind an @, words to write over a work area, with a name.
 
 use layout::Fit;
 use layout::Layout;
@@ -79,14 +79,14 @@ fn print_sheet(s: &[u8]) {
     io::write_all(STDOUT_FILENO, b"\n");
 }
 
-// Where the line that begins at `at` ends.
-fn line_end(s: &[u8], at: usize) -> usize
+// Where the mark stands next, from `at` on; the end where it does not.
+fn find(s: &[u8], at: usize, mark: u8) -> usize
     requires { ⌜ at ≤ length (now s) ⌝ }
     ensures { λ r. ⌜ (at ≤ r) × (r ≤ length (now (s .entry))) ⌝ }
 {
     let mut i = at;
     while i < s.len() {
-        if s[i] == b'\n' {
+        if s[i] == mark {
             return i;
         }
         i += 1;
@@ -94,13 +94,34 @@ fn line_end(s: &[u8], at: usize) -> usize
     i
 }
 
-fn print_lines(text: &[u8]) {
+// One line: the name, and what checks 1 and 2 say of the area.
+fn print_area(area: &mut [u8], line: &[u8]) {
+    let mut words = [0u8; 64];
+    let split = find(line, 0, b' ');
+    let n = decode(&line[0..split], &mut words);
+    io::write_all(STDOUT_FILENO, &line[split..]);
+    io::write_all(STDOUT_FILENO, b": ");
+    crate::steps::check(area, &words[0..n]);
+}
+
+fn print_line(area: &mut [u8], line: &[u8]) {
     let mut octets = [0u8; 4096];
+    if line.len() > 0 {
+        if line[0] == b'@' {
+            print_area(area, &line[1..]);
+            return;
+        }
+    }
+    let n = decode(line, &mut octets);
+    print_sheet(&octets[0..n]);
+}
+
+fn print_lines(text: &[u8]) {
+    let mut area = [0x55u8; 57344];
     let mut at: usize = 0;
     while at < text.len() {
-        let end = line_end(text, at);
-        let n = decode(&text[at..end], &mut octets);
-        print_sheet(&octets[0..n]);
+        let end = find(text, at, b'\n');
+        print_line(&mut area, &text[at..end]);
         at = end + 1;
     }
 }

@@ -1,3 +1,4 @@
+-- `octets::blank` meets its contract. Assumes nothing.
 use native.Mathlib.Omega.{arith}
 use borrow.Author.Needs.{needs}
 use Prim.Native.Nat.{_≤_, _-_}
@@ -6,8 +7,6 @@ use lib.ListN.{length, length-set}
 use Rattle.octets.specs.Turns.{blanked, blanked-none, blanked-more, blanked-end}
 use Rattle.octets.proofs.blank.Statement.{statement}
 use Rattle.octets.proofs.blank.Tie as tie
-use Rattle.octets.proofs.blank.Reads as reads
-use Rattle.octets.proofs.blank.Lts as lts
 
 abbrev Inv-loop : tie.InvT-loop
 Inv-loop s₀ n k₀ s k = (k ≤ n) × (length s ≡ length s₀) × (s ≡ blanked k s₀)
@@ -15,31 +14,24 @@ Inv-loop s₀ n k₀ s k = (k ≤ n) × (length s ≡ length s₀) × (s ≡ bla
 abbrev μ-loop : tie.MeasureT-loop
 μ-loop s₀ n k₀ s k = n - k
 
--- src/lib.rt:90:5
 loop-holds : tie.Need-loop-holds Inv-loop μ-loop
 loop-holds c = (omega arith, refl, search blanked-none)
 
--- src/lib.rt:91:9
 slice-write-s : tie.Need-slice-write-s Inv-loop μ-loop
 slice-write-s c = omega arith
 
--- src/lib.rt:92:9
 add-k : tie.Need-add-k Inv-loop μ-loop
 add-k c = omega arith
 
--- src/lib.rt:90:5
 loop-less : tie.Need-loop-less Inv-loop μ-loop
 loop-less c = omega arith
 
--- src/lib.rt:90:5
 loop-again : tie.Need-loop-again Inv-loop μ-loop
 loop-again c = (omega arith, simp length-set (search needs), search blanked-more)
 
--- src/lib.rt:85:1
 same-length : tie.Need-same-length Inv-loop μ-loop
 same-length c = search needs
 
--- src/lib.rt:85:1
 returns : tie.Need-returns Inv-loop μ-loop
 returns c = search blanked-end
 

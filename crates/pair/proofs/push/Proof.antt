@@ -1,17 +1,14 @@
+-- `pair::push` meets its contract. Assumes nothing.
 use borrow.Author.Needs.{needs}
 use native.Mathlib.Omega.{arith}
 use Prim.Native.Nat.{_≤_, _-_}
 use mathlib.Core.Path.{_≡_, refl}
-use lib.ListN.{length, length-set}
+use lib.ListN.{length}
 use Rattle.octets.specs.Turns.{turns, turns-none}
 use Rattle.pair.specs.BitTime.{sendTo}
 use Rattle.pair.specs.CodeLaws.{push-none, push-more, push-all}
 use Rattle.pair.proofs.push.Statement.{statement}
 use Rattle.pair.proofs.push.Tie as tie
-use Rattle.pair.proofs.push.Reads as reads
-use Rattle.pair.proofs.push.Lts as lts
-use Rattle.pair.proofs.is_silence.Reads as is-silence-reads
-use Rattle.pair.proofs.send_to.Reads as send-to-reads
 
 abbrev Inv-loop : tie.InvT-loop
 Inv-loop area₀ n t i s j₀ area j = (j ≤ n) × (length area ≡ length area₀) × (area ≡ turns (sendTo t i s) j area₀)
@@ -19,39 +16,30 @@ Inv-loop area₀ n t i s j₀ area j = (j ≤ n) × (length area ≡ length area
 abbrev μ-loop : tie.MeasureT-loop
 μ-loop area₀ n t i s j₀ area j = n - j
 
--- src/lib.rt:58:8
 is-silence-requires : tie.Need-is-silence-requires Inv-loop μ-loop
 is-silence-requires c κs = search needs
 
--- src/lib.rt:59:9
 returns : tie.Need-returns Inv-loop μ-loop
 returns c = search push-none
 
--- src/lib.rt:62:5
 loop-holds : tie.Need-loop-holds Inv-loop μ-loop
 loop-holds c = (omega arith, refl, search turns-none)
 
--- src/lib.rt:63:9
 send-to-requires : tie.Need-send-to-requires Inv-loop μ-loop
 send-to-requires c κs = omega arith
 
--- src/lib.rt:64:9
 add-j : tie.Need-add-j Inv-loop μ-loop
 add-j c = omega arith
 
--- src/lib.rt:62:5
 loop-less : tie.Need-loop-less Inv-loop μ-loop
 loop-less c = omega arith
 
--- src/lib.rt:62:5
 loop-again : tie.Need-loop-again Inv-loop μ-loop
 loop-again c = (omega arith, omega arith, push-more _ _ _ _ _ _ _ (c .before .before .send-to .ensures) (c .before .before .before .before .before .loop .inv .2))
 
--- src/lib.rt:54:1
 same-length : tie.Need-same-length Inv-loop μ-loop
 same-length c = search needs
 
--- src/lib.rt:54:1
 returns-2 : tie.Need-returns-2 Inv-loop μ-loop
 returns-2 c = search push-all
 

@@ -1,3 +1,4 @@
+-- `pair::turn_all` meets its contract. Assumes nothing.
 use borrow.Author.Needs.{needs}
 use native.Mathlib.Omega.{arith}
 use Prim.Native.Nat.{_≤_, _-_}
@@ -8,9 +9,6 @@ use Rattle.pair.specs.CodeLaws.{turned-none, turned-end, events-none, ev
 use Rattle.pair.specs.Ready.{turn-able, turn-next, events-next}
 use Rattle.pair.proofs.turn_all.Statement.{statement}
 use Rattle.pair.proofs.turn_all.Tie as tie
-use Rattle.pair.proofs.turn_all.Reads as reads
-use Rattle.pair.proofs.turn_all.Lts as lts
-use Rattle.pair.proofs.turn.Reads as turn-reads
 
 abbrev Inv-loop : tie.InvT-loop
 Inv-loop area₀ n depth t f all₀ i₀ area all i = (i ≤ n) × (length area ≡ length area₀) × (length all ≡ 16) × (area ≡ turnedIn f depth n t area₀ i) × (all ≡ eventsIn f depth t area₀ i)
@@ -18,39 +16,30 @@ Inv-loop area₀ n depth t f all₀ i₀ area all i = (i ≤ n) × (length area 
 abbrev μ-loop : tie.MeasureT-loop
 μ-loop area₀ n depth t f all₀ i₀ area all i = n - i
 
--- src/lib.rt:191:5
 loop-holds : tie.Need-loop-holds Inv-loop μ-loop
 loop-holds c = (omega arith, refl, refl, search turned-none, search events-none)
 
--- src/lib.rt:192:13
 turn-requires : tie.Need-turn-requires Inv-loop μ-loop
 turn-requires c κs = (omega arith, omega arith, omega arith, omega arith, search turn-able)
 
--- src/lib.rt:193:9
 mul-all : tie.Need-mul-all Inv-loop μ-loop
 mul-all c = omega arith
 
--- src/lib.rt:193:9
 array-set-from-all : tie.Need-array-set-from-all Inv-loop μ-loop
 array-set-from-all c = omega arith
 
--- src/lib.rt:194:9
 add-i : tie.Need-add-i Inv-loop μ-loop
 add-i c = omega arith
 
--- src/lib.rt:191:5
 loop-less : tie.Need-loop-less Inv-loop μ-loop
 loop-less c = omega arith
 
--- src/lib.rt:191:5
 loop-again : tie.Need-loop-again Inv-loop μ-loop
 loop-again c = (omega arith, omega arith, simp length-set (search needs), search turn-next, search events-next)
 
--- src/lib.rt:180:1
 same-length : tie.Need-same-length Inv-loop μ-loop
 same-length c = search needs
 
--- src/lib.rt:180:1
 returns : tie.Need-returns Inv-loop μ-loop
 returns c = (search turned-end, search events-end)
 

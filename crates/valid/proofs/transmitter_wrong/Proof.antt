@@ -1,67 +1,49 @@
+-- `valid::transmitter_wrong` meets its contract. Assumes nothing.
 use native.Mathlib.Omega.{arith}
 use Rattle.valid.specs.RecordLaws.{transmitter-1, transmitter-2, transmitter-3, transmitter-4, transmitter-5, transmitter-6, frame-small}
 use borrow.Author.Needs.{needs}
 use Rattle.valid.proofs.transmitter_wrong.Statement.{statement}
 use Rattle.valid.proofs.transmitter_wrong.Tie as tie
-use Rattle.valid.proofs.transmitter_wrong.Reads as reads
-use Rattle.valid.proofs.transmitter_wrong.Lts as lts
-use Rattle.octets.proofs.out_of.Reads as out-of-reads
-use Rattle.valid.proofs.attempts_wrong.Reads as attempts-wrong-reads
-use Rattle.valid.proofs.number_wrong.Reads as number-wrong-reads
 
--- src/lib.rt:63:16
 array-read-code : tie.Need-array-read-code
 array-read-code c = search needs
 
--- src/lib.rt:64:17
 array-read-frame : tie.Need-array-read-frame
 array-read-frame c = search needs
 
--- src/lib.rt:66:9
 returns : tie.Need-returns
 returns c = search transmitter-1
 
--- src/lib.rt:68:38
 array-read-attempts-wrong : tie.Need-array-read-attempts-wrong
 array-read-attempts-wrong c = search needs
 
--- src/lib.rt:68:8
 attempts-wrong-requires : tie.Need-attempts-wrong-requires
 attempts-wrong-requires c κs = search needs
 
--- src/lib.rt:69:9
 returns-2 : tie.Need-returns-2
 returns-2 c = search transmitter-2
 
--- src/lib.rt:72:9
 returns-3 : tie.Need-returns-3
 returns-3 c = search transmitter-3
 
--- src/lib.rt:74:8
 out-of-requires : tie.Need-out-of-requires
 out-of-requires c κs = search needs
 
--- src/lib.rt:75:9
 returns-4 : tie.Need-returns-4
 returns-4 c = search transmitter-4
 
--- src/lib.rt:77:12
 array-read-if5 : tie.Need-array-read-if5
 array-read-if5 c = search needs
 
--- src/lib.rt:78:9
 returns-5 : tie.Need-returns-5
 returns-5 c = search transmitter-5
 
--- src/lib.rt:80:27
 array-read-number-wrong : tie.Need-array-read-number-wrong
 array-read-number-wrong c = search needs
 
--- src/lib.rt:80:5
 number-wrong-requires : tie.Need-number-wrong-requires
 number-wrong-requires c κs = (omega arith, frame-small _ _ (c .before .before .out-of .ensures) (c .before .if4 .left))
 
--- src/lib.rt:59:1
 returns-6 : tie.Need-returns-6
 returns-6 c = search transmitter-6
 

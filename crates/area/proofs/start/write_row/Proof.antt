@@ -1,15 +1,13 @@
+-- `area::start::write_row` meets its contract. Assumes nothing.
 use borrow.Author.Needs.{needs}
 use native.Mathlib.Omega.{arith}
 use Prim.Native.Nat.{_≤_, _-_}
 use mathlib.Core.Path.{_≡_, refl}
-use lib.ListN.{length, getD}
-use Rattle.area.specs.Fresh.{withDraws, withRow, withTaps}
+use lib.ListN.{length}
+use Rattle.area.specs.Fresh.{withRow}
 use Rattle.area.specs.FreshLaws.{row-none, row-more, row-end}
 use Rattle.area.proofs.start.write_row.Statement.{statement}
 use Rattle.area.proofs.start.write_row.Tie as tie
-use Rattle.area.proofs.start.write_row.Reads as reads
-use Rattle.area.proofs.start.write_row.Lts as lts
-use Rattle.area.proofs.start.write_draw.Reads as write-draw-reads
 
 abbrev Inv-loop : tie.InvT-loop
 Inv-loop area₀ i depth row k₀ area k = (k ≤ depth) × (length area ≡ length area₀) × (area ≡ withRow row i k area₀)
@@ -17,39 +15,30 @@ Inv-loop area₀ i depth row k₀ area k = (k ≤ depth) × (length area ≡ len
 abbrev μ-loop : tie.MeasureT-loop
 μ-loop area₀ i depth row k₀ area k = depth - k
 
--- src/start.rt:62:5
 loop-holds : tie.Need-loop-holds Inv-loop μ-loop
 loop-holds c = (omega arith, refl, search row-none)
 
--- src/start.rt:63:32
 mul-write-draw : tie.Need-mul-write-draw Inv-loop μ-loop
 mul-write-draw c = omega arith
 
--- src/start.rt:63:32
 array-read-write-draw : tie.Need-array-read-write-draw Inv-loop μ-loop
 array-read-write-draw c = omega arith
 
--- src/start.rt:63:9
 write-draw-requires : tie.Need-write-draw-requires Inv-loop μ-loop
 write-draw-requires c κs = omega arith
 
--- src/start.rt:64:9
 add-k : tie.Need-add-k Inv-loop μ-loop
 add-k c = omega arith
 
--- src/start.rt:62:5
 loop-less : tie.Need-loop-less Inv-loop μ-loop
 loop-less c = omega arith
 
--- src/start.rt:62:5
 loop-again : tie.Need-loop-again Inv-loop μ-loop
 loop-again c = (omega arith, omega arith, search row-more)
 
--- src/start.rt:57:1
 same-length : tie.Need-same-length Inv-loop μ-loop
 same-length c = search needs
 
--- src/start.rt:57:1
 returns : tie.Need-returns Inv-loop μ-loop
 returns c = search row-end
 

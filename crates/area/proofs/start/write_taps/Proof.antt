@@ -1,15 +1,13 @@
+-- `area::start::write_taps` meets its contract. Assumes nothing.
 use borrow.Author.Needs.{needs}
 use native.Mathlib.Omega.{arith}
 use Prim.Native.Nat.{_≤_, _-_}
 use mathlib.Core.Path.{_≡_, refl}
-use lib.ListN.{length, getD}
-use Rattle.area.specs.Fresh.{withDraws, withRow, withTaps}
+use lib.ListN.{length}
+use Rattle.area.specs.Fresh.{withTaps}
 use Rattle.area.specs.FreshLaws.{taps-none, taps-more, taps-end}
 use Rattle.area.proofs.start.write_taps.Statement.{statement}
 use Rattle.area.proofs.start.write_taps.Tie as tie
-use Rattle.area.proofs.start.write_taps.Reads as reads
-use Rattle.area.proofs.start.write_taps.Lts as lts
-use Rattle.area.proofs.start.write_tap.Reads as write-tap-reads
 
 abbrev Inv-loop : tie.InvT-loop
 Inv-loop area₀ n taps i₀ area i = (i ≤ n) × (length area ≡ length area₀) × (area ≡ withTaps taps i area₀)
@@ -17,39 +15,30 @@ Inv-loop area₀ n taps i₀ area i = (i ≤ n) × (length area ≡ length area�
 abbrev μ-loop : tie.MeasureT-loop
 μ-loop area₀ n taps i₀ area i = n - i
 
--- src/start.rt:34:5
 loop-holds : tie.Need-loop-holds Inv-loop μ-loop
 loop-holds c = (omega arith, refl, search taps-none)
 
--- src/start.rt:35:17
 mul-t : tie.Need-mul-t Inv-loop μ-loop
 mul-t c = omega arith
 
--- src/start.rt:35:17
 array-copy-out-t : tie.Need-array-copy-out-t Inv-loop μ-loop
 array-copy-out-t c = omega arith
 
--- src/start.rt:37:9
 write-tap-requires : tie.Need-write-tap-requires Inv-loop μ-loop
 write-tap-requires c κs = omega arith
 
--- src/start.rt:38:9
 add-i : tie.Need-add-i Inv-loop μ-loop
 add-i c = omega arith
 
--- src/start.rt:34:5
 loop-less : tie.Need-loop-less Inv-loop μ-loop
 loop-less c = omega arith
 
--- src/start.rt:34:5
 loop-again : tie.Need-loop-again Inv-loop μ-loop
 loop-again c = (omega arith, omega arith, search taps-more)
 
--- src/start.rt:29:1
 same-length : tie.Need-same-length Inv-loop μ-loop
 same-length c = search needs
 
--- src/start.rt:29:1
 returns : tie.Need-returns Inv-loop μ-loop
 returns c = search taps-end
 

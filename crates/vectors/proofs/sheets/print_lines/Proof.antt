@@ -7,43 +7,31 @@ use Rattle.vectors.proofs.sheets.print_lines.Statement.{statement}
 use Rattle.vectors.proofs.sheets.print_lines.Tie as tie
 
 abbrev Inv-loop : tie.InvT-loop
-Inv-loop text octets₀ at₀ octets at = (at ≤ length text + 1) × (length octets ≡ 4096)
+Inv-loop text area₀ at₀ area at = (at ≤ length text + 1) × (length area ≡ 57344)
 
 abbrev μ-loop : tie.MeasureT-loop
-μ-loop text octets₀ at₀ octets at = length text + 1 - at
+μ-loop text area₀ at₀ area at = length text + 1 - at
 
 loop-holds : tie.Need-loop-holds Inv-loop μ-loop
 loop-holds c = search needs
 
-line-end-requires : tie.Need-line-end-requires Inv-loop μ-loop
-line-end-requires c κs = search needs
+find-requires : tie.Need-find-requires Inv-loop μ-loop
+find-requires c κs = search needs
 
-sub-decode : tie.Need-sub-decode Inv-loop μ-loop
-sub-decode c = search needs
+slice-aggregate-print-line : tie.Need-slice-aggregate-print-line Inv-loop μ-loop
+slice-aggregate-print-line c = search needs
 
-part-decode-start : tie.Need-part-decode-start Inv-loop μ-loop
-part-decode-start c = search needs
+sub-print-line : tie.Need-sub-print-line Inv-loop μ-loop
+sub-print-line c = search needs
 
-part-decode-end : tie.Need-part-decode-end Inv-loop μ-loop
-part-decode-end c = search needs
+part-print-line-start : tie.Need-part-print-line-start Inv-loop μ-loop
+part-print-line-start c = search needs
 
-slice-aggregate-decode : tie.Need-slice-aggregate-decode Inv-loop μ-loop
-slice-aggregate-decode c = search needs
+part-print-line-end : tie.Need-part-print-line-end Inv-loop μ-loop
+part-print-line-end c = search needs
 
-decode-requires : tie.Need-decode-requires Inv-loop μ-loop
-decode-requires c κs = search needs
-
-sub-print-sheet : tie.Need-sub-print-sheet Inv-loop μ-loop
-sub-print-sheet c = search needs
-
-part-print-sheet-start : tie.Need-part-print-sheet-start Inv-loop μ-loop
-part-print-sheet-start c = search needs
-
-part-print-sheet-end : tie.Need-part-print-sheet-end Inv-loop μ-loop
-part-print-sheet-end c = search needs
-
-print-sheet-requires : tie.Need-print-sheet-requires Inv-loop μ-loop
-print-sheet-requires c κs = search needs
+print-line-requires : tie.Need-print-line-requires Inv-loop μ-loop
+print-line-requires c κs = search needs
 
 add-at : tie.Need-add-at Inv-loop μ-loop
 add-at c = search needs
@@ -64,16 +52,12 @@ print-lines-spec =
     Inv-loop
     μ-loop
     loop-holds
-    line-end-requires
-    sub-decode
-    part-decode-start
-    part-decode-end
-    slice-aggregate-decode
-    decode-requires
-    sub-print-sheet
-    part-print-sheet-start
-    part-print-sheet-end
-    print-sheet-requires
+    find-requires
+    slice-aggregate-print-line
+    sub-print-line
+    part-print-line-start
+    part-print-line-end
+    print-line-requires
     add-at
     loop-less
     loop-again

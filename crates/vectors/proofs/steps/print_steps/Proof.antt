@@ -1,0 +1,53 @@
+-- `vectors::steps::print_steps` meets its contract. Assumes nothing.
+use borrow.Author.Needs.{needs}
+use native.Mathlib.Omega.{arith}
+use Prim.Native.Nat.{_≤_, _-_}
+use mathlib.Core.Path.{_≡_, refl}
+use lib.ListN.{length}
+use Rattle.vectors.proofs.steps.print_steps.Statement.{statement}
+use Rattle.vectors.proofs.steps.print_steps.Tie as tie
+
+abbrev Inv-loop : tie.InvT-loop
+Inv-loop area₀ n t₀ area t = (t ≤ n) × (length area ≡ length area₀)
+
+abbrev μ-loop : tie.MeasureT-loop
+μ-loop area₀ n t₀ area t = n - t
+
+loop-holds : tie.Need-loop-holds Inv-loop μ-loop
+loop-holds c = (omega arith, refl)
+
+step-requires : tie.Need-step-requires Inv-loop μ-loop
+step-requires c κs = omega arith
+
+print-events-requires : tie.Need-print-events-requires Inv-loop μ-loop
+print-events-requires c κs = omega arith
+
+add-t : tie.Need-add-t Inv-loop μ-loop
+add-t c = omega arith
+
+loop-less : tie.Need-loop-less Inv-loop μ-loop
+loop-less c = omega arith
+
+loop-again : tie.Need-loop-again Inv-loop μ-loop
+loop-again c = (omega arith, omega arith)
+
+same-length : tie.Need-same-length Inv-loop μ-loop
+same-length c = search needs
+
+returns : tie.Need-returns Inv-loop μ-loop
+returns c = omega arith
+
+pub print-steps-spec : {M : Type 1} → statement M
+print-steps-spec =
+    tie.close
+    (tie.spec
+    Inv-loop
+    μ-loop
+    loop-holds
+    step-requires
+    print-events-requires
+    add-t
+    loop-less
+    loop-again
+    same-length
+    returns)
