@@ -6,11 +6,12 @@ use mathlib.Core.Bool.{Bool, true, false}
 use mathlib.Core.List.{List, [], _∷_}
 use native.Mathlib.Decide.{ℕ-discrete}
 use native.Mathlib.Omega.{arith}
-use lib.ListN.{length, getD, set, length-set}
-use lib.Seq.{sets, length-sets, getD-set-same, getD-set-other}
+use lib.ListN.{length, getD, set, drop, length-set}
+use lib.Seq.{sets, length-sets, getD-set-same, getD-set-other, getD-take, getD-drop, ext-getD}
+use Rattle.octets.specs.BaseLaws.{by-eq}
 use Rattle.octets.specs.Number.{get, put}
 use Rattle.octets.specs.NumberLaws.{length-put, get-put-same}
-use Rattle.octets.specs.Store.{part, part-same}
+use Rattle.octets.specs.Store.{part, part-same, length-part}
 use Rattle.octets.specs.Region.{Same, same-refl, same-part, same-trans, set-leaves, sets-leaves, put-leaves, words-leave, get-goes-by, words-go-by, part-goes-by}
 use Rattle.octets.specs.Words.{wordsAt, putWords}
 use Rattle.octets.specs.WordsLaws.{Small, length-put-words, words-same}
@@ -183,7 +184,30 @@ code-small (Clean false) = omega arith
 code-small Jammed = omega arith
 code-small Several = omega arith
 
+-- an octet of a part is set
+part-at : (l : List ℕ) (b n i : ℕ) → i < n → getD (part l b n) i 0 ≡ getD l (b + i) 0
+part-at l b n i h = getD-take n (drop b l) i 0 h ∙ getD-drop b l i 0
+
+part-set : (l : List ℕ) (b n m v : ℕ) → b + n ≤ length l → m < n → part (set l (b + m) v) b n ≡ set (part l b n) m v
+part-set l b n m v h g =
+    let e : length (part (set l (b + m) v) b n) ≡ n = length-part (set l (b + m) v) b n (omega (arith, length-set l (b + m) v)) in
+    let f : length (part l b n) ≡ n = length-part l b n h in
+    ext-getD 0 (part (set l (b + m) v) b n) (set (part l b n) m v) (e ∙ sym (length-set (part l b n) m v ∙ f))
+    (λ i p. let q : i < n = omega arith in
+    part-at (set l (b + m) v) b n i q
+    ∙ by-eq i m
+    (λ z. rw z (getD-set-same l (b + m) v 0 (omega arith) ∙ sym (getD-set-same (part l b n) m v 0 (omega arith))))
+    (λ z. getD-set-other l (b + m) (b + i) v 0 (λ y. z (omega arith)) ∙ sym (getD-set-other (part l b n) m i v 0 z ∙ part-at l b n i q)))
+
 module _ (a : List ℕ) (big : 57344 ≤ length a) where
+  -- a collected bit, in the octets that are kept
+  pub bit-same : (i k : ℕ) (b : Bool) → i < 16 → k < 12144
+      → bufferAt (withBit a i k b) i ≡ set (bufferAt a i) (k / 8) (octetWith (getD (bufferAt a i) (k / 8) 0) (k % 8) b)
+  unfolding bufferAt withBit
+  bit-same i k b hi hk =
+      part-set a (32768 + 1536 * i) 1518 (k / 8) _ (omega arith) (omega arith)
+      ∙ ap (λ (x : ℕ). set (part a (32768 + 1536 * i) 1518) (k / 8) (octetWith x (k % 8) b)) (sym (part-at a (32768 + 1536 * i) 1518 (k / 8) (omega arith)))
+
   pub clock-same : (t : ℕ) → t < 256 ^ 4 → clockAt (withClock a t) ≡ t
   unfolding clockAt withClock
   clock-same t b = get-put-same 4 a 0 t (omega arith) b

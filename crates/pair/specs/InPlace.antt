@@ -124,7 +124,7 @@ place-keeps p t i o x k q =
     (keeps-trans p x₃ x₂ x (stored-keeps p i (o .stored) x₂ k (q .buffer))
     (keeps-trans p x₂ x₁ x (counted-keeps p i o x₁ (q .counters)) (station-keeps p x i (o .station) (q .station))))
 
-placed-layout : (t i : ℕ) (o : Stepped) (x : List ℕ) → i < 16 → Kept (o .stored) → Keeps layout (placed t i o x) x
+pub placed-layout : (t i : ℕ) (o : Stepped) (x : List ℕ) → i < 16 → Kept (o .stored) → Keeps layout (placed t i o x) x
 placed-layout t i o x h k =
     place-keeps layout t i o x k (record { station = λ p q. omega arith; counters = λ p q. omega arith; buffer = λ p q. omega arith; place = λ p q. omega arith })
 

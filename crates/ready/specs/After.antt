@@ -1,5 +1,5 @@
 -- What is read of the area after a step: each station is what its act made of it. Assumes nothing.
-use Prim.Native.Nat.{ℕ, zero, suc, _+_, _*_, _%_, _^_, _≤_, _<_, min}
+use Prim.Native.Nat.{ℕ, zero, suc, _+_, _*_, _/_, _%_, _^_, _≤_, _<_, min}
 use mathlib.Core.Path.{_≡_, refl, sym, _∙_, ap, ap₂, subst}
 use mathlib.Core.Bool.{Bool, true, false, _||_}
 use mathlib.Core.List.{List, [], _∷_}
@@ -26,8 +26,8 @@ use Rattle.station.specs.Count.{added, addedIf, countSent, countTransmit, count
 use Rattle.record.specs.Codec.{encoded}
 use Rattle.record.specs.CodecLaws.{Fit}
 use Rattle.area.specs.Places.{Part, clock, depth, layout, draws, counters, station, frame, buffer, place, at, size, Off, Keeps}
-use Rattle.area.specs.Area.{clockAt, withClock, spaceAt, addressAt, countersAt, withCounters, recordAt, stationAt, withStation, withBit, symbolAt, arrivalAt, withArrival, joined, heardCode}
-use Rattle.area.specs.AreaLaws.{keeps-refl, keeps-trans, record-by, record-same, address-by, counters-by, symbol-by, station-keeps, counters-keeps, arrival-keeps, bit-keeps, counters-same, symbol-same, code-small, length-station, length-counters, length-arrival}
+use Rattle.area.specs.Area.{clockAt, withClock, spaceAt, addressAt, countersAt, withCounters, recordAt, stationAt, withStation, bufferAt, withBit, octetWith, symbolAt, arrivalAt, withArrival, joined, heardCode}
+use Rattle.area.specs.AreaLaws.{keeps-refl, keeps-trans, record-by, record-same, address-by, counters-by, symbol-by, buffer-by, station-keeps, counters-keeps, arrival-keeps, bit-keeps, arrival-same, bit-same, counters-same, symbol-same, code-small, length-station, length-counters, length-arrival}
 use Rattle.pair.specs.declared.Act.{Act}
 use Rattle.pair.specs.BitTime.{sendTo, isSilence, pushed, withStored, isTransmit, isReceive, happened, withCounted, placed, settled}
 use Rattle.pair.specs.InPlace.{Kept, Spread, Foreign, settle-keeps, push-keeps, stored-keeps, counted-keeps, length-sends, length-placed, length-settled, length-counted, length-stored, ahead-all, Ahead}
@@ -105,6 +105,11 @@ nothing-counted cs o h =
 
 -- ---- one station's turn, seen from its own parts
 
+-- a buffer with the bit that was collected
+abbrev pub storedIn : List ℕ → Stored → List ℕ
+storedIn b NoStore = b
+storedIn b (Store k v) = set b (k / 8) (octetWith (getD b (k / 8) 0) (k % 8) v)
+
 module _ (t i : ℕ) (o : Stepped) (x : List ℕ) (hi : i < 16) (room : 57344 ≤ length x) (kept : Kept (o .stored)) where
   x₁ : List ℕ
   x₁ = withStation x i (o .station)
@@ -114,6 +119,19 @@ module _ (t i : ℕ) (o : Stepped) (x : List ℕ) (hi : i < 16) (room : 57344 �
 
   x₃ : List ℕ
   x₃ = withStored i (o .stored) x₂
+
+  first-length : length x₁ ≡ length x
+  unfolding x₁
+  first-length = length-station x i (o .station)
+
+  second-length : length x₂ ≡ length x
+  unfolding x₂
+  second-length = length-counted i o x₁ ∙ first-length
+
+  second-keeps : Keeps (buffer i) x₂ x
+  unfolding x₂ x₁
+  second-keeps =
+      keeps-trans (buffer i) x₂ x₁ x (counted-keeps (buffer i) i o x₁ (λ p q. omega arith)) (station-keeps (buffer i) x i (o .station) (λ p q. omega arith))
 
   from-counted : (p : Part) → Off p (buffer i) → Off p (place i t) → Keeps p (placed t i o x) x₂
   unfolding placed x₁ x₂ x₃
@@ -128,6 +146,25 @@ module _ (t i : ℕ) (o : Stepped) (x : List ℕ) (hi : i < 16) (room : 57344 �
   placed-record f =
       record-by (placed t i o x) x₁ i (from-station (station i) (λ p q. omega arith) (λ p q. omega arith) (λ p q. omega arith))
       ∙ record-same x room i (o .station) hi f
+
+  -- the bit that it collected is in its buffer
+  stored-there : (s : Stored) → Kept s → bufferAt (withStored i s x₂) i ≡ storedIn (bufferAt x₂ i) s
+  unfolding x₂
+  stored-there NoStore k = refl
+  stored-there (Store m b) k = bit-same x₂ (omega (arith, length-counted i o x₁, first-length)) i m b hi k
+
+  pub placed-buffer : bufferAt (placed t i o x) i ≡ storedIn (bufferAt x i) (o .stored)
+  unfolding placed x₃ x₂ x₁
+  placed-buffer =
+      buffer-by (placed t i o x) x₃ i hi (omega (arith, length-placed t i o x)) (omega (arith, length-stored i (o .stored) x₂, second-length))
+      (arrival-keeps (buffer i) x₃ i t Nothing (λ p q. omega arith))
+      ∙ stored-there (o .stored) kept
+      ∙ ap (λ (b : List ℕ). storedIn b (o .stored)) (buffer-by x₂ x i hi (omega (arith, second-length)) room second-keeps)
+
+  -- what reached it in this step is taken from its line
+  pub placed-clear : arrivalAt (placed t i o x) i t ≡ Nothing
+  unfolding placed x₁ x₂ x₃
+  placed-clear = arrival-same x₃ (omega (arith, length-stored i (o .stored) x₂, length-counted i o x₁, length-station x i (o .station))) i t t Nothing hi refl
 
   counted-there : Small (countersAt x₁ i) → countersAt x₂ i ≡ counted (countersAt x₁ i) o
   unfolding x₂ withCounted countersAt x₁
@@ -244,6 +281,16 @@ module _ (n t : ℕ) (r : ℕ → Act) (a : List ℕ) (sp : Spread n a) (kept : 
         record-by (after n) (placed t i (r i .outcome) (after i)) i
         (own (station i) i n (omega arith) hi (λ j h ne. record { station = λ p q. ne (omega arith); counters = λ p q. omega arith; buffer = λ p q. omega arith; place = λ p q. omega arith }) (λ j u h p q. omega arith))
         ∙ placed-record t i (r i .outcome) (after i) small (long i) (kept i hi) f
+
+    pub buffer-all : bufferAt (turns (λ j x. settled n t j (r j) x) n a) i ≡ storedIn (bufferAt a i) (r i .outcome .stored)
+    unfolding after
+    buffer-all =
+        let v = ahead i (omega arith) in
+        let few = sp .few in
+        buffer-by (after n) (placed t i (r i .outcome) (after i)) i small (long n) (omega (arith, length-placed t i (r i .outcome) (after i), long i))
+        (own (buffer i) i n (omega arith) hi (λ j h ne. record { station = λ p q. omega arith; counters = λ p q. omega arith; buffer = λ p q. ne (omega arith); place = λ p q. omega arith }) (λ j u h p q. omega arith))
+        ∙ placed-buffer t i (r i .outcome) (after i) small (long i) (kept i hi)
+        ∙ ap (λ (b : List ℕ). storedIn b (r i .outcome .stored)) (buffer-by (after i) a i small (long i) room (v .buffer-of i (omega arith) small))
 
     pub counters-all : Small (countersAt a i) → countersAt (turns (λ j x. settled n t j (r j) x) n a) i ≡ counted (countersAt a i) (r i .outcome)
     unfolding after

@@ -21,15 +21,15 @@ use Rattle.station.specs.Count.{counted}
 use Rattle.record.specs.Codec.{decoded, encoded}
 use Rattle.record.specs.CodecLaws.{Fit, decoded-encoded}
 use Rattle.area.specs.Places.{Part, clock, depth, layout, draws, counters, station, frame, buffer, place, at, size, Off, Keeps}
-use Rattle.area.specs.Area.{clockAt, withClock, depthAt, figuresAt, countAt, positionAt, addressAt, tapAt, layoutAt, spaceAt, countersAt, recordAt, stationAt, symbolAt}
-use Rattle.area.specs.AreaLaws.{keeps-trans, depth-by, figures-by, count-by, position-by, address-by, space-by, counters-by, record-by, symbol-by, clock-keeps, clock-same, length-clock}
+use Rattle.area.specs.Area.{clockAt, withClock, depthAt, figuresAt, countAt, positionAt, addressAt, tapAt, layoutAt, spaceAt, countersAt, recordAt, stationAt, bufferAt, symbolAt}
+use Rattle.area.specs.AreaLaws.{keeps-trans, depth-by, figures-by, count-by, position-by, address-by, space-by, counters-by, record-by, symbol-by, buffer-by, clock-keeps, clock-same, length-clock}
 use Rattle.valid.specs.Valid.{recordWrong, areaRefusal}
 use Rattle.pair.specs.declared.Act.{Act}
 use Rattle.pair.specs.BitTime.{outcomeIn, actIn, actAt, settled, stepArea}
 use Rattle.pair.specs.Range.{Fine, fine-stepped, fine-fit}
 use Rattle.pair.specs.InPlace.{Kept, Spread, Ahead}
 use Rattle.pair.specs.Ready.{Readiness, Ready, kept}
-use Rattle.ready.specs.After.{length-after, ahead, codes-all, record-all, counters-all, counted-words}
+use Rattle.ready.specs.After.{length-after, ahead, codes-all, record-all, buffer-all, storedIn, counters-all, counted-words}
 use Rattle.ready.specs.Passes.{Passing, record-right, ready-passes}
 
 -- ---- the layout goes by its part
@@ -135,6 +135,13 @@ module _ (a : List ℕ) (r : Readiness a) where
   step-counters i h =
       counters-by (stepArea a) turned i (after-clock (counters i) (λ p q. omega arith))
       ∙ counters-all (countAt a) (clockAt a) (actAt a) a (r .spread) (bits a) (r .long) i h (r .counts i h)
+
+  pub step-buffer : (i : ℕ) → i < countAt a → bufferAt (stepArea a) i ≡ storedIn (bufferAt a i) (actAt a i .outcome .stored)
+  unfolding turned
+  step-buffer i h =
+      let few = r .spread .few in
+      buffer-by (stepArea a) turned i (omega arith) (omega (arith, step-length, r .long)) long (after-clock (buffer i) (λ p q. omega arith))
+      ∙ buffer-all (countAt a) (clockAt a) (actAt a) a (r .spread) (bits a) (r .long) i h
 
   step-codes : (i u : ℕ) → i < countAt a → symbolAt (stepArea a) i u ≤ 4
   unfolding turned

@@ -123,7 +123,7 @@ fn count_receive(counters: [u32; 16], event: ReceiveEvent, frame: u32) -> [u32; 
 }
 
 // The octets of a frame that can be read.
-fn octets_in(r: Receiver) -> u32
+pub fn octets_in(r: Receiver) -> u32
     ensures { λ n. ⌜ n ≡ octetsIn r ⌝ }
 {
     match r {

@@ -1,0 +1,4 @@
+pub mod Run
+pub mod RunLaws
+pub mod Read
+pub mod ReadLaws

@@ -1,0 +1,265 @@
+-- A law for each way through the code of a run. Assumes nothing.
+use Prim.Native.Nat.{ℕ, zero, suc, _+_, _-_, _*_, _≤_, _<_}
+use mathlib.Core.Path.{_≡_, refl, sym, _∙_, ap, ap₂, subst}
+use mathlib.Core.Bool.{Bool, true, false, _||_}
+use mathlib.Core.List.{List, [], _∷_}
+use native.Mathlib.Numerals.{add-one}
+use native.Mathlib.Omega.{arith}
+use borrow.Author.Tests.{eq-eqb, ne-eqb, lt-ltb, le-ltb}
+use lib.Dec.{ltb, eqb}
+use lib.ListN.{length, getD, set, replicate}
+use lib.Seq.{getD-set-other}
+use Rattle.octets.specs.Base.{pick, some, Answer, refused, accepted}
+use Rattle.octets.specs.BaseLaws.{by-eq, some-hit}
+use Rattle.octets.specs.NumberLaws.{Octets}
+use Rattle.octets.specs.Turns.{turns, turns-none, turns-more}
+use Rattle.receiver.specs.declared.ReceiveEvent.{ReceiveEvent}
+use Rattle.receiver.specs.declared.ReceiveEvent.the-variants.{NoReceive, GotOk, GotTooLong, GotAlignment, GotCheck, GotLength}
+use Rattle.transmitter.specs.declared.TransmitEvent.{TransmitEvent}
+use Rattle.transmitter.specs.declared.TransmitEvent.the-variants.{NoTransmit, Collision, Late, Sent, GivenUp}
+use Rattle.area.specs.Area.{clockAt}
+use Rattle.valid.specs.Valid.{areaRefusal}
+use Rattle.pair.specs.declared.Events.{Events}
+use Rattle.pair.specs.BitTime.{noEvents, eventsAt, stepArea}
+use Rattle.pair.specs.Ready.{Readiness, Ready}
+use Rattle.ready.specs.Passes.{passes-ready}
+use Rattle.ready.specs.Stays.{step-ready, step-clock}
+use Rattle.bus.specs.Offer.{doneAnswer}
+use Rattle.runs.specs.declared.Ended.{Ended}
+use Rattle.runs.specs.declared.Ended.the-variants as how
+use Rattle.runs.specs.declared.RunAnswer.{RunAnswer}
+use Rattle.runs.specs.Run.{bumped, sentCounted, gotCounted, eventAt, tallied, isLate, lateAt, first, Ran, runOf, runOutcome, unrun, ran}
+
+-- ---- the words have room
+
+-- shut, so that a search does not enter it
+unfoldable pub Bounded : List ℕ → ℕ → Type 0
+Bounded ws m = (k : ℕ) → getD ws k 0 ≤ m
+
+pub bump-room : (ws : List ℕ) (k m : ℕ) → Bounded ws m → m < 4294967295 → getD ws k 0 < 4294967295
+unfolding Bounded
+bump-room ws k m h g = omega (arith, h k)
+
+set-at-most : (ws : List ℕ) (k j x m : ℕ) → x ≤ m → getD ws j 0 ≤ m → getD (set ws k x) j 0 ≤ m
+set-at-most [] k j x m p q = q
+set-at-most (w ∷ ws) zero zero x m p q = p
+set-at-most (w ∷ ws) zero (suc j) x m p q = q
+set-at-most (w ∷ ws) (suc k) zero x m p q = q
+set-at-most (w ∷ ws) (suc k) (suc j) x m p q = set-at-most ws k j x m p q
+
+bumped-bounded : (ws : List ℕ) (k m : ℕ) → Bounded ws m → Bounded (bumped ws k) (m + 1)
+unfolding Bounded bumped
+bumped-bounded ws k m h j = set-at-most ws k j (getD ws k 0 + 1) (m + 1) (omega (arith, h k)) (omega (arith, h j))
+
+more-bounded : (ws : List ℕ) (m : ℕ) → Bounded ws m → Bounded ws (m + 1)
+unfolding Bounded
+more-bounded ws m h j = omega (arith, h j)
+
+sent-is-bounded : (ws : List ℕ) (e : TransmitEvent) (m : ℕ) → Bounded ws m → Bounded (sentCounted ws e) (m + 1)
+unfolding sentCounted
+sent-is-bounded ws NoTransmit m h = more-bounded ws m h
+sent-is-bounded ws (Collision k) m h = bumped-bounded ws 0 m h
+sent-is-bounded ws (Late k) m h = bumped-bounded ws 1 m h
+sent-is-bounded ws (Sent n) m h = bumped-bounded ws 2 m h
+sent-is-bounded ws (GivenUp n) m h = bumped-bounded ws 3 m h
+
+got-is-bounded : (ws : List ℕ) (e : ReceiveEvent) (m : ℕ) → Bounded ws m → Bounded (gotCounted ws e) (m + 1)
+unfolding gotCounted
+got-is-bounded ws NoReceive m h = more-bounded ws m h
+got-is-bounded ws (GotOk n) m h = bumped-bounded ws 4 m h
+got-is-bounded ws (GotTooLong n) m h = bumped-bounded ws 5 m h
+got-is-bounded ws (GotAlignment n) m h = bumped-bounded ws 6 m h
+got-is-bounded ws (GotCheck n) m h = bumped-bounded ws 7 m h
+got-is-bounded ws (GotLength n) m h = bumped-bounded ws 8 m h
+
+pub sent-bounded : (ws vs : List ℕ) (e : TransmitEvent) (m : ℕ) → vs ≡ sentCounted ws e → Bounded ws m → Bounded vs (m + 1)
+sent-bounded ws vs e m p h = rw p (sent-is-bounded ws e m h)
+
+pub got-bounded : (ws vs us : List ℕ) (e : TransmitEvent) (g : ReceiveEvent) (m i : ℕ) → us ≡ gotCounted vs g → vs ≡ sentCounted ws e → Bounded ws (m + 2 * i)
+    → Bounded us (m + 2 * (i + 1))
+got-bounded ws vs us e g m i p q h =
+    let z : m + 2 * i + 1 + 1 ≡ m + 2 * (i + 1) = omega arith in
+    rw (p, q) (subst (Bounded (gotCounted (sentCounted ws e) g)) z (got-is-bounded (sentCounted ws e) g (m + 2 * i + 1) (sent-is-bounded ws e (m + 2 * i) h)))
+
+pub start-bounded : (ws : List ℕ) (m : ℕ) → Bounded ws m → Bounded ws (m + 2 * 0)
+start-bounded ws m h = let z : m ≡ m + 2 * 0 = omega arith in subst (Bounded ws) z h
+
+pub tallied-bounded : (es : List Events) (n m : ℕ) (ws : List ℕ) → Bounded ws m → Bounded (tallied es n ws) (m + 2 * n)
+unfolding tallied turns
+tallied-bounded es zero m ws h = start-bounded ws m h
+tallied-bounded es (suc n) m ws h =
+    let z : m + 2 * n + 1 + 1 ≡ m + 2 * suc n = omega arith in
+    subst (Bounded (tallied es (suc n) ws)) z
+    (got-is-bounded (sentCounted (tallied es n ws) (eventAt es n .sent)) (eventAt es n .got) (m + 2 * n + 1)
+    (sent-is-bounded (tallied es n ws) (eventAt es n .sent) (m + 2 * n) (tallied-bounded es n m ws h)))
+
+pub tally-none : (es : List Events) (ws : List ℕ) → ws ≡ tallied es 0 ws
+unfolding tallied turns
+tally-none es ws = refl
+
+pub tally-more : (es : List Events) (i : ℕ) (ws x y z : List ℕ) (e : Events) → z ≡ gotCounted y (e .got) → y ≡ sentCounted x (e .sent) → e ≡ eventAt es i → x ≡ tallied es i ws
+    → z ≡ tallied es (i + 1) ws
+unfolding tallied
+tally-more es i ws x y z e p q r s =
+    turns-more (λ j v. gotCounted (sentCounted v (eventAt es j .sent)) (eventAt es j .got)) i ws x z (p ∙ rw (q, r)) s
+
+pub tally-end : (es : List Events) (i : ℕ) (ws x : List ℕ) → i ≤ 16 → 16 ≤ i → x ≡ tallied es i ws → x ≡ tallied es 16 ws
+tally-end es i ws x p q r = let e : i ≡ 16 = omega arith in rw e at r
+
+pub late-is : (es : List Events) (i : ℕ) (e : Events) (b : Bool) → b ≡ isLate (e .sent) → e ≡ eventAt es i → b ≡ lateAt es i
+unfolding lateAt
+late-is es i e b p q = p ∙ rw q
+
+-- ---- the steps
+
+-- k steps can be made. Shut, so that a search does not enter it
+unfoldable pub Runnable : ℕ → List ℕ → Type 0
+Runnable k a = Readiness a × (clockAt a + k ≤ 16777216)
+
+module _ (n t : ℕ) (a : List ℕ) where
+  pub run-ready : Runnable (n - t) a → Ready a
+  unfolding Runnable Ready
+  run-ready h = h .0
+
+  pub run-clock : Runnable (n - t) a → t < n → clockAt a < 16777216
+  unfolding Runnable
+  run-clock h g = omega (arith, h .1)
+
+  pub run-next : (b : List ℕ) → b ≡ stepArea a → Runnable (n - t) a → t < n → Runnable (n - (t + 1)) b
+  unfolding Runnable
+  run-next b e h g = rw e (step-ready a (h .0) (omega (arith, h .1)), omega (arith, step-clock a (h .0), h .1))
+
+pub run-first : (n : ℕ) (a : List ℕ) → Runnable n a → Runnable (n - 0) a
+run-first n a h = let e : n ≡ n - 0 = omega arith in subst (λ (k : ℕ). Runnable k a) e h
+
+pub run-zero : (n : ℕ) (ws a : List ℕ) → runOf (n - 0) 0 ws a ≡ runOf n 0 ws a
+run-zero n ws a = let e : n - 0 ≡ n = omega arith in ap (λ (k : ℕ). runOf k 0 ws a) e
+
+pub bump-is : (ws : List ℕ) (k : ℕ) → set ws k (getD ws k 0 + 1) ≡ bumped ws k
+unfolding bumped
+bump-is ws k = refl
+
+module _ (ws : List ℕ) (e : TransmitEvent) where
+  pub sent-none : e ≡ NoTransmit → ws ≡ sentCounted ws e
+  unfolding sentCounted
+  sent-none p = rw p
+
+  pub sent-collision : (vs : List ℕ) (k : ℕ) → e ≡ Collision k → vs ≡ bumped ws 0 → vs ≡ sentCounted ws e
+  unfolding sentCounted
+  sent-collision vs k p q = rw p q
+
+  pub sent-late : (vs : List ℕ) (k : ℕ) → e ≡ Late k → vs ≡ bumped ws 1 → vs ≡ sentCounted ws e
+  unfolding sentCounted
+  sent-late vs k p q = rw p q
+
+  pub sent-sent : (vs : List ℕ) (k : ℕ) → e ≡ Sent k → vs ≡ bumped ws 2 → vs ≡ sentCounted ws e
+  unfolding sentCounted
+  sent-sent vs k p q = rw p q
+
+  pub sent-given : (vs : List ℕ) (k : ℕ) → e ≡ GivenUp k → vs ≡ bumped ws 3 → vs ≡ sentCounted ws e
+  unfolding sentCounted
+  sent-given vs k p q = rw p q
+
+module _ (ws : List ℕ) (e : ReceiveEvent) where
+  pub got-none : e ≡ NoReceive → ws ≡ gotCounted ws e
+  unfolding gotCounted
+  got-none p = rw p
+
+  pub got-ok : (vs : List ℕ) (k : ℕ) → e ≡ GotOk k → vs ≡ bumped ws 4 → vs ≡ gotCounted ws e
+  unfolding gotCounted
+  got-ok vs k p q = rw p q
+
+  pub got-long : (vs : List ℕ) (k : ℕ) → e ≡ GotTooLong k → vs ≡ bumped ws 5 → vs ≡ gotCounted ws e
+  unfolding gotCounted
+  got-long vs k p q = rw p q
+
+  pub got-alignment : (vs : List ℕ) (k : ℕ) → e ≡ GotAlignment k → vs ≡ bumped ws 6 → vs ≡ gotCounted ws e
+  unfolding gotCounted
+  got-alignment vs k p q = rw p q
+
+  pub got-check : (vs : List ℕ) (k : ℕ) → e ≡ GotCheck k → vs ≡ bumped ws 7 → vs ≡ gotCounted ws e
+  unfolding gotCounted
+  got-check vs k p q = rw p q
+
+  pub got-length : (vs : List ℕ) (k : ℕ) → e ≡ GotLength k → vs ≡ bumped ws 8 → vs ≡ gotCounted ws e
+  unfolding gotCounted
+  got-length vs k p q = rw p q
+
+pub zero-bounded : (ws : List ℕ) → Bounded ws 0 → Bounded ws (32 * 0)
+zero-bounded ws h = h
+
+pub zeros-bounded : Bounded (replicate 9 0) 0
+unfolding Bounded
+zeros-bounded k = all-zero 9 k
+  where
+    all-zero : (n k : ℕ) → getD (replicate n 0) k 0 ≤ 0
+    all-zero zero k = omega arith
+    all-zero (suc n) zero = omega arith
+    all-zero (suc n) (suc k) = all-zero n k
+
+pub next-bounded : (es : List Events) (ws vs : List ℕ) (t : ℕ) → vs ≡ tallied es 16 ws → Bounded ws (32 * t) → Bounded vs (32 * (t + 1))
+next-bounded es ws vs t p h = let e : 32 * t + 2 * 16 ≡ 32 * (t + 1) = omega arith in rw p (subst (Bounded (tallied es 16 ws)) e (tallied-bounded es 16 (32 * t) ws h))
+
+-- the first that passes
+pub first-hit : (t : ℕ → Bool) (n i : ℕ) (b : Bool) → b ≡ t i → b ≡ true → some t i ≡ false → i < n → first t n ≡ i
+unfolding first
+first-hit t zero i b p q s h = absurd (omega arith)
+first-hit t (suc n) i b p q s h =
+    by-eq i n
+    (λ e. rw (← e, s) refl)
+    (λ ne. let k : i < n = omega arith in rw (← some-hit t n i b p q k) (first-hit t n i b p q s k))
+
+module _ (n t : ℕ) (ws : List ℕ) (a : List ℕ) (R : Ran) where
+  -- one step more of those that are left
+  turn : (k : ℕ) → k ≡ n - t → t < n → runOf (n - t) t ws a ≡ R
+      → pick (some (lateAt (eventsAt a)) 16)
+      (record { answer = accepted []; steps = t + 1; words = tallied (eventsAt a) 16 ws; ended = how.Late t (first (lateAt (eventsAt a)) 16); octets = stepArea a })
+      (runOf (n - (t + 1)) (t + 1) (tallied (eventsAt a) 16 ws) (stepArea a)) ≡ R
+  unfolding runOf
+  turn zero e h p = absurd (omega arith)
+  turn (suc k) e h p = let z : n - (t + 1) ≡ k = omega arith in rw z (rw (← e) at p)
+
+  pub run-on : (es : List Events) (vs b : List ℕ) (i : ℕ) → b ≡ stepArea a → es ≡ eventsAt a → vs ≡ tallied es 16 ws → some (lateAt es) i ≡ false → i ≤ 16 → 16 ≤ i → t < n
+      → runOf (n - t) t ws a ≡ R → runOf (n - (t + 1)) (t + 1) vs b ≡ R
+  run-on es vs b i eb ee ev s lo up h p =
+      let z : i ≡ 16 = omega arith in
+      let f : some (lateAt (eventsAt a)) 16 ≡ false = ap (λ (x : List Events). some (lateAt x) 16) (sym ee) ∙ ap (some (lateAt es)) (sym z) ∙ s in
+      rw (eb, ev, ee) (rw f at (turn (n - t) refl h p))
+
+  pub run-late : (es : List Events) (vs b : List ℕ) (i : ℕ) (c : Bool) → b ≡ stepArea a → es ≡ eventsAt a → vs ≡ tallied es 16 ws → c ≡ lateAt es i → c ≡ true
+      → some (lateAt es) i ≡ false → i < 16 → t < n → runOf (n - t) t ws a ≡ R
+      → record { answer = accepted []; steps = t + 1; words = vs; ended = how.Late (t + 1 - 1) i; octets = b } ≡ R
+  run-late es vs b i c eb ee ev ec et s hi h p =
+      let z : t + 1 - 1 ≡ t = omega arith in
+      let hit : some (lateAt (eventsAt a)) 16 ≡ true = sym (some-hit (lateAt (eventsAt a)) 16 i c (ec ∙ ap (λ (x : List Events). lateAt x i) ee) et hi) in
+      let at : first (lateAt es) 16 ≡ i = first-hit (lateAt es) 16 i c ec et s hi in
+      rw (z, eb, ev, ← at, ee) (rw hit at (turn (n - t) refl h p))
+
+  pub run-end : (e : Ended) → e ≡ how.All → n ≤ t → runOf (n - t) t ws a ≡ R → record { answer = accepted []; steps = t; words = ws; ended = e; octets = a } ≡ R
+  unfolding runOf
+  run-end e q h p = let z : n - t ≡ 0 = omega arith in rw q (rw z at p)
+
+-- ---- the call
+
+module _ (a : List ℕ) (k n : ℕ) where
+  pub ran-area : (r : RunAnswer) → doneAnswer (r .done) ≡ refused k → r .steps ≡ 0 → r .words ≡ replicate 9 0 → r .ended ≡ how.All → k ≡ areaRefusal a → (k ≡ 0 → ⊥)
+      → runOutcome r a ≡ ran a n
+  unfolding ran
+  ran-area r p q s t e h = (λ i. record { answer = p i; steps = q i; words = s i; ended = t i; octets = a }) ∙ rw (← e, ne-eqb k 0 h)
+
+  pub ran-over : (r : RunAnswer) (c : ℕ) → doneAnswer (r .done) ≡ refused 13 → r .steps ≡ 0 → r .words ≡ replicate 9 0 → r .ended ≡ how.All → k ≡ areaRefusal a → k ≡ 0
+      → c ≡ clockAt a → 16777216 - c < n → runOutcome r a ≡ ran a n
+  unfolding ran
+  ran-over r c p q s t e h ec g =
+      (λ i. record { answer = p i; steps = q i; words = s i; ended = t i; octets = a }) ∙ rw (← e, eq-eqb k 0 h, ← ec, lt-ltb 16777216 (c + n) (omega arith))
+
+  pub ran-made : (R : Ran) (c : ℕ) → R ≡ runOf n 0 (replicate 9 0) a → k ≡ areaRefusal a → k ≡ 0 → c ≡ clockAt a → c ≤ 16777216 → n ≤ 16777216 - c → R ≡ ran a n
+  unfolding ran
+  ran-made R c p e h ec l g = p ∙ rw (← e, eq-eqb k 0 h, ← ec, le-ltb 16777216 (c + n) (omega arith))
+
+pub run-allowed : (a : List ℕ) (k n c : ℕ) → k ≡ areaRefusal a → k ≡ 0 → Octets a → c ≡ clockAt a → n ≤ 16777216 - c → Runnable n a
+unfolding Runnable
+run-allowed a k n c e h o ec g = let r = passes-ready a o (sym e ∙ h) .ready in (r, omega (arith, r .clock))
+
+pub clock-within : (a : List ℕ) (k c : ℕ) → k ≡ areaRefusal a → k ≡ 0 → Octets a → c ≡ clockAt a → c ≤ 16777216
+clock-within a k c e h o ec = let r = passes-ready a o (sym e ∙ h) .ready in omega (arith, r .clock)

@@ -1,0 +1,232 @@
+// Runs over many bit times, and readings of received frames.
+
+use bus::Done;
+use pair::Events;
+use receiver::ReceiveEvent;
+use receiver::Receiver;
+use transmitter::TransmitEvent;
+ghost use mathlib.Core.Path.{_≡_};
+ghost use Prim.Native.Nat.{_+_, _<_, _≤_};
+ghost use lib.ListN.{length, getD, take, replicate};
+ghost use lib.Seq.{sets};
+ghost use Rattle.octets.specs.Base.{refused, outcome};
+ghost use Rattle.area.specs.Area.{bufferAt};
+ghost use Rattle.bus.specs.Offer.{doneAnswer};
+ghost use Rattle.runs.specs.Run.{bumped, sentCounted, gotCounted, tallied, isLate, lateAt, courseOf, runOf, runOutcome, ran};
+ghost use Rattle.runs.specs.RunLaws.{Bounded, Runnable};
+ghost use Rattle.runs.specs.Read.{readAnswer, isReadable, frameRead};
+ghost use Rattle.runs.specs.declared.Ended.the-variants.{All};
+
+// How a run ended: all its steps were made, or a station had a late collision in the last of them.
+pub enum Ended {
+    All,
+    Late { step: u32, station: u32 },
+}
+
+// What a run answers: the steps made, how many events of each word came (collision, late, sent, given-up, got ok, got too-long, got
+// alignment, got check, got length), and how it ended; zeros where the call is refused.
+pub struct RunAnswer {
+    pub done: Done,
+    pub steps: u32,
+    pub words: [u32; 9],
+    pub ended: Ended,
+}
+
+// How far a run went.
+pub struct Course {
+    pub steps: u32,
+    pub ended: Ended,
+}
+
+// One more event of word k.
+fn bump(words: &mut [u32], k: usize)
+    requires { ⌜ (k < length (now words)) × (getD (now words) k 0 < 4294967295) ⌝ }
+    ensures { λ r. ⌜ now (words .exit) ≡ bumped (now (words .entry)) k ⌝ }
+{
+    words[k] = words[k] + 1;
+}
+
+fn count_sent(words: &mut [u32], e: TransmitEvent, top: u32)
+    requires { ⌜ (length (now words) ≡ 9) × Bounded (now words) top × (top < 4294967295) ⌝ }
+    ensures { λ r. ⌜ now (words .exit) ≡ sentCounted (now (words .entry)) e ⌝ }
+{
+    match e {
+        TransmitEvent::NoTransmit => {}
+        TransmitEvent::Collision(_) => bump(words, 0),
+        TransmitEvent::Late(_) => bump(words, 1),
+        TransmitEvent::Sent(_) => bump(words, 2),
+        TransmitEvent::GivenUp(_) => bump(words, 3),
+    }
+}
+
+fn count_got(words: &mut [u32], e: ReceiveEvent, top: u32)
+    requires { ⌜ (length (now words) ≡ 9) × Bounded (now words) top × (top < 4294967295) ⌝ }
+    ensures { λ r. ⌜ now (words .exit) ≡ gotCounted (now (words .entry)) e ⌝ }
+{
+    match e {
+        ReceiveEvent::NoReceive => {}
+        ReceiveEvent::GotOk(_) => bump(words, 4),
+        ReceiveEvent::GotTooLong(_) => bump(words, 5),
+        ReceiveEvent::GotAlignment(_) => bump(words, 6),
+        ReceiveEvent::GotCheck(_) => bump(words, 7),
+        ReceiveEvent::GotLength(_) => bump(words, 8),
+    }
+}
+
+// Counts the events of all stations; no word is past `top` yet.
+fn tally(words: &mut [u32], events: [Events; 16], top: u32)
+    requires { ⌜ (length (now words) ≡ 9) × Bounded (now words) top × (top + 32 < 4294967295) ⌝ }
+    ensures { λ r. ⌜ now (words .exit) ≡ tallied events 16 (now (words .entry)) ⌝ }
+{
+    let mut i: usize = 0;
+    while i < 16 {
+        let e = events[i];
+        let sent = e.sent;
+        let got = e.got;
+        let most = top + 2 * i as u32;
+        count_sent(words, sent, most);
+        count_got(words, got, most + 1);
+        i += 1;
+    }
+}
+
+fn is_late(e: TransmitEvent) -> bool
+    ensures { λ r. ⌜ r ≡ isLate e ⌝ }
+{
+    match e {
+        TransmitEvent::NoTransmit => false,
+        TransmitEvent::Collision(_) => false,
+        TransmitEvent::Late(_) => true,
+        TransmitEvent::Sent(_) => false,
+        TransmitEvent::GivenUp(_) => false,
+    }
+}
+
+// Whether station i has a late collision.
+fn late_at(events: [Events; 16], i: usize) -> bool
+    requires { ⌜ i < 16 ⌝ }
+    ensures { λ r. ⌜ r ≡ lateAt events i ⌝ }
+{
+    let e = events[i];
+    let sent = e.sent;
+    is_late(sent)
+}
+
+// At most n steps, on an area that is ready for them, counted into `words`.
+fn run_steps(area: &mut [u8], words: &mut [u32], n: u32) -> Course
+    requires { ⌜ Runnable n (now area) × (57344 ≤ length (now area)) × (n ≤ 16777216) ⌝ }
+    requires { ⌜ (length (now words) ≡ 9) × Bounded (now words) 0 ⌝ }
+    ensures { λ r. ⌜ courseOf r (now (words .exit)) (now (area .exit)) ≡ runOf n 0 (now (words .entry)) (now (area .entry)) ⌝ }
+{
+    let mut ended = Ended::All;
+    let mut t: u32 = 0;
+    'steps: while t < n {
+        let events = pair::step(area);
+        tally(words, events, 32 * t);
+        t += 1;
+        let mut i: usize = 0;
+        while i < 16 {
+            if late_at(events, i) {
+                ended = Ended::Late {
+                    step: t - 1,
+                    station: i as u32,
+                };
+                break 'steps;
+            }
+            i += 1;
+        }
+    }
+    Course { steps: t, ended }
+}
+
+// A run refused under this number.
+fn no_run(number: u32) -> RunAnswer
+    ensures { λ r. ⌜ (doneAnswer (r .done) ≡ refused number) × (r .steps ≡ 0) × (r .words ≡ replicate 9 0) × (r .ended ≡ All) ⌝ }
+{
+    RunAnswer {
+        done: Done::Refused(number),
+        steps: 0,
+        words: [0u32; 9],
+        ended: Ended::All,
+    }
+}
+
+// A run of n bit times. Refusals 1, 2, 13.
+pub fn run(area: &mut [u8], n: u32) -> RunAnswer
+    ensures { λ r. ⌜ runOutcome r (now (area .exit)) ≡ ran (now (area .entry)) n ⌝ }
+{
+    let number = ready::refusal(area);
+    if number != 0 {
+        return no_run(number);
+    }
+    let t = area::read_clock(area);
+    if 16777216 - t < n {
+        return no_run(13);
+    }
+    let mut words = [0u32; 9];
+    let c = run_steps(area, &mut words, n);
+    let ended = c.ended;
+    RunAnswer {
+        done: Done::Made,
+        steps: c.steps,
+        words,
+        ended,
+    }
+}
+
+// What a reading answers: a refusal by its number, or the octets of the frame.
+pub enum Reading {
+    Refused(u32),
+    Frame(u32),
+}
+
+fn is_readable(r: Receiver) -> bool
+    ensures { λ b. ⌜ b ≡ isReadable r ⌝ }
+{
+    match r {
+        Receiver::Listening => false,
+        Receiver::Readable(_) => true,
+        Receiver::Seeking {
+            row: _,
+            spoiled: _,
+            own: _,
+        } => false,
+        Receiver::Collecting {
+            bits: _,
+            spoiled: _,
+            own: _,
+        } => false,
+    }
+}
+
+fn copy_frame(area: &[u8], i: usize, n: usize, out: &mut [u8])
+    requires { ⌜ (i < 16) × (57344 ≤ length (now area)) × (n ≤ 1518) × (n ≤ length (now out)) ⌝ }
+    ensures { λ r. ⌜ now (out .exit) ≡ sets (now (out .entry)) 0 (take n (bufferAt (now (area .entry)) i)) ⌝ }
+{
+    let b = area::buffer(area, i);
+    octets::store(out, 0, &b[0..n]);
+}
+
+// Reads the frame that station i received, whole with its check sequence. Refusals 1, 2, 10, 14, 15.
+pub fn read_frame(area: &[u8], i: usize, out: &mut [u8]) -> Reading
+    ensures { λ r. ⌜ outcome (readAnswer r) (now (out .exit)) ≡ frameRead (now (area .entry)) i (now (out .entry)) ⌝ }
+{
+    let number = ready::refusal(area);
+    if number != 0 {
+        return Reading::Refused(number);
+    }
+    if area::read_count(area) as usize <= i {
+        return Reading::Refused(10);
+    }
+    let s = area::read_station(area, i);
+    let r = s.receiver;
+    if !is_readable(r) {
+        return Reading::Refused(14);
+    }
+    let n = station::counters::octets_in(r);
+    if out.len() < n as usize {
+        return Reading::Refused(15);
+    }
+    copy_frame(area, i, n as usize, out);
+    Reading::Frame(n)
+}

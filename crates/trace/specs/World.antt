@@ -1,0 +1,147 @@
+-- The pair in document 01's words: stations, their frames and buffers, and every symbol emitted so far. Numbers have no bound here.
+-- The laws are in Gather, Run and Hear. Assumes nothing.
+use Prim.Native.Nat.{ℕ, zero, suc, _-_, _<_}
+use mathlib.Core.Path.{_≡_}
+use mathlib.Core.Bool.{false}
+use mathlib.Core.List.{List, [], _∷_}
+use lib.Dec.{leb, eqb}
+use lib.ListN.{length}
+use Rattle.octets.specs.Base.{pick}
+use Rattle.octets.specs.NumberLaws.{Octets}
+use Rattle.frame.specs.Limits.{refusesData}
+use Rattle.frame.specs.Build.{frameOf}
+use Rattle.layout.specs.declared.Figures.{Figures}
+use Rattle.packet.specs.declared.Heard.{Heard}
+use Rattle.packet.specs.declared.Heard.the-variants.{Nothing}
+use Rattle.packet.specs.declared.Symbol.{Symbol}
+use Rattle.packet.specs.declared.Symbol.the-variants.{Silence}
+use Rattle.packet.specs.Packet.{symbolOf}
+use Rattle.deference.specs.declared.Deference.the-variants.{Quiet}
+use Rattle.transmitter.specs.declared.Transmitter.the-variants.{NoFrame}
+use Rattle.receiver.specs.declared.Receiver.the-variants.{Listening}
+use Rattle.station.specs.declared.step.Station.{Station}
+use Rattle.station.specs.declared.step.Stepped.{Stepped}
+use Rattle.station.specs.Step.{stepped}
+use Rattle.area.specs.Area.{joined}
+use Rattle.ready.specs.After.{storedIn}
+use Rattle.bus.specs.Offer.{holds, offeredStation}
+
+-- What does not change: the layout, the draws (depth of them, draw i k is draw k of station i), and what the buffers hold at the start.
+pub record Net : Type 0 where
+  pub n : ℕ
+  pub fig : Figures
+  pub depth : ℕ
+  pub draw : ℕ → ℕ → ℕ
+  pub address : ℕ → List ℕ
+  pub d : ℕ → ℕ → ℕ
+  pub blank : ℕ → List ℕ
+
+-- An offer that is not refused for its data: its destination and data are octets, its value one of two octets.
+pub record Offer (P : Net) : Type 0 where
+  pub to : ℕ
+  pub destination : List ℕ
+  pub value : ℕ
+  pub payload : List ℕ
+  pub six : length destination ≡ 6
+  pub octets : Octets destination
+  pub small : value < 65536
+  pub contents : Octets payload
+  pub allowed : refusesData value (length payload) ≡ false
+
+-- "what the builder makes of its destination, value and data, with the offering station's own address as source"
+unfoldable pub frameFor : (P : Net) → Offer P → List ℕ
+frameFor P o = frameOf (o .destination) (P .address (o .to)) (o .value) (o .payload)
+
+-- frame i is that of station i's last accepted offer, buffer i what it collected; past i s is what it emitted in step s, silence from
+-- the clock on
+pub record World : Type 0 where
+  pub clock : ℕ
+  pub station : ℕ → Station
+  pub frame : ℕ → List ℕ
+  pub buffer : ℕ → List ℕ
+  pub past : ℕ → ℕ → Symbol
+
+-- ---- hearing
+
+-- what the symbols c 0, .., c (k - 1) come to where they meet
+unfoldable pub gathered : ℕ → (ℕ → Symbol) → Heard
+gathered zero c = Nothing
+gathered (suc k) c = joined (gathered k c) (c k)
+
+-- what station i emitted that reaches station j in step u
+unfoldable pub reaches : (d : ℕ → ℕ → ℕ) (E : ℕ → ℕ → Symbol) (j u i : ℕ) → Symbol
+reaches d E j u i = pick (eqb i j) Silence (pick (leb (d i j) u) (E i (u - d i j)) Silence)
+
+-- what station j hears in step u
+unfoldable pub heard : Net → (E : ℕ → ℕ → Symbol) (j u : ℕ) → Heard
+heard P E j u = gathered (P .n) (reaches (P .d) E j u)
+
+-- ---- a step
+
+unfoldable pub outcome : Net → World → ℕ → Stepped
+outcome P w i = stepped (P .fig) (w .station i) (P .depth) (P .draw i (w .station i .draw)) (w .buffer i) (heard P (w .past) i (w .clock))
+
+unfoldable pub symbol : Net → World → ℕ → Symbol
+symbol P w i = symbolOf (w .frame i) (outcome P w i .emission)
+
+-- the history with what each station emits in step t
+unfoldable pub grown : ℕ → (ℕ → Symbol) → (ℕ → ℕ → Symbol) → ℕ → ℕ → Symbol
+grown t e E i s = pick (eqb s t) (e i) (E i s)
+
+unfoldable pub step : Net → World → World
+step P w =
+    record {
+      clock = suc (w .clock);
+      station = λ i. outcome P w i .station;
+      frame = w .frame;
+      buffer = λ i. storedIn (w .buffer i) (outcome P w i .stored);
+      past = grown (w .clock) (symbol P w) (w .past);
+    }
+
+-- ---- an offer
+
+-- the offer is accepted
+unfoldable pub given : (P : Net) → Offer P → World → World
+given P o w =
+    record {
+      clock = w .clock;
+      station = λ i. pick (eqb i (o .to)) (offeredStation (w .station i) (length (frameFor P o))) (w .station i);
+      frame = λ i. pick (eqb i (o .to)) (frameFor P o) (w .frame i);
+      buffer = w .buffer;
+      past = w .past;
+    }
+
+-- "The station still has a frame": refused, and nothing changes
+unfoldable pub offer : (P : Net) → Offer P → World → World
+offer P o w = pick (holds (w .station (o .to) .transmitter)) w (given P o w)
+
+unfoldable pub offers : (P : Net) → List (Offer P) → World → World
+offers P [] w = w
+offers P (o ∷ os) w = offers P os (offer P o w)
+
+-- ---- an execution: the offers inp t are made before step t
+
+-- a fresh start
+unfoldable pub freshStation : Net → ℕ → Station
+freshStation P i =
+    record {
+      address = P .address i;
+      deference = Quiet;
+      transmitter = NoFrame;
+      receiver = Listening;
+      frame = 0;
+      attempts = 0;
+      draw = 0;
+      deferred = false;
+      emitted = false;
+    }
+
+unfoldable pub fresh : Net → World
+fresh P = record { clock = 0; station = freshStation P; frame = λ i. []; buffer = P .blank; past = λ i s. Silence }
+
+unfoldable pub before : (P : Net) → (ℕ → List (Offer P)) → ℕ → World
+before P inp zero = fresh P
+before P inp (suc t) = step P (offers P (inp t) (before P inp t))
+
+unfoldable pub ready : (P : Net) → (ℕ → List (Offer P)) → ℕ → World
+ready P inp t = offers P (inp t) (before P inp t)
