@@ -234,12 +234,17 @@ step-balanced a r i h v =
       ended = rw (step-counters a r i h, step-clock a r) (omega (arith, k .gone, k .lost, v .ended));
     }
 
+pub area-balanced : (a : List ℕ) → Passing a → AllBalanced a → AllBalanced (stepArea a)
+unfolding AllBalanced
+area-balanced a p v i h =
+    let k : i < countAt a = omega (arith, count-by (stepArea a) a (step-layout a (p .ready))) in step-balanced a (p .ready) i k (v i k)
+
 pub stepped-balanced : (a : List ℕ) → Passing a → AllBalanced a → AllBalanced (steppedOnce a .octets)
 unfolding steppedOnce AllBalanced
 stepped-balanced a p v =
     rw (eq-eqb (areaRefusal a) 0 (ready-passes a p))
     (by-test (ltb 16777216 (clockAt a + 1)) (λ c. rw c v)
-    (λ c. rw c (λ i h. let k : i < countAt a = omega (arith, count-by (stepArea a) a (step-layout a (p .ready))) in step-balanced a (p .ready) i k (v i k))))
+    (λ c. rw c (area-balanced a p v)))
 
 -- ---- an offer
 

@@ -3,3 +3,10 @@ pub mod Balance
 pub mod Meet
 pub mod Lines
 pub mod Encode
+pub mod Net
+pub mod Offered
+pub mod Calls
+pub mod Traced
+pub mod Demand3
+pub mod Theorem
+pub mod Two

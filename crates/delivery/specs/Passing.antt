@@ -200,7 +200,7 @@ module _ (a f : List ℕ) (i : ℕ) (v : Passing a) (hi : i < countAt a) (low : 
   held p o q = keeps-trans p b₂ b₁ a (station-keeps p b₁ i _ q) (framed p o)
 
   -- a part that is none of those three is as it was
-  elsewhere : (p : Part) → Off p (frame i) → Off p (station i) → Off p (counters i) → Keeps p (holding a f i) a
+  pub elsewhere : (p : Part) → Off p (frame i) → Off p (station i) → Off p (counters i) → Keeps p (holding a f i) a
   unfolding withOffered b₂ b₁
   elsewhere p o q c = keeps-trans p (holding a f i) b₂ a (counters-keeps p b₂ i _ c) (held p o q)
 

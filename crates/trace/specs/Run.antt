@@ -252,7 +252,7 @@ module _ (P : Net) (inp : ℕ → List (Offer P)) where
   buffer-suc t i = ap (λ (w : World). w .buffer i) (before-suc t)
 
   module _ (span : ℕ) (L : Sound P span) (i : ℕ) (hi : i < P .n) (t : ℕ) where
-    sees-is : heard P (ready P inp t .past) i (ready P inp t .clock) ≡ sees P inp i t
+    pub sees-is : heard P (ready P inp t .past) i (ready P inp t .clock) ≡ sees P inp i t
     unfolding sees heard
     sees-is =
         ap (λ (c : ℕ). gathered (P .n) (reaches (P .d) (ready P inp t .past) i c)) (ready-clock t)
