@@ -9,16 +9,16 @@ use pair::Events;
 use receiver::ReceiveEvent;
 use transmitter::TransmitEvent;
 
-fn print_word(word: &[u8], n: u32) {
+pub(crate) fn print_word(word: &[u8], n: u32) {
     io::write_all(STDOUT_FILENO, word);
     io::print_decimal(STDOUT_FILENO, n as u64);
 }
 
-fn end_line() {
+pub(crate) fn end_line() {
     io::write_all(STDOUT_FILENO, b"\n");
 }
 
-fn print_done(d: Done) {
+pub(crate) fn print_done(d: Done) {
     match d {
         Done::Refused(n) => print_word(b"refused ", n),
         Done::Made => {
@@ -58,7 +58,7 @@ fn pair_of_two() -> Layout {
     }
 }
 
-fn start_two(area: &mut [u8], depth: u32) -> Done {
+pub(crate) fn start_two(area: &mut [u8], depth: u32) -> Done {
     let mut draws = [[0u16; 16]; 16];
     let mut second = [0u16; 16];
     second[0] = 1;
@@ -108,10 +108,10 @@ fn print_events(t: u32, all: [Events; 16]) {
     }
 }
 
-// The steps from clock 0 to n, each with its events.
-fn print_steps(area: &mut [u8], n: u32) {
-    let mut t: u32 = 0;
-    while t < n {
+// The steps from clock `from` to `end`, each with its events.
+pub(crate) fn print_steps(area: &mut [u8], from: u32, end: u32) {
+    let mut t = from;
+    while t < end {
         let b = bus::step(area);
         let events = b.events;
         print_events(t, events);
@@ -120,7 +120,7 @@ fn print_steps(area: &mut [u8], n: u32) {
 }
 
 // The sixteen counters of a station, on one line.
-fn print_counters(area: &[u8], i: usize) {
+pub(crate) fn print_counters(area: &[u8], i: usize) {
     let c = bus::read_counters(area, i);
     let words = c.words;
     let mut k: usize = 0;
@@ -131,7 +131,7 @@ fn print_counters(area: &[u8], i: usize) {
     end_line();
 }
 
-fn offer_zeros(area: &mut [u8], i: usize, value: u16, last: u8) {
+pub(crate) fn offer_zeros(area: &mut [u8], i: usize, value: u16, last: u8) {
     let zeros = [0u8; 46];
     print_done(bus::offer(area, i, [2u8, 0, 0, 0, 0, last], value, &zeros));
 }
@@ -144,7 +144,7 @@ fn print_case(area: &mut [u8]) {
     offer_zeros(area, 0, 0x0800, 2);
     offer_zeros(area, 2, 0x0800, 2);
     offer_zeros(area, 0, 1501, 2);
-    print_steps(area, 1500);
+    print_steps(area, 0, 1500);
     print_counters(area, 0);
     print_counters(area, 1);
 }

@@ -22,7 +22,7 @@ read-clock-requires : tie.Need-read-clock-requires
 read-clock-requires c κs = search passes-long
 
 sub-if2 : tie.Need-sub-if2
-sub-if2 c = search clock-within
+sub-if2 c = omega (arith, clock-within _ _ _ (c .before .before .before .refusal .ensures .0) (c .before .before .if1 .left) (c .before .before .before .refusal .ensures .1) (c .read-clock .ensures))
 
 no-run-requires-2 : tie.Need-no-run-requires-2
 no-run-requires-2 c κs = search needs

@@ -1,20 +1,20 @@
 -- `vectors::steps::print_steps` meets its contract. Assumes nothing.
 use borrow.Author.Needs.{needs}
 use native.Mathlib.Omega.{arith}
-use Prim.Native.Nat.{_≤_, _-_}
+use Prim.Native.Nat.{_-_}
 use mathlib.Core.Path.{_≡_, refl}
 use lib.ListN.{length}
 use Rattle.vectors.proofs.steps.print_steps.Statement.{statement}
 use Rattle.vectors.proofs.steps.print_steps.Tie as tie
 
 abbrev Inv-loop : tie.InvT-loop
-Inv-loop area₀ n t₀ area t = (t ≤ n) × (length area ≡ length area₀)
+Inv-loop area₀ from end t₀ area t = length area ≡ length area₀
 
 abbrev μ-loop : tie.MeasureT-loop
-μ-loop area₀ n t₀ area t = n - t
+μ-loop area₀ from end t₀ area t = end - t
 
 loop-holds : tie.Need-loop-holds Inv-loop μ-loop
-loop-holds c = (omega arith, refl)
+loop-holds c = refl
 
 step-requires : tie.Need-step-requires Inv-loop μ-loop
 step-requires c κs = omega arith
@@ -29,7 +29,7 @@ loop-less : tie.Need-loop-less Inv-loop μ-loop
 loop-less c = omega arith
 
 loop-again : tie.Need-loop-again Inv-loop μ-loop
-loop-again c = (omega arith, omega arith)
+loop-again c = omega arith
 
 same-length : tie.Need-same-length Inv-loop μ-loop
 same-length c = search needs
