@@ -336,6 +336,24 @@ all-balanced P [] m T q t b = b
 all-balanced P (c ∷ cs) m T q t b =
     all-balanced P cs (leaves c m) (T ++ made c m) (q .1) (traced-call P c m T (q .0) t) (call-balanced P c m T (q .0) t b)
 
+-- ---- on any layout, fitting or not: no refusal under 1 or 2, the balance, and "receiveOK means sent"
+
+pub record Always (b : List ℕ) (cs : List Call) : Type 0 where
+  pub passes : areaRefusal (end cs (begin b) .area) ≡ 0
+  pub balance : AllBalanced (end cs (begin b) .area)
+  pub sent : (u j k : ℕ) → u < length (log cs (begin b)) → j < countAt b → gotAt (log cs (begin b)) u j ≡ GotOk k
+      → (i : ℕ) × (e : ℕ) × (n : ℕ) × (i < countAt b) × ((i ≡ j → ⊥) × (u ≡ suc (e + spaceAt b i j)) × (sentAt (log cs (begin b)) e i ≡ Sent n))
+
+always-from : (b : List ℕ) → Passing b → ((i : ℕ) → i < countAt b → Octets (addressAt b i)) → Encodes (netOf b) b (world.fresh (netOf b)) → AllBalanced b
+    → (cs : List Call) → AllFair cs → Always b cs
+always-from b v o e even cs fair =
+    let t : Traced (netOf b) (end cs (begin b)) (log cs (begin b)) = traced-all (netOf b) cs (begin b) [] fair (traced-begin (netOf b) b e v) in
+    record {
+      passes = ready-passes (end cs (begin b) .area) (t .here .passing);
+      balance = all-balanced (netOf b) cs (begin b) [] fair (traced-begin (netOf b) b e v) even;
+      sent = λ u j k hu hj h. ok-sent (netOf b) (spanAt b) (net-sound b v o) (end cs (begin b)) (log cs (begin b)) t u j k hu hj h;
+    }
+
 -- ---- the theorem, from an area that encodes a fresh world and three hypotheses
 
 module _ (b : List ℕ) (v : Passing b) (o : (i : ℕ) → i < countAt b → Octets (addressAt b i)) (e : Encodes (netOf b) b (world.fresh (netOf b))) (even : AllBalanced b)
@@ -431,22 +449,34 @@ module _ (y : Layout) (d : ℕ) (ds : List (List ℕ)) (a : List ℕ) (proper : 
         (start-encodes y d ds a big ok low high proper) (start-balanced y d ds a big ok low high (proper .six))
         (rw (s, f) slot) (rw s (omega (arith, w .figures .slot))) (rw f gap) cs fair
 
+    fresh-always : (cs : List Call) → AllFair cs → Always (fresh y d ds a) cs
+    fresh-always cs fair =
+        always-from (fresh y d ds a) (start-passing y d ds a big ok low high (proper .six)) (start-octets y d ds a big ok low high proper)
+        (start-encodes y d ds a big ok low high proper) (start-balanced y d ds a big ok low high (proper .six)) cs fair
+
   -- the three hypotheses: 2·S ≤ 576 holds of every layout, since 2·S ≤ slot ≤ 512
-  pub three : started a y d ds .answer ≡ accepted [] → 2 * lay.spanOf y ≤ y .figures .slot → lay.gapOf (y .figures) ≤ 64 + y .figures .jam
-      → (cs : List Call) → AllFair cs → Demand3 (started a y d ds .octets) cs
+  none : (k : ℕ) → (k ≡ 0 → ⊥) → refused k ≡ accepted [] → ⊥
+  none k n e = n (ap (λ (r : Answer). r .number) e)
+
+  -- a start that was accepted is a fresh start, on a layout that passes
+  by-start : (D : List ℕ → Type 0) → started a y d ds .answer ≡ accepted [] → ((big : 57344 ≤ length a) → refusalOf y ≡ 0 → 1 ≤ d → d ≤ 16 → D (fresh y d ds a)) → D (started a y d ds .octets)
   unfolding started
-  three h slot gap cs fair =
+  by-start D h go =
       by-test (ltb (length a) 57344)
       (λ c. absurd (none 1 (λ z. omega arith) (rw c at h)))
       (λ c. by-test (eqb (refusalOf y) 0)
       (λ e. by-test (outside d 1 16)
       (λ o. absurd (none 9 (λ z. omega arith) (rw (c, e, o) at h)))
       (λ o. let q = within d 1 16 o in
-      rw (c, e, o) (fresh-fits (ltb-false (length a) 57344 c) (eqb-true (refusalOf y) 0 e) (q .0) (q .1) slot gap cs fair)))
+      rw (c, e, o) (go (ltb-false (length a) 57344 c) (eqb-true (refusalOf y) 0 e) (q .0) (q .1))))
       (λ e. absurd (none (refusalOf y) (eqb-false (refusalOf y) 0 e) (rw (c, e) at h))))
-    where
-      none : (k : ℕ) → (k ≡ 0 → ⊥) → refused k ≡ accepted [] → ⊥
-      none k n e = n (ap (λ (r : Answer). r .number) e)
+
+  pub three : started a y d ds .answer ≡ accepted [] → 2 * lay.spanOf y ≤ y .figures .slot → lay.gapOf (y .figures) ≤ 64 + y .figures .jam
+      → (cs : List Call) → AllFair cs → Demand3 (started a y d ds .octets) cs
+  three h slot gap cs fair = by-start (λ (b : List ℕ). Demand3 b cs) h (λ big ok low high. fresh-fits big ok low high slot gap cs fair)
+
+  pub always : started a y d ds .answer ≡ accepted [] → (cs : List Call) → AllFair cs → Always (started a y d ds .octets) cs
+  always h cs fair = by-start (λ (b : List ℕ). Always b cs) h (λ big ok low high. fresh-always big ok low high cs fair)
 
   pub demand-3 : started a y d ds .answer ≡ accepted [] → lay.fitsWell y ≡ true → (cs : List Call) → AllFair cs → Demand3 (started a y d ds .octets) cs
   demand-3 h e cs fair = let q = fit-says y e in three h (omega (arith, q .0)) (q .1) cs fair
