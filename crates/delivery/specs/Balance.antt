@@ -46,7 +46,7 @@ use Rattle.bus.specs.Offer as offers
 use Rattle.bus.specs.OfferLaws.{address-six}
 use Rattle.bus.specs.Start.{started}
 use Rattle.bus.specs.Step.{steppedOnce}
-use Rattle.delivery.specs.Passing.{freshStation, start-station, holding, offer-layout, offer-clock, offer-own, offer-other, offer-counters, offer-counters-other, frame-range}
+use Rattle.delivery.specs.Passing.{by-start, freshStation, start-station, holding, offer-layout, offer-clock, offer-own, offer-other, offer-counters, offer-counters-other, frame-range}
 
 -- a frame still held counts one
 held : Transmitter → ℕ
@@ -324,12 +324,4 @@ module _ (y : Layout) (d : ℕ) (ds : List (List ℕ)) (a : List ℕ) (big : 573
 
 pub started-balanced : (a : List ℕ) (y : Layout) (d : ℕ) (ds : List (List ℕ)) → Formed (y .stations) (y .count) → started a y d ds .answer ≡ accepted []
     → AllBalanced (started a y d ds .octets)
-unfolding started
-started-balanced a y d ds w =
-    by-test (ltb (length a) 57344)
-    (λ c. rw c (λ h. absurd (let z : _≡_ {A = ℕ} 1 0 = ap (λ (r : Answer). r .number) h in omega arith)))
-    (λ c. by-test (eqb (refusalOf y) 0)
-    (λ e. by-test (outside d 1 16)
-    (λ o. rw (c, e, o) (λ h. absurd (let z : _≡_ {A = ℕ} 9 0 = ap (λ (r : Answer). r .number) h in omega arith)))
-    (λ o. let q = within d 1 16 o in rw (c, e, o) (λ h. start-balanced y d ds a (ltb-false (length a) 57344 c) (eqb-true (refusalOf y) 0 e) (q .0) (q .1) w)))
-    (λ e. rw (c, e) (λ h. absurd (eqb-false (refusalOf y) 0 e (ap (λ (r : Answer). r .number) h)))))
+started-balanced a y d ds w h = by-start a y d ds AllBalanced h (λ big ok low high. start-balanced y d ds a big ok low high w)

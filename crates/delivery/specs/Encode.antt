@@ -2,7 +2,7 @@
 -- will come to. A step keeps it. Assumes nothing.
 use Prim.Native.Nat.{ℕ, zero, suc, _+_, _*_, _-_, _%_, _^_, _≤_, _<_}
 use mathlib.Core.Path.{_≡_, refl, sym, _∙_, ap, ap₂, subst}
-use mathlib.Core.Bool.{Bool, true, false}
+use mathlib.Core.Bool.{Bool, true, false, true≢false}
 use mathlib.Core.List.{List}
 use native.Mathlib.Omega.{arith}
 use native.Mathlib.Numerals.{add-one}
@@ -134,7 +134,7 @@ module _ (P : Net) (a : List ℕ) (w : World) (e : Encodes P a w) (r : Readiness
 
 -- a frame that is held is small
 pub frame-room : (x : Transmitter) (z : ℕ) → holds x ≡ true → FrameIn x z → z ≤ 1536
-frame-room NoFrame z h v = absurd (let y : _≡_ {A = ℕ} 1 0 = ap (λ (c : Bool). pick c 0 1) h in omega arith)
+frame-room NoFrame z h v = absurd (true≢false (sym h))
 frame-room Waiting z h v = omega (arith, v .1)
 frame-room (BackingOff w) z h v = omega (arith, v .1)
 frame-room (Sending k) z h v = omega (arith, v .1)

@@ -2,7 +2,7 @@
 -- Assumes nothing.
 use Prim.Native.Nat.{ℕ, zero, suc, _+_, _*_, _%_, _≤_, _<_}
 use mathlib.Core.Path.{_≡_, refl, sym, _∙_, ap, ap₂}
-use mathlib.Core.Bool.{Bool, true, false}
+use mathlib.Core.Bool.{Bool, true, false, true≢false}
 use mathlib.Core.List.{List}
 use native.Mathlib.Omega.{arith}
 use lib.Dec.{ltb, eqb}
@@ -65,8 +65,8 @@ sends-here t i s (suc k) j u x hi hk hj room =
 
 silence-is : (s : Symbol) → isSilence s ≡ true → s ≡ Silence
 silence-is Silence h = refl
-silence-is (Bit b) h = absurd (let y : _≡_ {A = ℕ} 1 0 = ap (λ (c : Bool). pick c 0 1) h in omega arith)
-silence-is Jam h = absurd (let y : _≡_ {A = ℕ} 1 0 = ap (λ (c : Bool). pick c 0 1) h in omega arith)
+silence-is (Bit b) h = absurd (true≢false (sym h))
+silence-is Jam h = absurd (true≢false (sym h))
 
 pushed-here : (n t i : ℕ) (s : Symbol) (j u : ℕ) (x : List ℕ) → i < 16 → n ≤ 16 → j < n → 57344 ≤ length x
     → arrivalAt (pushed n t i s x) j u ≡ joined (arrivalAt x j u) (share t (spaceAt x i j) i s j u)

@@ -1,7 +1,7 @@
 -- The net that an area's layout and draws make, and that a fresh start's area encodes its fresh world. Assumes nothing.
 use Prim.Native.Nat.{ℕ, zero, suc, _+_, _*_, _-_, _≤_, _<_}
 use mathlib.Core.Path.{_≡_, refl, sym, _∙_, ap, ap₂, subst}
-use mathlib.Core.Bool.{Bool, true, false, _&&_}
+use mathlib.Core.Bool.{Bool, true, false, _&&_, true≢false}
 use mathlib.Core.List.{List, []}
 use native.Mathlib.Omega.{arith}
 use borrow.Author.Tests.{ltb-true, ltb-false, leb-true}
@@ -162,7 +162,7 @@ module _ (y : Layout) (d : ℕ) (ds : List (List ℕ)) (a : List ℕ) (big : 573
             let k : i < y .count = omega (arith, count-there) in
             start-station y d ds a big ok low high (w .six) i k ∙ fresh-same (lay.addressAt y i) (addressAt (fresh y d ds a) i) (sym (address-there i k));
         buffers = λ i hi. refl;
-        frames = λ i hi h. absurd (let z : _≡_ {A = ℕ} 1 0 = ap (λ (c : Bool). pick c 0 1) h in omega arith);
+        frames = λ i hi h. absurd (true≢false (sym h));
         ends = λ i s l. refl;
         line = λ j u hj lo hi.
             fresh-arrival y d ds a big few high (w .six) j u (omega (arith, count-there, few)) ∙ sym (silent (netOf (fresh y d ds a)) j u);

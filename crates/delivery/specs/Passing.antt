@@ -9,7 +9,7 @@ use borrow.Author.Tests.{eq-eqb, ne-eqb, eqb-true, eqb-false, ltb-true, ltb-fals
 use lib.Dec.{ltb, leb, eqb}
 use lib.ListN.{length, getD}
 use Rattle.octets.specs.Base.{pick, outside, Answer, refused, accepted, Outcome, outcome}
-use Rattle.octets.specs.BaseLaws.{by-test, by-eq, within}
+use Rattle.octets.specs.BaseLaws.{by-test, by-eq, refused-none, within}
 use Rattle.octets.specs.Number.{get}
 use Rattle.octets.specs.Words.{wordsAt}
 use Rattle.octets.specs.WordsLaws.{Small, length-words}
@@ -138,17 +138,23 @@ module _ (y : Layout) (d : ℕ) (ds : List (List ℕ)) (a : List ℕ) (big : 573
             (record-right (figuresAt (fresh y d ds a)) d 0 (freshStation (lay.addressAt y i)) (fresh-fine (figuresAt (fresh y d ds a)) d (lay.addressAt y i) low));
       }
 
-pub started-passes : (a : List ℕ) (y : Layout) (d : ℕ) (ds : List (List ℕ)) → Formed (y .stations) (y .count) → started a y d ds .answer ≡ accepted []
-    → Passing (started a y d ds .octets)
+-- a start that was accepted is a fresh start, on a layout that passes
+pub by-start : (a : List ℕ) (y : Layout) (d : ℕ) (ds : List (List ℕ)) (D : List ℕ → Type 0) → started a y d ds .answer ≡ accepted []
+    → (57344 ≤ length a → refusalOf y ≡ 0 → 1 ≤ d → d ≤ 16 → D (fresh y d ds a)) → D (started a y d ds .octets)
 unfolding started
-started-passes a y d ds w =
+by-start a y d ds D h go =
     by-test (ltb (length a) 57344)
-    (λ c. rw c (λ h. absurd (let z : _≡_ {A = ℕ} 1 0 = ap (λ (r : Answer). r .number) h in omega arith)))
+    (λ c. refused-none 1 [] (λ z. omega arith) (rw c at h))
     (λ c. by-test (eqb (refusalOf y) 0)
     (λ e. by-test (outside d 1 16)
-    (λ o. rw (c, e, o) (λ h. absurd (let z : _≡_ {A = ℕ} 9 0 = ap (λ (r : Answer). r .number) h in omega arith)))
-    (λ o. let q = within d 1 16 o in rw (c, e, o) (λ h. start-passing y d ds a (ltb-false (length a) 57344 c) (eqb-true (refusalOf y) 0 e) (q .0) (q .1) w)))
-    (λ e. rw (c, e) (λ h. absurd (eqb-false (refusalOf y) 0 e (ap (λ (r : Answer). r .number) h)))))
+    (λ o. refused-none 9 [] (λ z. omega arith) (rw (c, e, o) at h))
+    (λ o. let q = within d 1 16 o in
+    rw (c, e, o) (go (ltb-false (length a) 57344 c) (eqb-true (refusalOf y) 0 e) (q .0) (q .1))))
+    (λ e. refused-none (refusalOf y) [] (eqb-false (refusalOf y) 0 e) (rw (c, e) at h)))
+
+pub started-passes : (a : List ℕ) (y : Layout) (d : ℕ) (ds : List (List ℕ)) → Formed (y .stations) (y .count) → started a y d ds .answer ≡ accepted []
+    → Passing (started a y d ds .octets)
+started-passes a y d ds w h = by-start a y d ds Passing h (λ big ok low high. start-passing y d ds a big ok low high w)
 
 -- ---- an offer
 

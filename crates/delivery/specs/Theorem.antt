@@ -2,7 +2,7 @@
 -- Assumes nothing.
 use Prim.Native.Nat.{ℕ, zero, suc, _+_, _*_, _-_, _≤_, _<_, max}
 use mathlib.Core.Path.{_≡_, refl, sym, _∙_, ap, ap₂, subst}
-use mathlib.Core.Bool.{Bool, true, false, _&&_}
+use mathlib.Core.Bool.{Bool, true, false, _&&_, true≢false}
 use mathlib.Core.List.{List, [], _∷_, _++_}
 use mathlib.Core.Logic.{_⊎_, inl, inr}
 use native.Mathlib.Omega.{arith}
@@ -57,7 +57,7 @@ use Rattle.trace.specs.Readable as reads
 use Rattle.delivery.specs.Calls.{Call, offer, step, run, read, Fair, AllFair, Moment, next, accept, late, runMade, runEnd, made, leaves, log, end, begin, momentAt, sentAt, gotAt, hearsAt}
 use Rattle.delivery.specs.Encode.{Encodes, same-outcome}
 use Rattle.delivery.specs.Net.{netOf, spanAt, Proper, net-sound, start-octets, start-span, start-encodes}
-use Rattle.delivery.specs.Passing.{start-passing}
+use Rattle.delivery.specs.Passing.{by-start, start-passing}
 use Rattle.delivery.specs.Balance.{AllBalanced, area-balanced, stepped-balanced, offered-balanced, start-balanced}
 use Rattle.delivery.specs.Traced.{Row, Traced, tries-count, end-none, end-late, end-on, run-early, run-room, run-fits, traced-step, traced-call, traced-all, traced-begin}
 use Rattle.delivery.specs.Demand3.{called, counted, Sender, Ends, Demand3}
@@ -428,7 +428,7 @@ module _ (b : List ℕ) (v : Passing b) (o : (i : ℕ) → i < countAt b → Oct
 
 both : (x y : Bool) → (x && y) ≡ true → (x ≡ true) × (y ≡ true)
 both true y e = (refl, e)
-both false y e = absurd (let z : _≡_ {A = ℕ} 1 0 = ap (λ (c : Bool). pick c 0 1) e in omega arith)
+both false y e = absurd (true≢false (sym e))
 
 fit-says : (y : Layout) → lay.fitsWell y ≡ true → (2 * lay.spanOf y + lay.gapOf (y .figures) ≤ y .figures .slot) × (lay.gapOf (y .figures) ≤ 64 + y .figures .jam)
 unfolding lay.fitsWell
@@ -455,28 +455,12 @@ module _ (y : Layout) (d : ℕ) (ds : List (List ℕ)) (a : List ℕ) (proper : 
         (start-encodes y d ds a big ok low high proper) (start-balanced y d ds a big ok low high (proper .six)) cs fair
 
   -- the three hypotheses: 2·S ≤ 576 holds of every layout, since 2·S ≤ slot ≤ 512
-  none : (k : ℕ) → (k ≡ 0 → ⊥) → refused k ≡ accepted [] → ⊥
-  none k n e = n (ap (λ (r : Answer). r .number) e)
-
-  -- a start that was accepted is a fresh start, on a layout that passes
-  by-start : (D : List ℕ → Type 0) → started a y d ds .answer ≡ accepted [] → ((big : 57344 ≤ length a) → refusalOf y ≡ 0 → 1 ≤ d → d ≤ 16 → D (fresh y d ds a)) → D (started a y d ds .octets)
-  unfolding started
-  by-start D h go =
-      by-test (ltb (length a) 57344)
-      (λ c. absurd (none 1 (λ z. omega arith) (rw c at h)))
-      (λ c. by-test (eqb (refusalOf y) 0)
-      (λ e. by-test (outside d 1 16)
-      (λ o. absurd (none 9 (λ z. omega arith) (rw (c, e, o) at h)))
-      (λ o. let q = within d 1 16 o in
-      rw (c, e, o) (go (ltb-false (length a) 57344 c) (eqb-true (refusalOf y) 0 e) (q .0) (q .1))))
-      (λ e. absurd (none (refusalOf y) (eqb-false (refusalOf y) 0 e) (rw (c, e) at h))))
-
   pub three : started a y d ds .answer ≡ accepted [] → 2 * lay.spanOf y ≤ y .figures .slot → lay.gapOf (y .figures) ≤ 64 + y .figures .jam
       → (cs : List Call) → AllFair cs → Demand3 (started a y d ds .octets) cs
-  three h slot gap cs fair = by-start (λ (b : List ℕ). Demand3 b cs) h (λ big ok low high. fresh-fits big ok low high slot gap cs fair)
+  three h slot gap cs fair = by-start a y d ds (λ (b : List ℕ). Demand3 b cs) h (λ big ok low high. fresh-fits big ok low high slot gap cs fair)
 
   pub always : started a y d ds .answer ≡ accepted [] → (cs : List Call) → AllFair cs → Always (started a y d ds .octets) cs
-  always h cs fair = by-start (λ (b : List ℕ). Always b cs) h (λ big ok low high. fresh-always big ok low high cs fair)
+  always h cs fair = by-start a y d ds (λ (b : List ℕ). Always b cs) h (λ big ok low high. fresh-always big ok low high cs fair)
 
   pub demand-3 : started a y d ds .answer ≡ accepted [] → lay.fitsWell y ≡ true → (cs : List Call) → AllFair cs → Demand3 (started a y d ds .octets) cs
   demand-3 h e cs fair = let q = fit-says y e in three h (omega (arith, q .0)) (q .1) cs fair

@@ -1,7 +1,7 @@
 -- What is read of the area after a step: each station is what its act made of it. Assumes nothing.
 use Prim.Native.Nat.{ℕ, zero, suc, _+_, _*_, _/_, _%_, _^_, _≤_, _<_, min}
 use mathlib.Core.Path.{_≡_, refl, sym, _∙_, ap, ap₂, subst}
-use mathlib.Core.Bool.{Bool, true, false, _||_}
+use mathlib.Core.Bool.{Bool, true, false, _||_, true≢false}
 use mathlib.Core.List.{List, [], _∷_}
 use native.Mathlib.Omega.{arith}
 use lib.Dec.{ltb, eqb}
@@ -82,19 +82,19 @@ counted-words cs o w = receive-words _ (o .got) _ (transmit-words _ (o .sent) _ 
 nothing-sent : (cs : List ℕ) (e : TransmitEvent) (z : ℕ) (d : Bool) → isTransmit e ≡ false → countTransmit cs e z d ≡ cs
 unfolding countTransmit
 nothing-sent cs NoTransmit z d h = refl
-nothing-sent cs (Collision k) z d h = absurd (let y : _≡_ {A = ℕ} 0 1 = ap (λ (b : Bool). pick b 0 1) h in omega arith)
-nothing-sent cs (Late k) z d h = absurd (let y : _≡_ {A = ℕ} 0 1 = ap (λ (b : Bool). pick b 0 1) h in omega arith)
-nothing-sent cs (Sent n) z d h = absurd (let y : _≡_ {A = ℕ} 0 1 = ap (λ (b : Bool). pick b 0 1) h in omega arith)
-nothing-sent cs (GivenUp n) z d h = absurd (let y : _≡_ {A = ℕ} 0 1 = ap (λ (b : Bool). pick b 0 1) h in omega arith)
+nothing-sent cs (Collision k) z d h = absurd (true≢false h)
+nothing-sent cs (Late k) z d h = absurd (true≢false h)
+nothing-sent cs (Sent n) z d h = absurd (true≢false h)
+nothing-sent cs (GivenUp n) z d h = absurd (true≢false h)
 
 nothing-got : (cs : List ℕ) (e : ReceiveEvent) (z : ℕ) → isReceive e ≡ false → countReceive cs e z ≡ cs
 unfolding countReceive
 nothing-got cs NoReceive z h = refl
-nothing-got cs (GotOk n) z h = absurd (let y : _≡_ {A = ℕ} 0 1 = ap (λ (b : Bool). pick b 0 1) h in omega arith)
-nothing-got cs (GotTooLong n) z h = absurd (let y : _≡_ {A = ℕ} 0 1 = ap (λ (b : Bool). pick b 0 1) h in omega arith)
-nothing-got cs (GotAlignment n) z h = absurd (let y : _≡_ {A = ℕ} 0 1 = ap (λ (b : Bool). pick b 0 1) h in omega arith)
-nothing-got cs (GotCheck n) z h = absurd (let y : _≡_ {A = ℕ} 0 1 = ap (λ (b : Bool). pick b 0 1) h in omega arith)
-nothing-got cs (GotLength n) z h = absurd (let y : _≡_ {A = ℕ} 0 1 = ap (λ (b : Bool). pick b 0 1) h in omega arith)
+nothing-got cs (GotOk n) z h = absurd (true≢false h)
+nothing-got cs (GotTooLong n) z h = absurd (true≢false h)
+nothing-got cs (GotAlignment n) z h = absurd (true≢false h)
+nothing-got cs (GotCheck n) z h = absurd (true≢false h)
+nothing-got cs (GotLength n) z h = absurd (true≢false h)
 
 nothing-counted : (cs : List ℕ) (o : Stepped) → happened o ≡ false → counted cs o ≡ cs
 unfolding happened counted addedIf
