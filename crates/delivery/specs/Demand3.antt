@@ -52,31 +52,35 @@ pub record Sender (b : List ℕ) (T : List Moment) (u j : ℕ) : Type 0 where
 abbrev pub Ends : TransmitEvent → ℕ → Type 0
 Ends v n = (v ≡ Sent n) ⊎ (v ≡ GivenUp n)
 
--- Over the list of calls cs from a fresh start that left the area b.
-pub record Demand3 (b : List ℕ) (cs : List Call) : Type 0 where
+-- From a fresh start that left the area b, the steps T were made, each written down with the moment before it, and m is the moment now.
+pub record Demand3 (b : List ℕ) (T : List Moment) (m : Moment) : Type 0 where
   -- "Each call gets the area as the call before left it, .. so none of them is refused under 1 or 2."
-  pub areas : (c : Call) → leaves c (end cs (begin b)) .area ≡ called c (end cs (begin b) .area)
-  pub passes : areaRefusal (end cs (begin b) .area) ≡ 0
+  pub areas : (c : Call) → leaves c m .area ≡ called c (m .area)
+  pub passes : areaRefusal (m .area) ≡ 0
   -- "Step t is the one made at clock t."
-  pub clocks : (u : ℕ) → u < length (log cs (begin b)) → clockAt (momentAt (log cs (begin b)) u .area) ≡ u
+  pub clocks : (u : ℕ) → u < length T → clockAt (momentAt T u .area) ≡ u
   -- "no late collision"
-  pub never-late : (u i k : ℕ) → u < length (log cs (begin b)) → i < countAt b → sentAt (log cs (begin b)) u i ≡ Late k → ⊥
+  pub never-late : (u i k : ℕ) → u < length T → i < countAt b → sentAt T u i ≡ Late k → ⊥
   -- "no more attempts than the limit"; "A frame's attempts are the steps in which it starts; the event that ends it carries their number."
-  pub attempts : (u i n : ℕ) → u < length (log cs (begin b)) → i < countAt b → Ends (sentAt (log cs (begin b)) u i) n
-      → (n ≤ figuresAt b .limit) × (n ≡ momentAt (log cs (begin b)) u .starts i + pick (actAt (momentAt (log cs (begin b)) u .area) i .outcome .start) 1 0)
+  pub attempts : (u i n : ℕ) → u < length T → i < countAt b → Ends (sentAt T u i) n
+      → (n ≤ figuresAt b .limit) × (n ≡ momentAt T u .starts i + pick (actAt (momentAt T u .area) i .outcome .start) 1 0)
   -- "j reports receiveOK in u exactly when some i reported sent, in step u − 1 − |p(i)−p(j)|, a frame addressed to j."
-  pub received : (u j k : ℕ) → u < length (log cs (begin b)) → j < countAt b → gotAt (log cs (begin b)) u j ≡ GotOk k → Sender b (log cs (begin b)) u j
-  pub delivered : (u j : ℕ) → u < length (log cs (begin b)) → j < countAt b → Sender b (log cs (begin b)) u j → (k : ℕ) × (gotAt (log cs (begin b)) u j ≡ GotOk k)
+  pub received : (u j k : ℕ) → u < length T → j < countAt b → gotAt T u j ≡ GotOk k → Sender b T u j
+  pub delivered : (u j : ℕ) → u < length T → j < countAt b → Sender b T u j → (k : ℕ) × (gotAt T u j ≡ GotOk k)
   -- "There is then one such i"
-  pub one : (u j : ℕ) → u < length (log cs (begin b)) → j < countAt b → (s r : Sender b (log cs (begin b)) u j) → s .from ≡ r .from
+  pub one : (u j : ℕ) → u < length T → j < countAt b → (s r : Sender b T u j) → s .from ≡ r .from
   -- "a reading at j after u and before j next hears another gives that frame octet for octet, or is refused under 15 alone"
-  pub reading : (u j k : ℕ) → u < length (log cs (begin b)) → j < countAt b → gotAt (log cs (begin b)) u j ≡ GotOk k
-      → ((s : ℕ) → u ≤ s → s < length (log cs (begin b)) → hearsAt (log cs (begin b)) s j ≡ Nothing) → (s : Sender b (log cs (begin b)) u j) (out : List ℕ)
-      → frameRead (end cs (begin b) .area) j out
-      ≡ pick (ltb (length out) (length (momentAt (log cs (begin b)) (s .at) .frame (s .from)))) (outcome (refused 15) out)
-      (outcome (accepted (length (momentAt (log cs (begin b)) (s .at) .frame (s .from)) ∷ [])) (sets out 0 (momentAt (log cs (begin b)) (s .at) .frame (s .from))))
+  pub reading : (u j k : ℕ) → u < length T → j < countAt b → gotAt T u j ≡ GotOk k
+      → ((s : ℕ) → u ≤ s → s < length T → hearsAt T s j ≡ Nothing) → (s : Sender b T u j) (out : List ℕ)
+      → frameRead (m .area) j out
+      ≡ pick (ltb (length out) (length (momentAt T (s .at) .frame (s .from)))) (outcome (refused 15) out)
+      (outcome (accepted (length (momentAt T (s .at) .frame (s .from)) ∷ [])) (sets out 0 (momentAt T (s .at) .frame (s .from))))
   -- "A run stands for the steps it makes, and its answer counts their events."
-  pub runs : (n : ℕ) → (ran (end cs (begin b) .area) n .steps ≡ length (made (run n) (end cs (begin b))))
-      × (ran (end cs (begin b) .area) n .words ≡ counted (made (run n) (end cs (begin b))) (replicate 9 0))
+  pub runs : (n : ℕ) → (ran (m .area) n .steps ≡ length (made (run n) m))
+      × (ran (m .area) n .words ≡ counted (made (run n) m) (replicate 9 0))
   -- "From a fresh start, offered equals sent plus excessive plus frames still held."
-  pub balance : AllBalanced (end cs (begin b) .area)
+  pub balance : AllBalanced (m .area)
+
+-- and that over a list of calls
+abbrev pub Demand3For : List ℕ → List Call → Type 0
+Demand3For b cs = Demand3 b (log cs (begin b)) (end cs (begin b))

@@ -60,7 +60,7 @@ use Rattle.delivery.specs.Net.{netOf, spanAt, Proper, net-sound, start-o
 use Rattle.delivery.specs.Passing.{by-start, start-passing}
 use Rattle.delivery.specs.Balance.{AllBalanced, area-balanced, stepped-balanced, offered-balanced, start-balanced}
 use Rattle.delivery.specs.Traced.{Row, Traced, tries-count, end-none, end-late, end-on, run-early, run-room, run-fits, traced-step, traced-call, traced-all, traced-begin}
-use Rattle.delivery.specs.Demand3.{called, counted, Sender, Ends, Demand3}
+use Rattle.delivery.specs.Demand3.{called, counted, Sender, Ends, Demand3, Demand3For}
 
 -- ---- from a step made to the step of the execution
 
@@ -407,7 +407,7 @@ module _ (b : List ℕ) (v : Passing b) (o : (i : ℕ) → i < countAt b → Oct
         for = s .for;
       }
 
-  pub demand-three : Demand3 b cs
+  pub demand-three : Demand3For b cs
   unfolding m T back
   demand-three =
       record {
@@ -440,7 +440,7 @@ fit-says y e =
 -- address is six octets.
 module _ (y : Layout) (d : ℕ) (ds : List (List ℕ)) (a : List ℕ) (proper : Proper y) where
   module _ (big : 57344 ≤ length a) (ok : refusalOf y ≡ 0) (low : 1 ≤ d) (high : d ≤ 16) where
-    fresh-fits : 2 * lay.spanOf y ≤ y .figures .slot → lay.gapOf (y .figures) ≤ 64 + y .figures .jam → (cs : List Call) → AllFair cs → Demand3 (fresh y d ds a) cs
+    fresh-fits : 2 * lay.spanOf y ≤ y .figures .slot → lay.gapOf (y .figures) ≤ 64 + y .figures .jam → (cs : List Call) → AllFair cs → Demand3For (fresh y d ds a) cs
     fresh-fits slot gap cs fair =
         let w = sound y ok in
         let s : spanAt (fresh y d ds a) ≡ lay.spanOf y = start-span y d ds a big ok low high proper in
@@ -456,11 +456,11 @@ module _ (y : Layout) (d : ℕ) (ds : List (List ℕ)) (a : List ℕ) (proper : 
 
   -- the three hypotheses: 2·S ≤ 576 holds of every layout, since 2·S ≤ slot ≤ 512
   pub three : started a y d ds .answer ≡ accepted [] → 2 * lay.spanOf y ≤ y .figures .slot → lay.gapOf (y .figures) ≤ 64 + y .figures .jam
-      → (cs : List Call) → AllFair cs → Demand3 (started a y d ds .octets) cs
-  three h slot gap cs fair = by-start a y d ds (λ (b : List ℕ). Demand3 b cs) h (λ big ok low high. fresh-fits big ok low high slot gap cs fair)
+      → (cs : List Call) → AllFair cs → Demand3For (started a y d ds .octets) cs
+  three h slot gap cs fair = by-start a y d ds (λ (b : List ℕ). Demand3For b cs) h (λ big ok low high. fresh-fits big ok low high slot gap cs fair)
 
   pub always : started a y d ds .answer ≡ accepted [] → (cs : List Call) → AllFair cs → Always (started a y d ds .octets) cs
   always h cs fair = by-start a y d ds (λ (b : List ℕ). Always b cs) h (λ big ok low high. fresh-always big ok low high cs fair)
 
-  pub demand-3 : started a y d ds .answer ≡ accepted [] → lay.fitsWell y ≡ true → (cs : List Call) → AllFair cs → Demand3 (started a y d ds .octets) cs
+  pub demand-3 : started a y d ds .answer ≡ accepted [] → lay.fitsWell y ≡ true → (cs : List Call) → AllFair cs → Demand3For (started a y d ds .octets) cs
   demand-3 h e cs fair = let q = fit-says y e in three h (omega (arith, q .0)) (q .1) cs fair

@@ -19,7 +19,7 @@ use Rattle.area.specs.Fresh.{tapIn}
 use Rattle.bus.specs.Start.{started}
 use Rattle.delivery.specs.Calls.{Call, AllFair}
 use Rattle.delivery.specs.Net.{Proper}
-use Rattle.delivery.specs.Demand3.{Demand3}
+use Rattle.delivery.specs.Demand3.{Demand3For}
 use Rattle.delivery.specs.Theorem.{demand-3}
 
 -- sheet 00 02, 00 020000000001, 0A 020000000002
@@ -81,5 +81,5 @@ two-starts : started blank two 1 draws .answer ≡ accepted []
 unfolding started outside
 two-starts = rw (le-ltb (length blank) 57344 (omega (arith, blank-long)), two-passes) refl
 
-pub two-demand : (cs : List Call) → AllFair cs → Demand3 (started blank two 1 draws .octets) cs
+pub two-demand : (cs : List Call) → AllFair cs → Demand3For (started blank two 1 draws .octets) cs
 two-demand cs fair = demand-3 two 1 draws blank proper two-starts two-fits cs fair
