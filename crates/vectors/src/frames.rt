@@ -11,7 +11,7 @@ fn print_number(word: &[u8], n: u64) {
     io::write_all(STDOUT_FILENO, b"\n");
 }
 
-pub(crate) fn print_octets(s: &[u8]) {
+fn print_octets(s: &[u8]) {
     let mut i = 0;
     while i < s.len() {
         io::print_hex(STDOUT_FILENO, octets::wide(s[i]) as u64, 2);

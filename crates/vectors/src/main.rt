@@ -4,16 +4,10 @@
 // (the seven in hexadecimal); the strings of RFC 1321's test suite with the CRC-32 values in common use; Wikipedia, "Cyclic
 // redundancy check" (the quick brown fox). The frame with the check sequence 9b f6 d0 fd is fpga4fun's Ethernet example.
 
-mod cases;
 mod crc;
 mod frames;
-mod sheets;
-mod steps;
 
 fn main() {
     crc::print_all();
     frames::print_all();
-    sheets::print_all();
-    steps::print_all();
-    cases::print_all();
 }

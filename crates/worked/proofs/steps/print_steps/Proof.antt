@@ -1,11 +1,11 @@
--- `vectors::steps::print_steps` meets its contract. Assumes nothing.
+-- `worked::steps::print_steps` meets its contract. Assumes nothing.
 use borrow.Author.Needs.{needs}
 use native.Mathlib.Omega.{arith}
 use Prim.Native.Nat.{_-_}
 use mathlib.Core.Path.{_≡_, refl}
 use lib.ListN.{length}
-use Rattle.vectors.proofs.steps.print_steps.Statement.{statement}
-use Rattle.vectors.proofs.steps.print_steps.Tie as tie
+use Rattle.worked.proofs.steps.print_steps.Statement.{statement}
+use Rattle.worked.proofs.steps.print_steps.Tie as tie
 
 abbrev Inv-loop : tie.InvT-loop
 Inv-loop area₀ from end t₀ area t = length area ≡ length area₀

@@ -1,10 +1,10 @@
--- `vectors::sheets::print_lines` meets its contract. Assumes nothing.
+-- `worked::sheets::print_lines` meets its contract. Assumes nothing.
 use borrow.Author.Needs.{needs}
 use Prim.Native.Nat.{_≤_, _-_, _+_}
 use mathlib.Core.Path.{_≡_}
 use lib.ListN.{length}
-use Rattle.vectors.proofs.sheets.print_lines.Statement.{statement}
-use Rattle.vectors.proofs.sheets.print_lines.Tie as tie
+use Rattle.worked.proofs.sheets.print_lines.Statement.{statement}
+use Rattle.worked.proofs.sheets.print_lines.Tie as tie
 
 abbrev Inv-loop : tie.InvT-loop
 Inv-loop text area₀ at₀ area at = (at ≤ length text + 1) × (length area ≡ 57344)

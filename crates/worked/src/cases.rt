@@ -8,6 +8,15 @@ use libc::STDOUT_FILENO;
 use runs::Ended;
 use runs::Reading;
 
+fn print_octets(s: &[u8]) {
+    let mut i = 0;
+    while i < s.len() {
+        io::print_hex(STDOUT_FILENO, octets::wide(s[i]) as u64, 2);
+        i += 1;
+    }
+    io::write_all(STDOUT_FILENO, b"\n");
+}
+
 fn print_ended(e: Ended) {
     match e {
         Ended::All => {
@@ -56,7 +65,7 @@ fn read_into(area: &[u8], i: usize, out: &mut [u8]) {
         Reading::Frame(n) => {
             crate::steps::print_word(b"reading frame ", n);
             io::write_all(STDOUT_FILENO, b" ");
-            crate::frames::print_octets(out);
+            print_octets(out);
         }
     }
 }

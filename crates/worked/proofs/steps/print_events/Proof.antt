@@ -1,8 +1,8 @@
--- `vectors::steps::print_events` meets its contract. Assumes nothing.
+-- `worked::steps::print_events` meets its contract. Assumes nothing.
 use native.Mathlib.Omega.{arith}
 use Prim.Native.Nat.{_≤_, _-_}
-use Rattle.vectors.proofs.steps.print_events.Statement.{statement}
-use Rattle.vectors.proofs.steps.print_events.Tie as tie
+use Rattle.worked.proofs.steps.print_events.Statement.{statement}
+use Rattle.worked.proofs.steps.print_events.Tie as tie
 
 abbrev Inv-loop : tie.InvT-loop
 Inv-loop t all i₀ i = i ≤ 16

@@ -1,8 +1,8 @@
--- `vectors::cases::print_words` meets its contract. Assumes nothing.
+-- `worked::cases::print_words` meets its contract. Assumes nothing.
 use native.Mathlib.Omega.{arith}
 use Prim.Native.Nat.{_≤_, _-_}
-use Rattle.vectors.proofs.cases.print_words.Statement.{statement}
-use Rattle.vectors.proofs.cases.print_words.Tie as tie
+use Rattle.worked.proofs.cases.print_words.Statement.{statement}
+use Rattle.worked.proofs.cases.print_words.Tie as tie
 
 abbrev Inv-loop : tie.InvT-loop
 Inv-loop words k₀ t5 k = k ≤ 9

@@ -1,8 +1,8 @@
--- `vectors::steps::print_counters` meets its contract. Assumes nothing.
+-- `worked::steps::print_counters` meets its contract. Assumes nothing.
 use native.Mathlib.Omega.{arith}
 use Prim.Native.Nat.{_≤_, _-_}
-use Rattle.vectors.proofs.steps.print_counters.Statement.{statement}
-use Rattle.vectors.proofs.steps.print_counters.Tie as tie
+use Rattle.worked.proofs.steps.print_counters.Statement.{statement}
+use Rattle.worked.proofs.steps.print_counters.Tie as tie
 
 abbrev Inv-loop : tie.InvT-loop
 Inv-loop area i words k₀ t6 k = k ≤ 16
