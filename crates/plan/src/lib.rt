@@ -53,7 +53,7 @@ fn read_row(s: &[u8], at: usize, d: usize) -> [u16; 16]
 }
 
 // The draws by station and then by draw place: the rows of n stations from octet `at` on, and blank rows after them.
-pub fn read_draws(s: &[u8], at: usize, n: usize, d: usize) -> [[u16; 16]; 16]
+fn read_draws(s: &[u8], at: usize, n: usize, d: usize) -> [[u16; 16]; 16]
     requires { ⌜ (n ≤ 16) × (d ≤ 16) × (at + 2 * (n * d) ≤ length (now s)) ⌝ }
     ensures { λ r. ⌜ r ≡ drawsIn (now (s .entry)) at n d ⌝ }
 {
@@ -70,7 +70,7 @@ pub fn read_draws(s: &[u8], at: usize, n: usize, d: usize) -> [[u16; 16]; 16]
 }
 
 // The fixed fields of the offer that begins at `at`.
-pub fn read_offer(s: &[u8], at: usize) -> Offered
+fn read_offer(s: &[u8], at: usize) -> Offered
     requires { ⌜ at + 15 ≤ length (now s) ⌝ }
     ensures { λ r. ⌜ r ≡ offerIn (now (s .entry)) at ⌝ }
 {
@@ -89,7 +89,7 @@ pub fn read_offer(s: &[u8], at: usize) -> Offered
 }
 
 // The data of the offer that begins at `at`, as a part of the input itself.
-pub fn offer_data(s: &[u8], at: usize, size: usize) -> &[u8]
+fn offer_data(s: &[u8], at: usize, size: usize) -> &[u8]
     requires { ⌜ at + 15 + size ≤ length (now s) ⌝ }
     ensures { λ r. ⌜ now r ≡ offerData (now (s .entry)) at size ⌝ }
 {
