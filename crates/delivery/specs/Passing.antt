@@ -193,9 +193,9 @@ module _ (a f : List ℕ) (i : ℕ) (v : Passing a) (hi : i < countAt a) (low : 
   unfolding b₂ withHeld
   long₂ = length-station b₁ i _ ∙ long₁
 
-  long₃ : length (holding a f i) ≡ length a
+  pub offer-long : length (holding a f i) ≡ length a
   unfolding withOffered b₂ b₁
-  long₃ = length-counters b₂ i _ ∙ long₂
+  offer-long = length-counters b₂ i _ ∙ long₂
 
   framed : (p : Part) → Off p (frame i) → Keeps p b₁ a
   unfolding b₁
@@ -241,7 +241,7 @@ module _ (a f : List ℕ) (i : ℕ) (v : Passing a) (hi : i < countAt a) (low : 
   other-record j h ne = record-by (holding a f i) a j (elsewhere (station j) (λ p q. omega arith) (λ p q. ne (omega arith)) (λ p q. omega (arith, small)))
 
   address-there : (j : ℕ) → j < 16 → addressAt (holding a f i) j ≡ addressAt a j
-  address-there j h = address-by (holding a f i) a j h (omega (arith, long₃, r .long)) (r .long) offer-layout
+  address-there j h = address-by (holding a f i) a j h (omega (arith, offer-long, r .long)) (r .long) offer-layout
 
   pub offer-own : stationAt (holding a f i) i ≡ offeredStation (stationAt a i) (length f)
   unfolding stationAt
@@ -291,7 +291,7 @@ module _ (a f : List ℕ) (i : ℕ) (v : Passing a) (hi : i < countAt a) (low : 
       let n = count-by (holding a f i) a offer-layout in
       let g = figures-by (holding a f i) a offer-layout in
       let few = r .spread .few in
-      let big : 57344 ≤ length (holding a f i) = omega (arith, long₃, r .long) in
+      let big : 57344 ≤ length (holding a f i) = omega (arith, offer-long, r .long) in
       record {
         ready = record {
           long = big;
@@ -327,6 +327,23 @@ offered-passes a i d v x six p =
     (λ h. let hi = leb-false (countAt a) i c in
     let z = frame-range d (addressAt a i) v x six (address-six a i (omega arith) (p .ready .long)) e in
     rw (c, e, h) (offer-passing a (frameOf d (addressAt a i) v x) i p hi (z .0) (z .1))))))
+
+-- an offer keeps the clock and the length
+pub offered-keeps : (a : List ℕ) (i : ℕ) (d : List ℕ) (v : ℕ) (x : List ℕ) → length d ≡ 6 → Passing a
+    → (clockAt (offered a i d v x .octets) ≡ clockAt a) × (length (offered a i d v x .octets) ≡ length a)
+unfolding offered withOffer
+offered-keeps a i d v x six p =
+    let few = p .ready .spread .few in
+    rw (eq-eqb (areaRefusal a) 0 (ready-passes a p))
+    (by-test (leb (countAt a) i)
+    (λ c. rw c (refl, refl))
+    (λ c. by-test (refusesData v (length x))
+    (λ e. rw (c, e) (refl, refl))
+    (λ e. by-test (holds (stationAt a i .transmitter))
+    (λ h. rw (c, e, h) (refl, refl))
+    (λ h. let hi = leb-false (countAt a) i c in
+    let z = frame-range d (addressAt a i) v x six (address-six a i (omega arith) (p .ready .long)) e in
+    rw (c, e, h) (offer-clock a (frameOf d (addressAt a i) v x) i p hi (z .0) (z .1), offer-long a (frameOf d (addressAt a i) v x) i p hi (z .0) (z .1))))))
 
 -- ---- a step
 

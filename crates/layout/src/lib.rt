@@ -230,7 +230,7 @@ fn gap(f: Figures) -> u64
 }
 
 // Whether a layout of 1 to 16 stations fits.
-fn fits_well(y: Layout) -> bool
+pub fn fits_well(y: Layout) -> bool
     requires { ⌜ (0 < y .count) × (y .count ≤ 16) ⌝ }
     ensures { λ r. ⌜ r ≡ fitsWell y ⌝ }
 {

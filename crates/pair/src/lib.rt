@@ -78,7 +78,7 @@ fn keep_bit(area: &mut [u8], i: usize, stored: Stored)
     }
 }
 
-fn is_transmit(e: TransmitEvent) -> bool
+pub fn is_transmit(e: TransmitEvent) -> bool
     ensures { λ r. ⌜ r ≡ isTransmit e ⌝ }
 {
     match e {
@@ -90,7 +90,7 @@ fn is_transmit(e: TransmitEvent) -> bool
     }
 }
 
-fn is_receive(e: ReceiveEvent) -> bool
+pub fn is_receive(e: ReceiveEvent) -> bool
     ensures { λ r. ⌜ r ≡ isReceive e ⌝ }
 {
     match e {

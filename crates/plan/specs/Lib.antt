@@ -1,4 +1,5 @@
-pub mod Plan
-pub mod PlanLaws
-pub mod PlanTheorems
-pub mod Cases
+pub mod Printed
+pub mod Pieces
+pub mod PieceLaws
+pub mod Whole
+pub mod Cut

@@ -1,249 +1,431 @@
-// Reading a run input: sheet, draws, offers and bit times (document 01, "The run program").
+// The run program on lent octets: what it prints for an input, handed out piece by piece (document 01, "The run program").
 
-use layout::Figures;
+use bus::Done;
+use input::Plan;
+use input::Verdict;
 use layout::Layout;
-use layout::Tap;
-use sheet::SheetRead;
+use pair::Events;
+use receiver::ReceiveEvent;
+use transmitter::TransmitEvent;
 ghost use mathlib.Core.Path.{_≡_};
-ghost use Prim.Native.Nat.{_+_, _*_, _<_, _≤_};
+ghost use mathlib.Core.Bool.{true, false};
+ghost use Prim.Native.Nat.{_+_, _-_, _<_, _≤_};
+ghost use mathlib.Core.List.{[], _∷_};
 ghost use lib.ListN.{length};
-ghost use Rattle.plan.specs.Plan.{rowIn, drawsIn, offerIn, offerData, offersWrong, planWrong, lastRefusal, unplanned, planRead, planReading};
-ghost use Rattle.plan.specs.PlanLaws.{restRead, sheetOn};
+ghost use lib.Seq.{sets};
+ghost use Rattle.octets.specs.Base.{pick, some, refused, accepted, outcome};
+ghost use Rattle.octets.specs.NumberLaws.{Octets};
+ghost use Rattle.bus.specs.Offer.{doneAnswer};
+ghost use Rattle.runs.specs.Run.{lateAt};
+ghost use Rattle.runs.specs.RunLaws.{Runnable};
+ghost use Rattle.lines.specs.Text.{written, puts, refusedLine};
+ghost use Rattle.input.specs.Plan.{planRead, planReading, verdictAnswer};
+ghost use Rattle.plan.specs.Printed.{lies, made, offerLine, firstText};
+ghost use Rattle.plan.specs.Pieces.{hasEvent, eventful, untilEvent, stretchOf, isDue, spanOf, lastPiece, offerPiece, timesLeft, stepPiece, pieceAnswer, handing, given, withheld, noProgress, offerShort, moveRefusal, advancedOn, advanced, startPiece, firstPiece, begun};
 
-// The reader's answer: a refusal by its number, or the whole input is read.
-pub enum Verdict {
-    Refused(u32),
-    Whole,
-}
+// The octets that `out` must have: no piece is longer.
+pub const ROOM: usize = 2048;
 
-// A run input as read: the answer, and beside it the layout, D, where the draws begin, the number of offers, where the first
-// begins, and the bit times. All are blank where the input is refused.
-pub struct Plan {
-    pub read: Verdict,
-    pub layout: Layout,
-    pub depth: u32,
-    pub drawn: usize,
+// Where a run stands: the octet of the input at which the next offer begins, how many offers are left, how many bit times are left,
+// and whether the last line is handed out.
+pub struct Progress {
+    pub at: usize,
     pub offers: u32,
-    pub first: usize,
     pub times: u32,
+    pub ended: bool,
 }
 
-// An offer's fixed fields. Its data follow them, `size` octets.
-pub struct Offered {
-    pub time: u32,
-    pub station: u32,
-    pub destination: [u8; 6],
-    pub value: u16,
-    pub size: usize,
+// A refusal by its number, or a piece of text: its octets stand at the front of `out`.
+pub enum Piece {
+    Refused(u32),
+    Text(usize),
 }
 
-// The d draws from octet `at` on, and zeros after them.
-fn read_row(s: &[u8], at: usize, d: usize) -> [u16; 16]
-    requires { ⌜ (d ≤ 16) × (at + 2 * d ≤ length (now s)) ⌝ }
-    ensures { λ r. ⌜ r ≡ rowIn (now (s .entry)) at d ⌝ }
+// What a call hands out, and where the run stands after it.
+pub struct Handed {
+    pub piece: Piece,
+    pub progress: Progress,
+}
+
+// Steps made, and the events of the last of them, if it has any.
+pub struct Stretch {
+    pub steps: u32,
+    pub events: [Events; 16],
+}
+
+fn has_event(e: Events) -> bool
+    ensures { λ r. ⌜ r ≡ hasEvent e ⌝ }
 {
-    let mut row = [0u16; 16];
-    let mut k: usize = 0;
-    while k < d {
-        let v = octets::get16(s, at + 2 * k);
-        row[k] = v as u16;
-        k += 1;
-    }
-    row
+    let sent = e.sent;
+    let got = e.got;
+    octets::either(pair::is_transmit(sent), pair::is_receive(got))
 }
 
-// The draws by station and then by draw place: the rows of n stations from octet `at` on, and blank rows after them.
-fn read_draws(s: &[u8], at: usize, n: usize, d: usize) -> [[u16; 16]; 16]
-    requires { ⌜ (n ≤ 16) × (d ≤ 16) × (at + 2 * (n * d) ≤ length (now s)) ⌝ }
-    ensures { λ r. ⌜ r ≡ drawsIn (now (s .entry)) at n d ⌝ }
+// Whether some station has an event.
+fn is_eventful(events: [Events; 16]) -> bool
+    ensures { λ r. ⌜ r ≡ eventful events ⌝ }
 {
-    let mut all = [[0u16; 16]; 16];
-    let mut place = at;
     let mut i: usize = 0;
-    while i < n {
-        let row = read_row(s, place, d);
-        all[i] = row;
-        place = place + 2 * d;
+    while i < 16 {
+        let e = events[i];
+        if has_event(e) {
+            return true;
+        }
         i += 1;
-    }
-    all
-}
-
-// The fixed fields of the offer that begins at `at`.
-fn read_offer(s: &[u8], at: usize) -> Offered
-    requires { ⌜ at + 15 ≤ length (now s) ⌝ }
-    ensures { λ r. ⌜ r ≡ offerIn (now (s .entry)) at ⌝ }
-{
-    let time = octets::get32(s, at);
-    let station = octets::wide(s[at + 4]);
-    let destination = octets::six(s, at + 5);
-    let value = octets::get16(s, at + 11) as u16;
-    let size = octets::get16(s, at + 13) as usize;
-    Offered {
-        time,
-        station,
-        destination,
-        value,
-        size,
-    }
-}
-
-// The data of the offer that begins at `at`, as a part of the input itself.
-fn offer_data(s: &[u8], at: usize, size: usize) -> &[u8]
-    requires { ⌜ at + 15 + size ≤ length (now s) ⌝ }
-    ensures { λ r. ⌜ now r ≡ offerData (now (s .entry)) at size ⌝ }
-{
-    let from = at + 15;
-    let end = from + size;
-    &s[from..end]
-}
-
-// Whether the times of the offers from octet `at` on fall, or the offers and the bit times are not just what is left.
-fn offers_wrong(s: &[u8], at: usize, count: usize) -> bool
-    requires { ⌜ at ≤ length (now s) ⌝ }
-    ensures { λ r. ⌜ r ≡ offersWrong (now (s .entry)) at count ⌝ }
-{
-    let n = s.len();
-    let mut place = at;
-    let mut last: u32 = 0;
-    let mut k: usize = 0;
-    while k < count {
-        if n - place < 15 {
-            return true;
-        }
-        let time = octets::get32(s, place);
-        if time < last {
-            return true;
-        }
-        let size = octets::get16(s, place + 13) as usize;
-        if n - place - 15 < size {
-            return true;
-        }
-        place = place + 15 + size;
-        last = time;
-        k += 1;
-    }
-    if n - place != 4 {
-        return true;
     }
     false
 }
 
-// Refusal 16 of an input whose offer count stands at c.
-fn plan_wrong(s: &[u8], c: usize) -> bool
-    requires { ⌜ c ≤ length (now s) ⌝ }
-    ensures { λ r. ⌜ r ≡ planWrong (now (s .entry)) c ⌝ }
+// Whether some station has a late collision.
+fn is_late(events: [Events; 16]) -> bool
+    ensures { λ r. ⌜ r ≡ some (lateAt events) 16 ⌝ }
 {
-    let n = s.len();
-    if 16384 < n {
-        return true;
+    let mut i: usize = 0;
+    while i < 16 {
+        if runs::late_at(events, i) {
+            return true;
+        }
+        i += 1;
     }
-    if n - c < 2 {
-        return true;
-    }
-    let offers = octets::get16(s, c);
-    if 64 < offers {
-        return true;
-    }
-    offers_wrong(s, c + 2, offers as usize)
+    false
 }
 
-// Refusals 16 and 13, by their number; 0 where there is none.
-fn last_refusal(s: &[u8], c: usize) -> u32
-    requires { ⌜ c ≤ length (now s) ⌝ }
-    ensures { λ r. ⌜ r ≡ lastRefusal (now (s .entry)) c ⌝ }
+// At most n steps, until one has an event.
+fn until_event(area: &mut [u8], n: u32) -> Stretch
+    requires { ⌜ Runnable n (now area) × (57344 ≤ length (now area)) ⌝ }
+    ensures { λ r. ⌜ stretchOf r (now (area .exit)) ≡ untilEvent n (now (area .entry)) ⌝ }
 {
-    if plan_wrong(s, c) {
-        return 16;
+    let mut t: u32 = 0;
+    while t < n {
+        let events = pair::step(area);
+        t += 1;
+        if is_eventful(events) {
+            return Stretch { steps: t, events };
+        }
     }
-    if 16777216 < octets::get32(s, s.len() - 4) {
+    let none = Events {
+        sent: TransmitEvent::NoTransmit,
+        got: ReceiveEvent::NoReceive,
+    };
+    Stretch {
+        steps: t,
+        events: [none; 16],
+    }
+}
+
+// Whether the offer that begins at `at` lies within the input.
+fn offer_lies(input: &[u8], at: usize) -> bool
+    ensures { λ r. ⌜ r ≡ lies (now (input .entry)) at ⌝ }
+{
+    let n = input.len();
+    if n < at {
+        return false;
+    }
+    if n - at < 15 {
+        return false;
+    }
+    let size = octets::get16(input, at + 13) as usize;
+    size <= n - at - 15
+}
+
+// Whether an offer is left and does not lie within the input.
+fn offer_short(input: &[u8], g: Progress) -> bool
+    ensures { λ r. ⌜ r ≡ offerShort (now (input .entry)) g ⌝ }
+{
+    if g.offers == 0 {
+        return false;
+    }
+    !offer_lies(input, g.at)
+}
+
+// Refusals 2, 13, 15 and 16, by their number; 0 where there is none.
+fn refusal(input: &[u8], area: &[u8], room: usize, g: Progress) -> u32
+    requires { ⌜ 57344 ≤ length (now area) ⌝ }
+    ensures value { λ r. ⌜ r ≡ moveRefusal (now (input .entry)) (now (area .entry)) room g ⌝ }
+    ensures octets { λ r. ⌜ Octets (now (area .entry)) ⌝ }
+{
+    let number = ready::refusal(area);
+    if number != 0 {
+        return number;
+    }
+    if 16777216 - area::read_clock(area) < g.times {
         return 13;
+    }
+    if room < ROOM {
+        return 15;
+    }
+    if offer_short(input, g) {
+        return 16;
     }
     0
 }
 
-// What is answered with a refusal.
-fn unread_plan(n: u32) -> Plan
-    ensures { λ r. ⌜ planReading r ≡ unplanned n ⌝ }
+// Whether the next offer's time is the clock.
+fn is_due(input: &[u8], area: &[u8], g: Progress) -> bool
+    requires { ⌜ (57344 ≤ length (now area)) × (offerShort (now input) g ≡ false) ⌝ }
+    ensures { λ r. ⌜ r ≡ isDue (now (input .entry)) g (now (area .entry)) ⌝ }
 {
-    let blank = Tap {
-        position: 0,
-        address: [0u8; 6],
-    };
-    let figures = Figures {
-        slot: 0,
-        gap1: 0,
-        gap2: 0,
-        jam: 0,
-        limit: 0,
-        backoff: 0,
-    };
-    Plan {
-        read: Verdict::Refused(n),
-        layout: Layout {
-            figures,
-            count: 0,
-            stations: [blank; 16],
+    if g.offers == 0 {
+        return false;
+    }
+    octets::get32(input, g.at) == area::read_clock(area)
+}
+
+// The steps that may be made before the next offer.
+fn span(input: &[u8], area: &[u8], g: Progress) -> u32
+    requires { ⌜ (57344 ≤ length (now area)) × (offerShort (now input) g ≡ false) ⌝ }
+    ensures { λ r. ⌜ r ≡ spanOf (now (input .entry)) g (now (area .entry)) ⌝ }
+{
+    if g.offers == 0 {
+        return g.times;
+    }
+    let time = octets::get32(input, g.at);
+    let clock = area::read_clock(area);
+    if time <= clock {
+        return g.times;
+    }
+    if time - clock < g.times {
+        return time - clock;
+    }
+    g.times
+}
+
+// Nothing is handed out.
+fn withhold(number: u32, g: Progress) -> Handed
+    ensures { λ r. ⌜ (pieceAnswer (r .piece) ≡ refused number) × (r .progress ≡ g) ⌝ }
+{
+    Handed {
+        piece: Piece::Refused(number),
+        progress: g,
+    }
+}
+
+// The last line.
+fn end_piece(area: &[u8], out: &mut [u8], g: Progress) -> Handed
+    requires { ⌜ (57344 ≤ length (now area)) × (2048 ≤ length (now out)) ⌝ }
+    ensures { λ r. ⌜ handing r (now (area .entry)) (now (out .exit)) ≡ given (now (out .entry)) (lastPiece g (now (area .entry))) ⌝ }
+{
+    let end = lines::text::put_counted(out, 0, b"end", area::read_clock(area), b'\n');
+    Handed {
+        piece: Piece::Text(end),
+        progress: Progress {
+            at: g.at,
+            offers: g.offers,
+            times: 0,
+            ended: true,
         },
-        depth: 0,
-        drawn: 0,
-        offers: 0,
-        first: 0,
-        times: 0,
     }
 }
 
-// The plan of an input whose draws begin at `at`, all there, and whose offer count stands at c.
-fn read_rest(s: &[u8], y: Layout, d: u32, at: usize, c: usize) -> Plan
-    requires { ⌜ c ≤ length (now s) ⌝ }
-    ensures { λ r. ⌜ planReading r ≡ restRead (now (s .entry)) y d at c ⌝ }
+// Makes the offer that begins at `at`.
+fn make_offer(input: &[u8], area: &mut [u8], at: usize) -> Done
+    requires { ⌜ lies (now input) at ≡ true ⌝ }
+    ensures { λ r. ⌜ outcome (doneAnswer r) (now (area .exit)) ≡ made (now (input .entry)) at (now (area .entry)) ⌝ }
 {
-    let number = last_refusal(s, c);
+    let o = input::read_offer(input, at);
+    let destination = o.destination;
+    let size = o.size;
+    let data = input::offer_data(input, at, size);
+    bus::offer(area, o.station as usize, destination, o.value, data)
+}
+
+// The number of a refusal, 0 where there is none.
+fn number_of(d: Done) -> u32
+    ensures { λ r. ⌜ r ≡ doneAnswer d .number ⌝ }
+{
+    match d {
+        Done::Refused(n) => n,
+        Done::Made => 0,
+    }
+}
+
+// The line of refusal n of the offer that begins at `at`; none where n is 0.
+fn put_offer(input: &[u8], at: usize, n: u32, out: &mut [u8]) -> usize
+    requires { ⌜ (lies (now input) at ≡ true) × (2048 ≤ length (now out)) ⌝ }
+    ensures { λ r. ⌜ written r (now (out .exit)) ≡ puts (now (out .entry)) 0 (offerLine (now (input .entry)) at n) ⌝ }
+{
+    if n == 0 {
+        return 0;
+    }
+    let time = octets::get32(input, at);
+    let station = octets::wide(input[at + 4]);
+    lines::text::put_line(out, 0, time, station, b"refused", n)
+}
+
+// The next offer is made.
+fn offer_piece(input: &[u8], area: &mut [u8], out: &mut [u8], g: Progress) -> Handed
+    requires { ⌜ (lies (now input) (g .at) ≡ true) × (0 < g .offers) × (2048 ≤ length (now out)) ⌝ }
+    ensures { λ r. ⌜ handing r (now (area .exit)) (now (out .exit)) ≡ given (now (out .entry)) (offerPiece (now (input .entry)) g (now (area .entry))) ⌝ }
+{
+    let at = g.at;
+    let size = octets::get16(input, at + 13) as usize;
+    let done = make_offer(input, area, at);
+    let end = put_offer(input, at, number_of(done), out);
+    Handed {
+        piece: Piece::Text(end),
+        progress: Progress {
+            at: at + 15 + size,
+            offers: g.offers - 1,
+            times: g.times,
+            ended: false,
+        },
+    }
+}
+
+// The bit times left of n after some steps: none after a late collision.
+fn times_left(events: [Events; 16], steps: u32, n: u32) -> u32
+    requires { ⌜ steps ≤ n ⌝ }
+    ensures { λ r. ⌜ r ≡ pick (some (lateAt events) 16) 0 (n - steps) ⌝ }
+{
+    if is_late(events) { 0 } else { n - steps }
+}
+
+// Steps are made until one has an event or an offer is due, and the last one's lines handed out.
+fn step_piece(input: &[u8], area: &mut [u8], out: &mut [u8], g: Progress) -> Handed
+    requires { ⌜ (57344 ≤ length (now area)) × Runnable (g .times) (now area) × (0 < g .times) ⌝ }
+    requires { ⌜ (offerShort (now input) g ≡ false) × (2048 ≤ length (now out)) ⌝ }
+    ensures { λ r. ⌜ handing r (now (area .exit)) (now (out .exit)) ≡ given (now (out .entry)) (stepPiece (now (input .entry)) g (now (area .entry))) ⌝ }
+{
+    let n = span(input, area, g);
+    let s = until_event(area, n);
+    let events = s.events;
+    let end = lines::put_step(out, area::read_clock(area) - 1, events);
+    let times = times_left(events, s.steps, g.times);
+    Handed {
+        piece: Piece::Text(end),
+        progress: Progress {
+            at: g.at,
+            offers: g.offers,
+            times,
+            ended: false,
+        },
+    }
+}
+
+// The next piece, on an area of just the octets that one must have.
+fn advance_on(input: &[u8], area: &mut [u8], out: &mut [u8], g: Progress) -> Handed
+    requires { ⌜ 57344 ≤ length (now area) ⌝ }
+    ensures { λ r. ⌜ handing r (now (area .exit)) (now (out .exit)) ≡ advancedOn (now (input .entry)) (now (area .entry)) (now (out .entry)) g ⌝ }
+{
+    let number = refusal(input, area, out.len(), g);
     if number != 0 {
-        return unread_plan(number);
+        return withhold(number, g);
     }
-    let offers = octets::get16(s, c);
-    let times = octets::get32(s, s.len() - 4);
-    Plan {
-        read: Verdict::Whole,
-        layout: y,
-        depth: d,
-        drawn: at,
-        offers,
-        first: c + 2,
-        times,
+    if g.ended {
+        return Handed {
+            piece: Piece::Text(0),
+            progress: g,
+        };
+    }
+    if g.times == 0 {
+        return end_piece(area, out, g);
+    }
+    if is_due(input, area, g) {
+        return offer_piece(input, area, out, g);
+    }
+    step_piece(input, area, out, g)
+}
+
+// Hands out the next piece of what is printed for the input, where the run stands at g. Refusals 1, 2, 13, 15, 16.
+pub fn advance(input: &[u8], area: &mut [u8], out: &mut [u8], g: Progress) -> Handed
+    ensures { λ r. ⌜ handing r (now (area .exit)) (now (out .exit)) ≡ advanced (now (input .entry)) (now (area .entry)) (now (out .entry)) g ⌝ }
+{
+    if area.len() < area::AREA {
+        return withhold(1, g);
+    }
+    advance_on(input, &mut area[0..57344], out, g)
+}
+
+// The first line.
+fn put_heading(out: &mut [u8], y: Layout) -> usize
+    requires { ⌜ (0 < y .count) × (y .count ≤ 16) × (2048 ≤ length (now out)) ⌝ }
+    ensures { λ r. ⌜ written r (now (out .exit)) ≡ puts (now (out .entry)) 0 (firstText y) ⌝ }
+{
+    if layout::fits_well(y) {
+        return lines::text::put_first(out, y.count, b"fit yes\n");
+    }
+    lines::text::put_first(out, y.count, b"fit no\n")
+}
+
+// Where nothing is to come.
+fn no_progress() -> Progress
+    ensures { λ r. ⌜ r ≡ noProgress ⌝ }
+{
+    Progress {
+        at: 0,
+        offers: 0,
+        times: 0,
+        ended: true,
     }
 }
 
-// The plan of an input whose sheet has layout y and takes the first `used` octets.
-fn after_sheet(s: &[u8], used: usize, y: Layout) -> Plan
-    requires { ⌜ (used ≤ length (now s)) × (y .count ≤ 16) ⌝ }
-    ensures { λ r. ⌜ planReading r ≡ sheetOn (now (s .entry)) used y ⌝ }
+// The first piece of an input that is refused.
+fn refused_piece(out: &mut [u8], n: u32) -> Handed
+    requires { ⌜ 2048 ≤ length (now out) ⌝ }
+    ensures piece { λ r. ⌜ pieceAnswer (r .piece) ≡ accepted (length (refusedLine n) ∷ []) ⌝ }
+    ensures progress { λ r. ⌜ r .progress ≡ noProgress ⌝ }
+    ensures text { λ r. ⌜ now (out .exit) ≡ sets (now (out .entry)) 0 (refusedLine n) ⌝ }
 {
-    let n = s.len();
-    if n <= used {
-        return unread_plan(9);
+    let end = lines::text::put_counted(out, 0, b"refused", n, b'\n');
+    Handed {
+        piece: Piece::Text(end),
+        progress: no_progress(),
     }
-    let d = octets::wide(s[used]);
-    if octets::out_of(d, 1, 16) {
-        return unread_plan(9);
-    }
-    let c = used + 1 + 2 * ((y.count as usize) * (d as usize));
-    if n < c {
-        return unread_plan(9);
-    }
-    read_rest(s, y, d, used + 1, c)
 }
 
-// The run input s, or a refusal (3 to 9, 16, 13).
-pub fn read_plan(s: &[u8]) -> Plan
-    ensures { λ r. ⌜ planReading r ≡ planRead (now (s .entry)) ⌝ }
+// The first piece of an input that is read: a fresh start.
+fn start_piece(input: &[u8], area: &mut [u8], out: &mut [u8], p: Plan) -> Handed
+    requires { ⌜ (planReading p ≡ planRead (now input)) × (planRead (now input) .answer .number ≡ 0) ⌝ }
+    requires { ⌜ (57344 ≤ length (now area)) × (2048 ≤ length (now out)) ⌝ }
+    ensures { λ r. ⌜ handing r (now (area .exit)) (now (out .exit)) ≡ given (now (out .entry)) (startPiece (now (input .entry)) (planReading p) (now (area .entry))) ⌝ }
 {
-    let front = sheet::read_sheet(s);
-    let y = front.layout;
-    let read = front.read;
-    match read {
-        SheetRead::Refused(n) => unread_plan(n),
-        SheetRead::Used(n) => after_sheet(s, n, y),
+    let y = p.layout;
+    let draws = input::read_draws(input, p.drawn, y.count as usize, p.depth as usize);
+    area::start::write_fresh(area, y, p.depth, draws);
+    let end = put_heading(out, y);
+    Handed {
+        piece: Piece::Text(end),
+        progress: Progress {
+            at: p.first,
+            offers: p.offers,
+            times: p.times,
+            ended: false,
+        },
     }
+}
+
+// The number of the refusal of an input, 0 where there is none.
+fn refusal_in(v: Verdict) -> u32
+    ensures { λ r. ⌜ r ≡ verdictAnswer v .number ⌝ }
+{
+    match v {
+        Verdict::Refused(n) => n,
+        Verdict::Whole => 0,
+    }
+}
+
+fn begin_on(input: &[u8], area: &mut [u8], out: &mut [u8]) -> Handed
+    requires { ⌜ (57344 ≤ length (now area)) × (2048 ≤ length (now out)) ⌝ }
+    ensures { λ r. ⌜ handing r (now (area .exit)) (now (out .exit)) ≡ given (now (out .entry)) (firstPiece (now (input .entry)) (now (area .entry))) ⌝ }
+{
+    let p = input::read_plan(input);
+    let read = p.read;
+    let number = refusal_in(read);
+    if number != 0 {
+        return refused_piece(out, number);
+    }
+    start_piece(input, area, out, p)
+}
+
+// Reads the run input, makes a fresh start and hands out the first piece: the first line, or `refused n`. Refusals 1, 15.
+pub fn begin(input: &[u8], area: &mut [u8], out: &mut [u8]) -> Handed
+    ensures { λ r. ⌜ handing r (now (area .exit)) (now (out .exit)) ≡ begun (now (input .entry)) (now (area .entry)) (now (out .entry)) ⌝ }
+{
+    if area.len() < area::AREA {
+        return withhold(1, no_progress());
+    }
+    if out.len() < ROOM {
+        return withhold(15, no_progress());
+    }
+    begin_on(input, &mut area[0..57344], out)
 }

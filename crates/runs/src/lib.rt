@@ -103,7 +103,7 @@ fn is_late(e: TransmitEvent) -> bool
 }
 
 // Whether station i has a late collision.
-fn late_at(events: [Events; 16], i: usize) -> bool
+pub fn late_at(events: [Events; 16], i: usize) -> bool
     requires { ⌜ i < 16 ⌝ }
     ensures { λ r. ⌜ r ≡ lateAt events i ⌝ }
 {

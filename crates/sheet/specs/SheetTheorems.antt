@@ -84,10 +84,10 @@ module _ (a z : List ℕ) (h : sheetSize a ≤ length a) where
   place-front : countPlace (a ++ z) ≡ countPlace a
   place-front = ap (λ (m : ℕ). fieldAt m 6) map-front
 
-  count-front : countIn (a ++ z) ≡ countIn a
+  pub count-front : countIn (a ++ z) ≡ countIn a
   count-front = ap (λ (k : ℕ). getD (a ++ z) k 0) place-front ∙ octet-front a z (countPlace a) (omega (arith, front))
 
-  size-front : sheetSize (a ++ z) ≡ sheetSize a
+  pub size-front : sheetSize (a ++ z) ≡ sheetSize a
   unfolding sheetSize
   size-front = ap₂ (λ (p n : ℕ). p + 1 + 7 * n) place-front count-front
 

@@ -1,0 +1,5 @@
+pub mod Text
+pub mod TextLaws
+pub mod Events
+pub mod EventsLaws
+pub mod Sizes
