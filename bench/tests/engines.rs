@@ -1,0 +1,123 @@
+//! The engines here against each other: plain and fast on runs, and the plain engine through work areas.
+
+mod common;
+
+use common::{by_station, cases, draws, number, offer, same_area, sheet, Rng};
+use wisavulome_bench::area::{self, AREA};
+use wisavulome_bench::fast::Fast;
+use wisavulome_bench::layout;
+use wisavulome_bench::plain::World;
+use wisavulome_bench::program::{self, Engine};
+
+/// Runs between offers at about the same time: every answer, counter and readable frame is equal.
+#[test]
+fn plain_and_fast_runs() {
+    for case in 0..cases(800) {
+        let rng = &mut Rng::new(1, case);
+        let (layout, _) = layout::read_sheet(&sheet(rng)).expect("a sheet that is not refused");
+        let n = layout.places.len();
+        let depth = rng.edgy(1, 16) as usize;
+        let draws = by_station(&draws(rng, n, depth), depth);
+        let mut plain = World::start(&layout, &draws);
+        let mut fast = Fast::start(&layout, &draws);
+        for turn in 0..rng.range(1, 30) {
+            for _ in 0..rng.range(0, 4) {
+                let offer = offer(rng, &layout, true);
+                let destination = area::address(offer.destination);
+                let made = plain.offer(offer.station, destination, offer.value, &offer.data);
+                assert_eq!(
+                    fast.offer(offer.station, destination, offer.value, &offer.data),
+                    made,
+                    "case {case}, turn {turn}"
+                );
+            }
+            let bit_times = match rng.below(40) {
+                0 => 20_000_000,
+                1..=19 => rng.range(0, 300),
+                _ => rng.range(0, 3000),
+            };
+            assert_eq!(fast.run(bit_times), plain.run(bit_times), "case {case}, turn {turn}");
+            assert_eq!(fast.clock(), plain.clock);
+            for i in 0..n as u32 + 1 {
+                assert_eq!(fast.counters(i), plain.counters(i), "case {case}, turn {turn}, station {i}");
+                assert_eq!(fast.read_frame(i), plain.read_frame(i), "case {case}, turn {turn}, station {i}");
+            }
+        }
+    }
+}
+
+/// Whole run inputs, damaged ones among them: both engines print the same text.
+#[test]
+fn plain_and_fast_print_the_same() {
+    for case in 0..cases(800) {
+        let rng = &mut Rng::new(2, case);
+        let mut input = sheet(rng);
+        let (layout, _) = layout::read_sheet(&input).expect("a sheet that is not refused");
+        let depth = rng.edgy(1, 16);
+        input.push(depth as u8);
+        input.extend(draws(rng, layout.places.len(), depth as usize));
+        let count = rng.range(0, 12);
+        input.extend((count as u16).to_be_bytes());
+        let mut time = 0;
+        for _ in 0..count {
+            let offer = offer(rng, &layout, true);
+            time += if rng.one_in(3) { rng.range(0, 800) } else { rng.range(0, 10) };
+            input.extend(time.to_be_bytes());
+            input.push(offer.station as u8);
+            input.extend(area::address(offer.destination));
+            input.extend(offer.value.to_be_bytes());
+            input.extend((offer.data.len() as u16).to_be_bytes());
+            input.extend(offer.data);
+        }
+        input.extend(rng.range(0, 6000).to_be_bytes());
+        if rng.one_in(4) {
+            input = common::damaged(rng, &input);
+        }
+        // A damaged count of bit times may ask for more steps than a test can make.
+        if input.len() < 4 || u32::from_be_bytes(input[input.len() - 4..].try_into().expect("four")) > 10_000 {
+            continue;
+        }
+        assert_eq!(printed::<Fast>(&input), printed::<World>(&input), "case {case}");
+    }
+}
+
+fn printed<E: Engine>(input: &[u8]) -> String {
+    String::from_utf8(program::printed::<E>(input)).expect("text")
+}
+
+/// Decoding the area before every call and encoding it after gives what the engine gives that keeps every emission.
+#[test]
+fn plain_through_areas() {
+    for case in 0..cases(100) {
+        let rng = &mut Rng::new(3, case);
+        let sheet = sheet(rng);
+        let (layout, _) = layout::read_sheet(&sheet).expect("a sheet that is not refused");
+        let n = layout.places.len();
+        let depth = rng.edgy(1, 16);
+        let draws = draws(rng, n, depth as usize);
+        let mut world = World::start(&layout, &by_station(&draws, depth as usize));
+        let mut mirror = vec![0; AREA];
+        let mut area = rng.octets(AREA);
+        area::encode_start(&world, &mut mirror);
+        assert_eq!(area::start(&mut area, &sheet, depth, &draws), Ok(0));
+        same_area(&area, &mirror, &|| format!("case {case}, start"));
+        for turn in 0..40 {
+            if rng.one_in(2) {
+                let offer = offer(rng, &layout, true);
+                let destination = area::address(offer.destination);
+                let made = world.offer(offer.station, destination, offer.value, &offer.data);
+                let again = area::offer(&mut area, offer.station, number(destination), offer.value, &offer.data);
+                assert_eq!(again, made.map(|()| 0), "case {case}, turn {turn}");
+            }
+            let bit_times = rng.pick(&[1, 1, 2, 30, 300]);
+            let ran = world.run(bit_times).expect("the clock does not run out");
+            let mut out = [0; 48];
+            let mut expected = [0; 48];
+            area::put_ran(&ran, &mut expected);
+            assert_eq!(area::run(&mut area, bit_times, &mut out), Ok(ran.steps), "case {case}, turn {turn}");
+            assert_eq!(out, expected, "case {case}, turn {turn}");
+            area::encode(&world, &mut mirror);
+            same_area(&area, &mirror, &|| format!("case {case}, turn {turn}"));
+        }
+    }
+}

@@ -1,0 +1,441 @@
+//! Wisavulome, through its C interface, against the plain engine: every answer, refusal and lent octet is equal.
+
+mod common;
+
+use std::fmt::Debug;
+
+use common::{by_station, cases, damaged, damaged_sheet, draws, made_up_area, offer, same_area, sheet, Rng};
+use wisavulome_bench::area::{self, AREA};
+use wisavulome_bench::plain::World;
+use wisavulome_bench::{crc, frame, layout, ours};
+
+/// A buffer to lend: often as long as asked, else shorter or longer, and never zeros.
+fn lent(rng: &mut Rng, enough: usize) -> Vec<u8> {
+    let size = match rng.below(8) {
+        0 => rng.below(enough as u64 + 1) as usize,
+        1 => enough.saturating_sub(1),
+        2 => enough + rng.range(0, 40) as usize,
+        _ => enough,
+    };
+    rng.octets(size)
+}
+
+/// Makes a call on two copies of a buffer and demands the same answer and the same octets.
+fn same_out<A: PartialEq + Debug>(
+    out: &[u8],
+    context: &dyn Fn() -> String,
+    ours: impl FnOnce(&mut [u8]) -> A,
+    plain: impl FnOnce(&mut [u8]) -> A,
+) -> A {
+    let (mut ours_out, mut plain_out) = (out.to_vec(), out.to_vec());
+    let ours_answer = ours(&mut ours_out);
+    let plain_answer = plain(&mut plain_out);
+    assert_eq!(ours_answer, plain_answer, "{}: ours, plain", context());
+    assert_eq!(ours_out, plain_out, "{}: what was written", context());
+    plain_answer
+}
+
+/// How often each refusal came, so that a generator that never reaches one is seen.
+#[derive(Default)]
+struct Tally([u64; 17]);
+
+impl Tally {
+    fn note(&mut self, answer: Result<u32, u32>) {
+        self.0[answer.err().unwrap_or(0) as usize] += 1;
+    }
+
+    fn demand(&self, refusals: &[usize]) {
+        for &refusal in refusals {
+            assert!(self.0[refusal] > 0, "refusal {refusal} never came: {:?}", self.0);
+        }
+    }
+}
+
+#[test]
+fn sheets() {
+    let mut tally = Tally::default();
+    for case in 0..cases(60_000) {
+        let rng = &mut Rng::new(10, case);
+        let sheet = if rng.one_in(3) { sheet(rng) } else { damaged_sheet(rng) };
+        let out = lent(rng, 192);
+        let context = || format!("case {case}, sheet {sheet:02X?}");
+        let read = |out: &mut [u8]| ours::read_sheet(&sheet, out);
+        tally.note(same_out(&out, &context, read, |out| area::read_sheet(&sheet, out)));
+        assert_eq!(ours::fits(&sheet), area::fits(&sheet), "{}", context());
+    }
+    tally.demand(&[0, 3, 4, 5, 6, 7, 8, 15]);
+}
+
+#[test]
+fn frames() {
+    let mut tally = Tally::default();
+    let mut statuses = [0; 6];
+    for case in 0..cases(20_000) {
+        let rng = &mut Rng::new(11, case);
+        let context = || format!("case {case}");
+        let size = match rng.below(6) {
+            0 => rng.range(1490, 1510),
+            1 => rng.edgy(0, 1500),
+            _ => rng.edgy(0, 60),
+        } as usize;
+        let data = rng.octets(size);
+        let value = match rng.below(8) {
+            0 => rng.pick(&[1500, 1501, 1535, 1536, 0, 46]),
+            1 => rng.next() as u16,
+            2..=4 => 0x0800,
+            _ => size as u16,
+        };
+        let (destination, source) = (rng.next(), rng.next());
+        let out = lent(rng, 18 + size.max(46));
+        let made = same_out(
+            &out,
+            &context,
+            |out| ours::build(destination, source, value, &data, out),
+            |out| area::build(destination, source, value, &data, out),
+        );
+        tally.note(made);
+
+        // Opening: the frame built, one with a wrong value and a good check, and damaged ones.
+        let mut octets = frame::build([2; 6], [4; 6], 0x0800, &data[..size.min(1500)]).expect("a frame");
+        if rng.one_in(2) {
+            let end = octets.len() - 4;
+            octets[12..14].copy_from_slice(&value.to_be_bytes());
+            let check = crc::bitwise(&octets[..end]);
+            octets[end..].copy_from_slice(&check.to_le_bytes());
+        }
+        match rng.below(8) {
+            0 => octets.truncate(rng.range(0, octets.len() as u32) as usize),
+            1 => {
+                let more = rng.range(0, 20) as usize;
+                octets.extend(rng.octets(more));
+            }
+            2 => octets = damaged(rng, &octets),
+            _ => {}
+        }
+        let excess = if rng.one_in(3) { rng.edgy(0, 8) } else { 0 };
+        let status = ours::status(&octets, excess);
+        assert_eq!(status, area::status(&octets, excess), "{}", context());
+        if let Ok(status) = status {
+            statuses[status as usize] += 1;
+        }
+        let out = lent(rng, 8);
+        let opened = same_out(
+            &out,
+            &context,
+            |out| ours::client_data(&octets, excess, out),
+            |out| area::client_data(&octets, excess, out),
+        );
+        tally.note(opened);
+        assert_eq!(ours::crc32(&octets), crc::bitwise(&octets), "{}", context());
+    }
+    tally.demand(&[0, 5, 11, 15]);
+    assert!(statuses.iter().all(|&count| count > 0), "a status never came: {statuses:?}");
+}
+
+#[test]
+fn check_values() {
+    assert_eq!(ours::crc32(b"123456789"), 0xCBF4_3926);
+    assert_eq!(ours::crc32(b""), 0);
+}
+
+#[test]
+fn fresh_starts() {
+    let mut tally = Tally::default();
+    for case in 0..cases(3_000) {
+        let rng = &mut Rng::new(12, case);
+        let sheet = if rng.one_in(3) { damaged_sheet(rng) } else { sheet(rng) };
+        let n = layout::read_sheet(&sheet).map_or(2, |(layout, _)| layout.places.len());
+        let depth = if rng.one_in(4) { rng.pick(&[0, 17, 18, 255, u32::MAX]) } else { rng.edgy(1, 16) };
+        let mut draws = draws(rng, n, depth.min(16) as usize);
+        if rng.one_in(6) {
+            let size = rng.below(2 * draws.len() as u64 + 3) as usize;
+            draws.resize(size, 7);
+        }
+        let area = lent(rng, AREA);
+        let context = || format!("case {case}");
+        tally.note(same_out(
+            &area,
+            &context,
+            |area| ours::start(area, &sheet, depth, &draws),
+            |area| area::start(area, &sheet, depth, &draws),
+        ));
+    }
+    tally.demand(&[0, 1, 3, 4, 5, 6, 7, 8, 9]);
+}
+
+/// Long lists of calls on one area from a fresh start, beside an engine that keeps every emission.
+#[test]
+fn lists_of_calls() {
+    let mut tally = Tally::default();
+    let mut words = [0u64; 9];
+    for case in 0..cases(1_500) {
+        let rng = &mut Rng::new(13, case);
+        let sheet = sheet(rng);
+        let (layout, _) = layout::read_sheet(&sheet).expect("a sheet that is not refused");
+        let n = layout.places.len();
+        let depth = rng.edgy(1, 16);
+        let draws = draws(rng, n, depth as usize);
+        let mut world = World::start(&layout, &by_station(&draws, depth as usize));
+        let size = AREA + if rng.one_in(4) { rng.range(1, 64) as usize } else { 0 };
+        let mut area = rng.octets(size);
+        let mut mirror = area.clone();
+        area::encode_start(&world, &mut mirror);
+        assert_eq!(ours::start(&mut area, &sheet, depth, &draws), Ok(0), "case {case}");
+        same_area(&area, &mirror, &|| format!("case {case}, start"));
+        for turn in 0..rng.range(10, 80) {
+            let context = || format!("case {case}, turn {turn}, clock {}", world.clock);
+            let station = if rng.one_in(10) { rng.pick(&[n as u32, 16, u32::MAX]) } else { rng.range(0, n as u32 - 1) };
+            match rng.below(10) {
+                0..=3 => {
+                    let offer = offer(rng, &layout, true);
+                    let answer = ours::offer(&mut area, offer.station, offer.destination, offer.value, &offer.data);
+                    let context = context();
+                    let made = world.offer(offer.station, area::address(offer.destination), offer.value, &offer.data);
+                    assert_eq!(answer, made.map(|()| 0), "{context}, offer");
+                    tally.note(answer);
+                }
+                4 | 5 => {
+                    let out = lent(rng, 256);
+                    let mut ours_out = out.clone();
+                    let mut plain_out = out.clone();
+                    let answer = ours::step(&mut area, &mut ours_out);
+                    let context = context();
+                    if out.len() < 256 {
+                        assert_eq!(answer, Err(15), "{context}, step");
+                    } else {
+                        let events = world.step().expect("the clock does not run out");
+                        area::put_events(&events, &mut plain_out);
+                        assert_eq!(answer, Ok(0), "{context}, step");
+                    }
+                    assert_eq!(ours_out, plain_out, "{context}, step");
+                    tally.note(answer);
+                }
+                6 | 7 => {
+                    let out = lent(rng, 48);
+                    let mut ours_out = out.clone();
+                    let mut plain_out = out.clone();
+                    let bit_times = match rng.below(16) {
+                        0 => rng.pick(&[20_000_000, u32::MAX, 16_777_217]),
+                        1..=7 => rng.range(0, 60),
+                        8..=13 => rng.range(0, 800),
+                        _ => rng.range(0, 4000),
+                    };
+                    let answer = ours::run(&mut area, bit_times, &mut ours_out);
+                    let context = context();
+                    if bit_times > 16_000_000 {
+                        assert_eq!(answer, Err(13), "{context}, run");
+                    } else if out.len() < 48 {
+                        assert_eq!(answer, Err(15), "{context}, run");
+                    } else {
+                        let ran = world.run(bit_times).expect("the clock does not run out");
+                        area::put_ran(&ran, &mut plain_out);
+                        assert_eq!(answer, Ok(ran.steps), "{context}, run of {bit_times}");
+                        for (word, count) in words.iter_mut().zip(ran.counts) {
+                            *word += u64::from(count);
+                        }
+                    }
+                    assert_eq!(ours_out, plain_out, "{context}, run of {bit_times}");
+                    tally.note(answer);
+                }
+                8 => {
+                    let enough = world.read_frame(station).map_or(64, <[u8]>::len);
+                    let out = lent(rng, enough);
+                    let answer = same_out(
+                        &out,
+                        &context,
+                        |out| ours::read_frame(&area, station, out),
+                        |out| {
+                            let frame = world.read_frame(station)?;
+                            out.get_mut(..frame.len()).ok_or(15u32)?.copy_from_slice(frame);
+                            Ok(frame.len() as u32)
+                        },
+                    );
+                    tally.note(answer);
+                }
+                _ => {
+                    let out = lent(rng, 64);
+                    let answer = same_out(
+                        &out,
+                        &context,
+                        |out| ours::counters(&area, station, out),
+                        |out| area::counters(&mirror, station, out),
+                    );
+                    tally.note(answer);
+                }
+            }
+            area::encode(&world, &mut mirror);
+            same_area(&area, &mirror, &|| format!("case {case}, turn {turn}, clock now {}", world.clock));
+        }
+    }
+    tally.demand(&[0, 10, 11, 12, 13, 14, 15]);
+    assert!(words[..5].iter().all(|&count| count > 0), "an event never came: {words:?}");
+}
+
+/// Most stations offer at about the same time, again and again, with runs of a few bit times to a few packets in between.
+#[test]
+fn contention() {
+    let mut words = [0u64; 9];
+    for case in 0..cases(400) {
+        let rng = &mut Rng::new(15, case);
+        let sheet = sheet(rng);
+        let (layout, _) = layout::read_sheet(&sheet).expect("a sheet that is not refused");
+        let n = layout.places.len();
+        let depth = rng.edgy(1, 16);
+        let draws = draws(rng, n, depth as usize);
+        let mut world = World::start(&layout, &by_station(&draws, depth as usize));
+        let mut area = vec![0; AREA];
+        let mut mirror = area.clone();
+        area::encode_start(&world, &mut mirror);
+        assert_eq!(ours::start(&mut area, &sheet, depth, &draws), Ok(0), "case {case}");
+        for turn in 0..rng.range(5, 40) {
+            for station in 0..n as u32 {
+                if rng.one_in(3) {
+                    continue;
+                }
+                let offer = offer(rng, &layout, false);
+                let answer = ours::offer(&mut area, station, offer.destination, offer.value, &offer.data);
+                let made = world.offer(station, area::address(offer.destination), offer.value, &offer.data);
+                assert_eq!(answer, made.map(|()| 0), "case {case}, turn {turn}, offer at {station}");
+            }
+            let bit_times = match rng.below(4) {
+                0 => rng.range(1, 8),
+                1 => rng.range(1, 100),
+                _ => rng.range(1, 2000),
+            };
+            let ran = world.run(bit_times).expect("the clock does not run out");
+            let (mut ours_out, mut plain_out) = ([0; 48], [0; 48]);
+            area::put_ran(&ran, &mut plain_out);
+            assert_eq!(ours::run(&mut area, bit_times, &mut ours_out), Ok(ran.steps), "case {case}, turn {turn}");
+            assert_eq!(ours_out, plain_out, "case {case}, turn {turn}");
+            area::encode(&world, &mut mirror);
+            same_area(&area, &mirror, &|| format!("case {case}, turn {turn}, clock now {}", world.clock));
+            for (word, count) in words.iter_mut().zip(ran.counts) {
+                *word += u64::from(count);
+            }
+        }
+    }
+    assert!(words[..5].iter().all(|&count| count > 0), "an event never came: {words:?}");
+}
+
+/// A call on two copies of a work area with a buffer lent beside it.
+fn same_call(
+    areas: (&mut [u8], &mut [u8]),
+    out: &[u8],
+    context: &dyn Fn() -> String,
+    ours: impl FnOnce(&mut [u8], &mut [u8]) -> Result<u32, u32>,
+    plain: impl FnOnce(&mut [u8], &mut [u8]) -> Result<u32, u32>,
+) -> Result<u32, u32> {
+    let (ours_area, plain_area) = areas;
+    let answer = same_out(out, context, |out| ours(ours_area, out), |out| plain(plain_area, out));
+    same_area(ours_area, plain_area, context);
+    answer
+}
+
+/// Octets of the frame that can be read at a station, or some number where none can.
+fn readable_octets(area: &[u8], station: u32) -> usize {
+    if area::check_area(area) != 0 {
+        return 64;
+    }
+    area::decode(area).read_frame(station).map_or(64, <[u8]>::len)
+}
+
+/// Work areas that no fresh start made: checks 1 and 2, then calls on those that pass.
+#[test]
+fn made_up_areas() {
+    let mut tally = Tally::default();
+    let mut words = [0u64; 9];
+    for case in 0..cases(20_000) {
+        let rng = &mut Rng::new(14, case);
+        let mut ours_area = made_up_area(rng);
+        if rng.one_in(40) {
+            ours_area.truncate(rng.below(AREA as u64) as usize);
+        }
+        let mut plain_area = ours_area.clone();
+        let check = area::check_area(&plain_area);
+        let calls = if check == 0 { rng.range(1, 6) } else { rng.range(1, 3) };
+        for call in 0..calls {
+            let stations = plain_area.get(32..36).map_or(2, |_| area::word(&plain_area, 32)).clamp(1, 16);
+            let station = if rng.one_in(8) { rng.range(0, 17) } else { rng.range(0, stations - 1) };
+            let readable = readable_octets(&plain_area, station);
+            let spent = plain_area.len() >= 4 && area::word(&plain_area, 0) > 0;
+            let areas = (&mut ours_area[..], &mut plain_area[..]);
+            let answer = match rng.below(8) {
+                0..=2 => {
+                    let out = lent(rng, 256);
+                    let context = || format!("case {case}, call {call}, check {check}: step");
+                    same_call(areas, &out, &context, ours::step, area::step)
+                }
+                3 | 4 => {
+                    let out = lent(rng, 48);
+                    let bit_times = match rng.below(8) {
+                        0 if spent => rng.pick(&[0, u32::MAX, 16_777_216]),
+                        1..=4 => rng.range(0, 40),
+                        5 | 6 => rng.range(0, 300),
+                        _ => rng.range(0, 1500),
+                    };
+                    let context = || format!("case {case}, call {call}, check {check}: run of {bit_times}");
+                    same_call(
+                        areas,
+                        &out,
+                        &context,
+                        |area, out| ours::run(area, bit_times, out),
+                        |area, out| {
+                            let answer = area::run(area, bit_times, out);
+                            if answer.is_ok() {
+                                for (k, word) in words.iter_mut().enumerate() {
+                                    *word += u64::from(area::word(out, 4 * k));
+                                }
+                            }
+                            answer
+                        },
+                    )
+                }
+                5 => {
+                    let context = || format!("case {case}, call {call}, check {check}: offer at {station}");
+                    let size = rng.edgy(0, 80) as usize;
+                    let data = rng.octets(size);
+                    let value = match rng.below(8) {
+                        0 => rng.pick(&[1500, 1501, 1535, 1536]),
+                        1 => rng.next() as u16,
+                        _ => size as u16,
+                    };
+                    let destination = rng.next();
+                    same_call(
+                        areas,
+                        &[],
+                        &context,
+                        |area, _| ours::offer(area, station, destination, value, &data),
+                        |area, _| area::offer(area, station, destination, value, &data),
+                    )
+                }
+                6 => {
+                    let out = lent(rng, readable);
+                    let context = || format!("case {case}, call {call}, check {check}: read_frame at {station}");
+                    same_call(
+                        areas,
+                        &out,
+                        &context,
+                        |area, out| ours::read_frame(area, station, out),
+                        |area, out| area::read_frame(area, station, out),
+                    )
+                }
+                _ => {
+                    let out = lent(rng, 64);
+                    let context = || format!("case {case}, call {call}, check {check}: counters at {station}");
+                    same_call(
+                        areas,
+                        &out,
+                        &context,
+                        |area, out| ours::counters(area, station, out),
+                        |area, out| area::counters(area, station, out),
+                    )
+                }
+            };
+            tally.note(answer);
+        }
+    }
+    tally.demand(&[0, 1, 2, 10, 11, 12, 13, 14, 15]);
+    assert!(words.iter().all(|&count| count > 0), "an event never came: {words:?}");
+    let (passed, refused) = (tally.0[0], tally.0[2]);
+    assert!(passed > refused / 4 && refused > passed / 10, "check 2 is lopsided: {:?}", tally.0);
+}

@@ -1,0 +1,122 @@
+/* Wisavulome: a proved model of contention on one pair (CSMA/CD, bit time by bit time). The C interface.
+ *
+ * Link with libcapi.a (`rt staticlib capi` writes target/staticlib/libcapi.a). wisavulome.rs, beside this file, declares the same
+ * functions for Rust: a change to one is made in both.
+ *
+ * Every function returns one number of 32 bits. 0x80000000 + n is refusal n, anything below is the answer (wisavulome_crc32: all 32 bits
+ * are the answer). With a refusal every lent buffer keeps what it held. No call keeps a pointer, allocates or fails in any other way: any
+ * octets and numbers are taken. A slice is a pointer and its length in octets; the pointer is not NULL, also where the length is 0, and
+ * a buffer that is written is lent to that call alone.
+ *
+ * What is written into `out` are numbers of four octets, high octet first, unless it says otherwise. Octets past what is written stay.
+ * An address is the low 48 bits of its number: 0x020000000001 is 02-00-00-00-00-01.
+ *
+ * Refusals: 1 the work area is too short; 2 it holds what no call would leave; 3 the sheet is too short; 4 map bit 6 or 7 stands; 5 a field
+ * is out of range, or the excess bits are over 7; 6 N is outside 2..16; 7 positions do not rise; 8 an address is a group's or repeats; 9 D
+ * or the draws; 10 no such station; 11 the data or the length/type value; 12 the station still has a frame; 13 the clock would pass
+ * 16,777,216; 14 no readable frame; 15 the lent output is too short. They are checked in this order.
+ */
+#ifndef WISAVULOME_H
+#define WISAVULOME_H
+
+#include <stddef.h>
+#include <stdint.h>
+
+#ifdef __cplusplus
+extern "C" {
+#endif
+
+/* set in a reply that is a refusal; the other bits are its number */
+#define WISAVULOME_REFUSAL 0x80000000u
+
+/* the octets of a work area, and of what the calls write into `out` */
+#define WISAVULOME_AREA 57344
+#define WISAVULOME_SHEET_OUT 192
+#define WISAVULOME_CLIENT_OUT 8
+#define WISAVULOME_STEP_OUT 256
+#define WISAVULOME_RUN_OUT 48
+#define WISAVULOME_COUNTERS_OUT 64
+#define WISAVULOME_FRAME_OUT 1518
+
+/* the statuses of a frame */
+#define WISAVULOME_FRAGMENT 0
+#define WISAVULOME_FRAME_TOO_LONG 1
+#define WISAVULOME_FRAME_CHECK_ERROR 2
+#define WISAVULOME_ALIGNMENT_ERROR 3
+#define WISAVULOME_LENGTH_ERROR 4
+#define WISAVULOME_RECEIVE_OK 5
+
+/* transmit events: collision and late with the bit, sent and given-up with the attempts */
+#define WISAVULOME_NO_TRANSMIT 0
+#define WISAVULOME_COLLISION 1
+#define WISAVULOME_LATE 2
+#define WISAVULOME_SENT 3
+#define WISAVULOME_GIVEN_UP 4
+
+/* receive events: ok with the octets of client data, the others with the whole octets collected */
+#define WISAVULOME_NO_RECEIVE 0
+#define WISAVULOME_GOT_OK 1
+#define WISAVULOME_GOT_TOO_LONG 2
+#define WISAVULOME_GOT_ALIGNMENT 3
+#define WISAVULOME_GOT_CHECK 4
+#define WISAVULOME_GOT_LENGTH 5
+
+/* Reads a sheet. Answer: the octets used; more may follow. Refusals 3 to 8, 15 (under 192 octets).
+ * out: slot, gap1, gap2, jam, attempt limit, backoff limit, N, fits (0 or 1); then for each of 16 places position (4 octets) and address
+ * (6 octets), from octet 32 + 10 i on; places N and up are zeros. */
+uint32_t wisavulome_read_sheet(const uint8_t *sheet, size_t sheet_len, uint8_t *out, size_t out_len);
+
+/* Whether the layout of a sheet fits. Answer: 0 or 1. Refusals 3 to 8. */
+uint32_t wisavulome_fits(const uint8_t *sheet, size_t sheet_len);
+
+/* Builds a frame from destination, source, length/type value and data. Answer: the octets of the frame, 64 to 1518. Refusals 11, 15.
+ * out: the frame with its check sequence. */
+uint32_t wisavulome_build(uint64_t destination, uint64_t source, uint16_t value, const uint8_t *payload, size_t payload_len,
+                          uint8_t *out, size_t out_len);
+
+/* The status of a frame's octets and 0 to 7 excess bits. Answer: 0 fragment, 1 frameTooLong, 2 frameCheckError, 3 alignmentError,
+ * 4 lengthError, 5 receiveOK. Refusal 5. */
+uint32_t wisavulome_status(const uint8_t *frame, size_t frame_len, uint32_t excess);
+
+/* The status, and where the client data lie in the frame. Answer: the status. Refusals 5, 15 (under 8 octets).
+ * out: the octet of the frame at which the client data begin, and how many octets they are; 14 and 0 for an empty part, 0 and 0 where the
+ * status is not receiveOK. */
+uint32_t wisavulome_client_data(const uint8_t *frame, size_t frame_len, uint32_t excess, uint8_t *out, size_t out_len);
+
+/* A fresh start of a work area, of at least 57344 octets, on the layout of a sheet, with D (1 to 16) draws for each station. Answer: 0.
+ * Refusals 1, 3 to 8, 9. draws: N x D numbers of 2 octets, high octet first, station by station; any other length is refused under 9. */
+uint32_t wisavulome_start(uint8_t *area, size_t area_len, const uint8_t *sheet, size_t sheet_len, uint32_t depth,
+                          const uint8_t *draws, size_t draws_len);
+
+/* Offers a frame to a station (counted from 0): destination, length/type value, data. Answer: 0. Refusals 1, 2, 10, 11, 12. */
+uint32_t wisavulome_offer(uint8_t *area, size_t area_len, uint32_t station, uint64_t destination, uint16_t value,
+                          const uint8_t *payload, size_t payload_len);
+
+/* One bit time. Answer: 0. Refusals 1, 2, 13, 15 (under 256 octets).
+ * out: for each of 16 stations, from octet 16 i on: transmit event, its number, receive event, its number. */
+uint32_t wisavulome_step(uint8_t *area, size_t area_len, uint8_t *out, size_t out_len);
+
+/* A run of n bit times, which ends early after the first step in which a station has a late collision. Answer: the steps made.
+ * Refusals 1, 2, 13, 15 (under 48 octets).
+ * out: how many events of each word came (collision, late, sent, given-up, got ok, got too-long, got alignment, got check, got length);
+ * then 0 where all steps were made, or 1 where the run ended early; the step of the run (counted from 0) with the late collision; its
+ * station. The last two are 0 where all steps were made. */
+uint32_t wisavulome_run(uint8_t *area, size_t area_len, uint32_t n, uint8_t *out, size_t out_len);
+
+/* Reads the frame that a station received, whole with its check sequence. Answer: its octets, 64 to 1518. Refusals 1, 2, 10, 14, 15.
+ * out: the frame. */
+uint32_t wisavulome_read_frame(const uint8_t *area, size_t area_len, uint32_t station, uint8_t *out, size_t out_len);
+
+/* The counters of a station. Answer: 0. Refusals 1, 2, 10, 15 (under 64 octets).
+ * out: offered, attempts, collisions, late, sent, sent after one collision, sent after several, octets sent, deferred, excessive, received,
+ * octets received, too-long, check, alignment, length. */
+uint32_t wisavulome_counters(const uint8_t *area, size_t area_len, uint32_t station, uint8_t *out, size_t out_len);
+
+/* The CRC-32 of octets: all 32 bits are the answer. That of "123456789" is 0xCBF43926. */
+uint32_t wisavulome_crc32(const uint8_t *payload, size_t payload_len);
+
+#ifdef __cplusplus
+}
+#endif
+
+#endif
