@@ -1,9 +1,8 @@
--- The rule of the register's table. Its entries are computed, so that the code's table can be held against them as a whole.
+-- The register's table and its rule. Its entries are computed, so that the code's table can be held against them as a whole.
 -- Assumes nothing.
-use Prim.Native.Nat.{ℕ, zero, suc, _+_, _*_, _/_, _%_, _^_, _≤_, _<_}
-use mathlib.Core.Path.{_≡_, refl, sym, _∙_, ap}
-use mathlib.Core.Bool.{Bool, true, false}
-use mathlib.Core.List.{List, [], _∷_}
+use Prim.Native.Nat.{ℕ, zero, suc, _+_, _*_, _/_, _%_, _^_, _<_}
+use mathlib.Core.Path.{_≡_, refl, sym, _∙_, ap, ap₂}
+use mathlib.Core.List.{List}
 use native.Mathlib.Nat.{pow-suc}
 use native.Mathlib.Omega.{arith}
 use lib.Dec.{eqb}
@@ -12,7 +11,7 @@ use lib.Bits.{bitXor, differ, xor-step}
 use Rattle.octets.specs.Base.{pick}
 use Rattle.octets.specs.Table.{tabulated, entry}
 use Rattle.crc32.specs.Division.{polynomial, shifted-lt}
-use Rattle.crc32.specs.Register.{shift, shifts}
+use Rattle.crc32.specs.Register.{shift, shifts, split}
 
 -- ---- shifts, by an exclusive or that computes on numerals
 
@@ -43,6 +42,28 @@ unfolding shifts
 shifts-computed zero c h = refl
 shifts-computed (suc n) c h = ap (computed n) (shift-computed c h) ∙ shifts-computed n (shift c) (shift-lt c h)
 
+-- ---- the table
+
+-- rows of sixteen: what 4, 8, 12, .. 64 shifts make of each half octet
+abbrev placed : ℕ → ℕ
+placed p = computed (p / 16 * 4 + 4) (p % 16)
+
+unfoldable pub table : List ℕ
+table = tabulated placed 0 256
+
 -- The table's rule.
-pub entry-shifts : (k : ℕ) → k < 256 → getD (tabulated (computed 8) 0 256) k 0 ≡ shifts 8 k
-entry-shifts k h = entry (computed 8) 0 256 k h ∙ shifts-computed 8 k (omega arith)
+entry-shifts : (p : ℕ) → p < 256 → getD table p 0 ≡ shifts (p / 16 * 4 + 4) (p % 16)
+unfolding table
+entry-shifts p h = entry placed 0 256 p h ∙ shifts-computed (p / 16 * 4 + 4) (p % 16) (omega arith)
+
+-- An octet, the low one of a sum, by its two halves.
+pub halves-shifts : (t : List ℕ) (k c x y : ℕ) → t ≡ table → k < 8 → y ≡ x
+    → bitXor (getD t (32 * k + 16 + bitXor c y % 16) 0) (getD t (32 * k + bitXor c y / 16 % 16) 0) ≡ shifts (8 * k + 8) (bitXor c x % 256)
+halves-shifts t k c x y e h f =
+    let z : ℕ = bitXor c x in
+    let low : getD table (32 * k + 16 + z % 16) 0 ≡ shifts (8 * k + 4 + 4) (z % 16) =
+    entry-shifts (32 * k + 16 + z % 16) (omega arith) ∙ ap₂ shifts (omega arith) (omega arith) in
+    let high : getD table (32 * k + z / 16 % 16) 0 ≡ shifts (8 * k + 4) (z / 16 % 16) =
+    entry-shifts (32 * k + z / 16 % 16) (omega arith) ∙ ap₂ shifts (omega arith) (omega arith) in
+    let n : 8 * k + 8 ≡ 8 * k + 4 + 4 = omega arith in
+    rw (e, f, low, high, n) (sym (split (8 * k + 4) 4 (z % 256) (z % 16) (z / 16 % 16) (omega arith) (omega arith)))

@@ -5,35 +5,63 @@ use mathlib.Core.Path.{_≡_, refl}
 use lib.ListN.{length, drop}
 use Rattle.octets.specs.Bits.{bitsOf}
 use Rattle.crc32.specs.Division.{register, ones}
-use Rattle.crc32.specs.Register.{octets-more, octets-end}
+use Rattle.crc32.specs.Register.{eight-more, octets-more, octets-end}
+use borrow.Author.Needs.{needs}
 use Rattle.crc32.proofs.crc_of.Statement.{statement}
 use Rattle.crc32.proofs.crc_of.Tie as tie
 
 abbrev Inv-loop : tie.InvT-loop
-Inv-loop s c₀ i₀ c i = (i ≤ length s) × (register (bitsOf (drop i s)) c ≡ register (bitsOf s) ones)
+Inv-loop s t c₀ i₀ c i = (i ≤ length s) × (register (bitsOf (drop i s)) c ≡ register (bitsOf s) ones)
 
 abbrev μ-loop : tie.MeasureT-loop
-μ-loop s c₀ i₀ c i = length s - i
+μ-loop s t c₀ i₀ c i = length s - i
 
-loop-holds : tie.Need-loop-holds Inv-loop μ-loop
+abbrev Inv-loop2 : tie.InvT-loop2
+Inv-loop2 s t c₀ i₀ c i = (i ≤ length s) × (register (bitsOf (drop i s)) c ≡ register (bitsOf s) ones)
+
+abbrev μ-loop2 : tie.MeasureT-loop2
+μ-loop2 s t c₀ i₀ c i = length s - i
+
+rows-requires : tie.Need-rows-requires Inv-loop μ-loop Inv-loop2 μ-loop2
+rows-requires c κs = search needs
+
+loop-holds : tie.Need-loop-holds Inv-loop μ-loop Inv-loop2 μ-loop2
 loop-holds c = (omega arith, refl)
 
-shared-slice-read-advance-octet : tie.Need-shared-slice-read-advance-octet Inv-loop μ-loop
-shared-slice-read-advance-octet c = omega arith
+sub-loop : tie.Need-sub-loop Inv-loop μ-loop Inv-loop2 μ-loop2
+sub-loop c = omega arith
 
-advance-octet-requires : tie.Need-advance-octet-requires Inv-loop μ-loop
-advance-octet-requires c κs = omega arith
+after-eight-requires : tie.Need-after-eight-requires Inv-loop μ-loop Inv-loop2 μ-loop2
+after-eight-requires c κs = search needs
 
-add-i : tie.Need-add-i Inv-loop μ-loop
+add-i : tie.Need-add-i Inv-loop μ-loop Inv-loop2 μ-loop2
 add-i c = omega arith
 
-loop-less : tie.Need-loop-less Inv-loop μ-loop
+loop-less : tie.Need-loop-less Inv-loop μ-loop Inv-loop2 μ-loop2
 loop-less c = omega arith
 
-loop-again : tie.Need-loop-again Inv-loop μ-loop
-loop-again c = (omega arith, search octets-more)
+loop-again : tie.Need-loop-again Inv-loop μ-loop Inv-loop2 μ-loop2
+loop-again c = (omega arith, search eight-more)
 
-returns : tie.Need-returns Inv-loop μ-loop
+loop2-holds : tie.Need-loop2-holds Inv-loop μ-loop Inv-loop2 μ-loop2
+loop2-holds c = search needs
+
+shared-slice-read-carried : tie.Need-shared-slice-read-carried Inv-loop μ-loop Inv-loop2 μ-loop2
+shared-slice-read-carried c = omega arith
+
+carried-requires : tie.Need-carried-requires Inv-loop μ-loop Inv-loop2 μ-loop2
+carried-requires c κs = search needs
+
+add-i-2 : tie.Need-add-i-2 Inv-loop μ-loop Inv-loop2 μ-loop2
+add-i-2 c = omega arith
+
+loop2-less : tie.Need-loop2-less Inv-loop μ-loop Inv-loop2 μ-loop2
+loop2-less c = omega arith
+
+loop2-again : tie.Need-loop2-again Inv-loop μ-loop Inv-loop2 μ-loop2
+loop2-again c = (omega arith, search octets-more)
+
+returns : tie.Need-returns Inv-loop μ-loop Inv-loop2 μ-loop2
 returns c = search octets-end
 
 pub crc-of-spec : {M : Type 1} → statement M
@@ -42,10 +70,19 @@ crc-of-spec =
     (tie.spec
     Inv-loop
     μ-loop
+    Inv-loop2
+    μ-loop2
+    rows-requires
     loop-holds
-    shared-slice-read-advance-octet
-    advance-octet-requires
+    sub-loop
+    after-eight-requires
     add-i
     loop-less
     loop-again
+    loop2-holds
+    shared-slice-read-carried
+    carried-requires
+    add-i-2
+    loop2-less
+    loop2-again
     returns)
