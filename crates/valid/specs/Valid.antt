@@ -1,4 +1,4 @@
--- Check 2: whether a work area holds what no call would leave (document 01, refusal 2). The laws are in ValidLaws. Assumes nothing.
+-- Check 2: whether a work area holds what no call would leave (document 01, refusal 2). The laws are in AreaCheckLaws and RecordLaws. Assumes nothing.
 use Prim.Native.Nat.{ℕ, zero, suc, _+_, _-_, _*_, min}
 use mathlib.Core.Bool.{Bool, true, false, _||_}
 use mathlib.Core.List.{List, [], _∷_, _++_}
