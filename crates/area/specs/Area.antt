@@ -84,6 +84,10 @@ stationAt a i = decoded (recordAt a i) (addressAt a i)
 unfoldable pub withStation : List ℕ → ℕ → Station → List ℕ
 withStation a i s = putWords 14 a (2048 + 64 * i) (encoded s)
 
+-- word k of its record written alone
+unfoldable pub withWord : List ℕ → ℕ → ℕ → ℕ → List ℕ
+withWord a i k v = put 4 a (2048 + 64 * i + 4 * k) v
+
 -- the n octets of its frame
 unfoldable pub frameAt : List ℕ → ℕ → ℕ → List ℕ
 frameAt a i n = part a (8192 + 1536 * i) n

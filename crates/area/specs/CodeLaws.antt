@@ -6,6 +6,7 @@ use mathlib.Core.List.{List, [], _∷_}
 use native.Mathlib.Nat.{mod-lt}
 use native.Mathlib.Omega.{arith}
 use borrow.Author.Tests.{eq-eqb, ne-eqb, le-ltb}
+use lib.Bits.{bitAnd, and-mask}
 use lib.Pow.{pow-pos, pow-mono}
 use lib.ListN.{length, getD, set, take, drop}
 use lib.Seq.{sets}
@@ -14,8 +15,8 @@ use Rattle.octets.specs.Lent.{lent-store}
 use Rattle.octets.specs.Bits.{digit}
 use Rattle.octets.specs.Number.{get, put}
 use Rattle.octets.specs.Store.{part, length-part}
-use Rattle.octets.specs.Table.{tabulated, entry}
 use Rattle.octets.specs.Words.{wordsAt, putWords}
+use Rattle.octets.specs.WordsLaws.{word-at}
 use borrow.Rule.Slice.PartMut.{midOf, putMid, put-same}
 use Rattle.frame.specs.Limits.{refusesData}
 use Rattle.frame.specs.Build.{frameOf, built}
@@ -30,7 +31,7 @@ use Rattle.packet.specs.declared.Symbol.{Symbol}
 use Rattle.packet.specs.declared.Symbol.the-variants.{Silence, Bit, Jam}
 use Rattle.station.specs.declared.step.Station.{Station}
 use Rattle.record.specs.Codec.{decoded, encoded}
-use Rattle.area.specs.Area.{clockAt, withClock, depthAt, drawAt, figuresAt, countAt, positionAt, addressAt, tapAt, layoutAt, distance, spaceAt, countersAt, withCounters, recordAt, stationAt, withStation, octetWith, withBit, heardOf, heardCode, symbolAt, arrivalAt, withArrival, alone, overlaid, joined, withFrame, frameBuilt}
+use Rattle.area.specs.Area.{clockAt, withClock, depthAt, drawAt, figuresAt, countAt, positionAt, addressAt, tapAt, layoutAt, distance, spaceAt, countersAt, withCounters, recordAt, stationAt, withStation, withWord, octetWith, withBit, heardOf, heardCode, symbolAt, arrivalAt, withArrival, alone, overlaid, joined, withFrame, frameBuilt}
 
 -- ---- numbers
 
@@ -85,6 +86,20 @@ address-is a r i p = p
 pub record-is : (a w : List ℕ) (i : ℕ) → w ≡ wordsAt 14 a (2048 + 64 * i) → w ≡ recordAt a i
 unfolding recordAt
 record-is a w i p = p
+
+pub word-is : (a : List ℕ) (i k x : ℕ) → x ≡ get 4 a (2048 + 64 * i + 4 * k) → k < 14 → x ≡ getD (recordAt a i) k 0
+unfolding recordAt
+word-is a i k x p h = p ∙ sym (word-at 14 a (2048 + 64 * i) k h)
+
+pub code-is : (a : List ℕ) (i k x : ℕ) → x ≡ getD a (2048 + 64 * i + 4 * k + 3) 0 → x < 256 → k < 14 → x ≡ getD (recordAt a i) k 0 % 256
+unfolding recordAt get
+code-is a i k x p h g =
+    let e : getD (wordsAt 14 a (2048 + 64 * i)) k 0 ≡ get 4 a (2048 + 64 * i + 4 * k) = word-at 14 a (2048 + 64 * i) k g in
+    rw e (omega (arith, p))
+
+pub with-word-is : (a b : List ℕ) (i k v : ℕ) → b ≡ put 4 a (2048 + 64 * i + 4 * k) v → b ≡ withWord a i k v
+unfolding withWord
+with-word-is a b i k v p = p
 
 pub station-is : (a w d : List ℕ) (i : ℕ) (s : Station) → s ≡ decoded w d → d ≡ addressAt a i → w ≡ recordAt a i → s ≡ stationAt a i
 unfolding stationAt
@@ -163,18 +178,20 @@ module _ (h : Heard) (s : Symbol) (r : Heard) where
 
 -- ---- a collected bit
 
-pub power-is : (p : ℕ) → p < 8 → getD (tabulated (λ k. 2 ^ k) 0 8) p 0 ≡ 2 ^ p
-power-is p h = entry (λ k. 2 ^ k) 0 8 p h
+pub power-is : (p : ℕ) → p < 8 → 1 * 2 ^ p % 2 ^ 32 ≡ 2 ^ p
+power-is p h = let l : 2 ^ p ≤ 2 ^ 7 = pow-mono {j = 7} (omega arith) in omega arith
 
-pub power-small : (p : ℕ) → p < 8 → (0 < getD (tabulated (λ k. 2 ^ k) 0 8) p 0) × (getD (tabulated (λ k. 2 ^ k) 0 8) p 0 ≤ 128)
+pub power-small : (p : ℕ) → p < 8 → (0 < 1 * 2 ^ p % 2 ^ 32) × (1 * 2 ^ p % 2 ^ 32 ≤ 128)
 power-small p h =
-    let e : getD (tabulated (λ k. 2 ^ k) 0 8) p 0 ≡ 2 ^ p = power-is p h in
-    let g : p ≤ 7 = omega arith in
-    let l : 2 ^ p ≤ 2 ^ 7 = pow-mono g in
+    let e : 1 * 2 ^ p % 2 ^ 32 ≡ 2 ^ p = power-is p h in
+    let l : 2 ^ p ≤ 2 ^ 7 = pow-mono {j = 7} (omega arith) in
     (omega (arith, pow-pos p), omega arith)
 
-pub low-small : (x u : ℕ) → 0 < u → x % u < u
-low-small x u h = mod-lt x h
+pub low-is : (x p u : ℕ) → u ≡ 2 ^ p → bitAnd x (u - 1) ≡ x % u
+low-is x p u e = rw e (and-mask x p)
+
+pub low-small : (x p u : ℕ) → u ≡ 2 ^ p → 0 < u → bitAnd x (u - 1) < u
+low-small x p u e h = rw (low-is x p u e) (mod-lt x h)
 
 pub bit-one : (x y z p u : ℕ) (b : Bool) → z ≡ y % u → y ≡ x → u ≡ 2 ^ p → b ≡ true → z + u ≡ octetWith x p b
 unfolding octetWith

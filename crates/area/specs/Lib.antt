@@ -4,3 +4,4 @@ pub mod CodeLaws
 pub mod AreaLaws
 pub mod Fresh
 pub mod FreshLaws
+pub mod OneWord

@@ -25,15 +25,12 @@ use packet::Symbol;
 use station::step::Station;
 ghost use mathlib.Core.Path.{_≡_};
 ghost use Prim.Native.Nat.{_+_, _*_, _/_, _%_, _^_, _<_, _≤_};
-ghost use lib.ListN.{length};
+ghost use lib.ListN.{length, getD};
 ghost use Rattle.layout.specs.Layout.{placesOf};
-ghost use Rattle.area.specs.Area.{clockAt, withClock, depthAt, drawAt, figuresAt, countAt, positionAt, addressAt, tapAt, layoutAt, distance, spaceAt, countersAt, withCounters, recordAt, stationAt, withStation, withBit, heardOf, heardCode, symbolAt, arrivalAt, withArrival, alone, overlaid, joined, octetWith, frameAt, bufferAt, frameBuilt};
+ghost use Rattle.area.specs.Area.{clockAt, withClock, depthAt, drawAt, figuresAt, countAt, positionAt, addressAt, tapAt, layoutAt, distance, countersAt, withCounters, recordAt, stationAt, withStation, withWord, withBit, heardOf, heardCode, symbolAt, arrivalAt, withArrival, alone, overlaid, joined, octetWith, frameAt, bufferAt, frameBuilt};
 ghost use Rattle.octets.specs.Base.{outcome};
 ghost use Rattle.packet.specs.Packet.{symbolOf};
 ghost use Rattle.frame.specs.Build.{builtAnswer};
-
-// 2^p at place p.
-const POWERS: [u32; 8] = [1, 2, 4, 8, 16, 32, 64, 128];
 
 // The octets of a work area.
 pub const AREA: usize = 57344;
@@ -90,7 +87,8 @@ pub fn read_count(area: &[u8]) -> u32
     octets::get32(area, 32)
 }
 
-fn read_position(area: &[u8], i: usize) -> u32
+// Where station i is.
+pub fn read_position(area: &[u8], i: usize) -> u32
     requires { ⌜ (i < 16) × (57344 ≤ length (now area)) ⌝ }
     ensures { λ r. ⌜ r ≡ positionAt (now (area .entry)) i ⌝ }
 {
@@ -146,18 +144,11 @@ pub fn read_layout(area: &[u8]) -> Layout
     }
 }
 
-fn apart(p: u32, q: u32) -> u32
+// The distance of two places in bit times.
+pub fn apart(p: u32, q: u32) -> u32
     ensures { λ r. ⌜ r ≡ distance p q ⌝ }
 {
     if p < q { q - p } else { p - q }
-}
-
-// The distance of two stations in bit times.
-pub fn space(area: &[u8], i: usize, j: usize) -> u32
-    requires { ⌜ (i < 16) × (j < 16) × (57344 ≤ length (now area)) ⌝ }
-    ensures { λ r. ⌜ r ≡ spaceAt (now (area .entry)) i j ⌝ }
-{
-    apart(read_position(area, i), read_position(area, j))
 }
 
 pub fn read_counters(area: &[u8], i: usize) -> [u32; 16]
@@ -184,6 +175,30 @@ pub fn read_record(area: &[u8], i: usize) -> [u32; 14]
     let mut w = [0u32; 14];
     octets::load_words(area, 2048 + 64 * i, &mut w);
     w
+}
+
+// Word k of the record of station i.
+pub fn read_word(area: &[u8], i: usize, k: usize) -> u32
+    requires { ⌜ (i < 16) × (k < 14) × (57344 ≤ length (now area)) ⌝ }
+    ensures { λ r. ⌜ r ≡ getD (recordAt (now (area .entry)) i) k 0 ⌝ }
+{
+    octets::get32(area, 2048 + 64 * i + 4 * k)
+}
+
+// The low octet of word k of the record of station i: all of it, where the word is a code or a flag.
+pub fn read_code(area: &[u8], i: usize, k: usize) -> u32
+    requires { ⌜ (i < 16) × (k < 14) × (57344 ≤ length (now area)) ⌝ }
+    ensures { λ r. ⌜ r ≡ getD (recordAt (now (area .entry)) i) k 0 % 256 ⌝ }
+{
+    octets::wide(area[2048 + 64 * i + 4 * k + 3])
+}
+
+// Writes word k of the record of station i alone.
+pub fn write_word(area: &mut [u8], i: usize, k: usize, v: u32)
+    requires { ⌜ (i < 16) × (k < 14) × (57344 ≤ length (now area)) ⌝ }
+    ensures { λ r. ⌜ now (area .exit) ≡ withWord (now (area .entry)) i k v ⌝ }
+{
+    octets::put32(area, 2048 + 64 * i + 4 * k, v);
 }
 
 pub fn read_station(area: &[u8], i: usize) -> Station
@@ -292,15 +307,17 @@ fn power(p: usize) -> u32
     ensures value { λ r. ⌜ r ≡ 2 ^ p ⌝ }
     ensures some { λ r. ⌜ (0 < r) × (r ≤ 128) ⌝ }
 {
-    POWERS[p]
+    let place = p as u32;
+    1u32 << place
 }
 
-fn remainder(x: u32, unit: u32) -> u32
-    requires { ⌜ 0 < unit ⌝ }
+// The p low bits of x, of which `unit` is 2^p.
+fn low_bits(x: u32, p: usize, unit: u32) -> u32
+    requires { ⌜ (unit ≡ 2 ^ p) × (0 < unit) ⌝ }
     ensures value { λ r. ⌜ r ≡ x % unit ⌝ }
     ensures small { λ r. ⌜ r < unit ⌝ }
 {
-    x % unit
+    x & (unit - 1)
 }
 
 // An octet with bit p stored: the bits below it stay, those above it are 0.
@@ -309,7 +326,7 @@ fn octet_with(x: u8, p: usize, one: bool) -> u8
     ensures { λ r. ⌜ r ≡ octetWith x p one ⌝ }
 {
     let unit = power(p);
-    let low = remainder(octets::wide(x), unit);
+    let low = low_bits(octets::wide(x), p, unit);
     if one {
         return (low + unit) as u8;
     }

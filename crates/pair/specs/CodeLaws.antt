@@ -22,11 +22,13 @@ use Rattle.station.specs.declared.step.Station.{Station}
 use Rattle.station.specs.declared.step.Stepped.{Stepped}
 use Rattle.station.specs.Step.{stepped}
 use Rattle.station.specs.Count.{counted}
-use Rattle.area.specs.Area.{withClock, drawAt, spaceAt, countersAt, withCounters, stationAt, withStation, frameAt, bufferAt, withBit, arrivalAt, withArrival, joined}
+use Rattle.area.specs.Area.{withClock, drawAt, positionAt, distance, spaceAt, countersAt, withCounters, stationAt, withStation, frameAt, bufferAt, withBit, arrivalAt, withArrival, joined}
+use Rattle.area.specs.AreaLaws.{position-by}
+use Rattle.area.specs.CodeLaws.{space-is}
 use Rattle.pair.specs.declared.Act.{Act}
 use Rattle.pair.specs.declared.Events.{Events}
 use Rattle.pair.specs.BitTime.{outcomeIn, actIn, sendTo, isSilence, pushed, withStored, isTransmit, isReceive, happened, withCounted, placed, settled, turnedIn, turnIn, advancedIn, eventsOf, noEvents, eventsIn}
-use Rattle.pair.specs.InPlace.{Kept}
+use Rattle.pair.specs.InPlace.{Kept, sends-layout}
 
 module _ (t i : ℕ) (s : Symbol) (j : ℕ) (a : List ℕ) where
   pub send-own : j ≡ i → a ≡ sendTo t i s j a
@@ -39,6 +41,16 @@ module _ (t i : ℕ) (s : Symbol) (j : ℕ) (a : List ℕ) where
   send-other b u d h k p q r e f n =
       let w : u ≡ t + spaceAt a i j = e ∙ ap (λ (x : ℕ). t + x) f in
       p ∙ rw (ne-eqb j i n, q, r, w)
+
+  -- the distance by both positions
+  pub send-apart : (b : List ℕ) (u d p q : ℕ) (h k : Heard) → b ≡ withArrival a j u k → k ≡ joined h s → h ≡ arrivalAt a j u → u ≡ t + d → d ≡ distance p q → q ≡ positionAt a j
+      → p ≡ positionAt a i → (j ≡ i → ⊥) → b ≡ sendTo t i s j a
+  send-apart b u d p q h k eb ek eh eu ed eq ep ne = send-other b u d h k eb ek eh eu (space-is a i j d p q ed eq ep) ne
+
+-- the sender stays where it is
+pub push-position : (t i : ℕ) (s : Symbol) (j p : ℕ) (a x : List ℕ) → x ≡ turns (sendTo t i s) j a → i < 16 → p ≡ positionAt a i → p ≡ positionAt x i
+push-position t i s j p a x e h q =
+    q ∙ sym (position-by (turns (sendTo t i s) j a) a i h (sends-layout t i s j a)) ∙ ap (λ (y : List ℕ). positionAt y i) (sym e)
 
 pub push-more : (t i : ℕ) (s : Symbol) (j : ℕ) (a x b : List ℕ) → b ≡ sendTo t i s j x → x ≡ turns (sendTo t i s) j a → b ≡ turns (sendTo t i s) (j + 1) a
 push-more t i s j a x b p q = turns-more (sendTo t i s) j a x b p q

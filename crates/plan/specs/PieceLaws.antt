@@ -22,8 +22,9 @@ use Rattle.pair.specs.declared.Events.{Events}
 use Rattle.pair.specs.BitTime.{isTransmit, isReceive, noEvents, eventsAt, stepArea}
 use Rattle.bus.specs.declared.Done.{Done}
 use Rattle.bus.specs.Offer.{doneAnswer, offered}
-use Rattle.runs.specs.Run.{lateAt}
-use Rattle.runs.specs.RunLaws.{Runnable, clock-within, run-allowed, run-first, run-next}
+use Rattle.runs.specs.Run.{isLate, lateAt}
+use Rattle.runs.specs.RunLaws.{Runnable, clock-within, run-allowed, run-next}
+use Rattle.pair.specs.Ready.{Ready}
 use Rattle.ready.specs.Stays.{step-clock}
 use Rattle.lines.specs.Text.{Written, written, puts, counted, line, firstLine, fitYes, fitNo, refusedWord, refusedLine, refusedOffer, endWord, endLine}
 use Rattle.lines.specs.Events.{stepLines}
@@ -67,6 +68,17 @@ module _ (es : List Events) (i : ℕ) where
   calm-end p q h = some-end (λ k. hasEvent (getD es k noEvents)) 16 i p q h
 
 -- ---- steps until an event
+
+pub run-first : (n : ℕ) (a : List ℕ) → Runnable n a → Runnable (n - 0) a
+run-first n a h = let e : n ≡ n - 0 = omega arith in subst (λ (k : ℕ). Runnable k a) e h
+
+pub run-ready : (n t : ℕ) (a : List ℕ) → Runnable (n - t) a → Ready a
+unfolding Runnable Ready
+run-ready n t a h = h .0
+
+pub run-clock : (n t : ℕ) (a : List ℕ) → Runnable (n - t) a → t < n → clockAt a < 16777216
+unfolding Runnable
+run-clock n t a h g = omega (arith, h .1)
 
 -- t steps more, made before
 abbrev pub plus : ℕ → Stretched → Stretched
@@ -348,6 +360,17 @@ pub offer-fits : (l : List ℕ) (p z : ℕ) → z ≡ get 2 l (p + 13) → lies 
 offer-fits l p z q h = omega (arith, lies-room l p h .1)
 
 -- ---- the bit times left
+
+module _ (es : List Events) (i : ℕ) (e : Events) (b : Bool) (p : b ≡ isLate (e .sent)) (q : e ≡ getD es i noEvents) where
+  late-is : b ≡ lateAt es i
+  unfolding lateAt
+  late-is = p ∙ ap (λ (x : Events). isLate (x .sent)) q
+
+  pub late-hit : b ≡ true → i < 16 → true ≡ some (lateAt es) 16
+  late-hit r h = some-hit (lateAt es) 16 i b late-is r h
+
+  pub late-more : b ≡ false → some (lateAt es) i ≡ false → some (lateAt es) (i + 1) ≡ false
+  late-more r h = some-more (lateAt es) i b late-is r h
 
 module _ (es : List Events) (n m : ℕ) (b : Bool) (e : b ≡ some (lateAt es) 16) where
   pub left-late : b ≡ true → 0 ≡ pick (some (lateAt es) 16) 0 (m - n)

@@ -82,7 +82,9 @@ fn is_late(events: [Events; 16]) -> bool
 {
     let mut i: usize = 0;
     while i < 16 {
-        if runs::late_at(events, i) {
+        let e = events[i];
+        let sent = e.sent;
+        if runs::is_late(sent) {
             return true;
         }
         i += 1;

@@ -2,3 +2,5 @@ pub mod Run
 pub mod RunLaws
 pub mod Read
 pub mod ReadLaws
+pub mod OnLaws
+pub mod Still

@@ -1,18 +1,15 @@
 -- A law for each way through the code of a run. Assumes nothing.
 use Prim.Native.Nat.{ℕ, zero, suc, _+_, _-_, _*_, _≤_, _<_}
-use mathlib.Core.Path.{_≡_, refl, sym, _∙_, ap, ap₂, subst}
-use mathlib.Core.Bool.{Bool, true, false, _||_}
+use mathlib.Core.Path.{_≡_, refl, sym, _∙_, ap, subst}
+use mathlib.Core.Bool.{Bool, true, false}
 use mathlib.Core.List.{List, [], _∷_}
-use native.Mathlib.Numerals.{add-one}
 use native.Mathlib.Omega.{arith}
 use borrow.Author.Tests.{eq-eqb, ne-eqb, lt-ltb, le-ltb}
-use lib.Dec.{ltb, eqb}
-use lib.ListN.{length, getD, set, replicate}
-use lib.Seq.{getD-set-other}
-use Rattle.octets.specs.Base.{pick, some, Answer, refused, accepted}
+use lib.ListN.{getD, set, replicate}
+use Rattle.octets.specs.Base.{pick, some, refused, accepted}
 use Rattle.octets.specs.BaseLaws.{by-eq, some-hit}
 use Rattle.octets.specs.NumberLaws.{Octets}
-use Rattle.octets.specs.Turns.{turns, turns-none, turns-more}
+use Rattle.octets.specs.Turns.{turns}
 use Rattle.receiver.specs.declared.ReceiveEvent.{ReceiveEvent}
 use Rattle.receiver.specs.declared.ReceiveEvent.the-variants.{NoReceive, GotOk, GotTooLong, GotAlignment, GotCheck, GotLength}
 use Rattle.transmitter.specs.declared.TransmitEvent.{TransmitEvent}
@@ -20,15 +17,15 @@ use Rattle.transmitter.specs.declared.TransmitEvent.the-variants.{NoTransmit, C
 use Rattle.area.specs.Area.{clockAt}
 use Rattle.valid.specs.Valid.{areaRefusal}
 use Rattle.pair.specs.declared.Events.{Events}
-use Rattle.pair.specs.BitTime.{noEvents, eventsAt, stepArea}
-use Rattle.pair.specs.Ready.{Readiness, Ready}
+use Rattle.pair.specs.BitTime.{eventsAt, stepArea}
+use Rattle.pair.specs.Ready.{Readiness}
 use Rattle.ready.specs.Passes.{passes-ready}
 use Rattle.ready.specs.Stays.{step-ready, step-clock}
 use Rattle.bus.specs.Offer.{doneAnswer}
 use Rattle.runs.specs.declared.Ended.{Ended}
 use Rattle.runs.specs.declared.Ended.the-variants as how
 use Rattle.runs.specs.declared.RunAnswer.{RunAnswer}
-use Rattle.runs.specs.Run.{bumped, sentCounted, gotCounted, eventAt, tallied, isLate, lateAt, first, Ran, runOf, runOutcome, unrun, ran}
+use Rattle.runs.specs.Run.{bumped, sentCounted, gotCounted, eventAt, tallied, lateAt, first, Ran, runOf, runOutcome, ran}
 
 -- ---- the words have room
 
@@ -97,19 +94,6 @@ pub tally-none : (es : List Events) (ws : List ℕ) → ws ≡ tallied es 0 ws
 unfolding tallied turns
 tally-none es ws = refl
 
-pub tally-more : (es : List Events) (i : ℕ) (ws x y z : List ℕ) (e : Events) → z ≡ gotCounted y (e .got) → y ≡ sentCounted x (e .sent) → e ≡ eventAt es i → x ≡ tallied es i ws
-    → z ≡ tallied es (i + 1) ws
-unfolding tallied
-tally-more es i ws x y z e p q r s =
-    turns-more (λ j v. gotCounted (sentCounted v (eventAt es j .sent)) (eventAt es j .got)) i ws x z (p ∙ rw (q, r)) s
-
-pub tally-end : (es : List Events) (i : ℕ) (ws x : List ℕ) → i ≤ 16 → 16 ≤ i → x ≡ tallied es i ws → x ≡ tallied es 16 ws
-tally-end es i ws x p q r = let e : i ≡ 16 = omega arith in rw e at r
-
-pub late-is : (es : List Events) (i : ℕ) (e : Events) (b : Bool) → b ≡ isLate (e .sent) → e ≡ eventAt es i → b ≡ lateAt es i
-unfolding lateAt
-late-is es i e b p q = p ∙ rw q
-
 -- ---- the steps
 
 -- k steps can be made. Shut, so that a search does not enter it
@@ -117,20 +101,9 @@ unfoldable pub Runnable : ℕ → List ℕ → Type 0
 Runnable k a = Readiness a × (clockAt a + k ≤ 16777216)
 
 module _ (n t : ℕ) (a : List ℕ) where
-  pub run-ready : Runnable (n - t) a → Ready a
-  unfolding Runnable Ready
-  run-ready h = h .0
-
-  pub run-clock : Runnable (n - t) a → t < n → clockAt a < 16777216
-  unfolding Runnable
-  run-clock h g = omega (arith, h .1)
-
   pub run-next : (b : List ℕ) → b ≡ stepArea a → Runnable (n - t) a → t < n → Runnable (n - (t + 1)) b
   unfolding Runnable
   run-next b e h g = rw e (step-ready a (h .0) (omega (arith, h .1)), omega (arith, step-clock a (h .0), h .1))
-
-pub run-first : (n : ℕ) (a : List ℕ) → Runnable n a → Runnable (n - 0) a
-run-first n a h = let e : n ≡ n - 0 = omega arith in subst (λ (k : ℕ). Runnable k a) e h
 
 pub run-zero : (n : ℕ) (ws a : List ℕ) → runOf (n - 0) 0 ws a ≡ runOf n 0 ws a
 run-zero n ws a = let e : n - 0 ≡ n = omega arith in ap (λ (k : ℕ). runOf k 0 ws a) e
@@ -211,7 +184,7 @@ first-hit t (suc n) i b p q s h =
 
 module _ (n t : ℕ) (ws : List ℕ) (a : List ℕ) (R : Ran) where
   -- one step more of those that are left
-  turn : (k : ℕ) → k ≡ n - t → t < n → runOf (n - t) t ws a ≡ R
+  pub turn : (k : ℕ) → k ≡ n - t → t < n → runOf (n - t) t ws a ≡ R
       → pick (some (lateAt (eventsAt a)) 16)
       (record { answer = accepted []; steps = t + 1; words = tallied (eventsAt a) 16 ws; ended = how.Late t (first (lateAt (eventsAt a)) 16); octets = stepArea a })
       (runOf (n - (t + 1)) (t + 1) (tallied (eventsAt a) 16 ws) (stepArea a)) ≡ R

@@ -1,19 +1,26 @@
 // Runs over many bit times, and readings of received frames.
 
 use bus::Done;
-use pair::Events;
+use layout::Figures;
 use receiver::ReceiveEvent;
 use receiver::Receiver;
 use transmitter::TransmitEvent;
 ghost use mathlib.Core.Path.{_≡_};
+ghost use mathlib.Core.Bool.{true};
 ghost use Prim.Native.Nat.{_+_, _<_, _≤_};
 ghost use lib.ListN.{length, getD, take, replicate};
 ghost use lib.Seq.{sets};
-ghost use Rattle.octets.specs.Base.{refused, outcome};
+ghost use Rattle.octets.specs.Base.{some, refused, outcome};
+ghost use Rattle.octets.specs.NumberLaws.{Octets};
 ghost use Rattle.area.specs.Area.{bufferAt};
+ghost use Rattle.pair.specs.BitTime.{actIn, turnIn, eventsOf, eventsIn, advancedIn};
+ghost use Rattle.pair.specs.Ready.{Able, AllAble};
+ghost use Rattle.pair.specs.Quick.{PlainIf, AllPlain, Taken};
 ghost use Rattle.bus.specs.Offer.{doneAnswer};
 ghost use Rattle.runs.specs.Run.{bumped, sentCounted, gotCounted, tallied, isLate, lateAt, courseOf, runOf, runOutcome, ran};
 ghost use Rattle.runs.specs.RunLaws.{Bounded, Runnable};
+ghost use Rattle.runs.specs.OnLaws.{eventsCounted, hasLate, lates};
+ghost use Rattle.runs.specs.Still.{Clear, CalmIf, Idle};
 ghost use Rattle.runs.specs.Read.{readAnswer, isReadable, frameRead};
 ghost use Rattle.runs.specs.declared.Ended.the-variants.{All};
 
@@ -36,6 +43,12 @@ pub struct RunAnswer {
 pub struct Course {
     pub steps: u32,
     pub ended: Ended,
+}
+
+// Which stations had a late collision in a step, and whether any had.
+pub struct Lates {
+    pub any: bool,
+    pub late: [bool; 16],
 }
 
 // One more event of word k.
@@ -73,24 +86,7 @@ fn count_got(words: &mut [u32], e: ReceiveEvent, top: u32)
     }
 }
 
-// Counts the events of all stations; no word is past `top` yet.
-fn tally(words: &mut [u32], events: [Events; 16], top: u32)
-    requires { ⌜ (length (now words) ≡ 9) × Bounded (now words) top × (top + 32 < 4294967295) ⌝ }
-    ensures { λ r. ⌜ now (words .exit) ≡ tallied events 16 (now (words .entry)) ⌝ }
-{
-    let mut i: usize = 0;
-    while i < 16 {
-        let e = events[i];
-        let sent = e.sent;
-        let got = e.got;
-        let most = top + 2 * i as u32;
-        count_sent(words, sent, most);
-        count_got(words, got, most + 1);
-        i += 1;
-    }
-}
-
-fn is_late(e: TransmitEvent) -> bool
+pub fn is_late(e: TransmitEvent) -> bool
     ensures { λ r. ⌜ r ≡ isLate e ⌝ }
 {
     match e {
@@ -102,14 +98,121 @@ fn is_late(e: TransmitEvent) -> bool
     }
 }
 
-// Whether station i has a late collision.
-pub fn late_at(events: [Events; 16], i: usize) -> bool
-    requires { ⌜ i < 16 ⌝ }
-    ensures { λ r. ⌜ r ≡ lateAt events i ⌝ }
+// The turn of station i where it changes little. `swift` says that the records are plain.
+fn quick(area: &mut [u8], swift: bool, n: usize, depth: u32, t: usize, f: Figures, i: usize) -> bool
+    requires { ⌜ (i < 16) × (n ≤ 16) × (t < 4294967296) × (57344 ≤ length (now area)) × Able f (now area) i × PlainIf swift (now area) i ⌝ }
+    ensures { λ r. ⌜ Taken f depth n t i (now (area .entry)) (now (area .exit)) r ⌝ }
 {
-    let e = events[i];
+    if swift {
+        return pair::quick(area, n, depth, t, f, i);
+    }
+    false
+}
+
+// The turn of station i, its events counted into `words`; whether it has a late collision. No word is past `top` yet.
+fn turn_on(
+    area: &mut [u8],
+    words: &mut [u32],
+    n: usize,
+    depth: u32,
+    t: usize,
+    f: Figures,
+    i: usize,
+    top: u32,
+) -> bool
+    requires { ⌜ (i < 16) × (n ≤ 16) × (t < 4294967296) × (57344 ≤ length (now area)) × Able f (now area) i ⌝ }
+    requires { ⌜ (length (now words) ≡ 9) × Bounded (now words) top × (top + 1 < 4294967295) ⌝ }
+    ensures area { λ r. ⌜ now (area .exit) ≡ turnIn f depth n t i (now (area .entry)) ⌝ }
+    ensures words { λ r. ⌜ now (words .exit) ≡ eventsCounted (now (words .entry)) (eventsOf (actIn f depth t (now (area .entry)) i)) ⌝ }
+    ensures late { λ r. ⌜ r ≡ hasLate (eventsOf (actIn f depth t (now (area .entry)) i)) ⌝ }
+{
+    let e = pair::turn(area, n, depth, t, f, i);
     let sent = e.sent;
+    let got = e.got;
+    count_sent(words, sent, top);
+    count_got(words, got, top + 1);
     is_late(sent)
+}
+
+// One step, its events counted into `words`; which stations have a late collision.
+fn step_on(
+    area: &mut [u8],
+    words: &mut [u32],
+    swift: bool,
+    n: usize,
+    depth: u32,
+    t: u32,
+    f: Figures,
+    top: u32,
+) -> Lates
+    requires { ⌜ (n ≤ 16) × (t < 4294967295) × (57344 ≤ length (now area)) × AllAble n f (now area) × AllPlain swift n (now area) ⌝ }
+    requires { ⌜ (length (now words) ≡ 9) × Bounded (now words) top × (top + 32 < 4294967295) ⌝ }
+    ensures area { λ r. ⌜ now (area .exit) ≡ advancedIn f depth n t (now (area .entry)) ⌝ }
+    ensures words { λ r. ⌜ now (words .exit) ≡ tallied (eventsIn f depth t (now (area .entry)) n) 16 (now (words .entry)) ⌝ }
+    ensures any { λ r. ⌜ r .any ≡ some (lateAt (eventsIn f depth t (now (area .entry)) n)) 16 ⌝ }
+    ensures late { λ r. ⌜ r .late ≡ lates (eventsIn f depth t (now (area .entry)) n) n ⌝ }
+{
+    let mut any = false;
+    let mut late = [false; 16];
+    let mut i: usize = 0;
+    while i < n {
+        if !quick(area, swift, n, depth, t as usize, f, i) {
+            let has = turn_on(area, words, n, depth, t as usize, f, i, top + 2 * i as u32);
+            late[i] = has;
+            any = octets::either(any, has);
+        }
+        i += 1;
+    }
+    area::write_clock(area, t + 1);
+    Lates { any, late }
+}
+
+// Whether nothing is on its way to station i.
+fn line_clear(area: &[u8], i: usize) -> bool
+    requires { ⌜ (i < 16) × (57344 ≤ length (now area)) ⌝ }
+    ensures { λ r. ⌜ Clear r (now (area .entry)) i ⌝ }
+{
+    let mut u: usize = 0;
+    while u < 256 {
+        if area::read_symbol(area, i, u) != 0 {
+            return false;
+        }
+        u += 1;
+    }
+    true
+}
+
+// Whether station i, of n, rests, and nothing is on its way to it.
+fn is_calm(area: &[u8], swift: bool, n: usize, i: usize) -> bool
+    requires { ⌜ (i < n) × (n ≤ 16) × (57344 ≤ length (now area)) × AllPlain swift n (now area) × (swift ≡ true) ⌝ }
+    ensures calm { λ r. ⌜ CalmIf r (now (area .entry)) i ⌝ }
+    ensures octets { λ r. ⌜ Octets (now (area .entry)) ⌝ }
+{
+    if pair::rests(area, i) {
+        return line_clear(area, i);
+    }
+    false
+}
+
+// Whether all n stations rest, and nothing is on its way: looked at in one step of 256, after the first.
+fn is_idle(area: &[u8], swift: bool, n: usize, t: u32) -> bool
+    requires { ⌜ (n ≤ 16) × (57344 ≤ length (now area)) × AllPlain swift n (now area) ⌝ }
+    ensures { λ r. ⌜ Idle r n (now (area .entry)) ⌝ }
+{
+    if t % 256 != 255 {
+        return false;
+    }
+    if !swift {
+        return false;
+    }
+    let mut i: usize = 0;
+    while i < n {
+        if !is_calm(area, swift, n, i) {
+            return false;
+        }
+        i += 1;
+    }
+    true
 }
 
 // At most n steps, on an area that is ready for them, counted into `words`.
@@ -118,15 +221,32 @@ fn run_steps(area: &mut [u8], words: &mut [u32], n: u32) -> Course
     requires { ⌜ (length (now words) ≡ 9) × Bounded (now words) 0 ⌝ }
     ensures { λ r. ⌜ courseOf r (now (words .exit)) (now (area .exit)) ≡ runOf n 0 (now (words .entry)) (now (area .entry)) ⌝ }
 {
+    let count = area::read_count(area) as usize;
+    let depth = area::read_depth(area);
+    let f = area::read_figures(area);
+    let mut clock = area::read_clock(area);
     let mut ended = Ended::All;
+    let mut swift = false;
     let mut t: u32 = 0;
     'steps: while t < n {
-        let events = pair::step(area);
-        tally(words, events, 32 * t);
+        if is_idle(area, swift, count, t) {
+            area::write_clock(area, clock + (n - t));
+            return Course {
+                steps: n,
+                ended: Ended::All,
+            };
+        }
+        let step = step_on(area, words, swift, count, depth, clock, f, 32 * t);
         t += 1;
+        clock += 1;
+        swift = true;
+        if !step.any {
+            continue;
+        }
+        let late = step.late;
         let mut i: usize = 0;
-        while i < 16 {
-            if late_at(events, i) {
+        while i < count {
+            if late[i] {
                 ended = Ended::Late {
                     step: t - 1,
                     station: i as u32,

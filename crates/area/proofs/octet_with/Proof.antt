@@ -10,8 +10,8 @@ power-requires c κs = search needs
 wide-requires : tie.Need-wide-requires
 wide-requires c κs = search needs
 
-remainder-requires : tie.Need-remainder-requires
-remainder-requires c κs = search needs
+low-bits-requires : tie.Need-low-bits-requires
+low-bits-requires c κs = search needs
 
 add-result : tie.Need-add-result
 add-result c = search needs
@@ -34,7 +34,7 @@ octet-with-spec =
     (tie.spec
     power-requires
     wide-requires
-    remainder-requires
+    low-bits-requires
     add-result
     cast-result
     returns

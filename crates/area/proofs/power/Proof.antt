@@ -4,14 +4,14 @@ use borrow.Author.Needs.{needs}
 use Rattle.area.proofs.power.Statement.{statement}
 use Rattle.area.proofs.power.Tie as tie
 
-mul-result : tie.Need-mul-result
-mul-result c = search needs
+cast-place : tie.Need-cast-place
+cast-place c = search needs
 
-array-read-result : tie.Need-array-read-result
-array-read-result c = search needs
+shl-result : tie.Need-shl-result
+shl-result c = search needs
 
 returns : tie.Need-returns
 returns c = (power-is _ (c .pre), power-small _ (c .pre))
 
 pub power-spec : {M : Type 1} → statement M
-power-spec = tie.close (tie.spec mul-result array-read-result returns)
+power-spec = tie.close (tie.spec cast-place shl-result returns)

@@ -1,5 +1,5 @@
 -- `pair::send_to` meets its contract. Assumes nothing.
-use Rattle.pair.specs.CodeLaws.{send-own, send-other}
+use Rattle.pair.specs.CodeLaws.{send-own, send-apart}
 use borrow.Author.Needs.{needs}
 use Rattle.pair.proofs.send_to.Statement.{statement}
 use Rattle.pair.proofs.send_to.Tie as tie
@@ -7,8 +7,11 @@ use Rattle.pair.proofs.send_to.Tie as tie
 returns : tie.Need-returns
 returns c = search send-own
 
-space-requires : tie.Need-space-requires
-space-requires c κs = search needs
+read-position-requires : tie.Need-read-position-requires
+read-position-requires c κs = search needs
+
+apart-requires : tie.Need-apart-requires
+apart-requires c κs = search needs
 
 cast-u : tie.Need-cast-u
 cast-u c = search needs
@@ -29,14 +32,15 @@ same-length : tie.Need-same-length
 same-length c = search needs
 
 returns-2 : tie.Need-returns-2
-returns-2 c = search send-other
+returns-2 c = search send-apart
 
 pub send-to-spec : {M : Type 1} → statement M
 send-to-spec =
     tie.close
     (tie.spec
     returns
-    space-requires
+    read-position-requires
+    apart-requires
     cast-u
     add-u
     arrival-requires

@@ -4,8 +4,9 @@ use Prim.Native.Nat.{_≤_, _-_}
 use mathlib.Core.Path.{_≡_}
 use mathlib.Core.Bool.{false}
 use Rattle.octets.specs.Base.{some}
-use Rattle.octets.specs.BaseLaws.{some-none, some-more, some-hit, some-end}
+use Rattle.octets.specs.BaseLaws.{some-none, some-end}
 use Rattle.runs.specs.Run.{lateAt}
+use Rattle.plan.specs.PieceLaws.{late-hit, late-more}
 use Rattle.plan.proofs.is_late.Statement.{statement}
 use Rattle.plan.proofs.is_late.Tie as tie
 
@@ -18,11 +19,17 @@ abbrev μ-loop : tie.MeasureT-loop
 loop-holds : tie.Need-loop-holds Inv-loop μ-loop
 loop-holds c = (omega arith, search some-none)
 
-late-at-requires : tie.Need-late-at-requires Inv-loop μ-loop
-late-at-requires c κs = omega arith
+mul-e : tie.Need-mul-e Inv-loop μ-loop
+mul-e c = omega arith
+
+array-copy-out-e : tie.Need-array-copy-out-e Inv-loop μ-loop
+array-copy-out-e c = omega arith
+
+is-late-requires : tie.Need-is-late-requires Inv-loop μ-loop
+is-late-requires c κs = omega arith
 
 returns : tie.Need-returns Inv-loop μ-loop
-returns c = search some-hit
+returns c = search late-hit
 
 add-i : tie.Need-add-i Inv-loop μ-loop
 add-i c = omega arith
@@ -31,7 +38,7 @@ loop-less : tie.Need-loop-less Inv-loop μ-loop
 loop-less c = omega arith
 
 loop-again : tie.Need-loop-again Inv-loop μ-loop
-loop-again c = (omega arith, search some-more)
+loop-again c = (omega arith, search late-more)
 
 returns-2 : tie.Need-returns-2 Inv-loop μ-loop
 returns-2 c = search some-end
@@ -43,7 +50,9 @@ is-late-spec =
     Inv-loop
     μ-loop
     loop-holds
-    late-at-requires
+    mul-e
+    array-copy-out-e
+    is-late-requires
     returns
     add-i
     loop-less

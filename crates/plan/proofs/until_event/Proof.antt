@@ -4,9 +4,9 @@ use borrow.Author.Needs.{needs}
 use Prim.Native.Nat.{_≤_, _-_}
 use mathlib.Core.Path.{_≡_, refl}
 use lib.ListN.{length}
-use Rattle.runs.specs.RunLaws.{Runnable, run-first, run-ready, run-clock, run-next}
+use Rattle.runs.specs.RunLaws.{Runnable, run-next}
 use Rattle.plan.specs.Pieces.{untilEvent}
-use Rattle.plan.specs.PieceLaws.{plus, stretch-first, stretch-on, stretch-hit, stretch-end}
+use Rattle.plan.specs.PieceLaws.{run-first, run-ready, run-clock, plus, stretch-first, stretch-on, stretch-hit, stretch-end}
 use Rattle.plan.proofs.until_event.Statement.{statement}
 use Rattle.plan.proofs.until_event.Tie as tie
 

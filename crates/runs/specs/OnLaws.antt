@@ -1,0 +1,281 @@
+-- A run as the code makes it: events are counted turn by turn, and after its first step turns may be taken quickly. Assumes nothing.
+use Prim.Native.Nat.{ℕ, zero, suc, _+_, _-_, _*_, _≤_, _<_}
+use mathlib.Core.Path.{_≡_, refl, sym, _∙_, ap, subst}
+use mathlib.Core.Bool.{Bool, true, false, not, _||_, true≢false}
+use mathlib.Core.List.{List, [], _∷_, _++_}
+use native.Mathlib.Numerals.{add-one}
+use native.Mathlib.Omega.{arith}
+use borrow.Author.Tests.{not-true}
+use lib.Dec.{eqb}
+use lib.ListN.{length, getD, set, replicate, length-append}
+use lib.Seq.{getD-append-add, set-getD}
+use Rattle.octets.specs.Base.{pick, some, accepted}
+use Rattle.octets.specs.BaseLaws.{some-none, some-more, some-same}
+use Rattle.octets.specs.Filled.{listed, filled, filled-at, filled-none, filled-more}
+use Rattle.octets.specs.Turns.{turns}
+use Rattle.layout.specs.declared.Figures.{Figures}
+use Rattle.record.specs.Codec.{encoded}
+use Rattle.area.specs.Area.{clockAt, withClock, depthAt, figuresAt, countAt}
+use Rattle.area.specs.AreaLaws.{depth-by, figures-by, count-by}
+use Rattle.pair.specs.declared.Events.{Events}
+use Rattle.pair.specs.BitTime.{actIn, turnedIn, turnIn, advancedIn, eventsOf, eventsIn, noEvents, eventsAt, stepArea}
+use Rattle.pair.specs.CodeLaws.{turned-end, advanced-is}
+use Rattle.pair.specs.Ready.{Readiness, Ready, Able, AllAble, acts-same, ready-few, ready-able, step-is, step-events}
+use Rattle.pair.specs.Quick.{Plain, AllPlain, Taken, taken-events, left-area}
+use Rattle.ready.specs.Stays.{step-clock, step-layout, step-depth, step-record, step-station}
+use Rattle.runs.specs.declared.Ended.the-variants as how
+use Rattle.runs.specs.Run.{sentCounted, gotCounted, eventAt, tallied, isLate, lateAt, Ran, runOf}
+use Rattle.runs.specs.RunLaws.{Bounded, Runnable, got-bounded, run-next, run-on, run-late}
+
+-- ---- a turn
+
+unfoldable pub eventsCounted : List ℕ → Events → List ℕ
+eventsCounted ws e = gotCounted (sentCounted ws (e .sent)) (e .got)
+
+unfoldable pub hasLate : Events → Bool
+hasLate e = isLate (e .sent)
+
+module _ (f : Figures) (d n t i : ℕ) (x b : List ℕ) (r : Bool) (h : Taken f d n t i x b r) where
+  pub taken-words : (ws : List ℕ) → r ≡ true → ws ≡ eventsCounted ws (eventsOf (actIn f d t x i))
+  unfolding eventsCounted sentCounted gotCounted
+  taken-words ws e = rw (taken-events f d n t i x b r h e)
+
+  pub taken-late : r ≡ true → false ≡ hasLate (eventsOf (actIn f d t x i))
+  unfolding hasLate
+  taken-late e = rw (taken-events f d n t i x b r h e)
+
+  pub left-able : r ≡ false → Able f x i → Able f b i
+  left-able e v = subst (λ (y : List ℕ). Able f y i) (sym (left-area f d n t i x b r h e)) v
+
+  same-events : r ≡ false → eventsOf (actIn f d t b i) ≡ eventsOf (actIn f d t x i)
+  same-events e = ap (λ (y : List ℕ). eventsOf (actIn f d t y i)) (left-area f d n t i x b r h e)
+
+  pub left-words : (ws vs : List ℕ) → r ≡ false → vs ≡ eventsCounted ws (eventsOf (actIn f d t b i)) → vs ≡ eventsCounted ws (eventsOf (actIn f d t x i))
+  left-words ws vs e p = p ∙ ap (eventsCounted ws) (same-events e)
+
+  pub left-late : (c : Bool) → r ≡ false → c ≡ hasLate (eventsOf (actIn f d t b i)) → c ≡ hasLate (eventsOf (actIn f d t x i))
+  left-late c e p = p ∙ ap hasLate (same-events e)
+
+  pub left-turn : (y : List ℕ) → r ≡ false → y ≡ turnIn f d n t i b → y ≡ turnIn f d n t i x
+  left-turn y e p = p ∙ ap (λ (z : List ℕ). turnIn f d n t i z) (left-area f d n t i x b r h e)
+
+module _ (g e : Events) (q : g ≡ e) where
+  pub counted-is : (ws vs us : List ℕ) → us ≡ gotCounted vs (g .got) → vs ≡ sentCounted ws (g .sent) → us ≡ eventsCounted ws e
+  unfolding eventsCounted
+  counted-is ws vs us p r = p ∙ rw (r, q)
+
+  pub has-late-is : (c : Bool) → c ≡ isLate (g .sent) → c ≡ hasLate e
+  unfolding hasLate
+  has-late-is c p = p ∙ ap (λ (z : Events). isLate (z .sent)) q
+
+-- ---- which stations have a late collision
+
+-- of the first n
+unfoldable pub lates : List Events → ℕ → List Bool
+lates es n = filled false (lateAt es) n
+
+or-false : (b : Bool) → (b || false) ≡ b
+or-false true = refl
+or-false false = refl
+
+module _ (es : List Events) where
+  pub any-none : false ≡ some (lateAt es) 0
+  unfolding some
+  any-none = refl
+
+  pub lates-none : replicate 16 false ≡ lates es 0
+  unfolding lates
+  lates-none = filled-none false (lateAt es)
+
+-- ---- the places after the last station
+
+length-listed : {A : Type 0} (t : ℕ → A) (n : ℕ) → length (listed t n) ≡ n
+unfolding listed
+length-listed t zero = refl
+length-listed t (suc n) = length-append (listed t n) (t n ∷ []) ∙ omega (arith, length-listed t n)
+
+blank-at : {A : Type 0} (m k : ℕ) (b : A) → getD (replicate m b) k b ≡ b
+blank-at zero k b = refl
+blank-at (suc m) zero b = refl
+blank-at (suc m) (suc k) b = blank-at m k b
+
+pub filled-past : {A : Type 0} (b : A) (t : ℕ → A) (n k : ℕ) → getD (filled b t n) (n + k) b ≡ b
+unfolding filled
+filled-past b t n k =
+    ap (λ (m : ℕ). getD (listed t n ++ replicate (16 - n) b) (m + k) b) (sym (length-listed t n))
+    ∙ getD-append-add (listed t n) (replicate (16 - n) b) k b
+    ∙ blank-at (16 - n) k b
+
+module _ (f : Figures) (d t : ℕ) (a : List ℕ) (n : ℕ) where
+  es : List Events
+  es = eventsIn f d t a n
+
+  past : (k : ℕ) → eventAt es (n + k) ≡ noEvents
+  unfolding es eventsIn
+  past k = filled-past noEvents (λ i. eventsOf (actIn f d t a i)) n k
+
+  tally-past : (k : ℕ) (ws : List ℕ) → tallied es (n + k) ws ≡ tallied es n ws
+  unfolding tallied turns sentCounted gotCounted
+  tally-past zero ws = let e : n + 0 ≡ n = omega arith in rw e
+  tally-past (suc k) ws = let e : n + suc k ≡ suc (n + k) = omega arith in rw (e, past k) (tally-past k ws)
+
+  any-past : (k : ℕ) → some (lateAt es) (n + k) ≡ some (lateAt es) n
+  unfolding some lateAt
+  any-past zero = let e : n + 0 ≡ n = omega arith in rw e
+  any-past (suc k) = let e : n + suc k ≡ suc (n + k) = omega arith in rw (e, past k) (or-false (some (lateAt es) (n + k)) ∙ any-past k)
+
+  pub tally-all : (i : ℕ) (ws vs : List ℕ) → n ≤ 16 → i ≤ n → n ≤ i → vs ≡ tallied (eventsIn f d t a n) i ws → vs ≡ tallied (eventsIn f d t a n) 16 ws
+  unfolding es
+  tally-all i ws vs h lo up p =
+      let e : i ≡ n = omega arith in
+      let g : n + (16 - n) ≡ 16 = omega arith in
+      (rw e at p) ∙ sym (tally-past (16 - n) ws) ∙ ap (λ (m : ℕ). tallied es m ws) g
+
+  pub any-all : (i : ℕ) (any : Bool) → n ≤ 16 → i ≤ n → n ≤ i → any ≡ some (lateAt (eventsIn f d t a n)) i → any ≡ some (lateAt (eventsIn f d t a n)) 16
+  unfolding es
+  any-all i any h lo up p =
+      let e : i ≡ n = omega arith in
+      let g : n + (16 - n) ≡ 16 = omega arith in
+      (rw e at p) ∙ sym (any-past (16 - n)) ∙ ap (some (lateAt es)) g
+
+  pub lates-all : (i : ℕ) (late : List Bool) → i ≤ n → n ≤ i → late ≡ lates (eventsIn f d t a n) i → late ≡ lates (eventsIn f d t a n) n
+  lates-all i late lo up p = let e : i ≡ n = omega arith in rw e at p
+
+-- ---- a step
+
+module _ (f : Figures) (d n t i : ℕ) (a x : List ℕ) (v : AllAble n f a) (hi : i < n) (room : 57344 ≤ length a) (ex : x ≡ turnedIn f d n t a i) where
+  event-here : eventsOf (actIn f d t x i) ≡ eventAt (eventsIn f d t a n) i
+  unfolding eventsIn
+  event-here = ap eventsOf (acts-same f d n t i a x v hi room ex) ∙ sym (filled-at noEvents (λ j. eventsOf (actIn f d t a j)) n i noEvents hi)
+
+  pub tally-turn : (ws us vs : List ℕ) → vs ≡ eventsCounted us (eventsOf (actIn f d t x i)) → us ≡ tallied (eventsIn f d t a n) i ws → vs ≡ tallied (eventsIn f d t a n) (i + 1) ws
+  unfolding eventsCounted tallied turns
+  tally-turn ws us vs p q = p ∙ rw (event-here, q, add-one i)
+
+  late-here : (has : Bool) → has ≡ hasLate (eventsOf (actIn f d t x i)) → has ≡ lateAt (eventsIn f d t a n) i
+  unfolding hasLate lateAt
+  late-here has q = q ∙ ap (λ (z : Events). isLate (z .sent)) event-here
+
+  pub any-turn : (any r has : Bool) → r ≡ (any || has) → has ≡ hasLate (eventsOf (actIn f d t x i)) → any ≡ some (lateAt (eventsIn f d t a n)) i → r ≡ some (lateAt (eventsIn f d t a n)) (i + 1)
+  unfolding some
+  any-turn any r has p q e = p ∙ rw (e, late-here has q, add-one i)
+
+  pub any-skip : (any : Bool) → false ≡ hasLate (eventsOf (actIn f d t x i)) → any ≡ some (lateAt (eventsIn f d t a n)) i → any ≡ some (lateAt (eventsIn f d t a n)) (i + 1)
+  any-skip any q e = any-turn any any false (sym (or-false any)) q e
+
+  pub lates-turn : (late : List Bool) (has : Bool) → n ≤ 16 → has ≡ hasLate (eventsOf (actIn f d t x i)) → late ≡ lates (eventsIn f d t a n) i → set late i has ≡ lates (eventsIn f d t a n) (i + 1)
+  unfolding lates
+  lates-turn late has h q e = filled-more false (lateAt (eventsIn f d t a n)) i n late has (late-here has q) hi h e
+
+  pub lates-skip : (late : List Bool) → n ≤ 16 → false ≡ hasLate (eventsOf (actIn f d t x i)) → late ≡ lates (eventsIn f d t a n) i → late ≡ lates (eventsIn f d t a n) (i + 1)
+  unfolding lates
+  lates-skip late h q e =
+      let z : i + 0 ≡ i = omega arith in
+      let g : getD late i false ≡ false = ap (λ (l : List Bool). getD l i false) e ∙ ap (λ (k : ℕ). getD (filled false (lateAt (eventsIn f d t a n)) i) k false) (sym z) ∙ filled-past false (lateAt (eventsIn f d t a n)) i 0 in
+      sym (set-getD late i false) ∙ ap (set late i) g ∙ lates-turn late false h q e
+
+pub advanced-turned : (f : Figures) (d n t i : ℕ) (a x b : List ℕ) → b ≡ withClock x (t + 1) → x ≡ turnedIn f d n t a i → i ≤ n → n ≤ i → b ≡ advancedIn f d n t a
+advanced-turned f d n t i a x b p q lo up = advanced-is f d n t a b x p (turned-end f d n t a x i lo up q)
+
+pub turn-bounded : (ws vs : List ℕ) (e : Events) (m i : ℕ) → vs ≡ eventsCounted ws e → Bounded ws (m + 2 * i) → Bounded vs (m + 2 * (i + 1))
+unfolding eventsCounted
+turn-bounded ws vs e m i p h = got-bounded ws (sentCounted ws (e .sent)) vs (e .sent) (e .got) m i p refl h
+
+-- ---- the run
+
+-- k steps can be made from a, whose layout, D and clock are these; its records are plain where `swift`
+unfoldable pub OnCourse : (k n d t : ℕ) → Figures → Bool → List ℕ → Type 0
+OnCourse k n d t f swift a = Runnable k a × (n ≡ countAt a) × (d ≡ depthAt a) × (t ≡ clockAt a) × (f ≡ figuresAt a) × AllPlain swift n a
+
+pub course-first : (k n m d t : ℕ) (f : Figures) (a : List ℕ) → t ≡ clockAt a → f ≡ figuresAt a → d ≡ depthAt a → m ≡ countAt a → n ≡ m → Runnable k a → OnCourse (k - 0) n d t f false a
+unfolding OnCourse AllPlain
+course-first k n m d t f a et ef ed en e h =
+    let z : k ≡ k - 0 = omega arith in
+    (subst (λ (j : ℕ). Runnable j a) z h, e ∙ en, ed, et, ef, λ q. absurd (true≢false (sym q)))
+
+module _ (k n d t : ℕ) (f : Figures) (swift : Bool) (a : List ℕ) (h : OnCourse k n d t f swift a) where
+  pub course-few : n ≤ 16
+  unfolding OnCourse Runnable Ready
+  course-few = ready-few a n (h .1) (h .0 .0)
+
+  pub course-able : AllAble n f a
+  unfolding OnCourse Runnable Ready
+  course-able = ready-able a n f (h .1) (h .4) (h .0 .0)
+
+  pub course-plain : AllPlain swift n a
+  unfolding OnCourse
+  course-plain = h .5
+
+  pub course-clock : 0 < k → t < 16777216
+  unfolding OnCourse Runnable
+  course-clock g = omega (arith, h .0 .1, h .3)
+
+  pub course-area : (b : List ℕ) → b ≡ advancedIn f d n t a → b ≡ stepArea a
+  unfolding OnCourse
+  course-area b p = step-is f d n t a b p (h .1) (h .3) (h .2) (h .4)
+
+  pub course-events : eventsIn f d t a n ≡ eventsAt a
+  unfolding OnCourse
+  course-events = step-events f d n t a (eventsIn f d t a n) refl (h .1) (h .3) (h .2) (h .4)
+
+plain-after : (a : List ℕ) → Readiness a → (i : ℕ) → i < countAt a → Plain (stepArea a) i
+unfolding Plain
+plain-after a r i h = ap encoded (step-station a r i h) ∙ sym (step-record a r i h)
+
+pub course-next : (m t n d c : ℕ) (f : Figures) (swift : Bool) (a b : List ℕ) → OnCourse (m - t) n d c f swift a → b ≡ advancedIn f d n c a → t < m → OnCourse (m - (t + 1)) n d (c + 1) f true b
+unfolding OnCourse Runnable AllPlain
+course-next m t n d c f swift a b h p g =
+    let r : Readiness a = h .0 .0 in
+    let e : b ≡ stepArea a = course-area (m - t) n d c f swift a h b p in
+    let en : countAt (stepArea a) ≡ countAt a = count-by (stepArea a) a (step-layout a r) in
+    rw e (
+      run-next m t a (stepArea a) refl (h .0) g,
+      h .1 ∙ sym en,
+      h .2 ∙ sym (depth-by (stepArea a) a (step-depth a r)),
+      ap (λ (z : ℕ). z + 1) (h .3) ∙ sym (step-clock a r),
+      h .4 ∙ sym (figures-by (stepArea a) a (step-layout a r)),
+      λ q i hi. plain-after a r i (omega (arith, h .1)),
+    )
+
+-- none of the first i. Shut, so that a search does not enter it
+unfoldable pub NoneLate : List Bool → ℕ → Type 0
+NoneLate late i = some (λ k. getD late k false) i ≡ false
+
+pub none-late-first : (late : List Bool) → NoneLate late 0
+unfolding NoneLate
+none-late-first late = some-none (λ k. getD late k false)
+
+pub none-late-more : (late : List Bool) (i : ℕ) → getD late i false ≡ false → NoneLate late i → NoneLate late (i + 1)
+unfolding NoneLate
+none-late-more late i e h = some-more (λ k. getD late k false) i (getD late i false) refl e h
+
+none-late-is : (es : List Events) (n i : ℕ) (late : List Bool) → late ≡ lates es n → i ≤ n → NoneLate late i → some (lateAt es) i ≡ false
+unfolding NoneLate lates
+none-late-is es n i late e h p =
+    some-same (lateAt es) (λ k. getD late k false) i (λ k g. sym (ap (λ (l : List Bool). getD l k false) e ∙ filled-at false (lateAt es) n k false (omega arith))) ∙ p
+
+module _ (m t n d c : ℕ) (f : Figures) (swift : Bool) (a : List ℕ) (h : OnCourse (m - t) n d c f swift a) (g : t < m) (ws vs b : List ℕ) (R : Ran)
+    (eb : b ≡ advancedIn f d n c a) (ev : vs ≡ tallied (eventsIn f d c a n) 16 ws) (p : runOf (m - t) t ws a ≡ R) where
+  on : (any : Bool) → any ≡ some (lateAt (eventsIn f d c a n)) 16 → any ≡ false → runOf (m - (t + 1)) (t + 1) vs b ≡ R
+  on any e q =
+      run-on m t ws a R (eventsIn f d c a n) vs b 16 (course-area (m - t) n d c f swift a h b eb) (course-events (m - t) n d c f swift a h) ev
+      (sym e ∙ q) (omega arith) (omega arith) g p
+
+  pub course-on : (any : Bool) → any ≡ some (lateAt (eventsIn f d c a n)) 16 → not any ≡ true → runOf (m - (t + 1)) (t + 1) vs b ≡ R
+  course-on any e q = on any e (not-true any q)
+
+  pub course-late : (late : List Bool) (i : ℕ) → late ≡ lates (eventsIn f d c a n) n → getD late i false ≡ true → NoneLate late i → i < n
+      → record { answer = accepted []; steps = t + 1; words = vs; ended = how.Late (t + 1 - 1) i; octets = b } ≡ R
+  unfolding lates
+  course-late late i e q w hi =
+      let k : i < 16 = let few = course-few (m - t) n d c f swift a h in omega arith in
+      let x : getD late i false ≡ lateAt (eventsIn f d c a n) i = ap (λ (l : List Bool). getD l i false) e ∙ filled-at false (lateAt (eventsIn f d c a n)) n i false hi in
+      run-late m t ws a R (eventsIn f d c a n) vs b i (getD late i false) (course-area (m - t) n d c f swift a h b eb) (course-events (m - t) n d c f swift a h) ev x q
+      (none-late-is (eventsIn f d c a n) n i late e (omega arith) w) k g p
+
+  -- none is found: then none was late
+  pub course-searched : (late : List Bool) (i : ℕ) → late ≡ lates (eventsIn f d c a n) n → NoneLate late i → i ≤ n → n ≤ i → runOf (m - (t + 1)) (t + 1) vs b ≡ R
+  course-searched late i e w lo up =
+      let few = course-few (m - t) n d c f swift a h in
+      let z : some (lateAt (eventsIn f d c a n)) i ≡ false = none-late-is (eventsIn f d c a n) n i late e lo w in
+      on (some (lateAt (eventsIn f d c a n)) i) (any-all f d c a n i (some (lateAt (eventsIn f d c a n)) i) few lo up refl) z
