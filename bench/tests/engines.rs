@@ -2,7 +2,7 @@
 
 mod common;
 
-use common::{by_station, cases, draws, number, offer, same_area, sheet, Rng};
+use common::{by_station, cases, draws, number, offer, same_area, setting, sheet, Rng, Setting};
 use wisavulome_bench::area::{self, AREA};
 use wisavulome_bench::fast::Fast;
 use wisavulome_bench::layout;
@@ -90,11 +90,7 @@ fn printed<E: Engine>(input: &[u8]) -> String {
 fn plain_through_areas() {
     for case in 0..cases(100) {
         let rng = &mut Rng::new(3, case);
-        let sheet = sheet(rng);
-        let (layout, _) = layout::read_sheet(&sheet).expect("a sheet that is not refused");
-        let n = layout.places.len();
-        let depth = rng.edgy(1, 16);
-        let draws = draws(rng, n, depth as usize);
+        let Setting { sheet, layout, depth, draws } = setting(rng);
         let mut world = World::start(&layout, &by_station(&draws, depth as usize));
         let mut mirror = vec![0; AREA];
         let mut area = rng.octets(AREA);

@@ -4,7 +4,9 @@ mod common;
 
 use std::fmt::Debug;
 
-use common::{by_station, cases, damaged, damaged_sheet, draws, made_up_area, offer, same_area, sheet, Rng};
+use common::{
+    by_station, cases, damaged, damaged_sheet, draws, made_up_area, offer, same_area, setting, sheet, Rng, Setting,
+};
 use wisavulome_bench::area::{self, AREA};
 use wisavulome_bench::plain::World;
 use wisavulome_bench::{crc, frame, layout, ours};
@@ -170,11 +172,8 @@ fn lists_of_calls() {
     let mut words = [0u64; 9];
     for case in 0..cases(1_500) {
         let rng = &mut Rng::new(13, case);
-        let sheet = sheet(rng);
-        let (layout, _) = layout::read_sheet(&sheet).expect("a sheet that is not refused");
+        let Setting { sheet, layout, depth, draws } = setting(rng);
         let n = layout.places.len();
-        let depth = rng.edgy(1, 16);
-        let draws = draws(rng, n, depth as usize);
         let mut world = World::start(&layout, &by_station(&draws, depth as usize));
         let size = AREA + if rng.one_in(4) { rng.range(1, 64) as usize } else { 0 };
         let mut area = rng.octets(size);
@@ -277,11 +276,8 @@ fn contention() {
     let mut words = [0u64; 9];
     for case in 0..cases(400) {
         let rng = &mut Rng::new(15, case);
-        let sheet = sheet(rng);
-        let (layout, _) = layout::read_sheet(&sheet).expect("a sheet that is not refused");
+        let Setting { sheet, layout, depth, draws } = setting(rng);
         let n = layout.places.len();
-        let depth = rng.edgy(1, 16);
-        let draws = draws(rng, n, depth as usize);
         let mut world = World::start(&layout, &by_station(&draws, depth as usize));
         let mut area = vec![0; AREA];
         let mut mirror = area.clone();

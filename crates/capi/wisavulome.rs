@@ -31,13 +31,8 @@ extern "C" {
     pub fn wisavulome_status(frame: *const u8, frame_len: usize, excess: u32) -> u32;
 
     // The status; refusals 5, 15. out: where the client data begin, and their octets.
-    pub fn wisavulome_client_data(
-        frame: *const u8,
-        frame_len: usize,
-        excess: u32,
-        out: *mut u8,
-        out_len: usize,
-    ) -> u32;
+    pub fn wisavulome_client_data(frame: *const u8, frame_len: usize, excess: u32, out: *mut u8, out_len: usize)
+        -> u32;
 
     // 0; refusals 1, 3 to 8, 9.
     pub fn wisavulome_start(
@@ -68,22 +63,10 @@ extern "C" {
     pub fn wisavulome_run(area: *mut u8, area_len: usize, n: u32, out: *mut u8, out_len: usize) -> u32;
 
     // The octets of the frame; refusals 1, 2, 10, 14, 15. out: the frame.
-    pub fn wisavulome_read_frame(
-        area: *const u8,
-        area_len: usize,
-        station: u32,
-        out: *mut u8,
-        out_len: usize,
-    ) -> u32;
+    pub fn wisavulome_read_frame(area: *const u8, area_len: usize, station: u32, out: *mut u8, out_len: usize) -> u32;
 
     // 0; refusals 1, 2, 10, 15. out: the sixteen counters.
-    pub fn wisavulome_counters(
-        area: *const u8,
-        area_len: usize,
-        station: u32,
-        out: *mut u8,
-        out_len: usize,
-    ) -> u32;
+    pub fn wisavulome_counters(area: *const u8, area_len: usize, station: u32, out: *mut u8, out_len: usize) -> u32;
 
     // The CRC-32, all 32 bits.
     pub fn wisavulome_crc32(payload: *const u8, payload_len: usize) -> u32;

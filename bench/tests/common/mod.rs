@@ -223,6 +223,22 @@ pub fn draws(rng: &mut Rng, n: usize, depth: usize) -> Vec<u8> {
         .collect()
 }
 
+/// What a fresh start is made on: a sheet that is not refused, its layout, D and the draws.
+pub struct Setting {
+    pub sheet: Vec<u8>,
+    pub layout: Layout,
+    pub depth: u32,
+    pub draws: Vec<u8>,
+}
+
+pub fn setting(rng: &mut Rng) -> Setting {
+    let sheet = sheet(rng);
+    let (layout, _) = layout::read_sheet(&sheet).expect("a sheet that is not refused");
+    let depth = rng.edgy(1, 16);
+    let draws = draws(rng, layout.places.len(), depth as usize);
+    Setting { sheet, layout, depth, draws }
+}
+
 /// Draws by station, as the engines here take them.
 pub fn by_station(draws: &[u8], depth: usize) -> Vec<Vec<u16>> {
     draws
