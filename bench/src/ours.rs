@@ -6,6 +6,7 @@
 use crate::Refusal;
 
 #[path = "../../crates/capi/wisavulome.rs"]
+#[allow(dead_code)] // the declarations are whole, whatever is used here
 mod c;
 
 type Answer = Result<u32, Refusal>;
