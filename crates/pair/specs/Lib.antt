@@ -3,4 +3,3 @@ pub mod Range
 pub mod InPlace
 pub mod Ready
 pub mod CodeLaws
-pub mod Quick

@@ -21,7 +21,7 @@ use Rattle.pair.specs.declared.Events.{Events}
 use Rattle.pair.specs.BitTime.{actIn, turnedIn, turnIn, advancedIn, eventsOf, eventsIn, noEvents, eventsAt, stepArea}
 use Rattle.pair.specs.CodeLaws.{turned-end, advanced-is}
 use Rattle.pair.specs.Ready.{Readiness, Ready, Able, AllAble, acts-same, ready-few, ready-able, step-is, step-events}
-use Rattle.pair.specs.Quick.{Plain, AllPlain, Taken, taken-events, left-area}
+use Rattle.quick.specs.Quick.{Plain, AllPlain, Taken, taken-events, left-area}
 use Rattle.ready.specs.Stays.{step-clock, step-layout, step-depth, step-record, step-station}
 use Rattle.runs.specs.declared.Ended.the-variants as how
 use Rattle.runs.specs.Run.{sentCounted, gotCounted, eventAt, tallied, isLate, lateAt, Ran, runOf}

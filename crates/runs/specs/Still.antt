@@ -22,7 +22,7 @@ use Rattle.area.specs.Places.{layout, station, place}
 use Rattle.area.specs.Area.{clockAt, withClock, depthAt, figuresAt, countAt, recordAt, symbolAt}
 use Rattle.area.specs.AreaLaws.{count-by, record-by, station-by, symbol-by, symbol-turn, clock-keeps, clock-same, length-clock}
 use Rattle.pair.specs.BitTime.{actIn, actAt, settled, turnIn, eventsOf, noEvents, eventsAt, stepArea}
-use Rattle.pair.specs.Quick.{Plain, AllPlain, restsIn, Taken, rest-taken, taken-area, taken-events}
+use Rattle.quick.specs.Quick.{Plain, AllPlain, restsIn, Taken, rest-taken, taken-area, taken-events}
 use Rattle.runs.specs.declared.Ended.the-variants as how
 use Rattle.runs.specs.Run.{sentCounted, gotCounted, eventAt, tallied, lateAt, Ran, runOf}
 use Rattle.runs.specs.RunLaws.{Runnable}

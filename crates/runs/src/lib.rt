@@ -15,7 +15,7 @@ ghost use Rattle.octets.specs.NumberLaws.{Octets};
 ghost use Rattle.area.specs.Area.{bufferAt};
 ghost use Rattle.pair.specs.BitTime.{actIn, turnIn, eventsOf, eventsIn, advancedIn};
 ghost use Rattle.pair.specs.Ready.{Able, AllAble};
-ghost use Rattle.pair.specs.Quick.{PlainIf, AllPlain, Taken};
+ghost use Rattle.quick.specs.Quick.{PlainIf, AllPlain, Taken};
 ghost use Rattle.bus.specs.Offer.{doneAnswer};
 ghost use Rattle.runs.specs.Run.{bumped, sentCounted, gotCounted, tallied, isLate, lateAt, courseOf, runOf, runOutcome, ran};
 ghost use Rattle.runs.specs.RunLaws.{Bounded, Runnable};
@@ -104,7 +104,7 @@ fn quick(area: &mut [u8], swift: bool, n: usize, depth: u32, t: usize, f: Figure
     ensures { λ r. ⌜ Taken f depth n t i (now (area .entry)) (now (area .exit)) r ⌝ }
 {
     if swift {
-        return pair::quick(area, n, depth, t, f, i);
+        return quick::turn(area, n, depth, t, f, i);
     }
     false
 }
@@ -188,7 +188,7 @@ fn is_calm(area: &[u8], swift: bool, n: usize, i: usize) -> bool
     ensures calm { λ r. ⌜ CalmIf r (now (area .entry)) i ⌝ }
     ensures octets { λ r. ⌜ Octets (now (area .entry)) ⌝ }
 {
-    if pair::rests(area, i) {
+    if quick::rests(area, i) {
         return line_clear(area, i);
     }
     false

@@ -9,7 +9,7 @@ use lib.ListN.{length}
 use Rattle.pair.specs.BitTime.{turnedIn, eventsIn}
 use Rattle.pair.specs.CodeLaws.{turned-none}
 use Rattle.pair.specs.Ready.{turn-able, turn-next}
-use Rattle.pair.specs.Quick.{turn-plain, taken-area}
+use Rattle.quick.specs.Quick.{turn-plain, taken-area}
 use Rattle.octets.specs.Base.{some}
 use Rattle.runs.specs.Run.{tallied, lateAt}
 use Rattle.runs.specs.RunLaws.{Bounded, start-bounded, tally-none}

@@ -1,0 +1,44 @@
+-- `quick::backs` meets its contract. Assumes nothing.
+use Rattle.quick.specs.Quick.{backs-is}
+use Rattle.octets.specs.NumberLaws.{octets-by}
+use native.Mathlib.Omega.{arith}
+use borrow.Author.Needs.{needs}
+use Rattle.quick.proofs.backs.Statement.{statement}
+use Rattle.quick.proofs.backs.Tie as tie
+
+read-code-requires : tie.Need-read-code-requires
+read-code-requires c κs = search needs
+
+read-code-requires-2 : tie.Need-read-code-requires-2
+read-code-requires-2 c κs = search needs
+
+read-code-requires-3 : tie.Need-read-code-requires-3
+read-code-requires-3 c κs = search needs
+
+read-code-requires-4 : tie.Need-read-code-requires-4
+read-code-requires-4 c κs = search needs
+
+both-requires : tie.Need-both-requires
+both-requires c κs = search needs
+
+both-requires-2 : tie.Need-both-requires-2
+both-requires-2 c κs = search needs
+
+both-requires-3 : tie.Need-both-requires-3
+both-requires-3 c κs = search needs
+
+returns : tie.Need-returns
+returns c = (search backs-is, octets-by _ (λ k. omega (arith, c .before .before .before .before .before .before .before .shared-slice-known .given k)))
+
+pub backs-spec : {M : Type 1} → statement M
+backs-spec =
+    tie.close
+    (tie.spec
+    read-code-requires
+    read-code-requires-2
+    read-code-requires-3
+    read-code-requires-4
+    both-requires
+    both-requires-2
+    both-requires-3
+    returns)
