@@ -4,10 +4,12 @@ use mathlib.Core.Path.{_≡_, refl, sym, _∙_, ap, ap₂}
 use mathlib.Core.Bool.{Bool, true, false, _||_, true≢false}
 use mathlib.Core.List.{List}
 use native.Mathlib.Omega.{arith}
-use borrow.Author.Tests.{lt-ltb, le-ltb, eq-eqb, ne-eqb, ltb-false, eqb-true}
+use native.Mathlib.Numerals.{add-one}
+use borrow.Author.Tests.{lt-ltb, le-ltb, eq-eqb, ne-eqb, ltb-true, ltb-false, eqb-true}
 use lib.Dec.{ltb, eqb}
 use lib.ListN.{length}
 use Rattle.octets.specs.Base.{pick, some, outside}
+use Rattle.octets.specs.BaseLaws.{by-test}
 use Rattle.layout.specs.declared.Figures.{Figures}
 use Rattle.layout.specs.declared.Layout.{Layout}
 use Rattle.layout.specs.Check.{refusalOf}
@@ -15,9 +17,36 @@ use Rattle.layout.specs.CheckLaws.{Sound, sound}
 use Rattle.area.specs.Area.{clockAt, depthAt, figuresAt, countAt, layoutAt, recordAt, symbolAt}
 use Rattle.valid.specs.Valid.{recordWrong, symbolWrong, stationWrong, areaWrong, areaRefusal}
 
-pub symbol-is : (a : List ℕ) (i u x : ℕ) → x ≡ symbolAt a i u → ltb 4 x ≡ symbolWrong a i u
-unfolding symbolWrong
-symbol-is a i u x p = ap (ltb 4) p
+-- ---- a line, by the largest of its codes
+
+module _ (x y : ℕ) where
+  pub larger-second : x < y → y ≡ pick (ltb x y) y x
+  larger-second h = rw (lt-ltb x y h)
+
+  pub larger-first : y ≤ x → x ≡ pick (ltb x y) y x
+  larger-first h = rw (le-ltb x y h)
+
+larger-over : (p x : ℕ) → ltb 4 (pick (ltb p x) x p) ≡ (ltb 4 p || ltb 4 x)
+larger-over p x =
+    by-test (ltb p x)
+    (λ e. by-test (ltb 4 p)
+    (λ h. rw (e, h) (lt-ltb 4 x (omega (arith, ltb-true p x e, ltb-true 4 p h))))
+    (λ h. rw (e, h)))
+    (λ e. by-test (ltb 4 p)
+    (λ h. rw (e, h))
+    (λ h. rw (e, h) (sym (le-ltb 4 x (omega (arith, ltb-false p x e, ltb-false 4 p h))))))
+
+module _ (a : List ℕ) (i : ℕ) where
+  pub line-none : some (symbolWrong a i) 0 ≡ ltb 4 0
+  unfolding some
+  line-none = refl
+
+  pub line-more : (u x p q : ℕ) → q ≡ pick (ltb p x) x p → x ≡ symbolAt a i u → some (symbolWrong a i) u ≡ ltb 4 p → some (symbolWrong a i) (u + 1) ≡ ltb 4 q
+  unfolding some symbolWrong
+  line-more u x p q eq ex h = rw (add-one u, h, ← ex, eq) (sym (larger-over p x))
+
+  pub line-end : (u p : ℕ) → u ≤ 256 → 256 ≤ u → some (symbolWrong a i) u ≡ ltb 4 p → ltb 4 p ≡ some (symbolWrong a i) 256
+  line-end u p h k e = let z : u ≡ 256 = omega arith in sym (rw z at e)
 
 pub station-is : (a w : List ℕ) (i d t : ℕ) (f : Figures) (r b c : Bool) → r ≡ (b || c) → c ≡ some (symbolWrong a i) 256
     → b ≡ recordWrong f d t w → w ≡ recordAt a i → f ≡ figuresAt a → d ≡ depthAt a → t ≡ clockAt a → r ≡ stationWrong a i

@@ -4,7 +4,8 @@ use layout::Figures;
 ghost use mathlib.Core.Path.{_≡_};
 ghost use Prim.Native.Nat.{_+_, _<_, _≤_};
 ghost use lib.ListN.{length, getD};
-ghost use Rattle.octets.specs.Base.{some};
+ghost use lib.Dec.{ltb};
+ghost use Rattle.octets.specs.Base.{pick, some};
 ghost use Rattle.area.specs.Area.{figuresAt};
 ghost use Rattle.valid.specs.Valid.{deferenceWrong, attemptsWrong, numberWrong, transmitterWrong, receiverWrong, recordWrong, symbolWrong, stationWrong, areaWrong, areaRefusal};
 
@@ -125,26 +126,24 @@ fn record_wrong(f: Figures, depth: u32, clock: u32, w: [u32; 14]) -> bool
     1 < w[13]
 }
 
-fn symbol_wrong(area: &[u8], i: usize, u: usize) -> bool
-    requires { ⌜ (i < 16) × (57344 ≤ length (now area)) ⌝ }
-    ensures { λ r. ⌜ r ≡ symbolWrong (now (area .entry)) i u ⌝ }
+fn larger(x: u8, y: u8) -> u8
+    ensures { λ r. ⌜ r ≡ pick (ltb x y) y x ⌝ }
 {
-    4 < area::read_symbol(area, i, u)
+    if x < y { y } else { x }
 }
 
-// Whether a code in the delay line of station i stands for nothing.
+// Whether a code in the delay line of station i stands for nothing: the largest one tells, found without a branch.
 fn line_wrong(area: &[u8], i: usize) -> bool
     requires { ⌜ (i < 16) × (57344 ≤ length (now area)) ⌝ }
     ensures { λ r. ⌜ r ≡ some (symbolWrong (now (area .entry)) i) 256 ⌝ }
 {
+    let mut top: u8 = 0;
     let mut u: usize = 0;
     while u < 256 {
-        if symbol_wrong(area, i, u) {
-            return true;
-        }
+        top = larger(top, area::read_symbol(area, i, u));
         u += 1;
     }
-    false
+    4 < top
 }
 
 fn station_wrong(area: &[u8], i: usize) -> bool
