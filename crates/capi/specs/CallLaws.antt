@@ -35,7 +35,7 @@ use Rattle.bus.specs.Step.{Bit, bitTimeOutcome, unstepped, steppedOnce}
 use Rattle.bus.specs.Counters.{Reading as Counted, countersReading, countersRead}
 use Rattle.runs.specs.declared.RunAnswer.{RunAnswer}
 use Rattle.runs.specs.Run.{lateAt, tallied, Ran, runOf, runOutcome, unrun, ran}
-use Rattle.runs.specs.Read.{frameRead}
+use Rattle.reading.specs.Read.{frameRead}
 use Rattle.capi.specs.Capi.{replied, valueOf, codeOf, given, left, codeGiven, unless, kept, bothKept, short, layoutPut, sheetGiven, fitsGiven, buildGiven, statusGiven, clientWords, clientGiven, drawsRefusal, drawnGiven, startGiven, offerGiven, eventsPut, stepLeft, runPut, runLeft, timeRefusal, frameGiven, countersGiven}
 use Rattle.capi.specs.Numbers.{sheet-low, sheet-few, fit-low, open-low, open-small, build-low, build-small, start-low, offer-low, time-low, frame-low, counters-low}
 

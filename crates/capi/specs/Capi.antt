@@ -34,7 +34,7 @@ use Rattle.bus.specs.Counters.{countersRead}
 use Rattle.runs.specs.declared.Ended.{Ended}
 use Rattle.runs.specs.declared.Ended.the-variants as how
 use Rattle.runs.specs.Run.{eventAt, ran}
-use Rattle.runs.specs.Read.{frameRead}
+use Rattle.reading.specs.Read.{frameRead}
 
 -- ---- the number that a call returns
 

@@ -29,8 +29,8 @@ use Rattle.bus.specs.Offer.{holds, offered}
 use Rattle.bus.specs.Step.{steppedOnce}
 use Rattle.bus.specs.Counters.{countersRead}
 use Rattle.runs.specs.Run.{lateAt, tallied, runOf, ran}
-use Rattle.runs.specs.Read.{isReadable, frameRead}
-use Rattle.runs.specs.ReadLaws.{read-room}
+use Rattle.reading.specs.Read.{isReadable, frameRead}
+use Rattle.reading.specs.ReadLaws.{read-room}
 use Rattle.capi.specs.Capi.{refusalBit, replied, valueOf, Given, given, Left, left, codeGiven, unless, kept, bothKept, short, layoutPut, sheetGiven, buildGiven, clientWords, clientGiven, drawsRefusal, drawnGiven, startGiven, offerGiven, eventsPut, stepLeft, runPut, runLeft, frameGiven, countersGiven}
 use Rattle.capi.specs.Numbers.{sheet-small, build-size}
 

@@ -28,7 +28,7 @@ use Rattle.valid.specs.Valid.{areaWrong, areaRefusal}
 use Rattle.bus.specs.Start.{started}
 use Rattle.bus.specs.Offer.{holds, offered}
 use Rattle.bus.specs.Counters.{countersRead}
-use Rattle.runs.specs.Read.{isReadable, frameRead}
+use Rattle.reading.specs.Read.{isReadable, frameRead}
 use Rattle.capi.specs.Capi.{valueOf, timeRefusal}
 
 -- ---- sheets

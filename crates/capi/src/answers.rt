@@ -7,7 +7,7 @@ use layout::Fit;
 use pair::Events;
 use receiver::ReceiveEvent;
 use runs::Ended;
-use runs::Reading;
+use reading::Reading;
 use sheet::SheetRead;
 use transmitter::TransmitEvent;
 ghost use mathlib.Core.Path.{_≡_};
@@ -19,7 +19,7 @@ ghost use Rattle.sheet.specs.Sheet.{sheetAnswer};
 ghost use Rattle.frame.specs.Build.{builtAnswer};
 ghost use Rattle.frame.specs.Open.{statusAnswer};
 ghost use Rattle.bus.specs.Offer.{doneAnswer};
-ghost use Rattle.runs.specs.Read.{readAnswer};
+ghost use Rattle.reading.specs.Read.{readAnswer};
 ghost use Rattle.capi.specs.Capi.{replied, valueOf, clientWords, sentCode, sentNumber, gotCode, gotNumber, eventWords, endedWords};
 
 // Set in a reply that is a refusal.

@@ -215,7 +215,7 @@ pub extern "C" fn wisavulome_run(area: &mut [u8], n: u32, out: &mut [u8]) -> u32
 pub extern "C" fn wisavulome_read_frame(area: &[u8], station: u32, out: &mut [u8]) -> u32
     ensures { λ r. ⌜ given r (now (out .exit)) ≡ frameGiven (now (area .entry)) station (now (out .entry)) ⌝ }
 {
-    let g = runs::read_frame(area, station as usize, out);
+    let g = reading::read_frame(area, station as usize, out);
     answers::reply(answers::read_number(g), answers::read_size(g))
 }
 

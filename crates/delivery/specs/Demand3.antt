@@ -20,7 +20,7 @@ use Rattle.pair.specs.BitTime.{actAt, eventsAt}
 use Rattle.bus.specs.Offer.{offered}
 use Rattle.bus.specs.Step.{steppedOnce}
 use Rattle.runs.specs.Run.{tallied, ran}
-use Rattle.runs.specs.Read.{frameRead}
+use Rattle.reading.specs.Read.{frameRead}
 use Rattle.delivery.specs.Calls.{Call, offer, step, run, read, Moment, made, leaves, log, end, begin, momentAt, sentAt, gotAt, hearsAt}
 use Rattle.delivery.specs.Balance.{AllBalanced}
 

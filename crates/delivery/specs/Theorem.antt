@@ -44,7 +44,7 @@ use Rattle.bus.specs.Offer.{holds, offered}
 use Rattle.bus.specs.Start.{started}
 use Rattle.bus.specs.Step.{steppedOnce}
 use Rattle.runs.specs.Run.{eventAt, tallied, lateAt, Ran, runOf, ran}
-use Rattle.runs.specs.Read.{isReadable, frameRead}
+use Rattle.reading.specs.Read.{isReadable, frameRead}
 use Rattle.trace.specs.World as world
 use Rattle.trace.specs.World.{Net, Offer, ready}
 use Rattle.trace.specs.Run as exec

@@ -22,7 +22,8 @@ use Rattle.pair.specs.declared.Events.{Events}
 use Rattle.pair.specs.BitTime.{isTransmit, isReceive, noEvents, eventsAt, stepArea}
 use Rattle.bus.specs.declared.Done.{Done}
 use Rattle.bus.specs.Offer.{doneAnswer, offered}
-use Rattle.runs.specs.Run.{isLate, lateAt}
+use Rattle.tally.specs.Tally.{isLate}
+use Rattle.runs.specs.Run.{lateAt}
 use Rattle.runs.specs.RunLaws.{Runnable, clock-within, run-allowed, run-next}
 use Rattle.pair.specs.Ready.{Ready}
 use Rattle.ready.specs.Stays.{step-clock}

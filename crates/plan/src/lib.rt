@@ -84,7 +84,7 @@ fn is_late(events: [Events; 16]) -> bool
     while i < 16 {
         let e = events[i];
         let sent = e.sent;
-        if runs::is_late(sent) {
+        if tally::is_late(sent) {
             return true;
         }
         i += 1;

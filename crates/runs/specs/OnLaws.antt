@@ -24,8 +24,10 @@ use Rattle.pair.specs.Ready.{Readiness, Ready, Able, AllAble, acts-same, ready-
 use Rattle.quick.specs.Quick.{Plain, AllPlain, Taken, taken-events, left-area}
 use Rattle.ready.specs.Stays.{step-clock, step-layout, step-depth, step-record, step-station}
 use Rattle.runs.specs.declared.Ended.the-variants as how
-use Rattle.runs.specs.Run.{sentCounted, gotCounted, eventAt, tallied, isLate, lateAt, Ran, runOf}
-use Rattle.runs.specs.RunLaws.{Bounded, Runnable, got-bounded, run-next, run-on, run-late}
+use Rattle.tally.specs.Tally.{sentCounted, gotCounted, isLate}
+use Rattle.runs.specs.Run.{eventAt, tallied, lateAt, Ran, runOf}
+use Rattle.tally.specs.TallyLaws.{Bounded, got-bounded}
+use Rattle.runs.specs.RunLaws.{Runnable, run-next, run-on, run-late}
 
 -- ---- a turn
 

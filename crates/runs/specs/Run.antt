@@ -11,6 +11,7 @@ use Rattle.receiver.specs.declared.ReceiveEvent.{ReceiveEvent}
 use Rattle.receiver.specs.declared.ReceiveEvent.the-variants.{NoReceive, GotOk, GotTooLong, GotAlignment, GotCheck, GotLength}
 use Rattle.transmitter.specs.declared.TransmitEvent.{TransmitEvent}
 use Rattle.transmitter.specs.declared.TransmitEvent.the-variants.{NoTransmit, Collision, Late, Sent, GivenUp}
+use Rattle.tally.specs.Tally.{sentCounted, gotCounted, isLate}
 use Rattle.area.specs.Area.{clockAt}
 use Rattle.valid.specs.Valid.{areaRefusal}
 use Rattle.pair.specs.declared.Events.{Events}
@@ -22,26 +23,7 @@ use Rattle.runs.specs.declared.Ended.the-variants as how
 use Rattle.runs.specs.declared.Course.{Course}
 use Rattle.runs.specs.declared.RunAnswer.{RunAnswer}
 
--- ---- counting: "`got` with each status is a word of its own"
-
--- one more of word k: collision, late, sent, given-up, got ok, got too-long, got alignment, got check, got length
-unfoldable pub bumped : List ℕ → ℕ → List ℕ
-bumped ws k = set ws k (getD ws k 0 + 1)
-
-unfoldable pub sentCounted : List ℕ → TransmitEvent → List ℕ
-sentCounted ws NoTransmit = ws
-sentCounted ws (Collision k) = bumped ws 0
-sentCounted ws (Late k) = bumped ws 1
-sentCounted ws (Sent n) = bumped ws 2
-sentCounted ws (GivenUp n) = bumped ws 3
-
-unfoldable pub gotCounted : List ℕ → ReceiveEvent → List ℕ
-gotCounted ws NoReceive = ws
-gotCounted ws (GotOk n) = bumped ws 4
-gotCounted ws (GotTooLong n) = bumped ws 5
-gotCounted ws (GotAlignment n) = bumped ws 6
-gotCounted ws (GotCheck n) = bumped ws 7
-gotCounted ws (GotLength n) = bumped ws 8
+-- ---- counting
 
 -- the events of station i, and those of the first n
 abbrev pub eventAt : List Events → ℕ → Events
@@ -51,13 +33,6 @@ unfoldable pub tallied : List Events → ℕ → List ℕ → List ℕ
 tallied es n ws = turns (λ i x. gotCounted (sentCounted x (eventAt es i .sent)) (eventAt es i .got)) n ws
 
 -- ---- the early end
-
-abbrev pub isLate : TransmitEvent → Bool
-isLate NoTransmit = false
-isLate (Collision k) = false
-isLate (Late k) = true
-isLate (Sent n) = false
-isLate (GivenUp n) = false
 
 unfoldable pub lateAt : List Events → ℕ → Bool
 lateAt es i = isLate (eventAt es i .sent)

@@ -24,7 +24,8 @@ use Rattle.area.specs.AreaLaws.{count-by, record-by, station-by, symbol-by, sym
 use Rattle.pair.specs.BitTime.{actIn, actAt, settled, turnIn, eventsOf, noEvents, eventsAt, stepArea}
 use Rattle.quick.specs.Quick.{Plain, AllPlain, restsIn, Taken, rest-taken, taken-area, taken-events}
 use Rattle.runs.specs.declared.Ended.the-variants as how
-use Rattle.runs.specs.Run.{sentCounted, gotCounted, eventAt, tallied, lateAt, Ran, runOf}
+use Rattle.tally.specs.Tally.{sentCounted, gotCounted}
+use Rattle.runs.specs.Run.{eventAt, tallied, lateAt, Ran, runOf}
 use Rattle.runs.specs.RunLaws.{Runnable}
 use Rattle.runs.specs.OnLaws.{filled-past, OnCourse, course-few}
 

@@ -1,27 +1,23 @@
-// Runs over many bit times, and readings of received frames.
+// Runs over many bit times.
 
 use bus::Done;
 use layout::Figures;
-use receiver::ReceiveEvent;
-use receiver::Receiver;
-use transmitter::TransmitEvent;
 ghost use mathlib.Core.Path.{_≡_};
 ghost use mathlib.Core.Bool.{true};
 ghost use Prim.Native.Nat.{_+_, _<_, _≤_};
-ghost use lib.ListN.{length, getD, take, replicate};
-ghost use lib.Seq.{sets};
-ghost use Rattle.octets.specs.Base.{some, refused, outcome};
+ghost use lib.ListN.{length, getD, replicate};
+ghost use Rattle.octets.specs.Base.{some, refused};
 ghost use Rattle.octets.specs.NumberLaws.{Octets};
-ghost use Rattle.area.specs.Area.{bufferAt};
 ghost use Rattle.pair.specs.BitTime.{actIn, turnIn, eventsOf, eventsIn, advancedIn};
 ghost use Rattle.pair.specs.Ready.{Able, AllAble};
 ghost use Rattle.quick.specs.Quick.{PlainIf, AllPlain, Taken};
 ghost use Rattle.bus.specs.Offer.{doneAnswer};
-ghost use Rattle.runs.specs.Run.{bumped, sentCounted, gotCounted, tallied, isLate, lateAt, courseOf, runOf, runOutcome, ran};
-ghost use Rattle.runs.specs.RunLaws.{Bounded, Runnable};
+ghost use Rattle.tally.specs.Tally.{bumped, sentCounted, gotCounted, isLate};
+ghost use Rattle.runs.specs.Run.{tallied, lateAt, courseOf, runOf, runOutcome, ran};
+ghost use Rattle.tally.specs.TallyLaws.{Bounded};
+ghost use Rattle.runs.specs.RunLaws.{Runnable};
 ghost use Rattle.runs.specs.OnLaws.{eventsCounted, hasLate, lates};
 ghost use Rattle.runs.specs.Still.{Clear, CalmIf, Idle};
-ghost use Rattle.runs.specs.Read.{readAnswer, isReadable, frameRead};
 ghost use Rattle.runs.specs.declared.Ended.the-variants.{All};
 
 // How a run ended: all its steps were made, or a station had a late collision in the last of them.
@@ -49,53 +45,6 @@ pub struct Course {
 pub struct Lates {
     pub any: bool,
     pub late: [bool; 16],
-}
-
-// One more event of word k.
-fn bump(words: &mut [u32], k: usize)
-    requires { ⌜ (k < length (now words)) × (getD (now words) k 0 < 4294967295) ⌝ }
-    ensures { λ r. ⌜ now (words .exit) ≡ bumped (now (words .entry)) k ⌝ }
-{
-    words[k] = words[k] + 1;
-}
-
-fn count_sent(words: &mut [u32], e: TransmitEvent, top: u32)
-    requires { ⌜ (length (now words) ≡ 9) × Bounded (now words) top × (top < 4294967295) ⌝ }
-    ensures { λ r. ⌜ now (words .exit) ≡ sentCounted (now (words .entry)) e ⌝ }
-{
-    match e {
-        TransmitEvent::NoTransmit => {}
-        TransmitEvent::Collision(_) => bump(words, 0),
-        TransmitEvent::Late(_) => bump(words, 1),
-        TransmitEvent::Sent(_) => bump(words, 2),
-        TransmitEvent::GivenUp(_) => bump(words, 3),
-    }
-}
-
-fn count_got(words: &mut [u32], e: ReceiveEvent, top: u32)
-    requires { ⌜ (length (now words) ≡ 9) × Bounded (now words) top × (top < 4294967295) ⌝ }
-    ensures { λ r. ⌜ now (words .exit) ≡ gotCounted (now (words .entry)) e ⌝ }
-{
-    match e {
-        ReceiveEvent::NoReceive => {}
-        ReceiveEvent::GotOk(_) => bump(words, 4),
-        ReceiveEvent::GotTooLong(_) => bump(words, 5),
-        ReceiveEvent::GotAlignment(_) => bump(words, 6),
-        ReceiveEvent::GotCheck(_) => bump(words, 7),
-        ReceiveEvent::GotLength(_) => bump(words, 8),
-    }
-}
-
-pub fn is_late(e: TransmitEvent) -> bool
-    ensures { λ r. ⌜ r ≡ isLate e ⌝ }
-{
-    match e {
-        TransmitEvent::NoTransmit => false,
-        TransmitEvent::Collision(_) => false,
-        TransmitEvent::Late(_) => true,
-        TransmitEvent::Sent(_) => false,
-        TransmitEvent::GivenUp(_) => false,
-    }
 }
 
 // The turn of station i where it changes little. `swift` says that the records are plain.
@@ -129,9 +78,9 @@ fn turn_on(
     let e = pair::turn(area, n, depth, t, f, i);
     let sent = e.sent;
     let got = e.got;
-    count_sent(words, sent, top);
-    count_got(words, got, top + 1);
-    is_late(sent)
+    tally::count_sent(words, sent, top);
+    tally::count_got(words, got, top + 1);
+    tally::is_late(sent)
 }
 
 // One step, its events counted into `words`; which stations have a late collision.
@@ -292,61 +241,4 @@ pub fn run(area: &mut [u8], n: u32) -> RunAnswer
         words,
         ended,
     }
-}
-
-// What a reading answers: a refusal by its number, or the octets of the frame.
-pub enum Reading {
-    Refused(u32),
-    Frame(u32),
-}
-
-fn is_readable(r: Receiver) -> bool
-    ensures { λ b. ⌜ b ≡ isReadable r ⌝ }
-{
-    match r {
-        Receiver::Listening => false,
-        Receiver::Readable(_) => true,
-        Receiver::Seeking {
-            row: _,
-            spoiled: _,
-            own: _,
-        } => false,
-        Receiver::Collecting {
-            bits: _,
-            spoiled: _,
-            own: _,
-        } => false,
-    }
-}
-
-fn copy_frame(area: &[u8], i: usize, n: usize, out: &mut [u8])
-    requires { ⌜ (i < 16) × (57344 ≤ length (now area)) × (n ≤ 1518) × (n ≤ length (now out)) ⌝ }
-    ensures { λ r. ⌜ now (out .exit) ≡ sets (now (out .entry)) 0 (take n (bufferAt (now (area .entry)) i)) ⌝ }
-{
-    let b = area::buffer(area, i);
-    octets::store(out, 0, &b[0..n]);
-}
-
-// Reads the frame that station i received, whole with its check sequence. Refusals 1, 2, 10, 14, 15.
-pub fn read_frame(area: &[u8], i: usize, out: &mut [u8]) -> Reading
-    ensures { λ r. ⌜ outcome (readAnswer r) (now (out .exit)) ≡ frameRead (now (area .entry)) i (now (out .entry)) ⌝ }
-{
-    let number = ready::refusal(area);
-    if number != 0 {
-        return Reading::Refused(number);
-    }
-    if area::read_count(area) as usize <= i {
-        return Reading::Refused(10);
-    }
-    let s = area::read_station(area, i);
-    let r = s.receiver;
-    if !is_readable(r) {
-        return Reading::Refused(14);
-    }
-    let n = station::counters::octets_in(r);
-    if out.len() < n as usize {
-        return Reading::Refused(15);
-    }
-    copy_frame(area, i, n as usize, out);
-    Reading::Frame(n)
 }

@@ -6,7 +6,7 @@ use layout::Layout;
 use layout::Tap;
 use libc::STDOUT_FILENO;
 use runs::Ended;
-use runs::Reading;
+use reading::Reading;
 
 fn print_octets(s: &[u8]) {
     let mut i = 0;
@@ -56,7 +56,7 @@ fn print_run(area: &mut [u8], n: u32) {
 
 // A reading at station i: the refusal, or the frame's octets and the whole output.
 fn read_into(area: &[u8], i: usize, out: &mut [u8]) {
-    let r = runs::read_frame(area, i, out);
+    let r = reading::read_frame(area, i, out);
     match r {
         Reading::Refused(n) => {
             crate::steps::print_word(b"reading refused ", n);

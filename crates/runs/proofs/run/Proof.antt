@@ -1,7 +1,8 @@
 -- `runs::run` meets its contract. Assumes nothing.
 use native.Mathlib.Omega.{arith}
 use Rattle.valid.specs.AreaCheckLaws.{passes-long}
-use Rattle.runs.specs.RunLaws.{ran-area, ran-over, ran-made, run-allowed, clock-within, zeros-bounded}
+use Rattle.runs.specs.RunLaws.{ran-area, ran-over, ran-made, run-allowed, clock-within}
+use Rattle.tally.specs.TallyLaws.{zeros-bounded}
 use borrow.Author.Needs.{needs}
 use Rattle.runs.proofs.run.Statement.{statement}
 use Rattle.runs.proofs.run.Tie as tie

@@ -6,7 +6,8 @@ use mathlib.Core.Path.{_≡_, refl}
 use lib.ListN.{length}
 use Rattle.runs.specs.declared.Ended.the-variants.{All}
 use Rattle.runs.specs.Run.{runOf}
-use Rattle.runs.specs.RunLaws.{Bounded, zero-bounded, run-zero, next-bounded, run-end}
+use Rattle.tally.specs.TallyLaws.{Bounded, zero-bounded}
+use Rattle.runs.specs.RunLaws.{run-zero, next-bounded, run-end}
 use Rattle.runs.specs.OnLaws.{OnCourse, course-first, course-few, course-able, course-plain, course-clock, course-next, NoneLate, none-late-first, none-late-more, course-on, course-searched, course-late}
 use Rattle.runs.specs.Still.{idle-run}
 use Rattle.runs.proofs.run_steps.Statement.{statement}

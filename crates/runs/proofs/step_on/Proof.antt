@@ -12,7 +12,8 @@ use Rattle.pair.specs.Ready.{turn-able, turn-next}
 use Rattle.quick.specs.Quick.{turn-plain, taken-area}
 use Rattle.octets.specs.Base.{some}
 use Rattle.runs.specs.Run.{tallied, lateAt}
-use Rattle.runs.specs.RunLaws.{Bounded, start-bounded, tally-none}
+use Rattle.tally.specs.TallyLaws.{Bounded, start-bounded}
+use Rattle.runs.specs.RunLaws.{tally-none}
 use Rattle.runs.specs.OnLaws.{lates, any-none, lates-none, taken-words, taken-late, left-able, left-turn, left-words, left-late, advanced-turned, tally-turn, any-turn, any-skip, lates-turn, lates-skip, turn-bounded, tally-all, any-all, lates-all}
 use Rattle.runs.proofs.step_on.Statement.{statement}
 use Rattle.runs.proofs.step_on.Tie as tie

@@ -1,7 +1,7 @@
 -- `runs::turn_on` meets its contract. Assumes nothing.
 use native.Mathlib.Omega.{arith}
 use Rattle.runs.specs.OnLaws.{counted-is, has-late-is}
-use Rattle.runs.specs.RunLaws.{sent-bounded}
+use Rattle.tally.specs.TallyLaws.{sent-bounded}
 use borrow.Author.Needs.{needs}
 use Rattle.runs.proofs.turn_on.Statement.{statement}
 use Rattle.runs.proofs.turn_on.Tie as tie

@@ -1,8 +1,8 @@
--- `runs::copy_frame` meets its contract. Assumes nothing.
-use Rattle.runs.specs.ReadLaws.{copied-is, buffer-room}
+-- `reading::copy_frame` meets its contract. Assumes nothing.
+use Rattle.reading.specs.ReadLaws.{copied-is, buffer-room}
 use borrow.Author.Needs.{needs}
-use Rattle.runs.proofs.copy_frame.Statement.{statement}
-use Rattle.runs.proofs.copy_frame.Tie as tie
+use Rattle.reading.proofs.copy_frame.Statement.{statement}
+use Rattle.reading.proofs.copy_frame.Tie as tie
 
 buffer-requires : tie.Need-buffer-requires
 buffer-requires c κs = search needs

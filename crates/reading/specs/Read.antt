@@ -12,8 +12,8 @@ use Rattle.receiver.specs.declared.Receiver.the-variants.{Listening, Readable, 
 use Rattle.station.specs.Count.{octetsIn}
 use Rattle.area.specs.Area.{countAt, stationAt, bufferAt}
 use Rattle.valid.specs.Valid.{areaRefusal}
-use Rattle.runs.specs.declared.Reading.{Reading}
-use Rattle.runs.specs.declared.Reading.the-variants as read
+use Rattle.reading.specs.declared.Reading.{Reading}
+use Rattle.reading.specs.declared.Reading.the-variants as read
 
 abbrev pub readAnswer : Reading → Answer
 readAnswer (read.Refused n) = refused n

@@ -19,7 +19,7 @@ use Rattle.area.specs.Area.{countAt, stationAt, bufferAt}
 use Rattle.valid.specs.Valid.{areaRefusal}
 use Rattle.pair.specs.Range.{ReceiverIn}
 use Rattle.ready.specs.Passes.{passes-ready}
-use Rattle.runs.specs.Read.{isReadable, frameRead}
+use Rattle.reading.specs.Read.{isReadable, frameRead}
 
 pub copied-is : (a out x b : List ℕ) (i n : ℕ) → x ≡ sets out 0 (take (n - 0) b) → b ≡ bufferAt a i → x ≡ sets out 0 (take n (bufferAt a i))
 copied-is a out x b i n p q = let z : n - 0 ≡ n = omega arith in p ∙ rw (z, q)

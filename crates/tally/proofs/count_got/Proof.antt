@@ -1,9 +1,9 @@
--- `runs::count_sent` meets its contract. Assumes nothing.
+-- `tally::count_got` meets its contract. Assumes nothing.
 use native.Mathlib.Omega.{arith}
-use Rattle.runs.specs.RunLaws.{bump-room, sent-none, sent-collision, sent-late, sent-sent, sent-given}
+use Rattle.tally.specs.TallyLaws.{bump-room, got-none, got-ok, got-long, got-alignment, got-check, got-length}
 use borrow.Author.Needs.{needs}
-use Rattle.runs.proofs.count_sent.Statement.{statement}
-use Rattle.runs.proofs.count_sent.Tie as tie
+use Rattle.tally.proofs.count_got.Statement.{statement}
+use Rattle.tally.proofs.count_got.Tie as tie
 
 enum-told : tie.Need-enum-told
 enum-told c = search needs
@@ -32,35 +32,47 @@ enum-told-5 c = search needs
 bump-requires-4 : tie.Need-bump-requires-4
 bump-requires-4 c κs = (omega arith, search bump-room)
 
+enum-told-6 : tie.Need-enum-told-6
+enum-told-6 c = search needs
+
+bump-requires-5 : tie.Need-bump-requires-5
+bump-requires-5 c κs = (omega arith, search bump-room)
+
 returns : tie.Need-returns
-returns c = search sent-none
+returns c = search got-none
 
 same-length : tie.Need-same-length
 same-length c = search needs
 
 returns-2 : tie.Need-returns-2
-returns-2 c = search sent-collision
+returns-2 c = search got-ok
 
 same-length-2 : tie.Need-same-length-2
 same-length-2 c = search needs
 
 returns-3 : tie.Need-returns-3
-returns-3 c = search sent-late
+returns-3 c = search got-long
 
 same-length-3 : tie.Need-same-length-3
 same-length-3 c = search needs
 
 returns-4 : tie.Need-returns-4
-returns-4 c = search sent-sent
+returns-4 c = search got-alignment
 
 same-length-4 : tie.Need-same-length-4
 same-length-4 c = search needs
 
 returns-5 : tie.Need-returns-5
-returns-5 c = search sent-given
+returns-5 c = search got-check
 
-pub count-sent-spec : {M : Type 1} → statement M
-count-sent-spec =
+same-length-5 : tie.Need-same-length-5
+same-length-5 c = search needs
+
+returns-6 : tie.Need-returns-6
+returns-6 c = search got-length
+
+pub count-got-spec : {M : Type 1} → statement M
+count-got-spec =
     tie.close
     (tie.spec
     enum-told
@@ -72,6 +84,8 @@ count-sent-spec =
     bump-requires-3
     enum-told-5
     bump-requires-4
+    enum-told-6
+    bump-requires-5
     returns
     same-length
     returns-2
@@ -80,4 +94,6 @@ count-sent-spec =
     same-length-3
     returns-4
     same-length-4
-    returns-5)
+    returns-5
+    same-length-5
+    returns-6)

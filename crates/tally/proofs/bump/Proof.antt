@@ -1,8 +1,8 @@
--- `runs::bump` meets its contract. Assumes nothing.
-use Rattle.runs.specs.RunLaws.{bump-is}
+-- `tally::bump` meets its contract. Assumes nothing.
+use Rattle.tally.specs.TallyLaws.{bump-is}
 use borrow.Author.Needs.{needs}
-use Rattle.runs.proofs.bump.Statement.{statement}
-use Rattle.runs.proofs.bump.Tie as tie
+use Rattle.tally.proofs.bump.Statement.{statement}
+use Rattle.tally.proofs.bump.Tie as tie
 
 mul-words : tie.Need-mul-words
 mul-words c = search needs

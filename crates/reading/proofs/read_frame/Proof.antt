@@ -1,11 +1,11 @@
--- `runs::read_frame` meets its contract. Assumes nothing.
+-- `reading::read_frame` meets its contract. Assumes nothing.
 use borrow.Author.Tests.{not-true, not-false}
 use native.Mathlib.Omega.{arith}
 use Rattle.valid.specs.AreaCheckLaws.{passes-long, passes-station}
-use Rattle.runs.specs.ReadLaws.{read-area, read-station, read-none, read-short, read-made, read-room}
+use Rattle.reading.specs.ReadLaws.{read-area, read-station, read-none, read-short, read-made, read-room}
 use borrow.Author.Needs.{needs}
-use Rattle.runs.proofs.read_frame.Statement.{statement}
-use Rattle.runs.proofs.read_frame.Tie as tie
+use Rattle.reading.proofs.read_frame.Statement.{statement}
+use Rattle.reading.proofs.read_frame.Tie as tie
 
 refusal-requires : tie.Need-refusal-requires
 refusal-requires c κs = search needs
