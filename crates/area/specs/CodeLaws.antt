@@ -29,9 +29,11 @@ use Rattle.packet.specs.declared.Heard.{Heard}
 use Rattle.packet.specs.declared.Heard.the-variants.{Nothing, Clean, Jammed, Several}
 use Rattle.packet.specs.declared.Symbol.{Symbol}
 use Rattle.packet.specs.declared.Symbol.the-variants.{Silence, Bit, Jam}
+use Rattle.packet.specs.declared.Emission.{Emission}
+use Rattle.packet.specs.Packet.{symbolOf}
 use Rattle.station.specs.declared.step.Station.{Station}
 use Rattle.record.specs.Codec.{decoded, encoded}
-use Rattle.area.specs.Area.{clockAt, withClock, depthAt, drawAt, figuresAt, countAt, positionAt, addressAt, tapAt, layoutAt, distance, spaceAt, countersAt, withCounters, recordAt, stationAt, withStation, withWord, octetWith, withBit, heardOf, heardCode, symbolAt, arrivalAt, withArrival, alone, overlaid, joined, withFrame, frameBuilt}
+use Rattle.area.specs.Area.{clockAt, withClock, depthAt, drawAt, figuresAt, countAt, positionAt, addressAt, tapAt, layoutAt, distance, spaceAt, countersAt, withCounters, recordAt, stationAt, withStation, withWord, octetWith, withBit, heardOf, heardCode, symbolAt, arrivalAt, withArrival, alone, overlaid, joined, withFrame, frameAt, bufferAt, frameBuilt}
 
 -- ---- numbers
 
@@ -246,3 +248,14 @@ built-is a d s v x i r m p es hd hs hi hl =
     let k : 8192 + 1536 * i + 1518 - (8192 + 1536 * i) ≡ 1518 = omega arith in
     let q : outcome r m ≡ built (midOf (8192 + 1536 * i) 1518 a) d s v x = rw k at p in
     rw k (ap (after (8192 + 1536 * i) 1518 a) q ∙ lent-frame a d s v x i es hd hs hi hl)
+
+-- ---- parts
+
+pub buffer-is : (a : List ℕ) (i : ℕ) → take ((32768 + 1536 * i + 1518) - (32768 + 1536 * i)) (drop (32768 + 1536 * i) a) ≡ bufferAt a i
+unfolding bufferAt
+buffer-is a i = let z : (32768 + 1536 * i + 1518) - (32768 + 1536 * i) ≡ 1518 = omega arith in rw z
+
+pub emitted-is : (a : List ℕ) (r : Symbol) (i n e : ℕ) (m : Emission) → r ≡ symbolOf (take (e - (8192 + 1536 * i)) (drop (8192 + 1536 * i) a)) m → e ≡ 8192 + 1536 * i + n
+    → r ≡ symbolOf (frameAt a i n) m
+unfolding frameAt
+emitted-is a r i n e m p q = let z : e - (8192 + 1536 * i) ≡ n = omega arith in p ∙ rw z

@@ -13,8 +13,6 @@
 // | 8192 + 1536 i | the frame of station i, up to 1518 octets |
 // | 32768 + 1536 i | what station i collected, up to 1518 octets |
 
-pub mod start;
-
 use frame::builder::Built;
 use layout::Figures;
 use layout::Layout;

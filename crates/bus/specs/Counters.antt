@@ -1,14 +1,13 @@
--- Reading a station's counters (document 01, refusals 1, 2, 10). The laws are in OfferLaws. Assumes nothing.
+-- Reading a station's counters (document 01, refusals 1, 2, 10). The laws are in StepLaws. Assumes nothing.
 use Prim.Native.Nat.{ℕ}
 use mathlib.Core.Bool.{Bool, true, false}
 use mathlib.Core.List.{List, []}
 use lib.Dec.{leb, eqb}
 use lib.ListN.{replicate}
-use Rattle.octets.specs.Base.{pick, Answer, refused, accepted}
+use Rattle.octets.specs.Base.{pick, Answer, refused, accepted, doneAnswer}
 use Rattle.area.specs.Area.{countAt, countersAt}
 use Rattle.valid.specs.Valid.{areaRefusal}
 use Rattle.bus.specs.declared.Counters.{Counters}
-use Rattle.bus.specs.Offer.{doneAnswer}
 
 -- the answer, and beside it the sixteen; all 0 with a refusal
 pub record Reading : Type 0 where

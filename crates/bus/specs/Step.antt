@@ -3,17 +3,12 @@ use Prim.Native.Nat.{ℕ, _+_}
 use mathlib.Core.List.{List, []}
 use lib.Dec.{ltb, eqb}
 use lib.ListN.{replicate}
-use Rattle.octets.specs.Base.{pick, Answer, refused, accepted}
+use Rattle.octets.specs.Base.{pick, Answer, refused, accepted, doneAnswer}
 use Rattle.area.specs.Area.{clockAt}
-use Rattle.valid.specs.Valid.{areaRefusal}
+use Rattle.valid.specs.Valid.{lastClock, areaRefusal}
 use Rattle.pair.specs.declared.Events.{Events}
 use Rattle.pair.specs.BitTime.{noEvents, eventsAt, stepArea}
 use Rattle.bus.specs.declared.BitTime.{BitTime}
-use Rattle.bus.specs.Offer.{doneAnswer}
-
--- "clock 0..16,777,216"
-abbrev pub lastClock : ℕ
-lastClock = 16777216
 
 -- what a step leaves: its answer, the events of each station, the area
 pub record Bit : Type 0 where

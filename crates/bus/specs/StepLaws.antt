@@ -1,53 +1,23 @@
--- A law for each way through the code of start and step. Assumes nothing.
+-- A law for each way through the code of a step and of the counters. Assumes nothing.
 use Prim.Native.Nat.{ℕ, _+_, _≤_, _<_}
 use mathlib.Core.Path.{_≡_, refl, sym, _∙_, ap, ap₂}
 use mathlib.Core.Bool.{Bool, true, false}
 use mathlib.Core.List.{List, []}
 use native.Mathlib.Omega.{arith}
-use borrow.Author.Tests.{eq-eqb, ne-eqb, lt-ltb, le-ltb}
+use borrow.Author.Tests.{eq-eqb, ne-eqb, lt-ltb, le-ltb, le-leb, lt-leb}
 use lib.Dec.{ltb, eqb}
 use lib.ListN.{length, replicate}
-use Rattle.octets.specs.Base.{pick, outside, Answer, refused, accepted, Outcome, outcome}
-use Rattle.octets.specs.BaseLaws.{within}
+use Rattle.octets.specs.Base.{pick, Answer, refused, accepted, Outcome, outcome, doneAnswer}
 use Rattle.octets.specs.NumberLaws.{Octets}
-use Rattle.layout.specs.declared.Layout.{Layout}
-use Rattle.layout.specs.Check.{refusalOf}
-use Rattle.layout.specs.CheckLaws.{sound}
-use Rattle.area.specs.Area.{clockAt}
-use Rattle.area.specs.Fresh.{fresh}
+use Rattle.area.specs.Area.{clockAt, countAt, countersAt}
 use Rattle.valid.specs.Valid.{areaRefusal}
 use Rattle.pair.specs.declared.Events.{Events}
 use Rattle.pair.specs.BitTime.{noEvents, eventsAt, stepArea}
 use Rattle.pair.specs.Ready.{Ready}
 use Rattle.ready.specs.Passes.{passes-ready}
 use Rattle.bus.specs.declared.BitTime.{BitTime}
-use Rattle.bus.specs.Offer.{doneAnswer}
-use Rattle.bus.specs.Start.{started}
+use Rattle.bus.specs.Counters.{Reading, countersRead}
 use Rattle.bus.specs.Step.{Bit, bitTimeOutcome, unstepped, steppedOnce}
-
-module _ (a : List ℕ) (y : Layout) (d n : ℕ) (ds : List (List ℕ)) where
-  pub start-short : length a < 57344 → outcome (refused 1) a ≡ started a y d ds
-  unfolding started
-  start-short h = rw (lt-ltb (length a) 57344 h)
-
-  pub start-layout : 57344 ≤ length a → n ≡ refusalOf y → (n ≡ 0 → ⊥) → outcome (refused n) a ≡ started a y d ds
-  unfolding started
-  start-layout h p q = rw (le-ltb (length a) 57344 h, ← p, ne-eqb n 0 q)
-
-  pub start-depth : (b : Bool) → 57344 ≤ length a → n ≡ refusalOf y → n ≡ 0 → b ≡ outside d 1 16 → b ≡ true → outcome (refused 9) a ≡ started a y d ds
-  unfolding started
-  start-depth b h p q e t = rw (le-ltb (length a) 57344 h, ← p, eq-eqb n 0 q, ← e, t)
-
-  pub start-made : (b : Bool) (x : List ℕ) → x ≡ fresh y d ds a → 57344 ≤ length a → n ≡ refusalOf y → n ≡ 0 → b ≡ outside d 1 16 → b ≡ false
-      → outcome (accepted []) x ≡ started a y d ds
-  unfolding started
-  start-made b x ex h p q e t = rw (le-ltb (length a) 57344 h, ← p, eq-eqb n 0 q, ← e, t, ex)
-
-pub start-few : (y : Layout) (n : ℕ) → n ≡ refusalOf y → n ≡ 0 → y .count ≤ 16
-start-few y n p q = sound y (sym p ∙ q) .count .1
-
-pub start-shallow : (d : ℕ) (b : Bool) → b ≡ outside d 1 16 → b ≡ false → d ≤ 16
-start-shallow d b p q = within d 1 16 (sym p ∙ q) .1
 
 module _ (a : List ℕ) (n : ℕ) (r : BitTime) where
   same-bit : (k : ℕ) → doneAnswer (r .done) ≡ refused k → r .events ≡ replicate 16 noEvents → bitTimeOutcome r a ≡ unstepped k a
@@ -70,3 +40,16 @@ step-made a n t es x p q e h f g = rw (← e, eq-eqb n 0 h, ← f, le-ltb 167772
 pub step-ready : (a : List ℕ) (n : ℕ) → n ≡ areaRefusal a → n ≡ 0 → Octets a → Ready a
 unfolding Ready
 step-ready a n p q o = passes-ready a o (sym p ∙ q) .ready
+
+module _ (a : List ℕ) (i n k : ℕ) where
+  pub counters-area : n ≡ areaRefusal a → (n ≡ 0 → ⊥) → record { answer = refused n; words = replicate 16 0 } ≡ countersRead a i
+  unfolding countersRead
+  counters-area p q = rw (← p, ne-eqb n 0 q)
+
+  pub counters-station : n ≡ areaRefusal a → n ≡ 0 → k ≡ countAt a → k ≤ i → record { answer = refused 10; words = replicate 16 0 } ≡ countersRead a i
+  unfolding countersRead
+  counters-station p q e h = rw (← p, eq-eqb n 0 q, ← e, le-leb k i h)
+
+  pub counters-made : (w : List ℕ) → w ≡ countersAt a i → n ≡ areaRefusal a → n ≡ 0 → k ≡ countAt a → i < k → record { answer = accepted []; words = w } ≡ countersRead a i
+  unfolding countersRead
+  counters-made w ew p q e h = rw (← p, eq-eqb n 0 q, ← e, lt-leb k i h, ew)

@@ -8,7 +8,7 @@ use native.Mathlib.Omega.{arith}
 use borrow.Author.Tests.{eq-eqb, ne-eqb, lt-ltb, le-ltb, eqb-true, eqb-false}
 use lib.Dec.{ltb, eqb}
 use lib.ListN.{length, getD, replicate}
-use Rattle.octets.specs.Base.{pick, some, outside, Answer, accepted, Outcome, outcome}
+use Rattle.octets.specs.Base.{pick, some, outside, Answer, accepted, Outcome, outcome, doneAnswer}
 use Rattle.octets.specs.BaseLaws.{by-test, within}
 use Rattle.octets.specs.Number.{spelled}
 use Rattle.octets.specs.Words.{putWords}
@@ -25,12 +25,12 @@ use Rattle.frame.specs.Open.{statusAnswer, opened}
 use Rattle.area.specs.Area.{clockAt}
 use Rattle.valid.specs.Valid.{areaRefusal}
 use Rattle.pair.specs.BitTime.{eventsAt, stepArea}
-use Rattle.bus.specs.declared.Done.{Done}
-use Rattle.bus.specs.declared.Done.the-variants as ways
+use Rattle.octets.specs.declared.Done.{Done}
+use Rattle.octets.specs.declared.Done.the-variants as ways
 use Rattle.bus.specs.declared.BitTime.{BitTime}
 use Rattle.bus.specs.declared.Counters.{Counters}
-use Rattle.bus.specs.Start.{started}
-use Rattle.bus.specs.Offer.{doneAnswer, offered}
+use Rattle.start.specs.Start.{started}
+use Rattle.offer.specs.Offer.{offered}
 use Rattle.bus.specs.Step.{Bit, bitTimeOutcome, unstepped, steppedOnce}
 use Rattle.bus.specs.Counters.{Reading as Counted, countersReading, countersRead}
 use Rattle.runs.specs.declared.RunAnswer.{RunAnswer}

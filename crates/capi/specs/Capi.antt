@@ -23,13 +23,13 @@ use Rattle.receiver.specs.declared.ReceiveEvent.the-variants.{NoReceive, GotOk,
 use Rattle.transmitter.specs.declared.TransmitEvent.{TransmitEvent}
 use Rattle.transmitter.specs.declared.TransmitEvent.the-variants.{NoTransmit, Collision, Late, Sent, GivenUp}
 use Rattle.area.specs.Places.{areaSize}
-use Rattle.area.specs.Fresh.{tapIn}
+use Rattle.start.specs.Fresh.{tapIn}
 use Rattle.area.specs.Area.{clockAt}
-use Rattle.valid.specs.Valid.{areaRefusal}
+use Rattle.valid.specs.Valid.{areaRefusal, lastClock}
 use Rattle.pair.specs.declared.Events.{Events}
-use Rattle.bus.specs.Start.{started}
-use Rattle.bus.specs.Offer.{offered}
-use Rattle.bus.specs.Step.{lastClock, steppedOnce}
+use Rattle.start.specs.Start.{started}
+use Rattle.offer.specs.Offer.{offered}
+use Rattle.bus.specs.Step.{steppedOnce}
 use Rattle.bus.specs.Counters.{countersRead}
 use Rattle.runs.specs.declared.Ended.{Ended}
 use Rattle.runs.specs.declared.Ended.the-variants as how

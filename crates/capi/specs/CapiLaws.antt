@@ -22,7 +22,7 @@ use Rattle.frame.specs.declared.opener.ReceiveStatus.{ReceiveStatus}
 use Rattle.frame.specs.declared.opener.ReceiveStatus.the-variants as opens
 use Rattle.frame.specs.Build.{builtAnswer}
 use Rattle.frame.specs.Open.{statusAnswer}
-use Rattle.area.specs.Fresh.{tapIn}
+use Rattle.start.specs.Fresh.{tapIn}
 use Rattle.pair.specs.declared.Events.{Events}
 use Rattle.runs.specs.declared.Ended.{Ended}
 use Rattle.runs.specs.declared.Ended.the-variants as how

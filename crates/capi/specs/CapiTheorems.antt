@@ -24,8 +24,8 @@ use Rattle.station.specs.Count.{octetsIn}
 use Rattle.area.specs.Area.{clockAt, countAt, stationAt}
 use Rattle.valid.specs.Valid.{areaRefusal}
 use Rattle.pair.specs.BitTime.{eventsAt, stepArea}
-use Rattle.bus.specs.Start.{started}
-use Rattle.bus.specs.Offer.{holds, offered}
+use Rattle.start.specs.Start.{started}
+use Rattle.offer.specs.Offer.{holds, offered}
 use Rattle.bus.specs.Step.{steppedOnce}
 use Rattle.bus.specs.Counters.{countersRead}
 use Rattle.runs.specs.Run.{lateAt, tallied, runOf, ran}

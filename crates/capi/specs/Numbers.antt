@@ -25,8 +25,8 @@ use Rattle.frame.specs.RoundTrip.{frame-size, data-within}
 use Rattle.area.specs.Area.{clockAt, countAt, stationAt}
 use Rattle.station.specs.Count.{octetsIn}
 use Rattle.valid.specs.Valid.{areaWrong, areaRefusal}
-use Rattle.bus.specs.Start.{started}
-use Rattle.bus.specs.Offer.{holds, offered}
+use Rattle.start.specs.Start.{started}
+use Rattle.offer.specs.Offer.{holds, offered}
 use Rattle.bus.specs.Counters.{countersRead}
 use Rattle.reading.specs.Read.{isReadable, frameRead}
 use Rattle.capi.specs.Capi.{valueOf, timeRefusal}

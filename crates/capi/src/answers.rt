@@ -1,6 +1,6 @@
 // The answers of the calls below, as the numbers that the C interface hands out.
 
-use bus::Done;
+use octets::Done;
 use frame::builder::Built;
 use frame::opener::ReceiveStatus;
 use layout::Fit;
@@ -18,7 +18,7 @@ ghost use Rattle.layout.specs.Fit.{fitAnswer};
 ghost use Rattle.sheet.specs.Sheet.{sheetAnswer};
 ghost use Rattle.frame.specs.Build.{builtAnswer};
 ghost use Rattle.frame.specs.Open.{statusAnswer};
-ghost use Rattle.bus.specs.Offer.{doneAnswer};
+ghost use Rattle.octets.specs.Base.{doneAnswer};
 ghost use Rattle.reading.specs.Read.{readAnswer};
 ghost use Rattle.capi.specs.Capi.{replied, valueOf, clientWords, sentCode, sentNumber, gotCode, gotNumber, eventWords, endedWords};
 

@@ -107,7 +107,7 @@ fn start_drawn(area: &mut [u8], y: Layout, depth: u32, draws: &[u8]) -> u32
         return answers::reply(9, 0);
     }
     let rows = input::read_draws(draws, 0, n, d);
-    let done = bus::start(area, y, depth, rows);
+    let done = start::start(area, y, depth, rows);
     answers::reply(answers::done_number(done), 0)
 }
 
@@ -141,7 +141,7 @@ pub extern "C" fn wisavulome_offer(
     ensures { λ r. ⌜ given r (now (area .exit)) ≡ offerGiven (now (area .entry)) station destination value (now (payload .entry)) ⌝ }
 {
     let d = answers::address(destination);
-    let done = bus::offer(area, station as usize, d, value, payload);
+    let done = offer::offer(area, station as usize, d, value, payload);
     answers::reply(answers::done_number(done), 0)
 }
 

@@ -34,17 +34,17 @@ use Rattle.station.specs.Step.{triesAfter, deferring, sending, stepped, nextSta
 use Rattle.station.specs.Count.{offered, sent, excessive, added, addedIf, countSent, countTransmit, countReceive, counted}
 use Rattle.area.specs.Area.{clockAt, countAt, addressAt, countersAt, stationAt, figuresAt, depthAt, drawAt, bufferAt, arrivalAt}
 use Rattle.area.specs.AreaLaws.{count-by}
-use Rattle.area.specs.Fresh.{fresh}
-use Rattle.area.specs.FreshLaws.{Formed, fresh-counters, fresh-clock, fresh-count}
+use Rattle.start.specs.Fresh.{fresh}
+use Rattle.start.specs.FreshLaws.{Formed, fresh-counters, fresh-clock, fresh-count}
 use Rattle.layout.specs.CheckLaws.{sound}
 use Rattle.valid.specs.Valid.{areaRefusal}
 use Rattle.pair.specs.BitTime.{outcomeIn, actIn, actAt, stepArea}
 use Rattle.pair.specs.Ready.{Readiness}
 use Rattle.ready.specs.Passes.{Passing, ready-passes}
 use Rattle.ready.specs.Stays.{step-layout, step-clock, step-station, step-counters}
-use Rattle.bus.specs.Offer as offers
-use Rattle.bus.specs.OfferLaws.{address-six}
-use Rattle.bus.specs.Start.{started}
+use Rattle.offer.specs.Offer as offers
+use Rattle.offer.specs.OfferLaws.{address-six}
+use Rattle.start.specs.Start.{started}
 use Rattle.bus.specs.Step.{steppedOnce}
 use Rattle.delivery.specs.Passing.{by-start, freshStation, start-station, holding, offer-layout, offer-clock, offer-own, offer-other, offer-counters, offer-counters-other, frame-range}
 

@@ -15,7 +15,7 @@ use Rattle.receiver.specs.declared.ReceiveEvent.{ReceiveEvent}
 use Rattle.transmitter.specs.declared.TransmitEvent.{TransmitEvent}
 use Rattle.area.specs.Area.{clockAt, addressAt, arrivalAt}
 use Rattle.pair.specs.BitTime.{actAt, eventsAt, stepArea}
-use Rattle.bus.specs.Offer.{offered}
+use Rattle.offer.specs.Offer.{offered}
 use Rattle.bus.specs.Step.{steppedOnce}
 use Rattle.runs.specs.Run.{eventAt, lateAt, ran}
 

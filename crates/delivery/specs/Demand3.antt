@@ -17,7 +17,7 @@ use Rattle.receiver.specs.Receive.{addressed}
 use Rattle.area.specs.Area.{clockAt, figuresAt, countAt, addressAt, spaceAt}
 use Rattle.valid.specs.Valid.{areaRefusal}
 use Rattle.pair.specs.BitTime.{actAt, eventsAt}
-use Rattle.bus.specs.Offer.{offered}
+use Rattle.offer.specs.Offer.{offered}
 use Rattle.bus.specs.Step.{steppedOnce}
 use Rattle.runs.specs.Run.{tallied, ran}
 use Rattle.reading.specs.Read.{frameRead}

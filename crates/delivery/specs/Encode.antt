@@ -37,7 +37,7 @@ use Rattle.pair.specs.InPlace.{Kept, Spread}
 use Rattle.pair.specs.Ready.{Readiness, kept}
 use Rattle.ready.specs.After.{storedIn}
 use Rattle.ready.specs.Stays.{step-length, step-layout, step-depth, step-draws, step-frame, step-clock, step-station, step-buffer}
-use Rattle.bus.specs.Offer.{holds}
+use Rattle.offer.specs.Offer.{holds}
 use Rattle.trace.specs.World.{Net, World, gathered, heard, outcome, symbol, grown, step}
 use Rattle.trace.specs.Gather.{gathered-same}
 use Rattle.trace.specs.Keep.{held-back}

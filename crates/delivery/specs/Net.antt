@@ -21,12 +21,12 @@ use Rattle.packet.specs.declared.Symbol.the-variants.{Silence}
 use Rattle.transmitter.specs.declared.Transmitter.the-variants.{NoFrame}
 use Rattle.station.specs.declared.step.Station.{Station}
 use Rattle.area.specs.Area.{clockAt, depthAt, drawAt, figuresAt, countAt, positionAt, addressAt, distance, spaceAt, stationAt, bufferAt, arrivalAt}
-use Rattle.area.specs.Fresh.{tapIn, fresh}
-use Rattle.area.specs.FreshLaws.{Formed, fresh-length, fresh-clock, fresh-count, fresh-figures, fresh-position, fresh-address, fresh-arrival}
+use Rattle.start.specs.Fresh.{tapIn, fresh}
+use Rattle.start.specs.FreshLaws.{Formed, fresh-length, fresh-clock, fresh-count, fresh-figures, fresh-position, fresh-address, fresh-arrival}
 use Rattle.pair.specs.Ready.{Readiness}
 use Rattle.ready.specs.Passes.{Passing, rise}
-use Rattle.bus.specs.Offer.{holds}
-use Rattle.bus.specs.OfferLaws.{address-six}
+use Rattle.offer.specs.Offer.{holds}
+use Rattle.offer.specs.OfferLaws.{address-six}
 use Rattle.trace.specs.Trace.{Metric}
 use Rattle.trace.specs.World as world
 use Rattle.trace.specs.World.{Net, World, heard, reaches}

@@ -16,7 +16,7 @@ use Rattle.area.specs.Area.{clockAt, countAt, stationAt, withStation, withCount
 use Rattle.area.specs.AreaLaws.{keeps-trans, frame-by, buffer-by, arrival-by, frame-same, station-keeps, counters-keeps, length-frame, length-station, length-counters}
 use Rattle.pair.specs.Range.{FrameIn}
 use Rattle.ready.specs.Passes.{Passing}
-use Rattle.bus.specs.Offer.{holds, offeredStation, withHeld, withOffered}
+use Rattle.offer.specs.Offer.{holds, offeredStation, withHeld, withOffered}
 use Rattle.trace.specs.World.{Net, Offer, frameFor, World, heard, given}
 use Rattle.delivery.specs.Passing.{holding, elsewhere, offer-layout, offer-clock, offer-own, offer-other}
 use Rattle.delivery.specs.Meet.{Ends}

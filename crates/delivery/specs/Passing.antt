@@ -33,8 +33,8 @@ use Rattle.record.specs.CodecLaws.{Fit, decoded-encoded}
 use Rattle.area.specs.Places.{Part, clock, depth, layout, draws, counters, station, frame, buffer, place, at, size, Off, Keeps}
 use Rattle.area.specs.Area.{clockAt, depthAt, figuresAt, countAt, positionAt, addressAt, tapAt, layoutAt, countersAt, withCounters, recordAt, stationAt, withStation, withFrame, symbolAt}
 use Rattle.area.specs.AreaLaws.{keeps-trans, clock-by, depth-by, figures-by, count-by, address-by, counters-by, record-by, station-by, symbol-by, station-keeps, counters-keeps, frame-keeps, record-same, counters-same, length-station, length-counters, length-frame}
-use Rattle.area.specs.Fresh.{tapIn, fresh}
-use Rattle.area.specs.FreshLaws.{Formed, fresh-length, fresh-clock, fresh-record, fresh-counters, fresh-symbol, fresh-depth, fresh-count, fresh-figures, fresh-position, fresh-address}
+use Rattle.start.specs.Fresh.{tapIn, fresh}
+use Rattle.start.specs.FreshLaws.{Formed, fresh-length, fresh-clock, fresh-record, fresh-counters, fresh-symbol, fresh-depth, fresh-count, fresh-figures, fresh-position, fresh-address}
 use Rattle.valid.specs.Valid.{recordWrong, areaRefusal}
 use Rattle.pair.specs.BitTime.{stepArea}
 use Rattle.pair.specs.Range.{Fine, fine-fit}
@@ -43,9 +43,9 @@ use Rattle.pair.specs.Ready.{Readiness}
 use Rattle.ready.specs.After.{added-words}
 use Rattle.ready.specs.Passes.{Passing, tap-in, layout-figures, layout-spread, record-right, ready-passes}
 use Rattle.ready.specs.Stays.{layout-by, spread-by, step-passing}
-use Rattle.bus.specs.Offer.{holds, offeredStation, withHeld, withOffered, withOffer, offered}
-use Rattle.bus.specs.OfferLaws.{address-six}
-use Rattle.bus.specs.Start.{started}
+use Rattle.offer.specs.Offer.{holds, offeredStation, withHeld, withOffered, withOffer, offered}
+use Rattle.offer.specs.OfferLaws.{address-six}
+use Rattle.start.specs.Start.{started}
 use Rattle.bus.specs.Step.{Bit, steppedOnce}
 
 -- ---- a fresh start

@@ -33,15 +33,15 @@ use Rattle.station.specs.declared.step.Stepped.{Stepped}
 use Rattle.station.specs.Count.{octetsIn}
 use Rattle.station.specs.Step.{triesAfter}
 use Rattle.area.specs.Area.{clockAt, figuresAt, countAt, addressAt, spaceAt, stationAt, bufferAt, arrivalAt}
-use Rattle.area.specs.Fresh.{fresh}
-use Rattle.area.specs.FreshLaws.{fresh-figures}
+use Rattle.start.specs.Fresh.{fresh}
+use Rattle.start.specs.FreshLaws.{fresh-figures}
 use Rattle.valid.specs.Valid.{areaRefusal}
 use Rattle.pair.specs.declared.Act.{Act}
 use Rattle.pair.specs.declared.Events.{Events}
 use Rattle.pair.specs.BitTime.{actAt, eventsOf, noEvents, eventsAt, stepArea}
 use Rattle.ready.specs.Passes.{Passing, ready-passes}
-use Rattle.bus.specs.Offer.{holds, offered}
-use Rattle.bus.specs.Start.{started}
+use Rattle.offer.specs.Offer.{holds, offered}
+use Rattle.start.specs.Start.{started}
 use Rattle.bus.specs.Step.{steppedOnce}
 use Rattle.runs.specs.Run.{eventAt, tallied, lateAt, Ran, runOf, ran}
 use Rattle.reading.specs.Read.{isReadable, frameRead}

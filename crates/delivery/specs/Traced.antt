@@ -26,8 +26,8 @@ use Rattle.valid.specs.Valid.{areaRefusal}
 use Rattle.pair.specs.BitTime.{actAt, eventsAt, stepArea}
 use Rattle.ready.specs.Passes.{Passing, ready-passes}
 use Rattle.ready.specs.Stays.{step-passing}
-use Rattle.bus.specs.Offer.{holds, offeredStation, withOffer, offered}
-use Rattle.bus.specs.OfferLaws.{address-six}
+use Rattle.offer.specs.Offer.{holds, offeredStation, withOffer, offered}
+use Rattle.offer.specs.OfferLaws.{address-six}
 use Rattle.bus.specs.Step.{steppedOnce}
 use Rattle.runs.specs.Run.{lateAt, runOf, ran}
 use Rattle.trace.specs.World as world

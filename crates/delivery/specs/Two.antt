@@ -15,8 +15,8 @@ use Rattle.layout.specs.declared.Tap.{Tap}
 use Rattle.layout.specs.declared.Layout.{Layout}
 use Rattle.layout.specs.Layout.{tapAt, gapOf, spanOf, fitsWell}
 use Rattle.layout.specs.Check.{gap1Out, figuresOut, addressWrong, refusalOf}
-use Rattle.area.specs.Fresh.{tapIn}
-use Rattle.bus.specs.Start.{started}
+use Rattle.start.specs.Fresh.{tapIn}
+use Rattle.start.specs.Start.{started}
 use Rattle.delivery.specs.Calls.{Call, AllFair}
 use Rattle.delivery.specs.Net.{Proper}
 use Rattle.delivery.specs.Demand3.{Demand3For}

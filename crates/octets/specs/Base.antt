@@ -4,6 +4,8 @@ use Prim.Native.Nat.{ℕ, zero, suc}
 use mathlib.Core.Bool.{Bool, true, false, _||_}
 use mathlib.Core.List.{List, []}
 use lib.Dec.{ltb}
+use Rattle.octets.specs.declared.Done.{Done}
+use Rattle.octets.specs.declared.Done.the-variants.{Refused, Made}
 
 -- a where the test holds, else b
 abbrev pub pick : {A : Type 0} → Bool → A → A → A
@@ -30,6 +32,11 @@ refused n = record { number = n; values = [] }
 
 abbrev pub accepted : List ℕ → Answer
 accepted vs = record { number = 0; values = vs }
+
+-- what each case of the code's answer stands for
+abbrev pub doneAnswer : Done → Answer
+doneAnswer (Refused n) = refused n
+doneAnswer Made = accepted []
 
 -- What a call leaves: its answer, and the octets that it was lent.
 pub record Outcome : Type 0 where

@@ -12,6 +12,12 @@ ghost use Rattle.octets.specs.Equal.{equal};
 ghost use Rattle.octets.specs.Store.{part};
 ghost use Rattle.octets.specs.Turns.{blanked};
 
+// The answer of a call that gives nothing but its being done: a refusal by its number, or done.
+pub enum Done {
+    Refused(u32),
+    Made,
+}
+
 // An octet as a wider number. That it is below 256 is said here once, so that no caller shows that a sum of octets fits.
 pub fn wide(x: u8) -> u32
     ensures value { λ r. ⌜ r ≡ x ⌝ }

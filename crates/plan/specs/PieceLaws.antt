@@ -9,19 +9,19 @@ use borrow.Rule.Slice.PartMut.{putMid}
 use lib.Dec.{eqb, ltb, leb}
 use lib.ListN.{length, getD, replicate, take, drop}
 use lib.Seq.{sets}
-use Rattle.octets.specs.Base.{pick, some, Answer, refused, accepted, Outcome, outcome}
+use Rattle.octets.specs.Base.{pick, some, Answer, refused, accepted, Outcome, outcome, doneAnswer}
 use Rattle.octets.specs.BaseLaws.{by-test, some-none, some-more, some-hit, some-end}
 use Rattle.octets.specs.Number.{get}
 use Rattle.octets.specs.NumberLaws.{Octets}
 use Rattle.layout.specs.declared.Layout.{Layout}
 use Rattle.layout.specs.Layout.{fitsWell}
 use Rattle.area.specs.Area.{clockAt}
-use Rattle.area.specs.Fresh.{fresh}
+use Rattle.start.specs.Fresh.{fresh}
 use Rattle.valid.specs.Valid.{areaRefusal}
 use Rattle.pair.specs.declared.Events.{Events}
 use Rattle.pair.specs.BitTime.{isTransmit, isReceive, noEvents, eventsAt, stepArea}
-use Rattle.bus.specs.declared.Done.{Done}
-use Rattle.bus.specs.Offer.{doneAnswer, offered}
+use Rattle.octets.specs.declared.Done.{Done}
+use Rattle.offer.specs.Offer.{offered}
 use Rattle.tally.specs.Tally.{isLate}
 use Rattle.runs.specs.Run.{lateAt}
 use Rattle.runs.specs.RunLaws.{Runnable, clock-within, run-allowed, run-next}

@@ -9,10 +9,9 @@ use lib.Seq.{sets}
 use Rattle.octets.specs.Base.{pick, some, Answer, refused, accepted}
 use Rattle.area.specs.Places.{areaSize}
 use Rattle.area.specs.Area.{clockAt}
-use Rattle.valid.specs.Valid.{areaRefusal}
+use Rattle.valid.specs.Valid.{areaRefusal, lastClock}
 use Rattle.pair.specs.declared.Events.{Events}
 use Rattle.pair.specs.BitTime.{isTransmit, isReceive, noEvents, eventsAt, stepArea}
-use Rattle.bus.specs.Step.{lastClock}
 use Rattle.runs.specs.Run.{lateAt}
 use Rattle.lines.specs.Text.{refusedLine, endLine}
 use Rattle.lines.specs.Events.{stepLines}

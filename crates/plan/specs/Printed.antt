@@ -10,9 +10,9 @@ use Rattle.layout.specs.declared.Layout.{Layout}
 use Rattle.layout.specs.Layout.{fitsWell}
 use Rattle.area.specs.Places.{areaSize}
 use Rattle.area.specs.Area.{clockAt}
-use Rattle.area.specs.Fresh.{fresh}
+use Rattle.start.specs.Fresh.{fresh}
 use Rattle.pair.specs.BitTime.{eventsAt, stepArea}
-use Rattle.bus.specs.Offer.{offered}
+use Rattle.offer.specs.Offer.{offered}
 use Rattle.runs.specs.Run.{lateAt}
 use Rattle.lines.specs.Text.{firstLine, fitYes, fitNo, refusedLine, refusedOffer, endLine}
 use Rattle.lines.specs.Events.{stepLines}

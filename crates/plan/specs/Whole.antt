@@ -20,8 +20,8 @@ use Rattle.receiver.specs.declared.ReceiveEvent.the-variants.{NoReceive, GotOk,
 use Rattle.transmitter.specs.declared.TransmitEvent.{TransmitEvent}
 use Rattle.transmitter.specs.declared.TransmitEvent.the-variants.{NoTransmit, Collision, Late, Sent, GivenUp}
 use Rattle.area.specs.Area.{clockAt}
-use Rattle.area.specs.Fresh.{withPlan, fresh}
-use Rattle.area.specs.FreshLaws.{fresh-length, fresh-clock}
+use Rattle.start.specs.Fresh.{withPlan, fresh}
+use Rattle.start.specs.FreshLaws.{fresh-length, fresh-clock}
 use Rattle.valid.specs.Valid.{areaRefusal}
 use Rattle.pair.specs.declared.Events.{Events}
 use Rattle.pair.specs.BitTime.{isTransmit, isReceive, noEvents, eventsAt, stepArea}

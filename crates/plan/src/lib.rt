@@ -1,6 +1,6 @@
 // The run program on lent octets: what it prints for an input, handed out piece by piece (document 01, "The run program").
 
-use bus::Done;
+use octets::Done;
 use input::Plan;
 use input::Verdict;
 use layout::Layout;
@@ -13,9 +13,8 @@ ghost use Prim.Native.Nat.{_+_, _-_, _<_, _≤_};
 ghost use mathlib.Core.List.{[], _∷_};
 ghost use lib.ListN.{length};
 ghost use lib.Seq.{sets};
-ghost use Rattle.octets.specs.Base.{pick, some, refused, accepted, outcome};
+ghost use Rattle.octets.specs.Base.{pick, some, refused, accepted, outcome, doneAnswer};
 ghost use Rattle.octets.specs.NumberLaws.{Octets};
-ghost use Rattle.bus.specs.Offer.{doneAnswer};
 ghost use Rattle.runs.specs.Run.{lateAt};
 ghost use Rattle.runs.specs.RunLaws.{Runnable};
 ghost use Rattle.lines.specs.Text.{written, puts, refusedLine};
@@ -228,7 +227,7 @@ fn make_offer(input: &[u8], area: &mut [u8], at: usize) -> Done
     let destination = o.destination;
     let size = o.size;
     let data = input::offer_data(input, at, size);
-    bus::offer(area, o.station as usize, destination, o.value, data)
+    offer::offer(area, o.station as usize, destination, o.value, data)
 }
 
 // The number of a refusal, 0 where there is none.
@@ -383,7 +382,7 @@ fn start_piece(input: &[u8], area: &mut [u8], out: &mut [u8], p: Plan) -> Handed
 {
     let y = p.layout;
     let draws = input::read_draws(input, p.drawn, y.count as usize, p.depth as usize);
-    area::start::write_fresh(area, y, p.depth, draws);
+    start::write_fresh(area, y, p.depth, draws);
     let end = put_heading(out, y);
     Handed {
         piece: Piece::Text(end),

@@ -5,7 +5,7 @@ use mathlib.Core.Bool.{Bool, true, false}
 use mathlib.Core.List.{List, []}
 use lib.Dec.{ltb, eqb}
 use lib.ListN.{getD, set, replicate}
-use Rattle.octets.specs.Base.{pick, some, Answer, refused, accepted}
+use Rattle.octets.specs.Base.{pick, some, Answer, refused, accepted, doneAnswer}
 use Rattle.octets.specs.Turns.{turns}
 use Rattle.receiver.specs.declared.ReceiveEvent.{ReceiveEvent}
 use Rattle.receiver.specs.declared.ReceiveEvent.the-variants.{NoReceive, GotOk, GotTooLong, GotAlignment, GotCheck, GotLength}
@@ -13,11 +13,9 @@ use Rattle.transmitter.specs.declared.TransmitEvent.{TransmitEvent}
 use Rattle.transmitter.specs.declared.TransmitEvent.the-variants.{NoTransmit, Collision, Late, Sent, GivenUp}
 use Rattle.tally.specs.Tally.{sentCounted, gotCounted, isLate}
 use Rattle.area.specs.Area.{clockAt}
-use Rattle.valid.specs.Valid.{areaRefusal}
+use Rattle.valid.specs.Valid.{areaRefusal, lastClock}
 use Rattle.pair.specs.declared.Events.{Events}
 use Rattle.pair.specs.BitTime.{noEvents, eventsAt, stepArea}
-use Rattle.bus.specs.Offer.{doneAnswer}
-use Rattle.bus.specs.Step.{lastClock}
 use Rattle.runs.specs.declared.Ended.{Ended}
 use Rattle.runs.specs.declared.Ended.the-variants as how
 use Rattle.runs.specs.declared.Course.{Course}

@@ -6,7 +6,7 @@ use mathlib.Core.List.{List, [], _∷_}
 use native.Mathlib.Omega.{arith}
 use borrow.Author.Tests.{eq-eqb, ne-eqb, lt-ltb, le-ltb}
 use lib.ListN.{getD, set, replicate}
-use Rattle.octets.specs.Base.{pick, some, refused, accepted}
+use Rattle.octets.specs.Base.{pick, some, refused, accepted, doneAnswer}
 use Rattle.octets.specs.BaseLaws.{by-eq, some-hit}
 use Rattle.octets.specs.NumberLaws.{Octets}
 use Rattle.octets.specs.Turns.{turns}
@@ -22,7 +22,6 @@ use Rattle.pair.specs.BitTime.{eventsAt, stepArea}
 use Rattle.pair.specs.Ready.{Readiness}
 use Rattle.ready.specs.Passes.{passes-ready}
 use Rattle.ready.specs.Stays.{step-ready, step-clock}
-use Rattle.bus.specs.Offer.{doneAnswer}
 use Rattle.runs.specs.declared.Ended.{Ended}
 use Rattle.runs.specs.declared.Ended.the-variants as how
 use Rattle.runs.specs.declared.RunAnswer.{RunAnswer}

@@ -1,17 +1,16 @@
 // Runs over many bit times.
 
-use bus::Done;
+use octets::Done;
 use layout::Figures;
 ghost use mathlib.Core.Path.{_≡_};
 ghost use mathlib.Core.Bool.{true};
 ghost use Prim.Native.Nat.{_+_, _<_, _≤_};
 ghost use lib.ListN.{length, getD, replicate};
-ghost use Rattle.octets.specs.Base.{some, refused};
+ghost use Rattle.octets.specs.Base.{some, refused, doneAnswer};
 ghost use Rattle.octets.specs.NumberLaws.{Octets};
 ghost use Rattle.pair.specs.BitTime.{actIn, turnIn, eventsOf, eventsIn, advancedIn};
 ghost use Rattle.pair.specs.Ready.{Able, AllAble};
 ghost use Rattle.quick.specs.Quick.{PlainIf, AllPlain, Taken};
-ghost use Rattle.bus.specs.Offer.{doneAnswer};
 ghost use Rattle.tally.specs.Tally.{bumped, sentCounted, gotCounted, isLate};
 ghost use Rattle.runs.specs.Run.{tallied, lateAt, courseOf, runOf, runOutcome, ran};
 ghost use Rattle.tally.specs.TallyLaws.{Bounded};

@@ -19,7 +19,7 @@ use Rattle.transmitter.specs.Transmit.{packetLength, collision, sendBit, headBi
 use Rattle.station.specs.declared.step.Station.{Station}
 use Rattle.station.specs.Step.{triesAfter}
 use Rattle.pair.specs.Range.{AttemptsIn}
-use Rattle.bus.specs.Offer.{holds, offeredStation}
+use Rattle.offer.specs.Offer.{holds, offeredStation}
 use Rattle.trace.specs.Basic.{either, clash}
 use Rattle.trace.specs.World.{Net, Offer, freshStation, fresh, before}
 use Rattle.trace.specs.Run.{state, frameIn, outAt, sees, deferAt, sendAt, Sound, Made, Kept, ready-kept, frame-suc, out-start, out-sent, next-transmitter, next-attempts, fine-before}

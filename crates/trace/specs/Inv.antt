@@ -20,7 +20,7 @@ use Rattle.transmitter.specs.declared.Transmitter.{Transmitter}
 use Rattle.transmitter.specs.declared.Transmitter.the-variants.{NoFrame, Waiting, BackingOff, Sending, Heading, Jamming}
 use Rattle.transmitter.specs.Transmit.{packetLength, afterBit, collision, sendBit, headBit, backoffRange, backOff, lastJam, jamBit, backoffBit, waitBit, transmit}
 use Rattle.pair.specs.Range.{NumberIn}
-use Rattle.bus.specs.Offer.{holds}
+use Rattle.offer.specs.Offer.{holds}
 use Rattle.trace.specs.Basic.{clash}
 use Rattle.trace.specs.Trace as trace
 use Rattle.trace.specs.Trace.{Hears, Start}

@@ -21,7 +21,7 @@ use Rattle.transmitter.specs.Transmit.{waits, headBit, backoffBit, waitBit, tra
 use Rattle.station.specs.declared.step.Station.{Station}
 use Rattle.station.specs.Step.{triesAfter}
 use Rattle.pair.specs.Range.{FrameIn, no-start}
-use Rattle.bus.specs.Offer.{holds, offeredStation}
+use Rattle.offer.specs.Offer.{holds, offeredStation}
 use Rattle.trace.specs.Basic.{either, clash}
 use Rattle.trace.specs.Trace.{Emitted, Rules, Lawful}
 use Rattle.trace.specs.World.{Net, Offer, freshStation, fresh, before}

@@ -17,7 +17,7 @@ use Rattle.receiver.specs.declared.Stored.{Stored}
 use Rattle.receiver.specs.declared.Stored.the-variants.{NoStore, Store}
 use Rattle.receiver.specs.Receive.{hear, addressed, openAnswer, readableAfter, opening, decide, ended, receive}
 use Rattle.station.specs.declared.step.Station.{Station}
-use Rattle.bus.specs.Offer.{offeredStation}
+use Rattle.offer.specs.Offer.{offeredStation}
 use Rattle.trace.specs.Basic.{either}
 use Rattle.ready.specs.After.{storedIn}
 use Rattle.trace.specs.World.{Net, Offer, fresh, before}

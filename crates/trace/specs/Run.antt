@@ -30,7 +30,7 @@ use Rattle.station.specs.declared.step.Stepped.{Stepped}
 use Rattle.station.specs.Step.{stepped, nextStation, triesAfter, deferring, sending, receiving}
 use Rattle.pair.specs.Range.{Fine, fine-stepped}
 use Rattle.area.specs.Area.{alone}
-use Rattle.bus.specs.Offer.{holds, offeredStation}
+use Rattle.offer.specs.Offer.{holds, offeredStation}
 use Rattle.trace.specs.Basic.{either, clash}
 use Rattle.trace.specs.Trace.{Metric}
 use Rattle.ready.specs.After.{storedIn}

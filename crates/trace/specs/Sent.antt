@@ -20,7 +20,7 @@ use Rattle.transmitter.specs.declared.Transmitter.the-variants.{NoFrame, Waitin
 use Rattle.transmitter.specs.Transmit.{packetLength, collision, sendBit, headBit, lastJam, jamBit, backoffBit, waitBit, transmit}
 use Rattle.station.specs.declared.step.Station.{Station}
 use Rattle.station.specs.Step.{triesAfter}
-use Rattle.bus.specs.Offer.{holds, offeredStation}
+use Rattle.offer.specs.Offer.{holds, offeredStation}
 use Rattle.trace.specs.Basic.{either}
 use Rattle.trace.specs.World.{Net, Offer, before}
 use Rattle.trace.specs.Gather.{on, off-is}

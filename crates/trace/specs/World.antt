@@ -24,7 +24,7 @@ use Rattle.station.specs.declared.step.Stepped.{Stepped}
 use Rattle.station.specs.Step.{stepped}
 use Rattle.area.specs.Area.{joined}
 use Rattle.ready.specs.After.{storedIn}
-use Rattle.bus.specs.Offer.{holds, offeredStation}
+use Rattle.offer.specs.Offer.{holds, offeredStation}
 
 -- What does not change: the layout, the draws (depth of them, draw i k is draw k of station i), and what the buffers hold at the start.
 pub record Net : Type 0 where

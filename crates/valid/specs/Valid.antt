@@ -74,13 +74,17 @@ symbolWrong a i u = ltb 4 (symbolAt a i u)
 unfoldable pub stationWrong : List ℕ → ℕ → Bool
 stationWrong a i = recordWrong (figuresAt a) (depthAt a) (clockAt a) (recordAt a i) || some (symbolWrong a i) 256
 
+-- "clock 0..16,777,216"
+abbrev pub lastClock : ℕ
+lastClock = 16777216
+
 -- 2: "The work area holds layout values that 5 to 8 would refuse, D outside 1..16, or a record field in use out of range: .., clock
 -- 0..16,777,216, ..; or a state or symbol code that stands for nothing." Records of stations N and up are not in use.
 unfoldable pub areaWrong : List ℕ → Bool
 areaWrong a =
     pick (eqb (refusalOf (layoutAt a)) 0)
     (pick (outside (depthAt a) 1 16) true
-    (pick (ltb 16777216 (clockAt a)) true
+    (pick (ltb lastClock (clockAt a)) true
     (some (stationWrong a) (countAt a))))
     true
 

@@ -1,6 +1,6 @@
 // Document 01's whole case by one run, with readings; and one past each bound of a fitting layout.
 
-use bus::Done;
+use octets::Done;
 use layout::Figures;
 use layout::Layout;
 use layout::Tap;
@@ -136,7 +136,7 @@ fn start_far(area: &mut [u8]) -> Done {
         backoff: 10,
     };
     let y = layout_of(figures, 2, tap(0, 1), tap(33, 2), blank());
-    bus::start(area, y, 1, [[0u16; 16]; 16])
+    start::start(area, y, 1, [[0u16; 16]; 16])
 }
 
 // Offers at clock 0 and 32; the second run ends at the late collision, and the third goes on behind it.
@@ -163,12 +163,12 @@ fn start_slow(area: &mut [u8]) -> Done {
     draws[0] = [1u16; 16];
     draws[2] = [1u16; 16];
     let y = layout_of(figures, 3, tap(0, 1), tap(1, 2), tap(35, 3));
-    bus::start(area, y, 1, draws)
+    start::start(area, y, 1, draws)
 }
 
 fn offer_all(area: &mut [u8], i: usize) {
     let zeros = [0u8; 46];
-    crate::steps::print_done(bus::offer(area, i, [0xffu8; 6], 0x0800, &zeros));
+    crate::steps::print_done(offer::offer(area, i, [0xffu8; 6], 0x0800, &zeros));
 }
 
 // Three broadcasts, offered at clock 0, 0 and 33.

@@ -1,6 +1,6 @@
 // Document 01's whole case, step by step through start, offer and step; and areas with each fault of check 2.
 
-use bus::Done;
+use octets::Done;
 use layout::Figures;
 use layout::Layout;
 use layout::Tap;
@@ -63,7 +63,7 @@ pub(crate) fn start_two(area: &mut [u8], depth: u32) -> Done {
     let mut second = [0u16; 16];
     second[0] = 1;
     draws[1] = second;
-    bus::start(area, pair_of_two(), depth, draws)
+    start::start(area, pair_of_two(), depth, draws)
 }
 
 // One event's line: time, station, word, number.
@@ -133,7 +133,7 @@ pub(crate) fn print_counters(area: &[u8], i: usize) {
 
 pub(crate) fn offer_zeros(area: &mut [u8], i: usize, value: u16, last: u8) {
     let zeros = [0u8; 46];
-    print_done(bus::offer(area, i, [2u8, 0, 0, 0, 0, last], value, &zeros));
+    print_done(offer::offer(area, i, [2u8, 0, 0, 0, 0, last], value, &zeros));
 }
 
 // The whole case, with offers that are refused (10, 11, 12) among it.

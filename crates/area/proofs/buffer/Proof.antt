@@ -1,5 +1,5 @@
 -- `area::buffer` meets its contract. Assumes nothing.
-use Rattle.area.specs.FreshLaws.{buffer-is}
+use Rattle.area.specs.CodeLaws.{buffer-is}
 use borrow.Author.Needs.{needs}
 use Rattle.area.proofs.buffer.Statement.{statement}
 use Rattle.area.proofs.buffer.Tie as tie

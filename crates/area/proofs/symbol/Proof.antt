@@ -1,5 +1,5 @@
 -- `area::symbol` meets its contract. Assumes nothing.
-use Rattle.area.specs.FreshLaws.{symbol-is}
+use Rattle.area.specs.CodeLaws.{emitted-is}
 use borrow.Author.Needs.{needs}
 use Rattle.area.proofs.symbol.Statement.{statement}
 use Rattle.area.proofs.symbol.Tie as tie
@@ -26,7 +26,7 @@ symbol-of-requires : tie.Need-symbol-of-requires
 symbol-of-requires c κs = search needs
 
 returns : tie.Need-returns
-returns c = search symbol-is
+returns c = search emitted-is
 
 pub symbol-spec : {M : Type 1} → statement M
 symbol-spec =

@@ -1,5 +1,5 @@
 -- `bus::read_counters` meets its contract. Assumes nothing.
-use Rattle.bus.specs.OfferLaws.{counters-area, counters-station, counters-made}
+use Rattle.bus.specs.StepLaws.{counters-area, counters-station, counters-made}
 use Rattle.valid.specs.AreaCheckLaws.{passes-long, passes-station}
 use borrow.Author.Needs.{needs}
 use Rattle.bus.proofs.read_counters.Statement.{statement}
