@@ -1,54 +1,34 @@
 -- The C interface: what each call returns, and what it leaves in the octets lent to it. A call returns one number of 32 bits: "A refusal
 -- returns its number alone", with bit 31; what is below is the answer. What is written into the lent output stands here in words of four
--- octets, high octet first. The laws are in CapiLaws. Assumes nothing.
+-- octets, high octet first; those words, and the numbers of answers, are in `answers`. The laws are in CallLaws. Assumes nothing.
 use Prim.Native.Nat.{ℕ, _+_, _*_}
 use mathlib.Core.Bool.{false}
 use mathlib.Core.List.{List, [], _∷_}
 use lib.Dec.{ltb, eqb}
-use lib.ListN.{length, getD}
-use lib.Seq.{sets}
+use lib.ListN.{length}
 use Rattle.octets.specs.Base.{pick, outside, Answer, Outcome}
-use Rattle.octets.specs.Number.{spelled, put}
+use Rattle.octets.specs.Number.{spelled}
 use Rattle.octets.specs.Words.{putWords}
-use Rattle.octets.specs.Turns.{turns}
 use Rattle.layout.specs.declared.Layout.{Layout}
-use Rattle.layout.specs.declared.Tap.{Tap}
 use Rattle.layout.specs.Fit.{fitOf}
 use Rattle.sheet.specs.Sheet.{readSheet}
 use Rattle.input.specs.Plan.{drawsIn}
 use Rattle.frame.specs.Open.{opened}
 use Rattle.frame.specs.Build.{built}
-use Rattle.receiver.specs.declared.ReceiveEvent.{ReceiveEvent}
-use Rattle.receiver.specs.declared.ReceiveEvent.the-variants.{NoReceive, GotOk, GotTooLong, GotAlignment, GotCheck, GotLength}
-use Rattle.transmitter.specs.declared.TransmitEvent.{TransmitEvent}
-use Rattle.transmitter.specs.declared.TransmitEvent.the-variants.{NoTransmit, Collision, Late, Sent, GivenUp}
 use Rattle.area.specs.Places.{areaSize}
-use Rattle.start.specs.Fresh.{tapIn}
 use Rattle.area.specs.Area.{clockAt}
 use Rattle.valid.specs.Valid.{areaRefusal, lastClock}
-use Rattle.pair.specs.declared.Events.{Events}
 use Rattle.start.specs.Start.{started}
 use Rattle.offer.specs.Offer.{offered}
 use Rattle.bus.specs.Step.{steppedOnce}
 use Rattle.bus.specs.Counters.{countersRead}
 use Rattle.runs.specs.declared.Ended.{Ended}
 use Rattle.runs.specs.declared.Ended.the-variants as how
-use Rattle.runs.specs.Run.{eventAt, ran}
+use Rattle.runs.specs.Run.{ran}
 use Rattle.reading.specs.Read.{frameRead}
+use Rattle.answers.specs.Answers.{replied, valueOf, layoutPut, clientWords, eventsPut}
 
 -- ---- the number that a call returns
-
--- bit 31, set in a refusal
-abbrev pub refusalBit : ℕ
-refusalBit = 2147483648
-
--- refusal n, or where n is 0 the value
-unfoldable pub replied : (n value : ℕ) → ℕ
-replied n v = pick (eqb n 0) v (refusalBit + n)
-
--- the first value of an answer, 0 where it has none
-abbrev pub valueOf : Answer → ℕ
-valueOf r = getD (r .values) 0 0
 
 -- what a call returns for an answer
 abbrev pub codeOf : Answer → ℕ
@@ -95,31 +75,6 @@ short k out = pick (ltb (length out) k) 15 0
 
 -- ---- reading a sheet
 
--- slot, gap1, gap2, jam, attempt limit, backoff limit, N, and 1 where the layout fits or 0
-unfoldable pub layoutWords : Layout → List ℕ
-layoutWords y =
-    y .figures .slot
-    ∷ y .figures .gap1
-    ∷ y .figures .gap2
-    ∷ y .figures .jam
-    ∷ y .figures .limit
-    ∷ y .figures .backoff
-    ∷ y .count
-    ∷ valueOf (fitOf y)
-    ∷ []
-
--- place i: a station's position, 4 octets, and its address, 6
-unfoldable pub tapPut : (position : ℕ) (address : List ℕ) (i : ℕ) → List ℕ → List ℕ
-tapPut p d i out = sets (put 4 out (32 + 10 * i) p) (36 + 10 * i) d
-
--- the first n places
-unfoldable pub tapsPut : List Tap → ℕ → List ℕ → List ℕ
-tapsPut ts n out = turns (λ i x. tapPut (tapIn ts i .position) (tapIn ts i .address) i x) n out
-
--- the eight words, and after them the sixteen places
-unfoldable pub layoutPut : Layout → List ℕ → List ℕ
-layoutPut y out = tapsPut (y .stations) 16 (putWords 8 out 0 (layoutWords y))
-
 -- "Reading answers the layout and how many octets it used"; refusals 3 to 8, 15
 unfoldable pub sheetGiven : (sheet out : List ℕ) → Given
 sheetGiven l out =
@@ -140,10 +95,6 @@ buildGiven d s v x out = codeGiven (built out (spelled 6 d) (spelled 6 s) v x)
 -- 0 fragment, 1 frameTooLong, 2 frameCheckError, 3 alignmentError, 4 lengthError, 5 receiveOK
 unfoldable pub statusGiven : (frame : List ℕ) (excess : ℕ) → ℕ
 statusGiven f e = codeOf (opened false f e .status)
-
--- where the client data begin in the frame, and how many octets they are; 0 and 0 but with receiveOK
-unfoldable pub clientWords : Answer → List ℕ
-clientWords r = pick (eqb (valueOf r) 5) 14 0 ∷ getD (r .values) 1 0 ∷ []
 
 -- the status, and where the client data lie; refusals 5, 15
 unfoldable pub clientGiven : (frame : List ℕ) (excess : ℕ) (out : List ℕ) → Given
@@ -177,48 +128,6 @@ offerGiven a i d v x = codeGiven (offered a i (spelled 6 d) v x)
 
 -- ---- steps and runs
 
--- a station's transmit event as a number
-abbrev pub sentCode : TransmitEvent → ℕ
-sentCode NoTransmit = 0
-sentCode (Collision k) = 1
-sentCode (Late k) = 2
-sentCode (Sent n) = 3
-sentCode (GivenUp n) = 4
-
--- "`collision` or `late` with the bit, `sent` or `given-up` with attempts"
-abbrev pub sentNumber : TransmitEvent → ℕ
-sentNumber NoTransmit = 0
-sentNumber (Collision k) = k
-sentNumber (Late k) = k
-sentNumber (Sent n) = n
-sentNumber (GivenUp n) = n
-
--- "`got` with ok, too-long, alignment, check or length"
-abbrev pub gotCode : ReceiveEvent → ℕ
-gotCode NoReceive = 0
-gotCode (GotOk n) = 1
-gotCode (GotTooLong n) = 2
-gotCode (GotAlignment n) = 3
-gotCode (GotCheck n) = 4
-gotCode (GotLength n) = 5
-
--- "and octets"
-abbrev pub gotNumber : ReceiveEvent → ℕ
-gotNumber NoReceive = 0
-gotNumber (GotOk n) = n
-gotNumber (GotTooLong n) = n
-gotNumber (GotAlignment n) = n
-gotNumber (GotCheck n) = n
-gotNumber (GotLength n) = n
-
--- "transmit comes before receive"
-unfoldable pub eventWords : Events → List ℕ
-eventWords e = sentCode (e .sent) ∷ sentNumber (e .sent) ∷ gotCode (e .got) ∷ gotNumber (e .got) ∷ []
-
--- the first n stations' events, four words each
-unfoldable pub eventsPut : List Events → ℕ → List ℕ → List ℕ
-eventsPut es n out = turns (λ i x. putWords 4 x (16 * i) (eventWords (eventAt es i))) n out
-
 -- one bit time; refusals 1, 2, 13, and after them 15, with the area as it was
 unfoldable pub stepLeft : (area out : List ℕ) → Left
 stepLeft a out =
@@ -242,7 +151,7 @@ runLeft a n out =
     (unless (short 48 out) (bothKept a out)
     (left (ran a n .steps) (ran a n .octets) (runPut (ran a n .words) (ran a n .ended) out)))
 
--- the refusal of n bit times, 1, 2 or 13, whatever output is lent; that a step and a run have it is in CapiLaws
+-- the refusal of n bit times, 1, 2 or 13, whatever output is lent; that a step and a run have it is in CallLaws
 unfoldable pub timeRefusal : (area : List ℕ) (n : ℕ) → ℕ
 timeRefusal a n = pick (eqb (areaRefusal a) 0) (pick (ltb lastClock (clockAt a + n)) 13 0) (areaRefusal a)
 

@@ -31,7 +31,8 @@ use Rattle.bus.specs.Counters.{countersRead}
 use Rattle.runs.specs.Run.{lateAt, tallied, runOf, ran}
 use Rattle.reading.specs.Read.{isReadable, frameRead}
 use Rattle.reading.specs.ReadLaws.{read-room}
-use Rattle.capi.specs.Capi.{refusalBit, replied, valueOf, Given, given, Left, left, codeGiven, unless, kept, bothKept, short, layoutPut, sheetGiven, buildGiven, clientWords, clientGiven, drawsRefusal, drawnGiven, startGiven, offerGiven, eventsPut, stepLeft, runPut, runLeft, frameGiven, countersGiven}
+use Rattle.answers.specs.Answers.{refusalBit, replied, valueOf, layoutPut, clientWords, eventsPut}
+use Rattle.capi.specs.Capi.{Given, given, Left, left, codeGiven, unless, kept, bothKept, short, sheetGiven, buildGiven, clientGiven, drawsRefusal, drawnGiven, startGiven, offerGiven, stepLeft, runPut, runLeft, frameGiven, countersGiven}
 use Rattle.capi.specs.Numbers.{sheet-small, build-size}
 
 -- a call that was lent l and gives x: where its reply has bit 31, l is as it was

@@ -29,7 +29,8 @@ use Rattle.start.specs.Start.{started}
 use Rattle.offer.specs.Offer.{holds, offered}
 use Rattle.bus.specs.Counters.{countersRead}
 use Rattle.reading.specs.Read.{isReadable, frameRead}
-use Rattle.capi.specs.Capi.{valueOf, timeRefusal}
+use Rattle.answers.specs.Answers.{valueOf}
+use Rattle.capi.specs.Capi.{timeRefusal}
 
 -- ---- sheets
 

@@ -2,17 +2,18 @@
 // refusal n, anything below is the answer (crc32: all 32 bits). With a refusal every lent slice keeps what it held. What is written into
 // `out` is said at each function of wisavulome.h, in words of four octets, high octet first; octets past what is written stay.
 
-mod answers;
-mod tables;
-
 use layout::Layout;
+use reading::Reading;
+use runs::Ended;
 ghost use mathlib.Core.Path.{_≡_};
 ghost use Prim.Native.Nat.{_+_, _*_, _<_, _≤_};
 ghost use lib.Dec.{eqb};
 ghost use lib.ListN.{length};
 ghost use Rattle.octets.specs.Base.{pick};
 ghost use Rattle.crc32.specs.Crc.{crcOf};
-ghost use Rattle.capi.specs.Capi.{replied, given, left, sheetGiven, fitsGiven, buildGiven, statusGiven, clientGiven, drawnGiven, startGiven, offerGiven, stepLeft, runLeft, timeRefusal, frameGiven, countersGiven};
+ghost use Rattle.answers.specs.Answers.{replied};
+ghost use Rattle.reading.specs.Read.{readAnswer};
+ghost use Rattle.capi.specs.Capi.{given, left, sheetGiven, fitsGiven, buildGiven, statusGiven, clientGiven, drawnGiven, startGiven, offerGiven, stepLeft, runLeft, endedWords, runPut, timeRefusal, frameGiven, countersGiven};
 
 // Reads a sheet: the octets used. Refusals 3 to 8, 15.
 #[no_mangle]
@@ -21,16 +22,16 @@ pub extern "C" fn wisavulome_read_sheet(sheet: &[u8], out: &mut [u8]) -> u32
 {
     let front = sheet::read_sheet(sheet);
     let read = front.read;
-    let number = answers::sheet_number(read);
+    let number = answers::numbers::sheet_number(read);
     if number != 0 {
-        return answers::reply(number, 0);
+        return answers::numbers::reply(number, 0);
     }
     if out.len() < 192 {
-        return answers::reply(15, 0);
+        return answers::numbers::reply(15, 0);
     }
     let y = front.layout;
-    tables::write_layout(out, y);
-    answers::sheet_size(read)
+    answers::tables::write_layout(out, y);
+    answers::numbers::sheet_size(read)
 }
 
 // Whether the layout of a sheet fits: 1 or 0. Refusals 3 to 8.
@@ -40,13 +41,16 @@ pub extern "C" fn wisavulome_fits(sheet: &[u8]) -> u32
 {
     let front = sheet::read_sheet(sheet);
     let read = front.read;
-    let number = answers::sheet_number(read);
+    let number = answers::numbers::sheet_number(read);
     if number != 0 {
-        return answers::reply(number, 0);
+        return answers::numbers::reply(number, 0);
     }
     let y = front.layout;
     let fit = layout::fits(y);
-    answers::reply(answers::fit_number(fit), answers::fit_value(fit))
+    answers::numbers::reply(
+        answers::numbers::fit_number(fit),
+        answers::numbers::fit_value(fit),
+    )
 }
 
 // Builds a frame: its octets. Refusals 11, 15.
@@ -60,10 +64,13 @@ pub extern "C" fn wisavulome_build(
 ) -> u32
     ensures { λ r. ⌜ given r (now (out .exit)) ≡ buildGiven destination source value (now (payload .entry)) (now (out .entry)) ⌝ }
 {
-    let d = answers::address(destination);
-    let s = answers::address(source);
+    let d = answers::numbers::address(destination);
+    let s = answers::numbers::address(source);
     let b = frame::builder::build(out, d, s, value, payload);
-    answers::reply(answers::built_number(b), answers::built_size(b))
+    answers::numbers::reply(
+        answers::numbers::built_number(b),
+        answers::numbers::built_size(b),
+    )
 }
 
 // The status of a frame's octets and excess bits: 0 to 5. Refusal 5.
@@ -72,7 +79,10 @@ pub extern "C" fn wisavulome_status(frame: &[u8], excess: u32) -> u32
     ensures { λ r. ⌜ r ≡ statusGiven (now (frame .entry)) excess ⌝ }
 {
     let s = frame::opener::status(frame, excess);
-    answers::reply(answers::status_number(s), answers::status_value(s))
+    answers::numbers::reply(
+        answers::numbers::status_number(s),
+        answers::numbers::status_value(s),
+    )
 }
 
 // The status, and where the client data lie. Refusals 5, 15.
@@ -81,16 +91,16 @@ pub extern "C" fn wisavulome_client_data(frame: &[u8], excess: u32, out: &mut [u
     ensures { λ r. ⌜ given r (now (out .exit)) ≡ clientGiven (now (frame .entry)) excess (now (out .entry)) ⌝ }
 {
     let s = frame::opener::status(frame, excess);
-    let number = answers::status_number(s);
+    let number = answers::numbers::status_number(s);
     if number != 0 {
-        return answers::reply(number, 0);
+        return answers::numbers::reply(number, 0);
     }
     if out.len() < 8 {
-        return answers::reply(15, 0);
+        return answers::numbers::reply(15, 0);
     }
-    let words = answers::status_words(s);
+    let words = answers::numbers::status_words(s);
     octets::store_words(out, 0, &words);
-    answers::status_value(s)
+    answers::numbers::status_value(s)
 }
 
 // A fresh start on a layout, with the octets of its draws.
@@ -99,16 +109,16 @@ fn start_drawn(area: &mut [u8], y: Layout, depth: u32, draws: &[u8]) -> u32
     ensures { λ r. ⌜ given r (now (area .exit)) ≡ drawnGiven (now (area .entry)) y depth (now (draws .entry)) ⌝ }
 {
     if octets::out_of(depth, 1, 16) {
-        return answers::reply(9, 0);
+        return answers::numbers::reply(9, 0);
     }
     let n = y.count as usize;
     let d = depth as usize;
     if draws.len() != 2 * (n * d) {
-        return answers::reply(9, 0);
+        return answers::numbers::reply(9, 0);
     }
     let rows = input::read_draws(draws, 0, n, d);
     let done = start::start(area, y, depth, rows);
-    answers::reply(answers::done_number(done), 0)
+    answers::numbers::reply(answers::numbers::done_number(done), 0)
 }
 
 // A fresh start: 0. Refusals 1, 3 to 8, 9.
@@ -117,13 +127,13 @@ pub extern "C" fn wisavulome_start(area: &mut [u8], sheet: &[u8], depth: u32, dr
     ensures { λ r. ⌜ given r (now (area .exit)) ≡ startGiven (now (area .entry)) (now (sheet .entry)) depth (now (draws .entry)) ⌝ }
 {
     if area.len() < area::AREA {
-        return answers::reply(1, 0);
+        return answers::numbers::reply(1, 0);
     }
     let front = sheet::read_sheet(sheet);
     let read = front.read;
-    let number = answers::sheet_number(read);
+    let number = answers::numbers::sheet_number(read);
     if number != 0 {
-        return answers::reply(number, 0);
+        return answers::numbers::reply(number, 0);
     }
     let y = front.layout;
     start_drawn(area, y, depth, draws)
@@ -140,9 +150,9 @@ pub extern "C" fn wisavulome_offer(
 ) -> u32
     ensures { λ r. ⌜ given r (now (area .exit)) ≡ offerGiven (now (area .entry)) station destination value (now (payload .entry)) ⌝ }
 {
-    let d = answers::address(destination);
+    let d = answers::numbers::address(destination);
     let done = offer::offer(area, station as usize, d, value, payload);
-    answers::reply(answers::done_number(done), 0)
+    answers::numbers::reply(answers::numbers::done_number(done), 0)
 }
 
 // The refusal of n bit times, 1, 2 or 13, or 0.
@@ -166,9 +176,9 @@ fn refuse_short(area: &[u8], n: u32) -> u32
 {
     let number = time_refusal(area, n);
     if number != 0 {
-        return answers::reply(number, 0);
+        return answers::numbers::reply(number, 0);
     }
-    answers::reply(15, 0)
+    answers::numbers::reply(15, 0)
 }
 
 // One bit time: 0, and the events of each station. Refusals 1, 2, 13, 15.
@@ -181,13 +191,33 @@ pub extern "C" fn wisavulome_step(area: &mut [u8], out: &mut [u8]) -> u32
     }
     let b = bus::step(area);
     let done = b.done;
-    let number = answers::done_number(done);
+    let number = answers::numbers::done_number(done);
     if number != 0 {
-        return answers::reply(number, 0);
+        return answers::numbers::reply(number, 0);
     }
     let events = b.events;
-    tables::write_events(out, events);
+    answers::tables::write_events(out, events);
     0
+}
+
+// How a run ended as three words: whether early, and the step and station of the late collision.
+fn ended_words(e: Ended) -> [u32; 3]
+    ensures { λ r. ⌜ r ≡ endedWords e ⌝ }
+{
+    match e {
+        Ended::All => [0, 0, 0],
+        Ended::Late { step, station } => [1, step, station],
+    }
+}
+
+// The nine words of a run, and how it ended.
+fn write_run(out: &mut [u8], words: [u32; 9], ended: Ended)
+    requires { ⌜ 48 ≤ length (now out) ⌝ }
+    ensures { λ r. ⌜ now (out .exit) ≡ runPut words ended (now (out .entry)) ⌝ }
+{
+    let last = ended_words(ended);
+    octets::store_words(out, 0, &words);
+    octets::store_words(out, 36, &last);
 }
 
 // A run of n bit times: the steps made, and how many events of each word came. Refusals 1, 2, 13, 15.
@@ -200,14 +230,33 @@ pub extern "C" fn wisavulome_run(area: &mut [u8], n: u32, out: &mut [u8]) -> u32
     }
     let a = runs::run(area, n);
     let done = a.done;
-    let number = answers::done_number(done);
+    let number = answers::numbers::done_number(done);
     if number != 0 {
-        return answers::reply(number, 0);
+        return answers::numbers::reply(number, 0);
     }
     let words = a.words;
     let ended = a.ended;
-    tables::write_run(out, words, ended);
+    write_run(out, words, ended);
     a.steps
+}
+
+fn read_number(g: Reading) -> u32
+    ensures { λ r. ⌜ r ≡ readAnswer g .number ⌝ }
+{
+    match g {
+        Reading::Refused(n) => n,
+        Reading::Frame(_) => 0,
+    }
+}
+
+// The octets of the frame.
+fn read_size(g: Reading) -> u32
+    ensures { λ r. ⌜ r ≡ valueOf (readAnswer g) ⌝ }
+{
+    match g {
+        Reading::Refused(_) => 0,
+        Reading::Frame(n) => n,
+    }
 }
 
 // Reads the frame that a station received: its octets. Refusals 1, 2, 10, 14, 15.
@@ -216,7 +265,7 @@ pub extern "C" fn wisavulome_read_frame(area: &[u8], station: u32, out: &mut [u8
     ensures { λ r. ⌜ given r (now (out .exit)) ≡ frameGiven (now (area .entry)) station (now (out .entry)) ⌝ }
 {
     let g = reading::read_frame(area, station as usize, out);
-    answers::reply(answers::read_number(g), answers::read_size(g))
+    answers::numbers::reply(read_number(g), read_size(g))
 }
 
 // The sixteen counters of a station: 0. Refusals 1, 2, 10, 15.
@@ -226,15 +275,15 @@ pub extern "C" fn wisavulome_counters(area: &[u8], station: u32, out: &mut [u8])
 {
     let c = bus::read_counters(area, station as usize);
     let done = c.done;
-    let number = answers::done_number(done);
+    let number = answers::numbers::done_number(done);
     if number != 0 {
-        return answers::reply(number, 0);
+        return answers::numbers::reply(number, 0);
     }
     if out.len() < 64 {
-        return answers::reply(15, 0);
+        return answers::numbers::reply(15, 0);
     }
     let words = c.words;
-    tables::write_counters(out, words);
+    answers::tables::write_counters(out, words);
     0
 }
 

@@ -14,10 +14,10 @@ use Rattle.packet.specs.declared.Heard.{Heard}
 use Rattle.receiver.specs.declared.ReceiveEvent.{ReceiveEvent}
 use Rattle.transmitter.specs.declared.TransmitEvent.{TransmitEvent}
 use Rattle.area.specs.Area.{clockAt, addressAt, arrivalAt}
-use Rattle.pair.specs.BitTime.{actAt, eventsAt, stepArea}
+use Rattle.pair.specs.BitTime.{actAt, eventsAt, stepArea, eventAt}
 use Rattle.offer.specs.Offer.{offered}
 use Rattle.bus.specs.Step.{steppedOnce}
-use Rattle.runs.specs.Run.{eventAt, lateAt, ran}
+use Rattle.runs.specs.Run.{lateAt, ran}
 
 -- offer: station, destination, length/type value, data. read: station, and what the lent output holds
 pub data Call : Type 0 where

@@ -38,12 +38,12 @@ use Rattle.start.specs.FreshLaws.{fresh-figures}
 use Rattle.valid.specs.Valid.{areaRefusal}
 use Rattle.pair.specs.declared.Act.{Act}
 use Rattle.pair.specs.declared.Events.{Events}
-use Rattle.pair.specs.BitTime.{actAt, eventsOf, noEvents, eventsAt, stepArea}
+use Rattle.pair.specs.BitTime.{actAt, eventsOf, noEvents, eventsAt, stepArea, eventAt}
 use Rattle.ready.specs.Passes.{Passing, ready-passes}
 use Rattle.offer.specs.Offer.{holds, offered}
 use Rattle.start.specs.Start.{started}
 use Rattle.bus.specs.Step.{steppedOnce}
-use Rattle.runs.specs.Run.{eventAt, tallied, lateAt, Ran, runOf, ran}
+use Rattle.runs.specs.Run.{tallied, lateAt, Ran, runOf, ran}
 use Rattle.reading.specs.Read.{isReadable, frameRead}
 use Rattle.trace.specs.World as world
 use Rattle.trace.specs.World.{Net, Offer, ready}

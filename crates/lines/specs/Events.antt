@@ -8,7 +8,7 @@ use Rattle.transmitter.specs.declared.TransmitEvent.{TransmitEvent}
 use Rattle.transmitter.specs.declared.TransmitEvent.the-variants.{NoTransmit, Collision, Late, Sent, GivenUp}
 use Rattle.pair.specs.declared.Events.{Events}
 use Rattle.pair.specs.BitTime.{noEvents}
-use Rattle.lines.specs.Text.{line}
+use Rattle.text.specs.Text.{line}
 
 -- `collision`, `late`, `sent`, `given-up`
 abbrev pub collisionWord : List ℕ

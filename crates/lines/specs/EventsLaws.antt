@@ -11,8 +11,8 @@ use Rattle.transmitter.specs.declared.TransmitEvent.{TransmitEvent}
 use Rattle.transmitter.specs.declared.TransmitEvent.the-variants.{NoTransmit, Collision, Late, Sent, GivenUp}
 use Rattle.pair.specs.declared.Events.{Events}
 use Rattle.pair.specs.BitTime.{noEvents}
-use Rattle.lines.specs.Text.{written, puts, line}
-use Rattle.lines.specs.TextLaws.{join}
+use Rattle.text.specs.Text.{written, puts, line}
+use Rattle.text.specs.TextLaws.{join}
 use Rattle.lines.specs.Events.{collisionWord, lateWord, sentWord, givenUpWord, got, okWord, tooLongWord, alignmentWord, checkWord, lengthWord, sentLine, gotLine, stationLines, stepLines}
 
 -- ---- an event

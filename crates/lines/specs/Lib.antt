@@ -1,5 +1,3 @@
-pub mod Text
-pub mod TextLaws
 pub mod Events
 pub mod EventsLaws
 pub mod Sizes

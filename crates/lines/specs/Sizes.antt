@@ -12,8 +12,8 @@ use Rattle.transmitter.specs.declared.TransmitEvent.{TransmitEvent}
 use Rattle.transmitter.specs.declared.TransmitEvent.the-variants.{NoTransmit, Collision, Late, Sent, GivenUp}
 use Rattle.pair.specs.declared.Events.{Events}
 use Rattle.pair.specs.BitTime.{noEvents}
-use Rattle.lines.specs.Text.{digits, lean, decimal, space, newline, numbered, counted, placed, line, stationsWord, firstLine, refusedWord, refusedLine, refusedOffer, endWord, endLine}
-use Rattle.lines.specs.TextLaws.{length-digits}
+use Rattle.text.specs.Text.{digits, lean, decimal, space, newline, numbered, counted, placed, line, stationsWord, firstLine, refusedWord, refusedLine, refusedOffer, endWord, endLine}
+use Rattle.text.specs.TextLaws.{length-digits}
 use Rattle.lines.specs.Events.{collisionWord, lateWord, sentWord, givenUpWord, got, okWord, tooLongWord, alignmentWord, checkWord, lengthWord, sentLine, gotLine, stationLines, stepLines}
 
 length-lean : (l : List ℕ) → length (lean l) ≤ length l

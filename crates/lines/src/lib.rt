@@ -1,14 +1,12 @@
 // The lines of the run program (document 01, "The run program"), written into lent octets.
 
-pub mod text;
-
 use pair::Events;
 use receiver::ReceiveEvent;
 use transmitter::TransmitEvent;
 ghost use mathlib.Core.Path.{_≡_};
 ghost use Prim.Native.Nat.{_+_, _*_, _≤_};
 ghost use lib.ListN.{length};
-ghost use Rattle.lines.specs.Text.{written, puts};
+ghost use Rattle.text.specs.Text.{written, puts};
 ghost use Rattle.lines.specs.Events.{sentLine, gotLine, stationLines, stepLines};
 
 // The line of a transmit event of station i in step t, written at `at`. Answers where it ends, as all here do.

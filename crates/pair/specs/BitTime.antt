@@ -5,6 +5,7 @@ use Prim.Native.Nat.{ℕ, _+_}
 use mathlib.Core.Bool.{Bool, true, false, _||_}
 use mathlib.Core.List.{List}
 use lib.Dec.{eqb}
+use lib.ListN.{getD}
 use Rattle.octets.specs.Base.{pick}
 use Rattle.octets.specs.Turns.{turns}
 use Rattle.octets.specs.Filled.{filled}
@@ -108,6 +109,10 @@ eventsOf r = record { sent = r .outcome .sent; got = r .outcome .got }
 
 abbrev pub noEvents : Events
 noEvents = record { sent = NoTransmit; got = NoReceive }
+
+-- those of station i
+abbrev pub eventAt : List Events → ℕ → Events
+eventAt es i = getD es i noEvents
 
 unfoldable pub eventsAt : List ℕ → List Events
 eventsAt a = filled noEvents (λ i. eventsOf (actAt a i)) (countAt a)

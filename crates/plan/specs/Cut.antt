@@ -15,9 +15,9 @@ use Rattle.octets.specs.BaseLaws.{by-test, within}
 use Rattle.octets.specs.NumberLaws.{Octets, octets-by}
 use Rattle.sheet.specs.Sheet.{stands, width, fieldAt, countPlace, countIn, layoutIn, sheetSize, Reading, readSheet}
 use Rattle.sheet.specs.SheetTheorems.{sheet-front, size-front, count-front}
-use Rattle.lines.specs.Text.{refusedLine}
+use Rattle.text.specs.Text.{refusedLine}
 use Rattle.input.specs.Plan.{depthIn, offersPlace, drawsWrong, planWrong, lastRefusal, afterSheet, sheetRefusal, planRefusal, Planned, unplanned, wholeFrom, unless, planRead}
-use Rattle.plan.specs.Printed.{planText, printed}
+use Rattle.pieces.specs.Printed.{planText, printed}
 
 -- ---- a refused input prints its number
 

@@ -1,5 +1,2 @@
-pub mod Printed
-pub mod Pieces
-pub mod PieceLaws
 pub mod Whole
 pub mod Cut

@@ -18,14 +18,14 @@ use Rattle.record.specs.Codec.{encoded}
 use Rattle.area.specs.Area.{clockAt, withClock, depthAt, figuresAt, countAt}
 use Rattle.area.specs.AreaLaws.{depth-by, figures-by, count-by}
 use Rattle.pair.specs.declared.Events.{Events}
-use Rattle.pair.specs.BitTime.{actIn, turnedIn, turnIn, advancedIn, eventsOf, eventsIn, noEvents, eventsAt, stepArea}
+use Rattle.pair.specs.BitTime.{actIn, turnedIn, turnIn, advancedIn, eventsOf, eventsIn, noEvents, eventsAt, stepArea, eventAt}
 use Rattle.pair.specs.CodeLaws.{turned-end, advanced-is}
 use Rattle.pair.specs.Ready.{Readiness, Ready, Able, AllAble, acts-same, ready-few, ready-able, step-is, step-events}
 use Rattle.quick.specs.Quick.{Plain, AllPlain, Taken, taken-events, left-area}
 use Rattle.ready.specs.Stays.{step-clock, step-layout, step-depth, step-record, step-station}
 use Rattle.runs.specs.declared.Ended.the-variants as how
 use Rattle.tally.specs.Tally.{sentCounted, gotCounted, isLate}
-use Rattle.runs.specs.Run.{eventAt, tallied, lateAt, Ran, runOf}
+use Rattle.runs.specs.Run.{tallied, lateAt, Ran, runOf}
 use Rattle.tally.specs.TallyLaws.{Bounded, got-bounded}
 use Rattle.runs.specs.RunLaws.{Runnable, run-next, run-on, run-late}
 

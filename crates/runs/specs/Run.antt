@@ -15,7 +15,7 @@ use Rattle.tally.specs.Tally.{sentCounted, gotCounted, isLate}
 use Rattle.area.specs.Area.{clockAt}
 use Rattle.valid.specs.Valid.{areaRefusal, lastClock}
 use Rattle.pair.specs.declared.Events.{Events}
-use Rattle.pair.specs.BitTime.{noEvents, eventsAt, stepArea}
+use Rattle.pair.specs.BitTime.{eventAt, eventsAt, stepArea}
 use Rattle.runs.specs.declared.Ended.{Ended}
 use Rattle.runs.specs.declared.Ended.the-variants as how
 use Rattle.runs.specs.declared.Course.{Course}
@@ -23,10 +23,7 @@ use Rattle.runs.specs.declared.RunAnswer.{RunAnswer}
 
 -- ---- counting
 
--- the events of station i, and those of the first n
-abbrev pub eventAt : List Events → ℕ → Events
-eventAt es i = getD es i noEvents
-
+-- those of the first n stations
 unfoldable pub tallied : List Events → ℕ → List ℕ → List ℕ
 tallied es n ws = turns (λ i x. gotCounted (sentCounted x (eventAt es i .sent)) (eventAt es i .got)) n ws
 

@@ -18,7 +18,7 @@ use Rattle.tally.specs.TallyLaws.{Bounded, sent-is-bounded, got-is-bounded, sta
 use Rattle.area.specs.Area.{clockAt}
 use Rattle.valid.specs.Valid.{areaRefusal}
 use Rattle.pair.specs.declared.Events.{Events}
-use Rattle.pair.specs.BitTime.{eventsAt, stepArea}
+use Rattle.pair.specs.BitTime.{eventsAt, stepArea, eventAt}
 use Rattle.pair.specs.Ready.{Readiness}
 use Rattle.ready.specs.Passes.{passes-ready}
 use Rattle.ready.specs.Stays.{step-ready, step-clock}
@@ -26,7 +26,7 @@ use Rattle.runs.specs.declared.Ended.{Ended}
 use Rattle.runs.specs.declared.Ended.the-variants as how
 use Rattle.runs.specs.declared.RunAnswer.{RunAnswer}
 use Rattle.tally.specs.Tally.{bumped, sentCounted, gotCounted}
-use Rattle.runs.specs.Run.{eventAt, tallied, lateAt, first, Ran, runOf, runOutcome, ran}
+use Rattle.runs.specs.Run.{tallied, lateAt, first, Ran, runOf, runOutcome, ran}
 
 -- ---- the words have room
 

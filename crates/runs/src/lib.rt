@@ -1,7 +1,7 @@
 // Runs over many bit times.
 
-use octets::Done;
 use layout::Figures;
+use octets::Done;
 ghost use mathlib.Core.Path.{_≡_};
 ghost use mathlib.Core.Bool.{true};
 ghost use Prim.Native.Nat.{_+_, _<_, _≤_};

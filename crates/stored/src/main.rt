@@ -3,7 +3,7 @@
 
 use libc::STDIN_FILENO;
 use libc::STDOUT_FILENO;
-use plan::Piece;
+use pieces::Piece;
 ghost use Prim.Native.Nat.{_+_, _<_, _≤_};
 ghost use lib.ListN.{length};
 
@@ -44,7 +44,7 @@ fn keep_piece(piece: Piece, out: &[u8], text: &mut [u8], at: usize) -> usize
 fn keep_run(input: &[u8], area: &mut [u8], out: &mut [u8], text: &mut [u8]) -> usize
     ensures { λ r. ⌜ r ≤ length (now (text .exit)) ⌝ }
 {
-    let first = plan::begin(input, area, out);
+    let first = opening::begin(input, area, out);
     let start = first.piece;
     let mut at = keep_piece(start, out, text, 0);
     let mut g = first.progress;

@@ -1,12 +1,12 @@
 // Document 01's whole case by one run, with readings; and one past each bound of a fitting layout.
 
-use octets::Done;
 use layout::Figures;
 use layout::Layout;
 use layout::Tap;
 use libc::STDOUT_FILENO;
-use runs::Ended;
+use octets::Done;
 use reading::Reading;
+use runs::Ended;
 
 fn print_octets(s: &[u8]) {
     let mut i = 0;

@@ -1,10 +1,10 @@
 // Document 01's whole case, step by step through start, offer and step; and areas with each fault of check 2.
 
-use octets::Done;
 use layout::Figures;
 use layout::Layout;
 use layout::Tap;
 use libc::STDOUT_FILENO;
+use octets::Done;
 use pair::Events;
 use receiver::ReceiveEvent;
 use transmitter::TransmitEvent;

@@ -3,7 +3,7 @@ use native.Mathlib.Omega.{arith}
 use Prim.Native.Nat.{_≤_, _-_, _*_}
 use mathlib.Core.Path.{_≡_, refl}
 use lib.ListN.{length}
-use Rattle.lines.specs.Text.{written, puts}
+use Rattle.text.specs.Text.{written, puts}
 use Rattle.lines.specs.Events.{stepLines}
 use Rattle.lines.specs.EventsLaws.{lines-none, lines-more, lines-end}
 use Rattle.lines.proofs.put_step.Statement.{statement}

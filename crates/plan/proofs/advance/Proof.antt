@@ -1,6 +1,6 @@
 -- `plan::advance` meets its contract. Assumes nothing.
 use borrow.Author.Needs.{needs}
-use Rattle.plan.specs.PieceLaws.{advance-short, advance-front}
+use Rattle.pieces.specs.PieceLaws.{advance-short, advance-front}
 use Rattle.plan.proofs.advance.Statement.{statement}
 use Rattle.plan.proofs.advance.Tie as tie
 

@@ -1,7 +1,7 @@
 -- `plan::advance_on` meets its contract. Assumes nothing.
 use native.Mathlib.Omega.{arith}
 use borrow.Author.Needs.{needs}
-use Rattle.plan.specs.PieceLaws.{on-refused, on-ended, on-last, on-offer, on-step, due-offers, due-lies, refusal-room-left, refusal-offers, refusal-steps}
+use Rattle.pieces.specs.PieceLaws.{on-refused, on-ended, on-last, on-offer, on-step, due-offers, due-lies, refusal-room-left, refusal-offers, refusal-steps}
 use Rattle.plan.proofs.advance_on.Statement.{statement}
 use Rattle.plan.proofs.advance_on.Tie as tie
 

@@ -1,5 +1,5 @@
 -- `plan::end_piece` meets its contract. Assumes nothing.
-use Rattle.plan.specs.PieceLaws.{end-is}
+use Rattle.pieces.specs.PieceLaws.{end-is}
 use borrow.Author.Needs.{needs}
 use Rattle.plan.proofs.end_piece.Statement.{statement}
 use Rattle.plan.proofs.end_piece.Tie as tie

@@ -1,5 +1,5 @@
 -- `plan::make_offer` meets its contract. Assumes nothing.
-use Rattle.plan.specs.PieceLaws.{offer-room, data-room, made-is}
+use Rattle.pieces.specs.PieceLaws.{offer-room, data-room, made-is}
 use borrow.Author.Needs.{needs}
 use Rattle.plan.proofs.make_offer.Statement.{statement}
 use Rattle.plan.proofs.make_offer.Tie as tie

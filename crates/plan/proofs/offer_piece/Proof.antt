@@ -1,7 +1,6 @@
 -- `plan::offer_piece` meets its contract. Assumes nothing.
-use Rattle.plan.specs.PieceLaws.{size-at, lies-room}
+use Rattle.pieces.specs.PieceLaws.{size-at, lies-room, offer-room, offer-is}
 use native.Mathlib.Omega.{arith}
-use Rattle.plan.specs.PieceLaws.{offer-room, offer-is}
 use borrow.Author.Needs.{needs}
 use Rattle.plan.proofs.offer_piece.Statement.{statement}
 use Rattle.plan.proofs.offer_piece.Tie as tie

@@ -1,7 +1,6 @@
 -- `plan::put_offer` meets its contract. Assumes nothing.
-use Rattle.plan.specs.PieceLaws.{time-at}
+use Rattle.pieces.specs.PieceLaws.{time-at, offer-room, offer-none, offer-line}
 use native.Mathlib.Omega.{arith}
-use Rattle.plan.specs.PieceLaws.{offer-room, offer-none, offer-line}
 use borrow.Author.Needs.{needs}
 use Rattle.plan.proofs.put_offer.Statement.{statement}
 use Rattle.plan.proofs.put_offer.Tie as tie

@@ -1,7 +1,7 @@
 -- `plan::refusal` meets its contract. Assumes nothing.
 use Rattle.runs.specs.RunLaws.{clock-within}
 use native.Mathlib.Omega.{arith}
-use Rattle.plan.specs.PieceLaws.{refusal-area, refusal-clock, refusal-room, refusal-offer, refusal-none}
+use Rattle.pieces.specs.PieceLaws.{refusal-area, refusal-clock, refusal-room, refusal-offer, refusal-none}
 use borrow.Author.Needs.{needs}
 use Rattle.plan.proofs.refusal.Statement.{statement}
 use Rattle.plan.proofs.refusal.Tie as tie

@@ -1,5 +1,5 @@
 -- `plan::step_piece` meets its contract. Assumes nothing.
-use Rattle.plan.specs.PieceLaws.{span-runs, steps-within, clock-some, step-is}
+use Rattle.pieces.specs.PieceLaws.{span-runs, steps-within, clock-some, step-is}
 use borrow.Author.Needs.{needs}
 use Rattle.plan.proofs.step_piece.Statement.{statement}
 use Rattle.plan.proofs.step_piece.Tie as tie

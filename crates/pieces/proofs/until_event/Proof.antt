@@ -1,0 +1,64 @@
+-- `pieces::until_event` meets its contract. Assumes nothing.
+use native.Mathlib.Omega.{arith}
+use borrow.Author.Needs.{needs}
+use Prim.Native.Nat.{_≤_, _-_}
+use mathlib.Core.Path.{_≡_, refl}
+use lib.ListN.{length}
+use Rattle.runs.specs.RunLaws.{Runnable, run-next}
+use Rattle.pieces.specs.Pieces.{untilEvent}
+use Rattle.pieces.specs.PieceLaws.{run-first, run-ready, run-clock, plus, stretch-first, stretch-on, stretch-hit, stretch-end}
+use Rattle.pieces.proofs.until_event.Statement.{statement}
+use Rattle.pieces.proofs.until_event.Tie as tie
+
+abbrev Inv-loop : tie.InvT-loop
+Inv-loop area₀ n t₀ area t = (t ≤ n) × (length area ≡ length area₀) × Runnable (n - t) area × (plus t (untilEvent (n - t) area) ≡ untilEvent n area₀)
+
+abbrev μ-loop : tie.MeasureT-loop
+μ-loop area₀ n t₀ area t = n - t
+
+loop-holds : tie.Need-loop-holds Inv-loop μ-loop
+loop-holds c = (omega arith, refl, search run-first, search stretch-first)
+
+step-requires : tie.Need-step-requires Inv-loop μ-loop
+step-requires c κs = (omega arith, search run-clock, search run-ready)
+
+add-t : tie.Need-add-t Inv-loop μ-loop
+add-t c = omega arith
+
+is-eventful-requires : tie.Need-is-eventful-requires Inv-loop μ-loop
+is-eventful-requires c κs = search needs
+
+same-length : tie.Need-same-length Inv-loop μ-loop
+same-length c = omega arith
+
+returns : tie.Need-returns Inv-loop μ-loop
+returns c = search stretch-hit
+
+loop-less : tie.Need-loop-less Inv-loop μ-loop
+loop-less c = omega arith
+
+loop-again : tie.Need-loop-again Inv-loop μ-loop
+loop-again c = (omega arith, omega arith, search run-next, search stretch-on)
+
+same-length-2 : tie.Need-same-length-2 Inv-loop μ-loop
+same-length-2 c = omega arith
+
+returns-2 : tie.Need-returns-2 Inv-loop μ-loop
+returns-2 c = search stretch-end
+
+pub until-event-spec : {M : Type 1} → statement M
+until-event-spec =
+    tie.close
+    (tie.spec
+    Inv-loop
+    μ-loop
+    loop-holds
+    step-requires
+    add-t
+    is-eventful-requires
+    same-length
+    returns
+    loop-less
+    loop-again
+    same-length-2
+    returns-2)

@@ -1,0 +1,94 @@
+-- What the run program prints for an input (document 01, "The run program"): one function from octets to octets. l is the input.
+-- Assumes nothing.
+use Prim.Native.Nat.{ℕ, zero, suc, _+_}
+use mathlib.Core.Bool.{Bool, _&&_}
+use mathlib.Core.List.{List, [], _++_}
+use lib.Dec.{eqb, leb}
+use lib.ListN.{length, replicate}
+use Rattle.octets.specs.Base.{pick, some, Outcome}
+use Rattle.layout.specs.declared.Layout.{Layout}
+use Rattle.layout.specs.Layout.{fitsWell}
+use Rattle.area.specs.Places.{areaSize}
+use Rattle.area.specs.Area.{clockAt}
+use Rattle.start.specs.Fresh.{fresh}
+use Rattle.pair.specs.BitTime.{eventsAt, stepArea}
+use Rattle.offer.specs.Offer.{offered}
+use Rattle.runs.specs.Run.{lateAt}
+use Rattle.text.specs.Text.{firstLine, fitYes, fitNo, refusedLine, refusedOffer, endLine}
+use Rattle.lines.specs.Events.{stepLines}
+use Rattle.input.specs.Plan.{drawsIn, offerTime, offerStation, offerDestination, offerValue, offerSize, offerData, Planned, planRead}
+
+-- ---- an offer
+
+-- where the offer after the one at p begins
+abbrev pub nextOffer : List ℕ → (p : ℕ) → ℕ
+nextOffer l p = p + 15 + offerSize l p
+
+-- whether the offer at p lies within the input
+unfoldable pub lies : List ℕ → (p : ℕ) → Bool
+lies l p = leb (p + 15) (length l) && leb (nextOffer l p) (length l)
+
+-- the offer at p, made on area a
+unfoldable pub made : List ℕ → (p : ℕ) → List ℕ → Outcome
+made l p a = offered a (offerStation l p) (offerDestination l p) (offerValue l p) (offerData l p (offerSize l p))
+
+-- "refused, it prints `time station refused n`": the line of refusal n, none where there is no refusal
+unfoldable pub offerLine : List ℕ → (p n : ℕ) → List ℕ
+offerLine l p n = pick (eqb n 0) [] (refusedOffer (offerTime l p) (offerStation l p) n)
+
+unfoldable pub offerText : List ℕ → (p : ℕ) → List ℕ → List ℕ
+offerText l p a = offerLine l p (made l p a .answer .number)
+
+-- what the offers made before a step leave: their lines, how many offers are left, where the next begins, the area
+pub record Offers : Type 0 where
+  pub text : List ℕ
+  pub left : ℕ
+  pub at : ℕ
+  pub octets : List ℕ
+
+abbrev pub none : (m p : ℕ) → List ℕ → Offers
+none m p a = record { text = []; left = m; at = p; octets = a }
+
+abbrev pub after : List ℕ → Offers → Offers
+after s o = record { text = s ++ o .text; left = o .left; at = o .at; octets = o .octets }
+
+-- "An offer is made, in plan order, just before the step of its time": of m offers from octet p on, those whose time is the clock
+unfoldable pub dueOffers : List ℕ → (m p : ℕ) → List ℕ → Offers
+dueOffers l zero p a = none zero p a
+dueOffers l (suc m) p a =
+    pick (eqb (offerTime l p) (clockAt a)) (after (offerText l p a) (dueOffers l m (nextOffer l p) (made l p a .octets))) (none (suc m) p a)
+
+-- ---- the run
+
+-- the lines of the step that area a makes, "ahead" of which the offers' lines stand; then the rest, or where a station has a late
+-- collision the end
+abbrev pub stepThen : List ℕ → List ℕ → List ℕ
+stepThen a rest =
+    stepLines (clockAt a) (eventsAt a) 16 ++ pick (some (lateAt (eventsAt a)) 16) (endLine (clockAt (stepArea a))) rest
+
+-- n bit times on area a, with m offers from octet p on. "An offer whose step never runs is not made." "`end` gives the clock."
+unfoldable pub runText : List ℕ → (n m p : ℕ) → List ℕ → List ℕ
+runText l zero m p a = endLine (clockAt a)
+runText l (suc n) m p a =
+    dueOffers l m p a .text ++ stepThen (dueOffers l m p a .octets) (runText l n (dueOffers l m p a .left) (dueOffers l m p a .at) (stepArea (dueOffers l m p a .octets)))
+
+-- ---- the whole
+
+-- "The first line gives N and whether the layout fits, `yes` or `no`."
+unfoldable pub firstText : Layout → List ℕ
+firstText y = firstLine (y .count) (pick (fitsWell y) fitYes fitNo)
+
+-- the area of a fresh start on the plan r, over area a
+unfoldable pub startArea : List ℕ → Planned → List ℕ → List ℕ
+startArea l r a = fresh (r .layout) (r .depth) (drawsIn l (r .drawn) (r .layout .count) (r .depth)) a
+
+-- an area of zeros, as long as one must be
+abbrev pub zeros : List ℕ
+zeros = replicate areaSize 0
+
+unfoldable pub planText : List ℕ → Planned → List ℕ
+planText l r = firstText (r .layout) ++ runText l (r .times) (r .offers) (r .first) (startArea l r zeros)
+
+-- "A refused input prints `refused n`."
+unfoldable pub printed : List ℕ → List ℕ
+printed l = pick (eqb (planRead l .answer .number) 0) (planText l (planRead l)) (refusedLine (planRead l .answer .number))

@@ -1,0 +1,179 @@
+// The pieces in which what is printed is handed out: where a run stands, and how far it goes until the next one.
+
+use pair::Events;
+use receiver::ReceiveEvent;
+use transmitter::TransmitEvent;
+ghost use mathlib.Core.Path.{_≡_};
+ghost use mathlib.Core.Bool.{false};
+ghost use Prim.Native.Nat.{_-_, _≤_};
+ghost use lib.ListN.{length};
+ghost use Rattle.octets.specs.Base.{pick, some, refused};
+ghost use Rattle.runs.specs.Run.{lateAt};
+ghost use Rattle.runs.specs.RunLaws.{Runnable};
+ghost use Rattle.pieces.specs.Printed.{lies};
+ghost use Rattle.pieces.specs.Pieces.{hasEvent, eventful, untilEvent, stretchOf, isDue, spanOf, pieceAnswer, offerShort};
+
+// The octets that `out` must have: no piece is longer.
+pub const ROOM: usize = 2048;
+
+// Where a run stands: the octet of the input at which the next offer begins, how many offers are left, how many bit times are left,
+// and whether the last line is handed out.
+pub struct Progress {
+    pub at: usize,
+    pub offers: u32,
+    pub times: u32,
+    pub ended: bool,
+}
+
+// A refusal by its number, or a piece of text: its octets stand at the front of `out`.
+pub enum Piece {
+    Refused(u32),
+    Text(usize),
+}
+
+// What a call hands out, and where the run stands after it.
+pub struct Handed {
+    pub piece: Piece,
+    pub progress: Progress,
+}
+
+// Steps made, and the events of the last of them, if it has any.
+pub struct Stretch {
+    pub steps: u32,
+    pub events: [Events; 16],
+}
+
+fn has_event(e: Events) -> bool
+    ensures { λ r. ⌜ r ≡ hasEvent e ⌝ }
+{
+    let sent = e.sent;
+    let got = e.got;
+    octets::either(pair::is_transmit(sent), pair::is_receive(got))
+}
+
+// Whether some station has an event.
+fn is_eventful(events: [Events; 16]) -> bool
+    ensures { λ r. ⌜ r ≡ eventful events ⌝ }
+{
+    let mut i: usize = 0;
+    while i < 16 {
+        let e = events[i];
+        if has_event(e) {
+            return true;
+        }
+        i += 1;
+    }
+    false
+}
+
+// Whether some station has a late collision.
+fn is_late(events: [Events; 16]) -> bool
+    ensures { λ r. ⌜ r ≡ some (lateAt events) 16 ⌝ }
+{
+    let mut i: usize = 0;
+    while i < 16 {
+        let e = events[i];
+        let sent = e.sent;
+        if tally::is_late(sent) {
+            return true;
+        }
+        i += 1;
+    }
+    false
+}
+
+// At most n steps, until one has an event.
+pub fn until_event(area: &mut [u8], n: u32) -> Stretch
+    requires { ⌜ Runnable n (now area) × (57344 ≤ length (now area)) ⌝ }
+    ensures { λ r. ⌜ stretchOf r (now (area .exit)) ≡ untilEvent n (now (area .entry)) ⌝ }
+{
+    let mut t: u32 = 0;
+    while t < n {
+        let events = pair::step(area);
+        t += 1;
+        if is_eventful(events) {
+            return Stretch { steps: t, events };
+        }
+    }
+    let none = Events {
+        sent: TransmitEvent::NoTransmit,
+        got: ReceiveEvent::NoReceive,
+    };
+    Stretch {
+        steps: t,
+        events: [none; 16],
+    }
+}
+
+// Whether the offer that begins at `at` lies within the input.
+pub fn offer_lies(input: &[u8], at: usize) -> bool
+    ensures { λ r. ⌜ r ≡ lies (now (input .entry)) at ⌝ }
+{
+    let n = input.len();
+    if n < at {
+        return false;
+    }
+    if n - at < 15 {
+        return false;
+    }
+    let size = octets::get16(input, at + 13) as usize;
+    size <= n - at - 15
+}
+
+// Whether an offer is left and does not lie within the input.
+pub fn offer_short(input: &[u8], g: Progress) -> bool
+    ensures { λ r. ⌜ r ≡ offerShort (now (input .entry)) g ⌝ }
+{
+    if g.offers == 0 {
+        return false;
+    }
+    !offer_lies(input, g.at)
+}
+
+// Whether the next offer's time is the clock.
+pub fn is_due(input: &[u8], area: &[u8], g: Progress) -> bool
+    requires { ⌜ (57344 ≤ length (now area)) × (offerShort (now input) g ≡ false) ⌝ }
+    ensures { λ r. ⌜ r ≡ isDue (now (input .entry)) g (now (area .entry)) ⌝ }
+{
+    if g.offers == 0 {
+        return false;
+    }
+    octets::get32(input, g.at) == area::read_clock(area)
+}
+
+// The steps that may be made before the next offer.
+pub fn span(input: &[u8], area: &[u8], g: Progress) -> u32
+    requires { ⌜ (57344 ≤ length (now area)) × (offerShort (now input) g ≡ false) ⌝ }
+    ensures { λ r. ⌜ r ≡ spanOf (now (input .entry)) g (now (area .entry)) ⌝ }
+{
+    if g.offers == 0 {
+        return g.times;
+    }
+    let time = octets::get32(input, g.at);
+    let clock = area::read_clock(area);
+    if time <= clock {
+        return g.times;
+    }
+    if time - clock < g.times {
+        return time - clock;
+    }
+    g.times
+}
+
+// Nothing is handed out.
+pub fn withhold(number: u32, g: Progress) -> Handed
+    ensures { λ r. ⌜ (pieceAnswer (r .piece) ≡ refused number) × (r .progress ≡ g) ⌝ }
+{
+    Handed {
+        piece: Piece::Refused(number),
+        progress: g,
+    }
+}
+
+// The bit times left of n after some steps: none after a late collision.
+pub fn times_left(events: [Events; 16], steps: u32, n: u32) -> u32
+    requires { ⌜ steps ≤ n ⌝ }
+    ensures { λ r. ⌜ r ≡ pick (some (lateAt events) 16) 0 (n - steps) ⌝ }
+{
+    if is_late(events) { 0 } else { n - steps }
+}
