@@ -11,7 +11,7 @@ ghost use lib.Dec.{eqb};
 ghost use lib.ListN.{length};
 ghost use Rattle.octets.specs.Base.{pick};
 ghost use Rattle.crc32.specs.Crc.{crcOf};
-ghost use Rattle.answers.specs.Answers.{replied};
+ghost use Rattle.answers.specs.Answers.{replied, valueOf};
 ghost use Rattle.reading.specs.Read.{readAnswer};
 ghost use Rattle.capi.specs.Capi.{given, left, sheetGiven, fitsGiven, buildGiven, statusGiven, clientGiven, drawnGiven, startGiven, offerGiven, stepLeft, runLeft, endedWords, runPut, timeRefusal, frameGiven, countersGiven};
 

@@ -1,5 +1,5 @@
 // The run program on lent octets: what it prints for an input, handed out piece by piece (document 01, "The run program"). The first piece
-// is `opening::begin`'s.
+// is `begin::begin`'s.
 
 use octets::Done;
 use pieces::Handed;

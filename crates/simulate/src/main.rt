@@ -19,7 +19,7 @@ fn write_piece(piece: Piece, out: &[u8]) -> bool {
 
 // Writes piece after piece, each as soon as it is handed out. A run of 16,777,216 bit times and 64 offers has no more pieces than that.
 fn write_run(input: &[u8], area: &mut [u8], out: &mut [u8]) {
-    let first = opening::begin(input, area, out);
+    let first = begin::begin(input, area, out);
     let start = first.piece;
     if !write_piece(start, out) {
         return;

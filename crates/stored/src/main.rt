@@ -44,7 +44,7 @@ fn keep_piece(piece: Piece, out: &[u8], text: &mut [u8], at: usize) -> usize
 fn keep_run(input: &[u8], area: &mut [u8], out: &mut [u8], text: &mut [u8]) -> usize
     ensures { λ r. ⌜ r ≤ length (now (text .exit)) ⌝ }
 {
-    let first = opening::begin(input, area, out);
+    let first = begin::begin(input, area, out);
     let start = first.piece;
     let mut at = keep_piece(start, out, text, 0);
     let mut g = first.progress;

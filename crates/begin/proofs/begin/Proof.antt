@@ -1,8 +1,8 @@
--- `opening::begin` meets its contract. Assumes nothing.
+-- `begin::begin` meets its contract. Assumes nothing.
 use Rattle.pieces.specs.PieceLaws.{begin-short, begin-room, begin-front}
 use borrow.Author.Needs.{needs}
-use Rattle.opening.proofs.begin.Statement.{statement}
-use Rattle.opening.proofs.begin.Tie as tie
+use Rattle.begin.proofs.begin.Statement.{statement}
+use Rattle.begin.proofs.begin.Tie as tie
 
 no-progress-requires : tie.Need-no-progress-requires
 no-progress-requires c κs = search needs

@@ -1,8 +1,8 @@
--- `opening::begin_on` meets its contract. Assumes nothing.
+-- `begin::begin_on` meets its contract. Assumes nothing.
 use Rattle.pieces.specs.PieceLaws.{plan-right, first-refused, first-start}
 use borrow.Author.Needs.{needs}
-use Rattle.opening.proofs.begin_on.Statement.{statement}
-use Rattle.opening.proofs.begin_on.Tie as tie
+use Rattle.begin.proofs.begin_on.Statement.{statement}
+use Rattle.begin.proofs.begin_on.Tie as tie
 
 read-plan-requires : tie.Need-read-plan-requires
 read-plan-requires c κs = search needs

@@ -1,8 +1,8 @@
--- `opening::start_piece` meets its contract. Assumes nothing.
+-- `begin::start_piece` meets its contract. Assumes nothing.
 use Rattle.pieces.specs.PieceLaws.{start-draws, start-few, start-some, start-shallow, start-is}
 use borrow.Author.Needs.{needs}
-use Rattle.opening.proofs.start_piece.Statement.{statement}
-use Rattle.opening.proofs.start_piece.Tie as tie
+use Rattle.begin.proofs.start_piece.Statement.{statement}
+use Rattle.begin.proofs.start_piece.Tie as tie
 
 cast-read-draws : tie.Need-cast-read-draws
 cast-read-draws c = search needs

@@ -1,8 +1,8 @@
--- `opening::refused_piece` meets its contract. Assumes nothing.
+-- `begin::refused_piece` meets its contract. Assumes nothing.
 use Rattle.pieces.specs.PieceLaws.{refused-size, refused-text}
 use borrow.Author.Needs.{needs}
-use Rattle.opening.proofs.refused_piece.Statement.{statement}
-use Rattle.opening.proofs.refused_piece.Tie as tie
+use Rattle.begin.proofs.refused_piece.Statement.{statement}
+use Rattle.begin.proofs.refused_piece.Tie as tie
 
 slice-aggregate-put-counted : tie.Need-slice-aggregate-put-counted
 slice-aggregate-put-counted c = search needs

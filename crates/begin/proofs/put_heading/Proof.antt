@@ -1,8 +1,8 @@
--- `opening::put_heading` meets its contract. Assumes nothing.
+-- `begin::put_heading` meets its contract. Assumes nothing.
 use Rattle.pieces.specs.PieceLaws.{heading-yes, heading-no}
 use borrow.Author.Needs.{needs}
-use Rattle.opening.proofs.put_heading.Statement.{statement}
-use Rattle.opening.proofs.put_heading.Tie as tie
+use Rattle.begin.proofs.put_heading.Statement.{statement}
+use Rattle.begin.proofs.put_heading.Tie as tie
 
 fits-well-requires : tie.Need-fits-well-requires
 fits-well-requires c κs = search needs
