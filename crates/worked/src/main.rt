@@ -1,5 +1,5 @@
 // Worked cases, printed for comparison with the file `stdout`: sheets and faulty work areas from standard input, document 01's whole
-// case, runs, readings, and the two cases one past the bounds of the fit.
+// case by a run, with readings and counters, and a run that ends early.
 
 mod cases;
 mod sheets;

@@ -1,13 +1,7 @@
-// Document 01's whole case, step by step through start, offer and step; and areas with each fault of check 2.
+// Starts, offers and counters; areas with each fault of check 2; the clock's top.
 
-use layout::Figures;
-use layout::Layout;
-use layout::Tap;
 use libc::STDOUT_FILENO;
 use octets::Done;
-use pair::Events;
-use receiver::ReceiveEvent;
-use transmitter::TransmitEvent;
 
 pub(crate) fn print_word(word: &[u8], n: u32) {
     io::write_all(STDOUT_FILENO, word);
@@ -28,95 +22,19 @@ pub(crate) fn print_done(d: Done) {
     end_line();
 }
 
-// The whole case's layout: 00 02, 00 020000000001, 0A 020000000002.
-fn pair_of_two() -> Layout {
-    let blank = Tap {
-        position: 0,
-        address: [0u8; 6],
-    };
-    let mut stations = [blank; 16];
-    stations[0] = Tap {
-        position: 0,
-        address: [2u8, 0, 0, 0, 0, 1],
-    };
-    stations[1] = Tap {
-        position: 10,
-        address: [2u8, 0, 0, 0, 0, 2],
-    };
-    let figures = Figures {
-        slot: 512,
-        gap1: 64,
-        gap2: 32,
-        jam: 32,
-        limit: 16,
-        backoff: 10,
-    };
-    Layout {
-        figures,
-        count: 2,
-        stations,
-    }
+// A fresh start on the layout of a sheet.
+pub(crate) fn start_on(area: &mut [u8], sheet: &[u8], depth: u32, draws: [[u16; 16]; 16]) -> Done {
+    let read = sheet::read_sheet(sheet);
+    start::start(area, read.layout, depth, draws)
 }
 
+// The whole case's two stations.
 pub(crate) fn start_two(area: &mut [u8], depth: u32) -> Done {
     let mut draws = [[0u16; 16]; 16];
     let mut second = [0u16; 16];
     second[0] = 1;
     draws[1] = second;
-    start::start(area, pair_of_two(), depth, draws)
-}
-
-// One event's line: time, station, word, number.
-fn print_event(t: u32, i: usize, word: &[u8], n: u32) {
-    io::print_decimal(STDOUT_FILENO, t as u64);
-    io::write_all(STDOUT_FILENO, b" ");
-    io::print_decimal(STDOUT_FILENO, i as u64);
-    print_word(word, n);
-    end_line();
-}
-
-fn print_sent(t: u32, i: usize, e: TransmitEvent) {
-    match e {
-        TransmitEvent::NoTransmit => {}
-        TransmitEvent::Collision(k) => print_event(t, i, b" collision ", k),
-        TransmitEvent::Late(k) => print_event(t, i, b" late ", k),
-        TransmitEvent::Sent(n) => print_event(t, i, b" sent ", n),
-        TransmitEvent::GivenUp(n) => print_event(t, i, b" given-up ", n),
-    }
-}
-
-fn print_got(t: u32, i: usize, e: ReceiveEvent) {
-    match e {
-        ReceiveEvent::NoReceive => {}
-        ReceiveEvent::GotOk(n) => print_event(t, i, b" got ok ", n),
-        ReceiveEvent::GotTooLong(n) => print_event(t, i, b" got too-long ", n),
-        ReceiveEvent::GotAlignment(n) => print_event(t, i, b" got alignment ", n),
-        ReceiveEvent::GotCheck(n) => print_event(t, i, b" got check ", n),
-        ReceiveEvent::GotLength(n) => print_event(t, i, b" got length ", n),
-    }
-}
-
-fn print_events(t: u32, all: [Events; 16]) {
-    let mut i: usize = 0;
-    while i < 16 {
-        let e = all[i];
-        let sent = e.sent;
-        let got = e.got;
-        print_sent(t, i, sent);
-        print_got(t, i, got);
-        i += 1;
-    }
-}
-
-// The steps from clock `from` to `end`, each with its events.
-pub(crate) fn print_steps(area: &mut [u8], from: u32, end: u32) {
-    let mut t = from;
-    while t < end {
-        let b = bus::step(area);
-        let events = b.events;
-        print_events(t, events);
-        t += 1;
-    }
+    start_on(area, b"\x00\x02\x00\x02\x00\x00\x00\x00\x01\x0a\x02\x00\x00\x00\x00\x02", depth, draws)
 }
 
 // The sixteen counters of a station, on one line.
@@ -134,19 +52,6 @@ pub(crate) fn print_counters(area: &[u8], i: usize) {
 pub(crate) fn offer_zeros(area: &mut [u8], i: usize, value: u16, last: u8) {
     let zeros = [0u8; 46];
     print_done(offer::offer(area, i, [2u8, 0, 0, 0, 0, last], value, &zeros));
-}
-
-// The whole case, with offers that are refused (10, 11, 12) among it.
-fn print_case(area: &mut [u8]) {
-    print_done(start_two(area, 1));
-    offer_zeros(area, 0, 0x0800, 2);
-    offer_zeros(area, 1, 0x0800, 1);
-    offer_zeros(area, 0, 0x0800, 2);
-    offer_zeros(area, 2, 0x0800, 2);
-    offer_zeros(area, 0, 1501, 2);
-    print_steps(area, 0, 1500);
-    print_counters(area, 0);
-    print_counters(area, 1);
 }
 
 fn poke(area: &mut [u8], at: usize, v: u32) {
@@ -198,7 +103,6 @@ fn print_short() {
 
 pub(crate) fn print_all() {
     let mut area = [0x55u8; 57344];
-    print_case(&mut area);
     print_clock(&mut area);
     print_short();
 }
