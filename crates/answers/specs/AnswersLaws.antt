@@ -18,10 +18,10 @@ use Rattle.sheet.specs.declared.SheetRead.the-variants as sheets
 use Rattle.sheet.specs.Sheet.{sheetAnswer}
 use Rattle.frame.specs.declared.builder.Built.{Built}
 use Rattle.frame.specs.declared.builder.Built.the-variants as builds
-use Rattle.frame.specs.declared.opener.ReceiveStatus.{ReceiveStatus}
-use Rattle.frame.specs.declared.opener.ReceiveStatus.the-variants as opens
+use Rattle.opener.specs.declared.ReceiveStatus.{ReceiveStatus}
+use Rattle.opener.specs.declared.ReceiveStatus.the-variants as opens
 use Rattle.frame.specs.Build.{builtAnswer}
-use Rattle.frame.specs.Open.{statusAnswer}
+use Rattle.opener.specs.Open.{statusAnswer}
 use Rattle.start.specs.Fresh.{tapIn}
 use Rattle.pair.specs.declared.Events.{Events}
 use Rattle.pair.specs.BitTime.{eventAt}

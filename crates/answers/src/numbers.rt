@@ -1,9 +1,9 @@
 // The answers of the calls as numbers.
 
 use frame::builder::Built;
-use frame::opener::ReceiveStatus;
 use layout::Fit;
 use octets::Done;
+use opener::ReceiveStatus;
 use pair::Events;
 use receiver::ReceiveEvent;
 use sheet::SheetRead;
@@ -15,7 +15,7 @@ ghost use Rattle.octets.specs.Number.{spelled};
 ghost use Rattle.layout.specs.Fit.{fitAnswer};
 ghost use Rattle.sheet.specs.Sheet.{sheetAnswer};
 ghost use Rattle.frame.specs.Build.{builtAnswer};
-ghost use Rattle.frame.specs.Open.{statusAnswer};
+ghost use Rattle.opener.specs.Open.{statusAnswer};
 ghost use Rattle.octets.specs.Base.{doneAnswer};
 ghost use Rattle.answers.specs.Answers.{replied, valueOf, clientWords, sentCode, sentNumber, gotCode, gotNumber, eventWords};
 

@@ -20,7 +20,7 @@ use Rattle.octets.specs.WordsLaws.{word-at}
 use borrow.Rule.Slice.PartMut.{midOf, putMid, put-same}
 use Rattle.frame.specs.Limits.{refusesData}
 use Rattle.frame.specs.Build.{frameOf, built}
-use Rattle.frame.specs.RoundTrip.{frame-size, data-within}
+use Rattle.frame.specs.BuildLaws.{frame-size, data-within}
 use Rattle.layout.specs.declared.Figures.{Figures}
 use Rattle.layout.specs.declared.Tap.{Tap}
 use Rattle.layout.specs.declared.Layout.{Layout}

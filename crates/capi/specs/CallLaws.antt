@@ -19,9 +19,9 @@ use Rattle.sheet.specs.declared.Sheet.{Sheet}
 use Rattle.sheet.specs.Sheet.{Reading, readSheet, sheetAnswer, sheetReading}
 use Rattle.input.specs.Plan.{drawsIn}
 use Rattle.frame.specs.declared.builder.Built.{Built}
-use Rattle.frame.specs.declared.opener.ReceiveStatus.{ReceiveStatus}
+use Rattle.opener.specs.declared.ReceiveStatus.{ReceiveStatus}
 use Rattle.frame.specs.Build.{built, builtAnswer}
-use Rattle.frame.specs.Open.{statusAnswer, opened}
+use Rattle.opener.specs.Open.{statusAnswer, opened}
 use Rattle.area.specs.Area.{clockAt}
 use Rattle.valid.specs.Valid.{areaRefusal}
 use Rattle.pair.specs.BitTime.{eventsAt, stepArea}

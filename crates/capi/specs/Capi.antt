@@ -13,7 +13,7 @@ use Rattle.layout.specs.declared.Layout.{Layout}
 use Rattle.layout.specs.Fit.{fitOf}
 use Rattle.sheet.specs.Sheet.{readSheet}
 use Rattle.input.specs.Plan.{drawsIn}
-use Rattle.frame.specs.Open.{opened}
+use Rattle.opener.specs.Open.{opened}
 use Rattle.frame.specs.Build.{built}
 use Rattle.area.specs.Places.{areaSize}
 use Rattle.area.specs.Area.{clockAt}

@@ -19,7 +19,7 @@ use Rattle.sheet.specs.Sheet.{readSheet}
 use Rattle.input.specs.Plan.{drawsIn}
 use Rattle.frame.specs.Limits.{maxFrame, refusesData}
 use Rattle.frame.specs.Build.{frameOf, built}
-use Rattle.frame.specs.Open.{valueOf as lengthType, dataField, checkWrong, checkError, lengthWrong, unpadded, opened}
+use Rattle.opener.specs.Open.{valueOf as lengthType, dataField, checkWrong, checkError, lengthWrong, unpadded, opened}
 use Rattle.station.specs.Count.{octetsIn}
 use Rattle.area.specs.Area.{clockAt, countAt, stationAt}
 use Rattle.valid.specs.Valid.{areaRefusal}

@@ -20,8 +20,8 @@ use Rattle.sheet.specs.declared.Sheet.{Sheet}
 use Rattle.sheet.specs.Sheet.{mapOf, stands, width, fieldAt, countIn, layoutIn, sheetSize, Reading, readSheet, sheetAnswer, sheetReading}
 use Rattle.frame.specs.Limits.{maxFrame, refusesData}
 use Rattle.frame.specs.Build.{frameOf, built}
-use Rattle.frame.specs.Open.{valueOf as lengthType, dataField, checkWrong, checkError, lengthWrong, clientSize, unpadded, opened}
-use Rattle.frame.specs.RoundTrip.{frame-size, data-within}
+use Rattle.opener.specs.Open.{valueOf as lengthType, dataField, checkWrong, checkError, lengthWrong, clientSize, unpadded, opened}
+use Rattle.frame.specs.BuildLaws.{frame-size, data-within}
 use Rattle.area.specs.Area.{clockAt, countAt, stationAt}
 use Rattle.station.specs.Count.{octetsIn}
 use Rattle.valid.specs.Valid.{areaWrong, areaRefusal}

@@ -78,7 +78,7 @@ pub extern "C" fn wisavulome_build(
 pub extern "C" fn wisavulome_status(frame: &[u8], excess: u32) -> u32
     ensures { λ r. ⌜ r ≡ statusGiven (now (frame .entry)) excess ⌝ }
 {
-    let s = frame::opener::status(frame, excess);
+    let s = opener::status(frame, excess);
     answers::numbers::reply(
         answers::numbers::status_number(s),
         answers::numbers::status_value(s),
@@ -90,7 +90,7 @@ pub extern "C" fn wisavulome_status(frame: &[u8], excess: u32) -> u32
 pub extern "C" fn wisavulome_client_data(frame: &[u8], excess: u32, out: &mut [u8]) -> u32
     ensures { λ r. ⌜ given r (now (out .exit)) ≡ clientGiven (now (frame .entry)) excess (now (out .entry)) ⌝ }
 {
-    let s = frame::opener::status(frame, excess);
+    let s = opener::status(frame, excess);
     let number = answers::numbers::status_number(s);
     if number != 0 {
         return answers::numbers::reply(number, 0);

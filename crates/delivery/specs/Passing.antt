@@ -15,7 +15,7 @@ use Rattle.octets.specs.Words.{wordsAt}
 use Rattle.octets.specs.WordsLaws.{Small, length-words}
 use Rattle.frame.specs.Limits.{refusesData}
 use Rattle.frame.specs.Build.{frameOf}
-use Rattle.frame.specs.RoundTrip.{frame-size, data-within}
+use Rattle.frame.specs.BuildLaws.{frame-size, data-within}
 use Rattle.layout.specs.declared.Figures.{Figures}
 use Rattle.layout.specs.declared.Tap.{Tap}
 use Rattle.layout.specs.declared.Layout.{Layout}

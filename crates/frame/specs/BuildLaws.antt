@@ -1,10 +1,10 @@
 -- The sizes of a frame and its parts, and a law for each way through the builder. Assumes nothing.
-use Prim.Native.Nat.{ℕ, zero, suc, _+_, _-_, _≤_, _<_}
+use Prim.Native.Nat.{ℕ, zero, suc, _+_, _-_, _≤_, _<_, max}
 use mathlib.Core.Path.{_≡_, refl, sym, _∙_, ap, ap₂}
-use mathlib.Core.Bool.{Bool, true, false, not}
+use mathlib.Core.Bool.{Bool, true, false, not, true≢false}
 use mathlib.Core.List.{List, [], _∷_, _++_, append-assoc}
 use native.Mathlib.Omega.{arith}
-use borrow.Author.Tests.{lt-ltb, le-ltb, le-leb, lt-leb}
+use borrow.Author.Tests.{lt-ltb, le-ltb, le-leb, lt-leb, ltb-false}
 use lib.Dec.{ltb, eqb}
 use lib.ListN.{length, take, replicate, length-append, length-replicate}
 use lib.Seq.{sets}
@@ -129,3 +129,24 @@ module _ (l d s : List ℕ) (v : ℕ) (x : List ℕ) where
       let octets : c ≡ sets l 0 (frameOf d s v x) =
       frame-is a c (14 + (length x + p)) r t (omega (arith, length-covered m n)) (omega arith) in
       rw (← e, le-ltb k (length x) h, ← q, f, le-ltb (length l) (length (frameOf d s v x)) (omega arith), size, octets)
+
+-- ---- sizes
+
+pub within : (v n : ℕ) → refusesData v n ≡ false → n ≤ maxData v
+unfolding refusesData
+within v n h = go (ltb (maxData v) n) refl h
+  where
+    go : (t : Bool) → ltb (maxData v) n ≡ t → pick t true (refusesValue v n) ≡ false → n ≤ maxData v
+    go true p q = absurd (true≢false q)
+    go false p q = ltb-false (maxData v) n p
+
+pub data-within : (v n : ℕ) → refusesData v n ≡ false → n ≤ 1500
+unfolding maxData
+data-within v n h = within v n h
+
+pub length-padded-max : (x : List ℕ) → length (padded x) ≡ max 46 (length x)
+length-padded-max x = omega (arith, length-padded x)
+
+-- a frame is the data with their padding and eighteen octets more
+pub frame-size : (d s : List ℕ) (v : ℕ) (x : List ℕ) → length d ≡ 6 → length s ≡ 6 → length (frameOf d s v x) ≡ max 46 (length x) + 18
+frame-size d s v x hd hs = omega (arith, length-frame [] d s v x hd hs, length-padded x)

@@ -1,5 +1,4 @@
-// Building and opening frames (document 01, "Frames").
+// Building frames (document 01, "Frames").
 
 pub mod builder;
-mod limits;
-pub mod opener;
+pub mod limits;

@@ -11,7 +11,7 @@ use Rattle.octets.specs.Base.{pick, Answer, refused, accepted, Outcome, outcome
 use Rattle.octets.specs.Store.{length-part}
 use Rattle.frame.specs.Limits.{refusesData}
 use Rattle.frame.specs.Build.{frameOf}
-use Rattle.frame.specs.RoundTrip.{frame-size, data-within}
+use Rattle.frame.specs.BuildLaws.{frame-size, data-within}
 use Rattle.transmitter.specs.declared.Transmitter.{Transmitter}
 use Rattle.station.specs.declared.step.Station.{Station}
 use Rattle.station.specs.Count.{added}

@@ -8,7 +8,7 @@ use lib.ListN.{getD, take, replicate}
 use Rattle.octets.specs.Base.{pick, Answer}
 use Rattle.octets.specs.Bits.{digit}
 use Rattle.octets.specs.Equal.{equal}
-use Rattle.frame.specs.Open.{destinationOf, frameTooLong, opened}
+use Rattle.opener.specs.Open.{destinationOf, frameTooLong, opened}
 use Rattle.receiver.specs.declared.ReceiveEvent.{ReceiveEvent}
 use Rattle.receiver.specs.declared.ReceiveEvent.the-variants.{NoReceive, GotOk, GotTooLong, GotAlignment, GotCheck, GotLength}
 use Rattle.packet.specs.declared.Heard.{Heard}

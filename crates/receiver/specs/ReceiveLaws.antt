@@ -11,10 +11,10 @@ use borrow.Author.Tests.{lt-ltb, le-ltb, eq-eqb, ne-eqb, ltb-false}
 use Rattle.octets.specs.Base.{pick, Answer}
 use Rattle.octets.specs.Bits.{digit}
 use Rattle.octets.specs.Equal.{equal}
-use Rattle.frame.specs.declared.opener.ReceiveStatus.{ReceiveStatus}
-use Rattle.frame.specs.declared.opener.ReceiveStatus.the-variants.{Refused, Fragment, FrameTooLong, FrameCheckError, AlignmentError, LengthError, ReceiveOk}
-use Rattle.frame.specs.Open.{destinationOf, frameTooLong, statusAnswer, receiveOK, opened}
-use Rattle.frame.specs.OpenLaws.{fair}
+use Rattle.opener.specs.declared.ReceiveStatus.{ReceiveStatus}
+use Rattle.opener.specs.declared.ReceiveStatus.the-variants.{Refused, Fragment, FrameTooLong, FrameCheckError, AlignmentError, LengthError, ReceiveOk}
+use Rattle.opener.specs.Open.{destinationOf, frameTooLong, statusAnswer, receiveOK, opened}
+use Rattle.opener.specs.OpenLaws.{fair}
 use Rattle.receiver.specs.declared.ReceiveEvent.{ReceiveEvent}
 use Rattle.receiver.specs.declared.ReceiveEvent.the-variants.{NoReceive, GotOk, GotTooLong, GotAlignment, GotCheck, GotLength}
 use Rattle.packet.specs.declared.Heard.{Heard}

@@ -1,13 +1,13 @@
 // The receiver: a reception, its delimiter, the bits collected, and what comes of them.
 
-use frame::opener::ReceiveStatus;
+use opener::ReceiveStatus;
 use packet::Heard;
 ghost use mathlib.Core.Path.{_≡_};
 ghost use mathlib.Core.Bool.{_||_, not};
 ghost use Prim.Native.Nat.{_+_, _*_, _<_, _≤_};
 ghost use lib.ListN.{length};
 ghost use Rattle.octets.specs.Bits.{digit};
-ghost use Rattle.frame.specs.Open.{statusAnswer};
+ghost use Rattle.opener.specs.Open.{statusAnswer};
 ghost use Rattle.receiver.specs.declared.ReceiveEvent.the-variants.{NoReceive};
 ghost use Rattle.receiver.specs.ReceiveLaws.{gotError};
 ghost use Rattle.receiver.specs.Receive.{rowIn, bitsIn, nextRow, seekBit, seek, storedBit, collect, hear, addressed, openAnswer, opening, deciding, decide, ended, receive};
@@ -186,7 +186,7 @@ fn open_buffer(buffer: &[u8], n: u32, spoiled: bool) -> ReceiveStatus
     if BUFFER < octets {
         return ReceiveStatus::FrameTooLong;
     }
-    frame::opener::reception_status(&buffer[0..octets], n % 8, spoiled)
+    opener::reception_status(&buffer[0..octets], n % 8, spoiled)
 }
 
 // The event of a status that is no receiveOK, with the octets collected.

@@ -9,7 +9,7 @@ use Rattle.octets.specs.Equal.{equal}
 use Rattle.octets.specs.Number.{get}
 use Rattle.crc32.specs.Crc.{generator, add, complementFirst, remainder, dividend, crcBits, checkSequence}
 use Rattle.frame.specs.Limits.{maxFrame}
-use Rattle.frame.specs.Open.{destinationOf, valueOf, checkWrong, checkError, opened}
+use Rattle.opener.specs.Open.{destinationOf, valueOf, checkWrong, checkError, opened}
 use Rattle.layout.specs.declared.Figures.{Figures}
 use Rattle.receiver.specs.Receive.{addressed, openAnswer, gotEvent, readableAfter, opening, decide}
 use Rattle.transmitter.specs.Transmit.{afterBit, collision, backoffRange}

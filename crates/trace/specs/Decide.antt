@@ -12,7 +12,7 @@ use lib.Seq.{take-take}
 use borrow.Author.Tests.{le-ltb, eqb-true}
 use Rattle.octets.specs.Base.{pick, Answer, refused}
 use Rattle.octets.specs.BaseLaws.{by-test}
-use Rattle.frame.specs.Open.{destinationOf, valueOf, fragment, frameTooLong, frameCheckError, alignmentError, receiveOK, Opening, checkWrong, checkError, opened}
+use Rattle.opener.specs.Open.{destinationOf, valueOf, fragment, frameTooLong, frameCheckError, alignmentError, receiveOK, Opening, checkWrong, checkError, opened}
 use Rattle.frame.specs.Limits.{maxFrame}
 use Rattle.packet.specs.declared.Heard.{Heard}
 use Rattle.packet.specs.declared.Heard.the-variants.{Nothing, Clean, Jammed, Several}

@@ -15,8 +15,8 @@ use Rattle.octets.specs.BitsLaws.{lowOctets}
 use Rattle.crc32.specs.Crc.{crcOf, checkSequence}
 use Rattle.crc32.specs.Division.{sequence-is}
 use Rattle.frame.specs.Build.{header, padded, covered, frameOf}
-use Rattle.frame.specs.Open.{destinationOf, sourceOf, receiveOK, Opening, opened}
-use Rattle.frame.specs.RoundTrip.{handedBack, received, opens-frame}
+use Rattle.opener.specs.Open.{destinationOf, sourceOf, receiveOK, Opening, opened}
+use Rattle.opener.specs.RoundTrip.{handedBack, received, opens-frame}
 use Rattle.receiver.specs.Receive.{addressed}
 use Rattle.trace.specs.Basic.{by-le}
 use Rattle.trace.specs.World.{Net, Offer, frameFor}

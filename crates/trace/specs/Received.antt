@@ -8,8 +8,8 @@ use mathlib.Core.Logic.{inl}
 use native.Mathlib.Omega.{arith}
 use lib.ListN.{length}
 use Rattle.octets.specs.BaseLaws.{by-test, by-eq}
-use Rattle.frame.specs.Open.{receiveOK, opened}
-use Rattle.frame.specs.RoundTrip.{handedBack}
+use Rattle.opener.specs.Open.{receiveOK, opened}
+use Rattle.opener.specs.RoundTrip.{handedBack}
 use Rattle.layout.specs.Layout.{gapOf}
 use Rattle.packet.specs.declared.Heard.the-variants.{Nothing, Clean}
 use Rattle.packet.specs.declared.Symbol.the-variants.{Bit}

@@ -11,7 +11,7 @@ use lib.ListN.{length}
 use borrow.Author.Tests.{eq-eqb, ne-eqb, eqb-true}
 use Rattle.octets.specs.BaseLaws.{by-test, by-eq}
 use Rattle.octets.specs.NumberLaws.{Octets}
-use Rattle.frame.specs.RoundTrip.{frame-size, data-within}
+use Rattle.frame.specs.BuildLaws.{frame-size, data-within}
 use Rattle.layout.specs.CheckLaws.{Figured}
 use Rattle.packet.specs.declared.Heard.{Heard}
 use Rattle.packet.specs.declared.Heard.the-variants.{Nothing, Clean, Jammed, Several}

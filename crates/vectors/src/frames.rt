@@ -1,8 +1,8 @@
 // Frames built and opened.
 
 use frame::builder::Built;
-use frame::opener::ReceiveStatus;
 use libc::STDOUT_FILENO;
+use opener::ReceiveStatus;
 
 fn print_number(word: &[u8], n: u64) {
     io::write_all(STDOUT_FILENO, word);
@@ -123,8 +123,8 @@ fn datagram() -> [u8; 46] {
 // What opening the first n octets of s with excess bits gives: the status, and the client data.
 fn print_opened(s: &[u8], n: usize, excess: u32) {
     if n <= s.len() {
-        print_status(frame::opener::status(&s[0..n], excess));
-        print_octets(frame::opener::client_data(&s[0..n], excess));
+        print_status(opener::status(&s[0..n], excess));
+        print_octets(opener::client_data(&s[0..n], excess));
     }
 }
 
@@ -149,7 +149,7 @@ fn print_published() {
     print_opened(&out, 64, 0);
     print_opened(&out, 64, 7);
     print_opened(&out, 64, 8);
-    print_status(frame::opener::reception_status(&out[0..64], 0, true));
+    print_status(opener::reception_status(&out[0..64], 0, true));
     print_opened(&out, 63, 0);
     print_opened(&out, 1519, 0);
 }

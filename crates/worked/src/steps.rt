@@ -34,7 +34,12 @@ pub(crate) fn start_two(area: &mut [u8], depth: u32) -> Done {
     let mut second = [0u16; 16];
     second[0] = 1;
     draws[1] = second;
-    start_on(area, b"\x00\x02\x00\x02\x00\x00\x00\x00\x01\x0a\x02\x00\x00\x00\x00\x02", depth, draws)
+    start_on(
+        area,
+        b"\x00\x02\x00\x02\x00\x00\x00\x00\x01\x0a\x02\x00\x00\x00\x00\x02",
+        depth,
+        draws,
+    )
 }
 
 // The sixteen counters of a station, on one line.

@@ -8,9 +8,9 @@ use types.Run.{OneOf}
 use denote.Enum.Declared.{tagOf}
 use borrow.Author.Needs.{needs}
 use Rattle.octets.specs.Variant.{first-six}
-use Rattle.frame.specs.declared.opener.ReceiveStatus.{ReceiveStatus}
-use Rattle.frame.specs.Open.{statusAnswer}
-use Rattle.frame.proofs.opener.ReceiveStatus.{the-type}
+use Rattle.opener.specs.declared.ReceiveStatus.{ReceiveStatus}
+use Rattle.opener.specs.Open.{statusAnswer}
+use Rattle.opener.proofs.ReceiveStatus.{the-type}
 use Rattle.receiver.specs.declared.ReceiveEvent.{ReceiveEvent}
 use Rattle.receiver.specs.declared.Receiver.the-variants.{Listening}
 use Rattle.receiver.specs.Receive.{openAnswer, deciding, opening}

@@ -13,10 +13,10 @@ use Rattle.octets.specs.Equal.{equal}
 use Rattle.octets.specs.Number.{get}
 use Rattle.octets.specs.Store.{part}
 use Rattle.crc32.specs.Crc.{checkSequence}
 use Rattle.frame.specs.Limits.{maxFrame}
-use Rattle.frame.specs.declared.opener.ReceiveStatus.{ReceiveStatus}
-use Rattle.frame.specs.declared.opener.ReceiveStatus.the-variants.{ReceiveOk}
-use Rattle.frame.specs.Open.{statusAnswer, valueOf, dataField, fragment, frameTooLong, frameCheckError, alignmentError, lengthError, receiveOK, Opening, without, checkWrong, checkError, lengthWrong, clientSize, unpadded, opened}
+use Rattle.opener.specs.declared.ReceiveStatus.{ReceiveStatus}
+use Rattle.opener.specs.declared.ReceiveStatus.the-variants.{ReceiveOk}
+use Rattle.opener.specs.Open.{statusAnswer, valueOf, dataField, fragment, frameTooLong, frameCheckError, alignmentError, lengthError, receiveOK, Opening, without, checkWrong, checkError, lengthWrong, clientSize, unpadded, opened}
 
 -- ---- the check
 

@@ -1,8 +1,8 @@
--- `frame::opener::check_wrong` meets its contract. Assumes nothing.
-use Rattle.frame.specs.OpenLaws.{wrong-spoiled, wrong-clean}
+-- `opener::check_wrong` meets its contract. Assumes nothing.
+use Rattle.opener.specs.OpenLaws.{wrong-spoiled, wrong-clean}
 use borrow.Author.Needs.{needs}
-use Rattle.frame.proofs.opener.check_wrong.Statement.{statement}
-use Rattle.frame.proofs.opener.check_wrong.Tie as tie
+use Rattle.opener.proofs.check_wrong.Statement.{statement}
+use Rattle.opener.proofs.check_wrong.Tie as tie
 
 returns : tie.Need-returns
 returns c = search wrong-spoiled

@@ -1,8 +1,8 @@
--- `frame::opener::reception_status` meets its contract. Assumes nothing.
-use Rattle.frame.specs.OpenLaws.{opened-refused, opened-fragment, opened-long, opened-check, opened-rules}
+-- `opener::reception_status` meets its contract. Assumes nothing.
+use Rattle.opener.specs.OpenLaws.{opened-refused, opened-fragment, opened-long, opened-check, opened-rules}
 use borrow.Author.Needs.{needs}
-use Rattle.frame.proofs.opener.reception_status.Statement.{statement}
-use Rattle.frame.proofs.opener.reception_status.Tie as tie
+use Rattle.opener.proofs.reception_status.Statement.{statement}
+use Rattle.opener.proofs.reception_status.Tie as tie
 
 returns : tie.Need-returns
 returns c = search opened-refused

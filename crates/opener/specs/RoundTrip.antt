@@ -17,10 +17,10 @@ use Rattle.octets.specs.NumberLaws.{length-spelled, get-spelled, get-front, get
 use Rattle.octets.specs.Store.{part, take-sets}
 use Rattle.crc32.specs.Crc.{checkSequence}
 use Rattle.crc32.specs.Division.{length-sequence}
 use Rattle.frame.specs.Limits.{maxLength, maxData, maxFrame, refusesValue, refusesData}
 use Rattle.frame.specs.Build.{header, padded, covered, frameOf, built}
-use Rattle.frame.specs.BuildLaws.{length-header, length-padded, length-covered, length-frame}
-use Rattle.frame.specs.Open.{destinationOf, sourceOf, valueOf, dataField, receiveOK, Opening, checkWrong, lengthWrong, clientSize, unpadded, opened}
+use Rattle.frame.specs.BuildLaws.{length-header, length-padded, length-covered, length-frame, within, length-padded-max, frame-size}
+use Rattle.opener.specs.Open.{destinationOf, sourceOf, valueOf, dataField, receiveOK, Opening, checkWrong, lengthWrong, clientSize, unpadded, opened}
 
 -- what a receiver is handed back of the data x: under a length the data, under a type the data with their padding
 unfoldable pub handedBack : (v : ℕ) (x : List ℕ) → List ℕ
@@ -38,14 +38,6 @@ pub record Opens (f : List ℕ) (e : ℕ) (d s : List ℕ) (v : ℕ) (x : List �
   pub value : valueOf f ≡ v
 
 -- ---- what an accepted offer of data is
-
-within : (v n : ℕ) → refusesData v n ≡ false → n ≤ maxData v
-unfolding refusesData
-within v n h = go (ltb (maxData v) n) refl h
-  where
-    go : (t : Bool) → ltb (maxData v) n ≡ t → pick t true (refusesValue v n) ≡ false → n ≤ maxData v
-    go true p q = absurd (true≢false q)
-    go false p q = ltb-false (maxData v) n p
 
 value-taken : (v n : ℕ) → refusesData v n ≡ false → refusesValue v n ≡ false
 unfolding refusesData
@@ -71,10 +63,6 @@ room v n h = omega arith
 least : (v : ℕ) → 64 ≤ maxFrame v
 unfolding maxFrame
 least v = omega arith
-
-pub data-within : (v n : ℕ) → refusesData v n ≡ false → n ≤ 1500
-unfolding maxData
-data-within v n h = within v n h
 
 -- ---- the fields of a built frame
 
@@ -133,9 +121,6 @@ module _ (d s : List ℕ) (v : ℕ) (x : List ℕ) (hd : length d ≡ 6) (hs : l
 
 -- ---- the length and padding rules on a padded field
 
-length-padded-max : (x : List ℕ) → length (padded x) ≡ max 46 (length x)
-length-padded-max x = omega (arith, length-padded x)
-
 take-padded : (x : List ℕ) → take (length x) (padded x) ≡ x
 unfolding padded
 take-padded x = take-append-seam x (replicate (46 - length x) 0)
@@ -159,10 +144,6 @@ unpad-padded v x h = go (leb v maxLength) refl
     go false p = padded-type v x p (a-type v (length x) h p)
 
 -- ---- the theorems
-
--- a frame is the data with their padding and eighteen octets more
-pub frame-size : (d s : List ℕ) (v : ℕ) (x : List ℕ) → length d ≡ 6 → length s ≡ 6 → length (frameOf d s v x) ≡ max 46 (length x) + 18
-frame-size d s v x hd hs = size d s v x hd hs ∙ ap (λ (n : ℕ). n + 18) (length-padded-max x)
 
 -- Opening what the builder makes is receiveOK and gives back destination, source, value and data, under a type the data with
 -- their padding; excess bits are dropped.

@@ -10,9 +10,9 @@ use Rattle.octets.specs.Equal.{equal}
 use Rattle.octets.specs.Number.{get}
 use Rattle.octets.specs.Store.{part}
 use Rattle.crc32.specs.Crc.{checkSequence}
 use Rattle.frame.specs.Limits.{minData, minFrame, maxFrame, maxLength, minType}
-use Rattle.frame.specs.declared.opener.ReceiveStatus.{ReceiveStatus}
-use Rattle.frame.specs.declared.opener.ReceiveStatus.the-variants.{Refused, Fragment, FrameTooLong, FrameCheckError, AlignmentError, LengthError, ReceiveOk}
+use Rattle.opener.specs.declared.ReceiveStatus.{ReceiveStatus}
+use Rattle.opener.specs.declared.ReceiveStatus.the-variants.{Refused, Fragment, FrameTooLong, FrameCheckError, AlignmentError, LengthError, ReceiveOk}
 
 -- ---- the fields
 

@@ -1,4 +1,4 @@
--- `frame::opener::client_data` meets its contract. Assumes nothing.
+-- `opener::client_data` meets its contract. Assumes nothing.
 use Prim.Native.Nat.{ℕ, _+_, _≤_, _<_}
 use lib.ListN.{length}
 use mathlib.Core.Path.{_≡_}
@@ -9,13 +9,13 @@ use types.Run.{OneOf}
 use denote.Enum.Declared.{tagOf}
 use borrow.Author.Needs.{needs}
 use Rattle.octets.specs.Variant.{first-six}
-use Rattle.frame.specs.Open.{statusAnswer, receiveOK, opened}
-use Rattle.frame.specs.OpenLaws.{client-room, client-ok, client-none, other-status, refused-status}
-use Rattle.frame.specs.declared.opener.ReceiveStatus.{ReceiveStatus}
-use Rattle.frame.specs.declared.opener.ReceiveStatus.the-variants.{Refused, Fragment, FrameTooLong, FrameCheckError, AlignmentError, LengthError, ReceiveOk}
-use Rattle.frame.proofs.opener.ReceiveStatus.{the-type}
-use Rattle.frame.proofs.opener.client_data.Statement.{statement}
-use Rattle.frame.proofs.opener.client_data.Tie as tie
+use Rattle.opener.specs.Open.{statusAnswer, receiveOK, opened}
+use Rattle.opener.specs.OpenLaws.{client-room, client-ok, client-none, other-status, refused-status}
+use Rattle.opener.specs.declared.ReceiveStatus.{ReceiveStatus}
+use Rattle.opener.specs.declared.ReceiveStatus.the-variants.{Refused, Fragment, FrameTooLong, FrameCheckError, AlignmentError, LengthError, ReceiveOk}
+use Rattle.opener.proofs.ReceiveStatus.{the-type}
+use Rattle.opener.proofs.client_data.Statement.{statement}
+use Rattle.opener.proofs.client_data.Tie as tie
 
 -- the way of `else`: the status is one of the first six
 other-way : (f : List ℕ) (e : ℕ) (r : ReceiveStatus) → statusAnswer r ≡ opened false f e .status

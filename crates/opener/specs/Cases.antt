@@ -9,9 +9,9 @@ use Rattle.octets.specs.Bits.{lowBits, bitsOf, lowFirst, packed}
 use Rattle.octets.specs.Equal.{equal}
 use Rattle.octets.specs.Number.{get, spelled}
 use Rattle.crc32.specs.Crc.{generator, add, complementFirst, remainder, dividend, crcBits, checkSequence}
 use Rattle.frame.specs.Limits.{maxData, maxFrame, refusesValue, refusesData}
 use Rattle.frame.specs.Build.{header, padded, covered, frameOf, built}
-use Rattle.frame.specs.Open.{valueOf, dataField, receiveOK, checkWrong, checkError, lengthWrong, clientSize, unpadded, opened}
+use Rattle.opener.specs.Open.{valueOf, dataField, receiveOK, checkWrong, checkError, lengthWrong, clientSize, unpadded, opened}
 
 -- what is done with a length/type value and so many octets of data, all 0: build a frame, or open it with excess bits
 data Row : Type 0 where

@@ -1,8 +1,8 @@
--- `frame::opener::unpad` meets its contract. Assumes nothing.
-use Rattle.frame.specs.OpenLaws.{unpad-type, unpad-neither, unpad-length, unpad-wrong}
+-- `opener::unpad` meets its contract. Assumes nothing.
+use Rattle.opener.specs.OpenLaws.{unpad-type, unpad-neither, unpad-length, unpad-wrong}
 use borrow.Author.Needs.{needs}
-use Rattle.frame.proofs.opener.unpad.Statement.{statement}
-use Rattle.frame.proofs.opener.unpad.Tie as tie
+use Rattle.opener.proofs.unpad.Statement.{statement}
+use Rattle.opener.proofs.unpad.Tie as tie
 
 returns : tie.Need-returns
 returns c = search unpad-type

@@ -1,0 +1,4 @@
+pub mod Open
+pub mod OpenLaws
+pub mod RoundTrip
+pub mod Cases
