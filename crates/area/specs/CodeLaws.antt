@@ -208,18 +208,33 @@ low-is x p u e = rw e (and-mask x p)
 pub low-small : (x p u : ℕ) → u ≡ 2 ^ p → 0 < u → bitAnd x (u - 1) < u
 low-small x p u e h = rw (low-is x p u e) (mod-lt x h)
 
-pub bit-one : (x y z p u : ℕ) (b : Bool) → z ≡ y % u → y ≡ x → u ≡ 2 ^ p → b ≡ true → z + u ≡ octetWith x p b
-unfolding octetWith
-bit-one x y z p u b d e f g = rw (d, g, f, e) (omega arith)
+shifted-is : (p : ℕ) (b : Bool) → p < 8 → digit b * 2 ^ p % 2 ^ 32 ≡ digit b * 2 ^ p
+shifted-is p true h = power-is p h ∙ omega arith
+shifted-is p false h = omega arith
 
-pub bit-zero : (x y z p u : ℕ) (b : Bool) → z ≡ y % u → y ≡ x → u ≡ 2 ^ p → b ≡ false → z ≡ octetWith x p b
-unfolding octetWith
-bit-zero x y z p u b d e f g = d ∙ rw (g, f, e) (omega arith)
+pub raised-is : (p d : ℕ) (b : Bool) → p < 8 → d ≡ digit b → d * 2 ^ p % 2 ^ 32 ≡ digit b * 2 ^ p
+raised-is p d b h e = rw e (shifted-is p b h)
 
-pub with-bit-is : (a : List ℕ) (i k x : ℕ) (b : Bool) → x ≡ octetWith (getD a (32768 + 1536 * i + k / 8) 0) (k % 8) b
-    → set a (32768 + 1536 * i + k / 8) x ≡ withBit a i k b
+pub raised-small : (p d : ℕ) (b : Bool) → p < 8 → d ≡ digit b → d * 2 ^ p % 2 ^ 32 ≤ 128
+raised-small p d b h e = rw e (go b)
+  where
+    go : (c : Bool) → digit c * 2 ^ p % 2 ^ 32 ≤ 128
+    go true = power-small p h .1
+    go false = omega arith
+
+pub octet-is : (x y z p u r : ℕ) (b : Bool) → r ≡ digit b * 2 ^ p → z ≡ y % u → y ≡ x → u ≡ 2 ^ p → z + r ≡ octetWith x p b
+unfolding octetWith
+octet-is x y z p u r b e d f g = rw (d, e, f, g)
+
+pub with-bit-at : (a : List ℕ) (i k p x : ℕ) (b : Bool) → x ≡ octetWith (getD a (32768 + 1536 * i + k) 0) p b → p < 8 → set a (32768 + 1536 * i + k) x ≡ withBit a i (8 * k + p) b
 unfolding withBit
-with-bit-is a i k x b p = rw p
+with-bit-at a i k p x b e h =
+    let q : (8 * k + p) / 8 ≡ k = omega arith in
+    let r : (8 * k + p) % 8 ≡ p = omega arith in
+    rw (e, q, r)
+
+pub with-bit-is : (a y : List ℕ) (i k : ℕ) (b : Bool) → y ≡ withBit a i (8 * (k / 8) + k % 8) b → y ≡ withBit a i k b
+with-bit-is a y i k b e = let q : 8 * (k / 8) + k % 8 ≡ k = omega arith in rw q at e
 
 -- ---- a frame, built into a lent part of the area
 

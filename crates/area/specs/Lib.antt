@@ -5,3 +5,4 @@ pub mod AreaLaws
 pub mod Fresh
 pub mod FreshLaws
 pub mod OneWord
+pub mod Written

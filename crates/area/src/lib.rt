@@ -30,6 +30,7 @@ ghost use lib.ListN.{length, getD};
 ghost use Rattle.layout.specs.Layout.{placesOf};
 ghost use Rattle.area.specs.Area.{clockAt, withClock, depthAt, drawAt, figuresAt, countAt, positionAt, addressAt, tapAt, layoutAt, distance, countersAt, withCounters, recordAt, stationAt, withStation, withWord, withBit, heardOf, heardCode, symbolAt, arrivalAt, withArrival, alone, withSymbol, octetWith, frameAt, bufferAt, frameBuilt};
 ghost use Rattle.octets.specs.Base.{pick, outcome};
+ghost use Rattle.octets.specs.Bits.{digit};
 ghost use Rattle.packet.specs.Packet.{symbolOf};
 ghost use Rattle.frame.specs.Build.{builtAnswer};
 
@@ -329,6 +330,23 @@ fn low_bits(x: u32, p: usize, unit: u32) -> u32
     x & (unit - 1)
 }
 
+fn digit_of(one: bool) -> u32
+    ensures value { λ r. ⌜ r ≡ digit one ⌝ }
+    ensures small { λ r. ⌜ r < 2 ⌝ }
+{
+    if one { 1 } else { 0 }
+}
+
+// A bit as a number, at place p.
+fn raised(one: bool, p: usize) -> u32
+    requires { ⌜ p < 8 ⌝ }
+    ensures value { λ r. ⌜ r ≡ digit one * 2 ^ p ⌝ }
+    ensures small { λ r. ⌜ r ≤ 128 ⌝ }
+{
+    let place = p as u32;
+    digit_of(one) << place
+}
+
 // An octet with bit p stored: the bits below it stay, those above it are 0.
 fn octet_with(x: u8, p: usize, one: bool) -> u8
     requires { ⌜ p < 8 ⌝ }
@@ -336,10 +354,16 @@ fn octet_with(x: u8, p: usize, one: bool) -> u8
 {
     let unit = power(p);
     let low = low_bits(octets::wide(x), p, unit);
-    if one {
-        return (low + unit) as u8;
-    }
-    low as u8
+    (low + raised(one, p)) as u8
+}
+
+// Stores a collected bit of station i: bit p of octet k.
+pub fn store_at(area: &mut [u8], i: usize, k: usize, p: usize, one: bool)
+    requires { ⌜ (i < 16) × (k < 1518) × (p < 8) × (57344 ≤ length (now area)) ⌝ }
+    ensures { λ r. ⌜ now (area .exit) ≡ withBit (now (area .entry)) i (8 * k + p) one ⌝ }
+{
+    let at = 32768 + 1536 * i + k;
+    area[at] = octet_with(area[at], p, one);
 }
 
 // Stores collected bit k of station i.
@@ -347,8 +371,7 @@ pub fn store_bit(area: &mut [u8], i: usize, k: usize, one: bool)
     requires { ⌜ (i < 16) × (k < 12144) × (57344 ≤ length (now area)) ⌝ }
     ensures { λ r. ⌜ now (area .exit) ≡ withBit (now (area .entry)) i k one ⌝ }
 {
-    let at = 32768 + 1536 * i + k / 8;
-    area[at] = octet_with(area[at], k % 8, one);
+    store_at(area, i, k / 8, k % 8, one);
 }
 
 // What station i collected.
