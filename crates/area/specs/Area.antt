@@ -153,6 +153,10 @@ joined (Clean b) s = overlaid (Clean b) s
 joined Jammed s = overlaid Jammed s
 joined Several s = overlaid Several s
 
+-- the same by codes, for a symbol that is not silence
+unfoldable pub withSymbol : List ℕ → (i u c : ℕ) → List ℕ
+withSymbol a i u c = set a (4096 + 256 * i + u % 256) (pick (eqb (symbolAt a i u) 0) c 4)
+
 -- ---- building a frame at its place, with the station's own address as source
 
 unfoldable pub frameBuilt : List ℕ → ℕ → (d : List ℕ) (v : ℕ) (x : List ℕ) → Outcome

@@ -1,16 +1,18 @@
 -- A law for each way through the code that reads and writes. Assumes nothing.
-use Prim.Native.Nat.{ℕ, suc, _+_, _-_, _*_, _/_, _%_, _^_, _≤_, _<_, min}
+use Prim.Native.Nat.{ℕ, suc, _+_, _-_, _*_, _/_, _%_, _^_, _≤_, _<_, min, max}
 use mathlib.Core.Path.{_≡_, refl, sym, _∙_, ap}
 use mathlib.Core.Bool.{Bool, true, false}
 use mathlib.Core.List.{List, [], _∷_}
 use native.Mathlib.Nat.{mod-lt}
 use native.Mathlib.Omega.{arith}
 use borrow.Author.Tests.{eq-eqb, ne-eqb, le-ltb}
+use lib.Dec.{eqb}
 use lib.Bits.{bitAnd, and-mask}
 use lib.Pow.{pow-pos, pow-mono}
 use lib.ListN.{length, getD, set, take, drop}
 use lib.Seq.{sets}
 use Rattle.octets.specs.Base.{pick, Answer, refused, accepted, Outcome, outcome}
+use Rattle.octets.specs.BaseLaws.{by-test}
 use Rattle.octets.specs.Lent.{lent-store}
 use Rattle.octets.specs.Bits.{digit}
 use Rattle.octets.specs.Number.{get, put}
@@ -33,7 +35,7 @@ use Rattle.packet.specs.declared.Emission.{Emission}
 use Rattle.packet.specs.Packet.{symbolOf}
 use Rattle.station.specs.declared.step.Station.{Station}
 use Rattle.record.specs.Codec.{decoded, encoded}
-use Rattle.area.specs.Area.{clockAt, withClock, depthAt, drawAt, figuresAt, countAt, positionAt, addressAt, tapAt, layoutAt, distance, spaceAt, countersAt, withCounters, recordAt, stationAt, withStation, withWord, octetWith, withBit, heardOf, heardCode, symbolAt, arrivalAt, withArrival, alone, overlaid, joined, withFrame, frameAt, bufferAt, frameBuilt}
+use Rattle.area.specs.Area.{clockAt, withClock, depthAt, drawAt, figuresAt, countAt, positionAt, addressAt, tapAt, layoutAt, distance, spaceAt, countersAt, withCounters, recordAt, stationAt, withStation, withWord, octetWith, withBit, heardOf, heardCode, symbolAt, arrivalAt, withArrival, alone, overlaid, joined, withSymbol, withFrame, frameAt, bufferAt, frameBuilt}
 
 -- ---- numbers
 
@@ -71,13 +73,9 @@ module _ (a : List ℕ) where
   unfolding spaceAt
   space-is i j d p q e f g = e ∙ rw (f, g)
 
-pub apart-less : (p q : ℕ) → p < q → q - p ≡ distance p q
+pub apart-is : (p q x y : ℕ) → x ≡ max p q → y ≡ min p q → x - y ≡ distance p q
 unfolding distance
-apart-less p q h = omega arith
-
-pub apart-more : (p q : ℕ) → q ≤ p → p - q ≡ distance p q
-unfolding distance
-apart-more p q h = omega arith
+apart-is p q x y e f = omega arith
 
 -- ---- an address, a record, counters
 
@@ -162,21 +160,38 @@ pub with-arrival-is : (a : List ℕ) (i u x : ℕ) (h : Heard) → x ≡ heardCo
 unfolding withArrival
 with-arrival-is a i u x h p = rw p
 
-pub alone-bit : (s : Symbol) (b : Bool) → s ≡ Bit b → Clean b ≡ alone s
-alone-bit s b p = rw p
+pub mixed-none : (x c : ℕ) → x ≡ 0 → c ≡ pick (eqb x 0) c 4
+mixed-none x c e = rw (eq-eqb x 0 e)
 
-module _ (h : Heard) (s : Symbol) (r : Heard) where
-  pub joined-nothing : h ≡ Nothing → r ≡ alone s → r ≡ joined h s
-  joined-nothing p q = rw p q
+pub mixed-some : (x c : ℕ) → (x ≡ 0 → ⊥) → 4 ≡ pick (eqb x 0) c 4
+mixed-some x c e = rw (ne-eqb x 0 e)
 
-  pub joined-clean : (b : Bool) → h ≡ Clean b → r ≡ overlaid (Clean b) s → r ≡ joined h s
-  joined-clean b p q = rw p q
+pub with-symbol-is : (a : List ℕ) (i u c x : ℕ) → x ≡ pick (eqb (getD a (4096 + 256 * i + u % 256) 0) 0) c 4 → set a (4096 + 256 * i + u % 256) x ≡ withSymbol a i u c
+unfolding withSymbol symbolAt
+with-symbol-is a i u c x p = rw p
 
-  pub joined-jammed : h ≡ Jammed → r ≡ overlaid Jammed s → r ≡ joined h s
-  joined-jammed p q = rw p q
+-- a symbol that is not silence, joined to what is there, by its code
+pub joined-code : (a : List ℕ) (i u : ℕ) (s : Symbol) (c : ℕ) → c ≡ heardCode (alone s) → (c ≡ 0 → ⊥) → withSymbol a i u c ≡ withArrival a i u (joined (arrivalAt a i u) s)
+unfolding withSymbol withArrival arrivalAt heardOf
+joined-code a i u s c e ne = ap (set a (4096 + 256 * i + u % 256)) (go (symbolAt a i u))
+  where
+    over : (h : Heard) (y : Symbol) → (heardCode (alone y) ≡ 0 → ⊥) → 4 ≡ heardCode (overlaid h y)
+    over h Silence n = absurd (n refl)
+    over h (Bit b) n = refl
+    over h Jam n = refl
 
-  pub joined-several : h ≡ Several → r ≡ overlaid Several s → r ≡ joined h s
-  joined-several p q = rw p q
+    more : (h : Heard) → 4 ≡ heardCode (overlaid h s)
+    more h = over h s (λ z. ne (e ∙ z))
+
+    go : (x : ℕ) → pick (eqb x 0) c 4 ≡ heardCode (joined (heardOf x) s)
+    go x =
+        by-test (eqb x 0)
+        (λ p. rw p e)
+        (λ p. by-test (eqb x 1)
+        (λ q. rw (p, q) (more (Clean false)))
+        (λ q. by-test (eqb x 2)
+        (λ r. rw (p, q, r) (more (Clean true)))
+        (λ r. by-test (eqb x 3) (λ z. rw (p, q, r, z) (more Jammed)) (λ z. rw (p, q, r, z) (more Several)))))
 
 -- ---- a collected bit
 
@@ -195,18 +210,33 @@ low-is x p u e = rw e (and-mask x p)
 pub low-small : (x p u : ℕ) → u ≡ 2 ^ p → 0 < u → bitAnd x (u - 1) < u
 low-small x p u e h = rw (low-is x p u e) (mod-lt x h)
 
-pub bit-one : (x y z p u : ℕ) (b : Bool) → z ≡ y % u → y ≡ x → u ≡ 2 ^ p → b ≡ true → z + u ≡ octetWith x p b
-unfolding octetWith
-bit-one x y z p u b d e f g = rw (d, g, f, e) (omega arith)
+shifted-is : (p : ℕ) (b : Bool) → p < 8 → digit b * 2 ^ p % 2 ^ 32 ≡ digit b * 2 ^ p
+shifted-is p true h = power-is p h ∙ omega arith
+shifted-is p false h = omega arith
 
-pub bit-zero : (x y z p u : ℕ) (b : Bool) → z ≡ y % u → y ≡ x → u ≡ 2 ^ p → b ≡ false → z ≡ octetWith x p b
-unfolding octetWith
-bit-zero x y z p u b d e f g = d ∙ rw (g, f, e) (omega arith)
+pub raised-is : (p d : ℕ) (b : Bool) → p < 8 → d ≡ digit b → d * 2 ^ p % 2 ^ 32 ≡ digit b * 2 ^ p
+raised-is p d b h e = rw e (shifted-is p b h)
 
-pub with-bit-is : (a : List ℕ) (i k x : ℕ) (b : Bool) → x ≡ octetWith (getD a (32768 + 1536 * i + k / 8) 0) (k % 8) b
-    → set a (32768 + 1536 * i + k / 8) x ≡ withBit a i k b
+pub raised-small : (p d : ℕ) (b : Bool) → p < 8 → d ≡ digit b → d * 2 ^ p % 2 ^ 32 ≤ 128
+raised-small p d b h e = rw e (go b)
+  where
+    go : (c : Bool) → digit c * 2 ^ p % 2 ^ 32 ≤ 128
+    go true = power-small p h .1
+    go false = omega arith
+
+pub octet-is : (x y z p u r : ℕ) (b : Bool) → r ≡ digit b * 2 ^ p → z ≡ y % u → y ≡ x → u ≡ 2 ^ p → z + r ≡ octetWith x p b
+unfolding octetWith
+octet-is x y z p u r b e d f g = rw (d, e, f, g)
+
+pub with-bit-at : (a : List ℕ) (i k p x : ℕ) (b : Bool) → x ≡ octetWith (getD a (32768 + 1536 * i + k) 0) p b → p < 8 → set a (32768 + 1536 * i + k) x ≡ withBit a i (8 * k + p) b
 unfolding withBit
-with-bit-is a i k x b p = rw p
+with-bit-at a i k p x b e h =
+    let q : (8 * k + p) / 8 ≡ k = omega arith in
+    let r : (8 * k + p) % 8 ≡ p = omega arith in
+    rw (e, q, r)
+
+pub with-bit-is : (a y : List ℕ) (i k : ℕ) (b : Bool) → y ≡ withBit a i (8 * (k / 8) + k % 8) b → y ≡ withBit a i k b
+with-bit-is a y i k b e = let q : 8 * (k / 8) + k % 8 ≡ k = omega arith in rw q at e
 
 -- ---- a frame, built into a lent part of the area
 

@@ -3,3 +3,4 @@ pub mod Area
 pub mod CodeLaws
 pub mod AreaLaws
 pub mod OneWord
+pub mod Written

@@ -22,11 +22,13 @@ use packet::Heard;
 use packet::Symbol;
 use station::step::Station;
 ghost use mathlib.Core.Path.{_≡_};
-ghost use Prim.Native.Nat.{_+_, _*_, _/_, _%_, _^_, _<_, _≤_};
+ghost use Prim.Native.Nat.{_+_, _*_, _/_, _%_, _^_, _<_, _≤_, min, max};
+ghost use lib.Dec.{eqb};
 ghost use lib.ListN.{length, getD};
 ghost use Rattle.layout.specs.Layout.{placesOf};
-ghost use Rattle.area.specs.Area.{clockAt, withClock, depthAt, drawAt, figuresAt, countAt, positionAt, addressAt, tapAt, layoutAt, distance, countersAt, withCounters, recordAt, stationAt, withStation, withWord, withBit, heardOf, heardCode, symbolAt, arrivalAt, withArrival, alone, overlaid, joined, octetWith, frameAt, bufferAt, frameBuilt};
-ghost use Rattle.octets.specs.Base.{outcome};
+ghost use Rattle.area.specs.Area.{clockAt, withClock, depthAt, drawAt, figuresAt, countAt, positionAt, addressAt, tapAt, layoutAt, distance, countersAt, withCounters, recordAt, stationAt, withStation, withWord, withBit, heardOf, heardCode, symbolAt, arrivalAt, withArrival, alone, withSymbol, octetWith, frameAt, bufferAt, frameBuilt};
+ghost use Rattle.octets.specs.Base.{pick, outcome};
+ghost use Rattle.octets.specs.Bits.{digit};
 ghost use Rattle.packet.specs.Packet.{symbolOf};
 ghost use Rattle.frame.specs.Build.{builtAnswer};
 
@@ -142,11 +144,24 @@ pub fn read_layout(area: &[u8]) -> Layout
     }
 }
 
-// The distance of two places in bit times.
+fn larger(p: u32, q: u32) -> u32
+    ensures { λ r. ⌜ r ≡ max p q ⌝ }
+{
+    if p < q { q } else { p }
+}
+
+fn smaller(p: u32, q: u32) -> u32
+    ensures { λ r. ⌜ r ≡ min p q ⌝ }
+{
+    if p < q { p } else { q }
+}
+
+// The distance of two places in bit times. As the larger less the smaller, each place is read as one word even where only the low octet of
+// the distance counts.
 pub fn apart(p: u32, q: u32) -> u32
     ensures { λ r. ⌜ r ≡ distance p q ⌝ }
 {
-    if p < q { q - p } else { p - q }
+    larger(p, q) - smaller(p, q)
 }
 
 pub fn read_counters(area: &[u8], i: usize) -> [u32; 16]
@@ -268,36 +283,31 @@ pub fn put_arrival(area: &mut [u8], i: usize, u: usize, h: Heard)
     area[4096 + 256 * i + u % 256] = heard_code(h);
 }
 
-fn alone_heard(s: Symbol) -> Heard
-    ensures { λ r. ⌜ r ≡ alone s ⌝ }
+// The code of a symbol that is heard alone.
+pub fn symbol_code(s: Symbol) -> u8
+    ensures { λ r. ⌜ r ≡ heardCode (alone s) ⌝ }
 {
     match s {
-        Symbol::Silence => Heard::Nothing,
-        Symbol::Bit(b) => Heard::Clean(b),
-        Symbol::Jam => Heard::Jammed,
+        Symbol::Silence => 0,
+        Symbol::Bit(b) => { if b { 2 } else { 1 } }
+        Symbol::Jam => 3,
     }
 }
 
-fn overlay(h: Heard, s: Symbol) -> Heard
-    ensures { λ r. ⌜ r ≡ overlaid h s ⌝ }
+// The code of one symbol more where this one is, unless it is silence.
+fn mixed(there: u8, code: u8) -> u8
+    ensures { λ r. ⌜ r ≡ pick (eqb there 0) code 4 ⌝ }
 {
-    match s {
-        Symbol::Silence => h,
-        Symbol::Bit(_) => Heard::Several,
-        Symbol::Jam => Heard::Several,
-    }
+    if there == 0 { code } else { 4 }
 }
 
-// What is heard with one symbol more.
-pub fn join(h: Heard, s: Symbol) -> Heard
-    ensures { λ r. ⌜ r ≡ joined h s ⌝ }
+// One symbol more, by its code, is to reach station i in step u.
+pub fn add_symbol(area: &mut [u8], i: usize, u: usize, code: u8)
+    requires { ⌜ (i < 16) × (57344 ≤ length (now area)) ⌝ }
+    ensures { λ r. ⌜ now (area .exit) ≡ withSymbol (now (area .entry)) i u code ⌝ }
 {
-    match h {
-        Heard::Nothing => alone_heard(s),
-        Heard::Clean(b) => overlay(Heard::Clean(b), s),
-        Heard::Jammed => overlay(Heard::Jammed, s),
-        Heard::Several => overlay(Heard::Several, s),
-    }
+    let at = 4096 + 256 * i + u % 256;
+    area[at] = mixed(area[at], code);
 }
 
 fn power(p: usize) -> u32
@@ -318,6 +328,23 @@ fn low_bits(x: u32, p: usize, unit: u32) -> u32
     x & (unit - 1)
 }
 
+fn digit_of(one: bool) -> u32
+    ensures value { λ r. ⌜ r ≡ digit one ⌝ }
+    ensures small { λ r. ⌜ r < 2 ⌝ }
+{
+    if one { 1 } else { 0 }
+}
+
+// A bit as a number, at place p.
+fn raised(one: bool, p: usize) -> u32
+    requires { ⌜ p < 8 ⌝ }
+    ensures value { λ r. ⌜ r ≡ digit one * 2 ^ p ⌝ }
+    ensures small { λ r. ⌜ r ≤ 128 ⌝ }
+{
+    let place = p as u32;
+    digit_of(one) << place
+}
+
 // An octet with bit p stored: the bits below it stay, those above it are 0.
 fn octet_with(x: u8, p: usize, one: bool) -> u8
     requires { ⌜ p < 8 ⌝ }
@@ -325,10 +352,16 @@ fn octet_with(x: u8, p: usize, one: bool) -> u8
 {
     let unit = power(p);
     let low = low_bits(octets::wide(x), p, unit);
-    if one {
-        return (low + unit) as u8;
-    }
-    low as u8
+    (low + raised(one, p)) as u8
+}
+
+// Stores a collected bit of station i: bit p of octet k.
+pub fn store_at(area: &mut [u8], i: usize, k: usize, p: usize, one: bool)
+    requires { ⌜ (i < 16) × (k < 1518) × (p < 8) × (57344 ≤ length (now area)) ⌝ }
+    ensures { λ r. ⌜ now (area .exit) ≡ withBit (now (area .entry)) i (8 * k + p) one ⌝ }
+{
+    let at = 32768 + 1536 * i + k;
+    area[at] = octet_with(area[at], p, one);
 }
 
 // Stores collected bit k of station i.
@@ -336,8 +369,7 @@ pub fn store_bit(area: &mut [u8], i: usize, k: usize, one: bool)
     requires { ⌜ (i < 16) × (k < 12144) × (57344 ≤ length (now area)) ⌝ }
     ensures { λ r. ⌜ now (area .exit) ≡ withBit (now (area .entry)) i k one ⌝ }
 {
-    let at = 32768 + 1536 * i + k / 8;
-    area[at] = octet_with(area[at], k % 8, one);
+    store_at(area, i, k / 8, k % 8, one);
 }
 
 // What station i collected.

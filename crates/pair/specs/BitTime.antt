@@ -26,7 +26,7 @@ use Rattle.station.specs.declared.step.Station.{Station}
 use Rattle.station.specs.declared.step.Stepped.{Stepped}
 use Rattle.station.specs.Step.{stepped}
 use Rattle.station.specs.Count.{counted}
-use Rattle.area.specs.Area.{clockAt, withClock, depthAt, drawAt, figuresAt, countAt, spaceAt, countersAt, withCounters, stationAt, withStation, frameAt, bufferAt, withBit, arrivalAt, withArrival, joined}
+use Rattle.area.specs.Area.{clockAt, withClock, depthAt, drawAt, figuresAt, countAt, spaceAt, countersAt, withCounters, stationAt, withStation, frameAt, bufferAt, withBit, arrivalAt, withArrival, joined, withSymbol}
 use Rattle.pair.specs.declared.Events.{Events}
 use Rattle.pair.specs.declared.Act.{Act}
 
@@ -118,6 +118,10 @@ unfoldable pub eventsAt : List ℕ → List Events
 eventsAt a = filled noEvents (λ i. eventsOf (actAt a i)) (countAt a)
 
 -- ---- the same in parts, for the code
+
+-- a symbol on its way, by its code
+unfoldable pub codeTo : (t i c j : ℕ) → List ℕ → List ℕ
+codeTo t i c j x = pick (eqb j i) x (withSymbol x j (t + spaceAt x i j) c)
 
 -- the first k of n stations have had their turn, and their events
 unfoldable pub turnedIn : Figures → (d n t : ℕ) → List ℕ → (k : ℕ) → List ℕ

@@ -12,7 +12,7 @@ ghost use mathlib.Core.Path.{_≡_};
 ghost use Prim.Native.Nat.{_+_, _<_, _≤_};
 ghost use lib.ListN.{length, getD};
 ghost use Rattle.area.specs.Area.{clockAt, positionAt, recordAt, symbolAt, arrivalAt};
-ghost use Rattle.pair.specs.BitTime.{isSilence, happened, sendTo, pushed, withStored, withCounted, placed, settled, isTransmit, isReceive, actIn, turnIn, eventsOf, turnedIn, eventsIn, advancedIn, stepArea, eventsAt};
+ghost use Rattle.pair.specs.BitTime.{happened, codeTo, pushed, withStored, withCounted, placed, settled, isTransmit, isReceive, actIn, turnIn, eventsOf, turnedIn, eventsIn, advancedIn, stepArea, eventsAt};
 ghost use Rattle.pair.specs.InPlace.{Kept};
 ghost use Rattle.pair.specs.Ready.{Able, AllAble, Ready};
 
@@ -28,28 +28,17 @@ pub struct Act {
     pub symbol: Symbol,
 }
 
-// The symbol s that station i, at p, emits in step t is on its way to station j.
-fn send_to(area: &mut [u8], t: usize, i: usize, p: u32, s: Symbol, j: usize)
+// The symbol with this code that station i, at p, emits in step t is on its way to station j.
+fn send_to(area: &mut [u8], t: usize, i: usize, p: u32, code: u8, j: usize)
     requires { ⌜ (i < 16) × (j < 16) × (t < 4294967296) × (57344 ≤ length (now area)) × (p ≡ positionAt (now area) i) ⌝ }
-    ensures { λ r. ⌜ now (area .exit) ≡ sendTo t i s j (now (area .entry)) ⌝ }
+    ensures { λ r. ⌜ now (area .exit) ≡ codeTo t i code j (now (area .entry)) ⌝ }
 {
     if j == i {
         return;
     }
     let q = area::read_position(area, j);
     let u = t + area::apart(p, q) as usize;
-    let there = area::arrival(area, j, u);
-    area::put_arrival(area, j, u, area::join(there, s));
-}
-
-fn is_silence(s: Symbol) -> bool
-    ensures { λ r. ⌜ r ≡ isSilence s ⌝ }
-{
-    match s {
-        Symbol::Silence => true,
-        Symbol::Bit(_) => false,
-        Symbol::Jam => false,
-    }
+    area::add_symbol(area, j, u, code);
 }
 
 // The symbol goes to each of n stations but its own.
@@ -57,13 +46,14 @@ pub fn push(area: &mut [u8], n: usize, t: usize, i: usize, s: Symbol)
     requires { ⌜ (i < 16) × (n ≤ 16) × (t < 4294967296) × (57344 ≤ length (now area)) ⌝ }
     ensures { λ r. ⌜ now (area .exit) ≡ pushed n t i s (now (area .entry)) ⌝ }
 {
-    if is_silence(s) {
+    let code = area::symbol_code(s);
+    if code == 0 {
         return;
     }
     let p = area::read_position(area, i);
     let mut j: usize = 0;
     while j < n {
-        send_to(area, t, i, p, s, j);
+        send_to(area, t, i, p, code, j);
         j += 1;
     }
 }

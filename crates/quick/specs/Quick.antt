@@ -1,26 +1,27 @@
--- Turns that change little: a station that rests, one in the middle of its frame, one that collects, one whose gap or backoff goes on. They
--- are found by a few words of the record, and write only what changes. Assumes nothing.
-use Prim.Native.Nat.{ℕ, zero, suc, _+_, _-_, _*_, _%_, _≤_, _<_}
+-- Turns that change little: a station that rests, one in the middle of its frame, one whose reception goes on, one whose gap or backoff goes
+-- on. They are found by a few words of the record, and write only what changes. Assumes nothing.
+use Prim.Native.Nat.{ℕ, zero, suc, _+_, _-_, _*_, _/_, _%_, _≤_, _<_}
 use mathlib.Core.Path.{_≡_, refl, sym, _∙_, ap, subst}
 use mathlib.Core.Bool.{Bool, true, false, not, _||_, _&&_, true≢false}
 use mathlib.Core.List.{List}
 use native.Mathlib.Omega.{arith}
-use borrow.Author.Tests.{eqb-true, eqb-false, eq-eqb, ne-eqb, leb-true, ltb-true, lt-ltb, le-ltb, lt-leb}
+use borrow.Author.Tests.{eqb-true, eqb-false, eq-eqb, ne-eqb, leb-true, ltb-true, lt-ltb, le-ltb, le-leb, lt-leb}
 use lib.Dec.{eqb, leb, ltb}
 use lib.ListN.{length, getD, set, length-set}
 use lib.Seq.{getD-set-same, getD-set-other, ext-getD}
 use Rattle.octets.specs.Base.{pick}
+use Rattle.octets.specs.Bits.{digit}
 use Rattle.octets.specs.BaseLaws.{by-test, by-eq}
 use Rattle.octets.specs.NumberLaws.{Octets}
 use Rattle.layout.specs.declared.Figures.{Figures}
 use Rattle.layout.specs.Layout.{gapOf}
 use Rattle.packet.specs.declared.Heard.{Heard}
-use Rattle.packet.specs.declared.Heard.the-variants.{Nothing, Clean}
+use Rattle.packet.specs.declared.Heard.the-variants.{Nothing}
 use Rattle.packet.specs.declared.Symbol.{Symbol}
 use Rattle.packet.specs.declared.Symbol.the-variants.{Bit}
 use Rattle.packet.specs.declared.Emission.{Emission}
 use Rattle.packet.specs.declared.Emission.the-variants.{Rest, PacketBit}
-use Rattle.packet.specs.Packet.{symbolOf, packetBit}
+use Rattle.packet.specs.Packet.{hearsAny, symbolOf, packetBit}
 use Rattle.deference.specs.declared.Deference.{Deference}
 use Rattle.deference.specs.declared.Deference.the-variants.{Quiet, Busy, Gap}
 use Rattle.deference.specs.Defer.{defer, quietRule, busyRule, gapRule, goesBack}
@@ -33,14 +34,15 @@ use Rattle.receiver.specs.declared.Receiver.the-variants.{Listening, Readable, 
 use Rattle.receiver.specs.declared.ReceiveEvent.the-variants.{NoReceive}
 use Rattle.receiver.specs.declared.Stored.{Stored}
 use Rattle.receiver.specs.declared.Stored.the-variants.{NoStore, Store}
-use Rattle.receiver.specs.Receive.{receive, ended, hear, collect, collectBit, storedBit}
+use Rattle.receiver.specs.Receive.{nextRow, hearing, receive, ended, hear, seek, seekBit, collect, collectBit, storedBit}
 use Rattle.station.specs.declared.step.Station.{Station}
 use Rattle.station.specs.declared.step.Stepped.{Stepped}
 use Rattle.station.specs.Step.{stepped, nextStation, triesAfter, drawAfter, deferredAfter}
 use Rattle.record.specs.Codec.{flag, deferenceOf, deferenceCode, deferenceOwn, transmitterOf, transmitterCode, receiverOf, receiverCode, decoded, encoded}
-use Rattle.area.specs.Places.{place, Off}
+use Rattle.area.specs.Places.{place, station, Off}
 use Rattle.area.specs.Area.{drawAt, addressAt, recordAt, stationAt, withStation, withWord, frameAt, bufferAt, withBit, heardOf, symbolAt, arrivalAt, withArrival}
-use Rattle.area.specs.AreaLaws.{record-by, station-by, symbol-by}
+use Rattle.area.specs.AreaLaws.{record-by, station-by, symbol-by, arrival-keeps, length-arrival}
+use Rattle.area.specs.Written.{Wrote, wrote-none, wrote-word, wrote-station, station-arrival, bit-arrival, octets-arrival, word-small}
 use Rattle.area.specs.OneWord.{station-back, station-one, station-two, word-keeps, length-word}
 use Rattle.pair.specs.declared.Act.{Act}
 use Rattle.pair.specs.BitTime.{outcomeIn, actIn, pushed, withStored, happened, withCounted, placed, settled, turnedIn, turnIn, eventsOf, noEvents}
@@ -66,9 +68,9 @@ restsIn w = eqb (getD w 0 0) 0 && (eqb (getD w 3 0) 0 && (eqb (getD w 13 0) 0 &&
 unfoldable pub sendsIn : List ℕ → Bool
 sendsIn w = eqb (getD w 3 0) 3 && (eqb (getD w 0 0) 1 && (eqb (getD w 1 0) 1 && (eqb (getD w 13 0) 1 && leb (getD w 5 0) 1)))
 
--- collecting, busy, nothing emitted
-unfoldable pub collectsIn : List ℕ → Bool
-collectsIn w = eqb (getD w 5 0) 3 && (eqb (getD w 0 0) 1 && eqb (getD w 13 0) 0)
+-- in a reception, busy, nothing emitted
+unfoldable pub hearsIn : List ℕ → Bool
+hearsIn w = ltb 1 (getD w 5 0) && (eqb (getD w 0 0) 1 && eqb (getD w 13 0) 0)
 
 -- in a gap, listening or readable, nothing emitted
 unfoldable pub gapsIn : List ℕ → Bool
@@ -89,9 +91,24 @@ calmIn w =
 unfoldable pub countedDown : (i c k : ℕ) → List ℕ → List ℕ
 countedDown i c k x = pick (eqb c 2) (withWord x i 4 (k - 1)) x
 
--- one more bit than k is collected, and taken from the line
-unfoldable pub collectedOn : (t i k : ℕ) → Bool → List ℕ → List ℕ
-collectedOn t i k b x = withArrival (withStored i (storedBit k b) (withWord x i 6 (k + 1))) i t Nothing
+-- code c spoils the reception, unless it is a clean bit's
+unfoldable pub spoiledOn : (i c : ℕ) → List ℕ → List ℕ
+spoiledOn i c x = pick (leb c 2) x (withWord x i 7 1)
+
+-- a symbol, by its code c, after k collected bits
+unfoldable pub collectedOn : (i k c : ℕ) → List ℕ → List ℕ
+collectedOn i k c x = withStored i (storedBit k (eqb c 2)) (spoiledOn i c (withWord x i 6 (k + 1)))
+
+-- the next row, which may be the delimiter; and a symbol after a row
+unfoldable pub rowOn : (i next : ℕ) → List ℕ → List ℕ
+rowOn i next x = pick (eqb next 427) (withWord (withWord x i 5 3) i 6 0) (withWord x i 6 next)
+
+unfoldable pub soughtOn : (i row c : ℕ) → List ℕ → List ℕ
+soughtOn i row c x = pick (leb c 2) (rowOn i (nextRow row (eqb c 2)) x) (withWord (withWord x i 6 1) i 7 1)
+
+-- a symbol of a reception, where r is the receiver's code and k its number
+unfoldable pub receivedOn : (i r k c : ℕ) → List ℕ → List ℕ
+receivedOn i r k c x = pick (eqb r 2) (soughtOn i k c x) (collectedOn i k c x)
 
 -- bit k of a frame of z octets goes out
 unfoldable pub sentOn : (n t i k z : ℕ) → List ℕ → List ℕ
@@ -106,6 +123,10 @@ both-true false b h = absurd (true≢false (sym h))
 or-false : (b : Bool) → (b || false) ≡ b
 or-false true = refl
 or-false false = refl
+
+or-true : (b : Bool) → (b || true) ≡ true
+or-true true = refl
+or-true false = refl
 
 -- ---- a station by value
 
@@ -180,11 +201,10 @@ calm-df (Heading k) df n c = absurd c
 calm-df (Jamming k) df n c = absurd c
 
 module _ (f : Figures) (a : List ℕ) (x : Transmitter) (z n p : ℕ) (df : Bool) (d w : ℕ) (buffer : List ℕ) (c : Calm x df n) where
-  collect-step : (own sp ow : Bool) (k : ℕ) (b : Bool)
-      → stepped f (mk a (Busy own) x (Collecting k sp ow) z n p df false) d w buffer (Clean b)
-      ≡ quietly (mk a (Busy own) (later x) (Collecting (k + 1) sp ow) z n p df false) Rest (storedBit k b)
-  unfolding stepped nextStation triesAfter drawAfter defer busyRule receive hear collect collectBit mk quietly
-  collect-step own sp ow k b = rw (calm-tx f x z n w true df c, calm-df x df n c) (simp or-false)
+  heard-step : (own : Bool) (r r′ : Receiver) (st : Stored) (h : Heard) → hearsAny h ≡ true → receive a buffer r h false ≡ hearing r′ st
+      → stepped f (mk a (Busy own) x r z n p df false) d w buffer h ≡ quietly (mk a (Busy own) (later x) r′ z n p df false) Rest st
+  unfolding stepped nextStation triesAfter drawAfter defer busyRule mk quietly
+  heard-step own r r′ st h eh er = rw (eh, calm-tx f x z n w true df c, calm-df x df n c, er) (simp or-false)
 
   gap-step : (m : ℕ) (own : Bool) (r : Receiver) → leb (gapOf f) m ≡ false → Still r
       → stepped f (mk a (Gap m own) x r z n p df false) d w buffer Nothing ≡ quietly (mk a (Gap (m + 1) own) (later x) r z n p df false) Rest NoStore
@@ -193,6 +213,59 @@ module _ (f : Figures) (a : List ℕ) (x : Transmitter) (z n p : ℕ) (df : Bool
   gap-step m own (Readable k) g h = rw (g, calm-tx f x z n w false df c, calm-df x df n c)
   gap-step m own (Seeking row sp ow) g h = absurd (true≢false (sym h))
   gap-step m own (Collecting k sp ow) g h = absurd (true≢false (sym h))
+
+-- ---- a symbol of a reception
+
+-- the receiver, by its code r and number k
+within : (r k : ℕ) → (sp ow : Bool) → Receiver
+within r k sp ow = pick (eqb r 2) (Seeking k sp ow) (Collecting k sp ow)
+
+-- and after a symbol of code c, with what is stored of it
+onward : (r k c : ℕ) → (sp ow : Bool) → Receiver
+onward r k c sp ow =
+    pick (eqb r 2)
+    (pick (leb c 2)
+    (pick (eqb (nextRow k (eqb c 2)) 427) (Collecting 0 sp ow) (Seeking (nextRow k (eqb c 2)) sp ow))
+    (Seeking 1 true ow))
+    (Collecting (k + 1) (sp || not (leb c 2)) ow)
+
+keeping : (r k c : ℕ) → Stored
+keeping r k c = pick (eqb r 2) NoStore (storedBit k (eqb c 2))
+
+heard-any : (c : ℕ) → (c ≡ 0 → ⊥) → hearsAny (heardOf c) ≡ true
+unfolding heardOf
+heard-any c ne =
+    by-test (eqb c 1)
+    (λ p. rw (ne-eqb c 0 ne, p))
+    (λ p. by-test (eqb c 2)
+    (λ q. rw (ne-eqb c 0 ne, p, q))
+    (λ q. by-test (eqb c 3) (λ r. rw (ne-eqb c 0 ne, p, q, r)) (λ r. rw (ne-eqb c 0 ne, p, q, r))))
+
+past-two : (c : ℕ) → (c ≡ 0 → ⊥) → (c ≡ 1 → ⊥) → (c ≡ 2 → ⊥) → 2 < c
+past-two c p q r = omega (arith, p, q, r)
+
+heard-as : (a buffer : List ℕ) (r : Receiver) (c : ℕ) → (c ≡ 0 → ⊥) → receive a buffer r (heardOf c) false ≡ hear r (leb c 2) (eqb c 2) false
+unfolding heardOf receive
+heard-as a buffer r c ne =
+    by-eq c 1
+    (λ p. rw p)
+    (λ p. by-eq c 2
+    (λ q. rw q)
+    (λ q. by-eq c 3
+    (λ z. rw z)
+    (λ z. rw (ne-eqb c 0 ne, ne-eqb c 1 p, ne-eqb c 2 q, ne-eqb c 3 z, lt-leb c 2 (past-two c ne p q)))))
+
+heard-on : (a buffer : List ℕ) (r k c : ℕ) (sp ow : Bool) → (c ≡ 0 → ⊥) → receive a buffer (within r k sp ow) (heardOf c) false ≡ hearing (onward r k c sp ow) (keeping r k c)
+unfolding within onward keeping hear seek seekBit collect collectBit
+heard-on a buffer r k c sp ow ne =
+    heard-as a buffer (within r k sp ow) c ne
+    ∙ by-test (eqb r 2)
+    (λ e. by-test (leb c 2) (λ p. rw (e, p, or-false ow)) (λ p. rw (e, p, or-false ow)))
+    (λ e. rw (e, or-false ow))
+
+row-small : (k : ℕ) (b : Bool) → nextRow k b < 4294967296
+unfolding nextRow
+row-small k b = by-test (ltb (2 * k + digit b) 512) (λ e. rw e (omega (arith, ltb-true (2 * k + digit b) 512 e))) (λ e. rw e (omega arith))
 
 -- ---- the words of a record
 
@@ -221,16 +294,16 @@ module _ (w a : List ℕ) where
       let e₀ : getD w 0 0 ≡ 1 = eqb-true (getD w 0 0) 1 (q .0) in
       (rw (e₃, e₀, r .0, u .0), u .1)
 
-  collect-state : collectsIn w ≡ true
-      → decoded w a ≡ mk a (Busy (eqb (getD w 1 0) 1)) (transmitterOf (getD w 3 0) (getD w 4 0)) (Collecting (getD w 6 0) (eqb (getD w 7 0) 1) (eqb (getD w 8 0) 1)) (getD w 9 0) (getD w 10 0) (getD w 11 0) (eqb (getD w 12 0) 1) false
-  unfolding collectsIn decoded deferenceOf receiverOf mk
-  collect-state h =
-      let p = both-true (eqb (getD w 5 0) 3) _ h in
+  hear-state : hearsIn w ≡ true
+      → decoded w a ≡ mk a (Busy (eqb (getD w 1 0) 1)) (transmitterOf (getD w 3 0) (getD w 4 0)) (within (getD w 5 0) (getD w 6 0) (eqb (getD w 7 0) 1) (eqb (getD w 8 0) 1)) (getD w 9 0) (getD w 10 0) (getD w 11 0) (eqb (getD w 12 0) 1) false
+  unfolding hearsIn decoded deferenceOf receiverOf within mk
+  hear-state h =
+      let p = both-true (ltb 1 (getD w 5 0)) _ h in
       let q = both-true (eqb (getD w 0 0) 1) _ (p .1) in
-      let e₅ : getD w 5 0 ≡ 3 = eqb-true (getD w 5 0) 3 (p .0) in
+      let g = ltb-true 1 (getD w 5 0) (p .0) in
       let e₀ : getD w 0 0 ≡ 1 = eqb-true (getD w 0 0) 1 (q .0) in
       let e₁₃ : getD w 13 0 ≡ 0 = eqb-true (getD w 13 0) 0 (q .1) in
-      rw (e₅, e₀, e₁₃)
+      rw (ne-eqb (getD w 5 0) 0 (λ z. omega arith), ne-eqb (getD w 5 0) 1 (λ z. omega arith), e₀, e₁₃)
 
   gap-state : gapsIn w ≡ true
       → (decoded w a ≡ mk a (Gap (getD w 2 0) (eqb (getD w 1 0) 1)) (transmitterOf (getD w 3 0) (getD w 4 0)) (receiverOf (getD w 5 0) (getD w 6 0) (eqb (getD w 7 0) 1) (eqb (getD w 8 0) 1)) (getD w 9 0) (getD w 10 0) (getD w 11 0) (eqb (getD w 12 0) 1) false)
@@ -313,12 +386,31 @@ hears-nothing : (x : List ℕ) (i t : ℕ) → symbolAt x i t ≡ 0 → arrivalA
 unfolding arrivalAt heardOf
 hears-nothing x i t e = rw e
 
-pub hears-bit : (x : List ℕ) (i t c : ℕ) (b : Bool) → c ≡ symbolAt x i t → (c ≡ 0 → ⊥) → c ≤ 2 → b ≡ eqb c 2 → arrivalAt x i t ≡ Clean b
-unfolding arrivalAt heardOf
-hears-bit x i t c b e ne h p =
-    by-eq c 1
-    (λ z. rw (← e, p, z))
-    (λ z. let q : c ≡ 2 = omega (arith, ne, z) in rw (← e, p, q))
+stored-arrival : (i t : ℕ) (st : Stored) (x : List ℕ) → i < 16 → withStored i st (withArrival x i t Nothing) ≡ withArrival (withStored i st x) i t Nothing
+stored-arrival i t NoStore x hi = refl
+stored-arrival i t (Store k b) x hi = bit-arrival x i t Nothing hi k b
+
+heard-code : (x : List ℕ) (i t c : ℕ) → c ≡ symbolAt x i t → arrivalAt x i t ≡ heardOf c
+unfolding arrivalAt
+heard-code x i t c e = rw e
+
+record-arrival : (i t : ℕ) (x : List ℕ) → i < 16 → recordAt (withArrival x i t Nothing) i ≡ recordAt x i
+record-arrival i t x hi = record-by (withArrival x i t Nothing) x i (arrival-keeps (station i) x i t Nothing (λ a b. omega arith))
+
+-- a step of backoff leaves the receiver's number
+pub count-number : (t i : ℕ) (x : List ℕ) → i < 16 → 57344 ≤ length x → Octets x → (k m u : ℕ) (v x₀ : List ℕ) → v ≡ countedDown i u m x₀ → x₀ ≡ withArrival x i t Nothing
+    → m ≡ getD (recordAt x i) 4 0 → k ≡ getD (recordAt x i) 6 0 → k ≡ getD (recordAt v i) 6 0
+unfolding countedDown
+count-number t i x hi room o k m u v x₀ ev ex em ek =
+    let w = recordAt x i in
+    let y : List ℕ = withArrival x i t Nothing in
+    let long : 57344 ≤ length y = omega (arith, length-arrival x i t Nothing) in
+    let none : Wrote i y y w = wrote-none i y hi long w (octets-arrival x i t Nothing hi o) (record-arrival i t x hi) in
+    let one : Wrote i y (withWord y i 4 (m - 1)) (set w 4 (m - 1)) = wrote-word i y hi long y w 4 (m - 1) none (omega arith) (omega (arith, word-small x i 4 o (omega arith))) in
+    ek
+    ∙ by-test (eqb u 2)
+    (λ z. let e : v ≡ withWord y i 4 (m - 1) = ev ∙ rw (z, ex) in rw (e, one .words) (sym (getD-set-other w 4 6 (m - 1) 0 (λ q. omega arith))))
+    (λ z. let e : v ≡ y = ev ∙ rw (z, ex) in rw (e, none .words))
 
 -- ---- turns
 
@@ -364,14 +456,6 @@ module _ (f : Figures) (d n t i : ℕ) (x : List ℕ) (hi : i < 16) (room : 5734
   now : Transmitter
   now = transmitterOf (getD (recordAt x i) 3 0) (getD (recordAt x i) 4 0)
 
-  six-two : (dp : Deference) (sp ow : Bool) (k j : ℕ) → encoded (such dp (BackingOff (j - 1)) (Collecting (k + 1) sp ow)) ≡ set (set (encoded (such dp (BackingOff j) (Collecting k sp ow))) 4 (j - 1)) 6 (k + 1)
-  unfolding encoded such mk
-  six-two dp sp ow k j = refl
-
-  six-one : (dp : Deference) (q : Transmitter) (sp ow : Bool) (k : ℕ) → encoded (such dp q (Collecting (k + 1) sp ow)) ≡ set (encoded (such dp q (Collecting k sp ow))) 6 (k + 1)
-  unfolding encoded such mk
-  six-one dp q sp ow k = refl
-
   gap-two : (own : Bool) (r : Receiver) (m j : ℕ) → encoded (such (Gap (m + 1) own) (BackingOff (j - 1)) r) ≡ set (set (encoded (such (Gap m own) (BackingOff j) r)) 2 (m + 1)) 4 (j - 1)
   unfolding encoded such mk
   gap-two own r m j = refl
@@ -380,30 +464,15 @@ module _ (f : Figures) (d n t i : ℕ) (x : List ℕ) (hi : i < 16) (room : 5734
   unfolding encoded such mk
   gap-one own q r m = refl
 
+  back-four : (dp : Deference) (r : Receiver) (j : ℕ) → encoded (such dp (BackingOff (j - 1)) r) ≡ set (encoded (such dp (BackingOff j) r)) 4 (j - 1)
+  unfolding encoded such mk
+  back-four dp r j = refl
+
   back-one : (r : Receiver) (j : ℕ) → encoded (such Quiet (BackingOff (j - 1)) r) ≡ set (encoded (such Quiet (BackingOff j) r)) 4 (j - 1)
   unfolding encoded such mk
   back-one r j = refl
 
   module _ (calm : calmIn (recordAt x i) ≡ true) where
-    write-six : (dp : Deference) (k : ℕ) (sp ow : Bool) → stationAt x i ≡ such dp now (Collecting k sp ow)
-        → withStation x i (such dp (later now) (Collecting (k + 1) sp ow)) ≡ withWord (countedDown i (getD (recordAt x i) 3 0) (getD (recordAt x i) 4 0) x) i 6 (k + 1)
-    unfolding now countedDown
-    write-six dp k sp ow es =
-        let w = recordAt x i in
-        let ad = addressAt x i in
-        let j = getD w 4 0 in
-        by-eq (getD w 3 0) 2
-        (λ z. rw (eq-eqb (getD w 3 0) 2 z)
-        (station-two x i (such dp (later now) (Collecting (k + 1) sp ow)) hi room o 4 (j - 1) 6 (k + 1) (omega arith) (omega arith)
-        (ap (λ (y : Transmitter). encoded (such dp y (Collecting (k + 1) sp ow))) (later-back w ad z)
-        ∙ six-two dp sp ow k j
-        ∙ ap (λ (l : List ℕ). set (set l 4 (j - 1)) 6 (k + 1)) (plain-as (such dp (BackingOff j) (Collecting k sp ow)) (es ∙ ap (λ (y : Transmitter). such dp y (Collecting k sp ow)) (code-back w ad z))))))
-        (λ z. rw (ne-eqb (getD w 3 0) 2 z)
-        (station-one x i (such dp (later now) (Collecting (k + 1) sp ow)) hi room o 6 (k + 1) (omega arith)
-        (ap (λ (y : Transmitter). encoded (such dp y (Collecting (k + 1) sp ow))) (later-same w ad calm z)
-        ∙ six-one dp now sp ow k
-        ∙ ap (λ (l : List ℕ). set l 6 (k + 1)) (plain-as (such dp now (Collecting k sp ow)) es))))
-
     write-gap : (m : ℕ) (own : Bool) (r : Receiver) → stationAt x i ≡ such (Gap m own) now r
         → withStation x i (such (Gap (m + 1) own) (later now) r) ≡ countedDown i (getD (recordAt x i) 3 0) (getD (recordAt x i) 4 0) (withWord x i 2 (m + 1))
     unfolding now countedDown
@@ -423,19 +492,86 @@ module _ (f : Figures) (d n t i : ℕ) (x : List ℕ) (hi : i < 16) (room : 5734
         ∙ gap-one own now r m
         ∙ ap (λ (l : List ℕ). set l 2 (m + 1)) (plain-as (such (Gap m own) now r) es))))
 
-  pub collect-taken : (b c e : Bool) (k m u : ℕ) (y v : List ℕ) → y ≡ collectedOn t i k b v → v ≡ countedDown i u m x → k ≡ getD (recordAt x i) 6 0 → m ≡ getD (recordAt x i) 4 0 → u ≡ getD (recordAt x i) 3 0
-      → arrivalAt x i t ≡ Clean b → c ≡ collectsIn (recordAt x i) → c ≡ true → e ≡ calmIn (recordAt x i) → e ≡ true → Taken f d n t i x y true
-  unfolding stationAt pushed collectedOn such now mk
-  collect-taken b c e k m u y v ey ev ek em eu hb ec hc ee he =
+  -- the area with the symbol taken from the line
+  cleared : List ℕ
+  cleared = withArrival x i t Nothing
+
+  cleared-room : 57344 ≤ length cleared
+  unfolding cleared
+  cleared-room = omega (arith, length-arrival x i t Nothing)
+
+  Writes : List ℕ → Station → Type 0
+  Writes y s = Wrote i cleared y (encoded s)
+
+  -- its words with those of a state
+  written : (s : Station) (y : List ℕ) (k v : ℕ) → Writes y s → k < 14 → v < 4294967296 → Wrote i cleared (withWord y i k v) (set (encoded s) k v)
+  unfolding Writes
+  written s y k v r h g = wrote-word i cleared hi cleared-room y (encoded s) k v r h g
+
+  count-writes : (dp : Deference) (r : Receiver) → calmIn (recordAt x i) ≡ true → stationAt x i ≡ such dp now r
+      → Writes (countedDown i (getD (recordAt x i) 3 0) (getD (recordAt x i) 4 0) cleared) (such dp (later now) r)
+  unfolding countedDown Writes now cleared
+  count-writes dp r calm es =
+      let w = recordAt x i in
+      let ad = addressAt x i in
+      let j = getD w 4 0 in
+      let none : Wrote i cleared cleared w = wrote-none i cleared hi cleared-room w (octets-arrival x i t Nothing hi o) (record-arrival i t x hi) in
+      by-eq (getD w 3 0) 2
+      (λ z. let e : encoded (such dp (later now) r) ≡ set w 4 (j - 1) =
+      ap (λ (y : Transmitter). encoded (such dp y r)) (later-back w ad z)
+      ∙ back-four dp r j
+      ∙ ap (λ (l : List ℕ). set l 4 (j - 1)) (plain-as (such dp (BackingOff j) r) (es ∙ ap (λ (y : Transmitter). such dp y r) (code-back w ad z))) in
+      rw (eq-eqb (getD w 3 0) 2 z, e) (wrote-word i cleared hi cleared-room cleared w 4 (j - 1) none (omega arith) (omega (arith, word-small x i 4 o (omega arith)))))
+      (λ z. let e : encoded (such dp (later now) r) ≡ w =
+      ap (λ (y : Transmitter). encoded (such dp y r)) (later-same w ad calm z) ∙ plain-as (such dp now r) es in
+      rw (ne-eqb (getD w 3 0) 2 z, e) none)
+
+  -- the words of a reception that goes on
+  heard-writes : (dp : Deference) (q : Transmitter) (r k c : ℕ) (sp ow : Bool) (y : List ℕ) → k < 4294967295 → Writes y (such dp q (within r k sp ow))
+      → Writes (pick (eqb r 2) (soughtOn i k c y) (spoiledOn i c (withWord y i 6 (k + 1)))) (such dp q (onward r k c sp ow))
+  unfolding within onward soughtOn rowOn spoiledOn Writes such mk encoded
+  heard-writes dp q r k c sp ow y small v =
+      by-test (eqb r 2)
+      (λ e. let v₁ : Wrote i cleared y (encoded (such dp q (Seeking k sp ow))) = rw e at v in
+      by-test (leb c 2)
+      (λ p. by-test (eqb (nextRow k (eqb c 2)) 427)
+      (λ z. rw (e, p, z) (wrote-word i cleared hi cleared-room (withWord y i 5 3) (set (encoded (such dp q (Seeking k sp ow))) 5 3) 6 0 (wrote-word i cleared hi cleared-room y _ 5 3 v₁ (omega arith) (omega arith)) (omega arith) (omega arith)))
+      (λ z. rw (e, p, z) (wrote-word i cleared hi cleared-room y (encoded (such dp q (Seeking k sp ow))) 6 (nextRow k (eqb c 2)) v₁ (omega arith) (row-small k (eqb c 2)))))
+      (λ p. rw (e, p) (wrote-word i cleared hi cleared-room (withWord y i 6 1) (set (encoded (such dp q (Seeking k sp ow))) 6 1) 7 1 (wrote-word i cleared hi cleared-room y _ 6 1 v₁ (omega arith) (omega arith)) (omega arith) (omega arith))))
+      (λ e. let v₁ : Wrote i cleared y (encoded (such dp q (Collecting k sp ow))) = rw e at v in
+      let v₂ : Wrote i cleared (withWord y i 6 (k + 1)) (set (encoded (such dp q (Collecting k sp ow))) 6 (k + 1)) = wrote-word i cleared hi cleared-room y (encoded (such dp q (Collecting k sp ow))) 6 (k + 1) v₁ (omega arith) (omega arith) in
+      by-test (leb c 2)
+      (λ p. rw (e, p, or-false sp) v₂)
+      (λ p. rw (e, p, or-true sp) (wrote-word i cleared hi cleared-room (withWord y i 6 (k + 1)) _ 7 1 v₂ (omega arith) (omega arith))))
+
+  -- a turn that takes the symbol first, then writes the state's words, then keeps a bit
+  heard-by : (s : Station) (st : Stored) (y b : List ℕ) → Writes y s → b ≡ withStored i st y → b ≡ withArrival (withStored i st (withStation x i s)) i t Nothing
+  unfolding Writes cleared
+  heard-by s st y b v e =
+      e
+      ∙ ap (withStored i st) (sym (wrote-station i cleared hi cleared-room y s v) ∙ station-arrival x i t Nothing hi s)
+      ∙ stored-arrival i t st (withStation x i s) hi
+
+  pub heard-taken : (c r k m u : ℕ) (hs e : Bool) (y v x₀ : List ℕ) → y ≡ receivedOn i r k c v → v ≡ countedDown i u m x₀ → x₀ ≡ withArrival x i t Nothing
+      → k ≡ getD (recordAt x i) 6 0 → k < 4294967295 → r ≡ getD (recordAt x i) 5 0 → m ≡ getD (recordAt x i) 4 0 → u ≡ getD (recordAt x i) 3 0
+      → c ≡ symbolAt x i t → (c ≡ 0 → ⊥) → hs ≡ hearsIn (recordAt x i) → hs ≡ true → e ≡ calmIn (recordAt x i) → e ≡ true → Taken f d n t i x y true
+  unfolding stationAt pushed receivedOn collectedOn keeping such now mk cleared
+  heard-taken c r k m u hs e y v x₀ ey ev ex ek small er em eu ec ne eh hh ee he =
       let w = recordAt x i in
       let sp = eqb (getD w 7 0) 1 in
       let ow = eqb (getD w 8 0) 1 in
       let own = eqb (getD w 1 0) 1 in
       let calm : calmIn w ≡ true = sym ee ∙ he in
-      let es : stationAt x i ≡ such (Busy own) now (Collecting (getD w 6 0) sp ow) = collect-state w (addressAt x i) (sym ec ∙ hc) in
-      taken-by f d n t i x (such (Busy own) (later now) (Collecting (getD w 6 0 + 1) sp ow)) Rest (storedBit (getD w 6 0) b) y
-      (rw (es, hb) (collect-step f (addressAt x i) now (getD w 9 0) (getD w 10 0) (getD w 11 0) (eqb (getD w 12 0) 1) d (drawAt x i (getD w 11 0)) (bufferAt x i) (calm-state w (addressAt x i) calm) own sp ow (getD w 6 0) b))
-      (ey ∙ rw (ev, ek, em, eu, write-six calm (Busy own) (getD w 6 0) sp ow es))
+      let es : stationAt x i ≡ such (Busy own) now (within r k sp ow) = hear-state w (addressAt x i) (sym eh ∙ hh) ∙ rw (er, ek) in
+      let ev′ : v ≡ countedDown i (getD w 3 0) (getD w 4 0) cleared = ev ∙ rw (eu, em, ex) in
+      let v₁ : Writes v (such (Busy own) (later now) (within r k sp ow)) = rw ev′ (count-writes (Busy own) (within r k sp ow) calm es) in
+      let eb : y ≡ withStored i (keeping r k c) (pick (eqb r 2) (soughtOn i k c v) (spoiledOn i c (withWord v i 6 (k + 1)))) =
+      ey ∙ by-test (eqb r 2) (λ z. rw z) (λ z. rw z) in
+      let ea : arrivalAt x i t ≡ heardOf c = heard-code x i t c ec in
+      taken-by f d n t i x (such (Busy own) (later now) (onward r k c sp ow)) Rest (keeping r k c) y
+      (rw (es, ea) (heard-step f (addressAt x i) now (getD w 9 0) (getD w 10 0) (getD w 11 0) (eqb (getD w 12 0) 1) d (drawAt x i (getD w 11 0)) (bufferAt x i) (calm-state w (addressAt x i) calm) own
+      (within r k sp ow) (onward r k c sp ow) (keeping r k c) (heardOf c) (heard-any c ne) (heard-on (addressAt x i) (bufferAt x i) r k c sp ow ne)))
+      (heard-by (such (Busy own) (later now) (onward r k c sp ow)) (keeping r k c) _ y (heard-writes (Busy own) (later now) r k c sp ow v small v₁) eb)
 
   pub gap-taken : (e : Bool) (g m k u : ℕ) (y v : List ℕ) → y ≡ countedDown i u k v → v ≡ withWord x i 2 (m + 1) → g ≡ f .gap1 + f .gap2 → m < g → m ≡ getD (recordAt x i) 2 0 → k ≡ getD (recordAt x i) 4 0 → u ≡ getD (recordAt x i) 3 0
       → symbolAt x i t ≡ 0 → gapsIn (recordAt x i) ≡ true → e ≡ calmIn (recordAt x i) → e ≡ true → Taken f d n t i x y true
@@ -550,10 +686,13 @@ module _ (a : List ℕ) (i : ℕ) (p : Plain a i) where
       let k = plain-codes a i p in
       q ∙ rw (s, u, v, low r _ (k .3) er, low e _ (k .5) ee, low own _ (k .1) eo, low d _ (k .0) ed, low x _ (k .2) ex)
 
-  pub collects-is : (r d e : ℕ) (b₁ b₂ : Bool) → b₁ ≡ (eqb r 3 && b₂) → b₂ ≡ (eqb d 1 && eqb e 0)
-      → e ≡ getD (recordAt a i) 13 0 % 256 → d ≡ getD (recordAt a i) 0 0 % 256 → r ≡ getD (recordAt a i) 5 0 % 256 → b₁ ≡ collectsIn (recordAt a i)
-  unfolding collectsIn
-  collects-is r d e b₁ b₂ q s ee ed er =
+  pub code-receiver : (c : ℕ) → c ≡ getD (recordAt a i) 5 0 % 256 → c ≡ getD (recordAt a i) 5 0
+  code-receiver c e = low c _ (plain-codes a i p .3) e
+
+  pub hears-is : (r d e : ℕ) (b₁ b₂ : Bool) → b₁ ≡ (ltb 1 r && b₂) → b₂ ≡ (eqb d 1 && eqb e 0)
+      → e ≡ getD (recordAt a i) 13 0 % 256 → d ≡ getD (recordAt a i) 0 0 % 256 → r ≡ getD (recordAt a i) 5 0 % 256 → b₁ ≡ hearsIn (recordAt a i)
+  unfolding hearsIn
+  hears-is r d e b₁ b₂ q s ee ed er =
       let k = plain-codes a i p in
       q ∙ rw (s, low e _ (k .5) ee, low d _ (k .0) ed, low r _ (k .3) er)
 
@@ -606,17 +745,55 @@ module _ (i c k : ℕ) (x : List ℕ) where
   down-none e = rw (ne-eqb c 2 e)
 
 module _ (i k : ℕ) (b : Bool) (a : List ℕ) where
-  pub one-kept : (y : List ℕ) → k < 12144 → y ≡ withBit a i k b → y ≡ withStored i (storedBit k b) a
+  pub one-kept : (p : ℕ) (y : List ℕ) → k < 12144 → p ≡ k % 256 → y ≡ withBit a i (8 * (k / 8) + p % 8) b → y ≡ withStored i (storedBit k b) a
   unfolding storedBit
-  one-kept y h p = rw (lt-ltb k 12144 h) p
+  one-kept p y h q e =
+      let z : 8 * (k / 8) + p % 8 ≡ k = omega arith in
+      rw (lt-ltb k 12144 h) (rw z at e)
 
   pub one-dropped : 12144 ≤ k → a ≡ withStored i (storedBit k b) a
   unfolding storedBit
   one-dropped h = rw (le-ltb k 12144 h)
 
-pub collected-is : (t i k : ℕ) (b : Bool) (a x₁ x₂ y : List ℕ) → y ≡ withArrival x₂ i t Nothing → x₂ ≡ withStored i (storedBit k b) x₁ → x₁ ≡ withWord a i 6 (k + 1) → y ≡ collectedOn t i k b a
+module _ (i c : ℕ) (x : List ℕ) where
+  pub spoiled-not : c ≤ 2 → x ≡ spoiledOn i c x
+  unfolding spoiledOn
+  spoiled-not h = rw (le-leb c 2 h)
+
+  pub spoiled-is : (y : List ℕ) → 2 < c → y ≡ withWord x i 7 1 → y ≡ spoiledOn i c x
+  unfolding spoiledOn
+  spoiled-is y h p = p ∙ rw (lt-leb c 2 h)
+
+pub collected-is : (i k c : ℕ) (b : Bool) (a x₁ x₂ y : List ℕ) → y ≡ withStored i (storedBit k b) x₂ → x₂ ≡ spoiledOn i c x₁ → x₁ ≡ withWord a i 6 (k + 1) → b ≡ eqb c 2 → y ≡ collectedOn i k c a
 unfolding collectedOn
-collected-is t i k b a x₁ x₂ y p q r = p ∙ rw (q, r)
+collected-is i k c b a x₁ x₂ y p q r e = p ∙ rw (q, r, e)
+
+module _ (i row next : ℕ) (b : Bool) (x : List ℕ) (g : next ≡ nextRow row b) where
+  pub row-delimiter : (y z : List ℕ) → next ≡ 427 → y ≡ withWord z i 6 0 → z ≡ withWord x i 5 3 → y ≡ rowOn i (nextRow row b) x
+  unfolding rowOn
+  row-delimiter y z e p q = p ∙ rw (q, ← g, eq-eqb next 427 e)
+
+  pub row-longer : (y : List ℕ) → (next ≡ 427 → ⊥) → y ≡ withWord x i 6 next → y ≡ rowOn i (nextRow row b) x
+  unfolding rowOn
+  row-longer y e p = p ∙ rw (← g, ne-eqb next 427 e)
+
+module _ (i row c : ℕ) (x : List ℕ) where
+  pub sought-bit : (b : Bool) (y : List ℕ) → c ≤ 2 → b ≡ eqb c 2 → y ≡ rowOn i (nextRow row b) x → y ≡ soughtOn i row c x
+  unfolding soughtOn
+  sought-bit b y h e p = p ∙ rw (le-leb c 2 h, e)
+
+  pub sought-spoiled : (y z : List ℕ) → 2 < c → y ≡ withWord z i 7 1 → z ≡ withWord x i 6 1 → y ≡ soughtOn i row c x
+  unfolding soughtOn
+  sought-spoiled y z h p q = p ∙ rw (q, lt-leb c 2 h)
+
+module _ (i r k c : ℕ) (x y : List ℕ) where
+  pub received-seeks : r ≡ 2 → y ≡ soughtOn i k c x → y ≡ receivedOn i r k c x
+  unfolding receivedOn
+  received-seeks e p = p ∙ rw (eq-eqb r 2 e)
+
+  pub received-collects : (r ≡ 2 → ⊥) → y ≡ collectedOn i k c x → y ≡ receivedOn i r k c x
+  unfolding receivedOn
+  received-collects e p = p ∙ rw (ne-eqb r 2 e)
 
 pub sent-is : (n t i k z : ℕ) (s : Symbol) (a x y : List ℕ) → y ≡ pushed n t i s x → x ≡ withWord a i 4 (k + 1) → s ≡ symbolOf (frameAt a i z) (PacketBit k) → y ≡ sentOn n t i k z a
 unfolding sentOn
@@ -637,12 +814,25 @@ module _ (f : Figures) (x : List ℕ) (i : ℕ) (v : Able f x i) where
       let u : CanAct f (mk (addressAt x i) (Busy true) (Sending (getD (recordAt x i) 4 0)) _ (getD (recordAt x i) 9 0) (getD (recordAt x i) 10 0) (getD (recordAt x i) 11 0) _ true) = subst (CanAct f) q v in
       omega (arith, u .held)
 
-  pub collects-room : (c : Bool) (k : ℕ) → k ≡ getD (recordAt x i) 6 0 → c ≡ collectsIn (recordAt x i) → c ≡ true → k < 4294967295
-  unfolding Able stationAt mk
-  collects-room c k ek e h =
-      let q = collect-state (recordAt x i) (addressAt x i) (sym e ∙ h) in
-      let u : CanAct f (mk (addressAt x i) (Busy (eqb (getD (recordAt x i) 1 0) 1)) (transmitterOf (getD (recordAt x i) 3 0) (getD (recordAt x i) 4 0)) (Collecting (getD (recordAt x i) 6 0) _ _) (getD (recordAt x i) 9 0) (getD (recordAt x i) 10 0) (getD (recordAt x i) 11 0) _ false) = subst (CanAct f) q v in
-      omega (arith, u .room .bits)
+  -- the number of a receiver in a reception: bits, or a row
+  module _ (c : Bool) (k : ℕ) (ek : k ≡ getD (recordAt x i) 6 0) (e : c ≡ hearsIn (recordAt x i)) (h : c ≡ true) where
+    in-reception : CanAct f (mk (addressAt x i) (Busy (eqb (getD (recordAt x i) 1 0) 1)) (transmitterOf (getD (recordAt x i) 3 0) (getD (recordAt x i) 4 0)) (within (getD (recordAt x i) 5 0) k (eqb (getD (recordAt x i) 7 0) 1) (eqb (getD (recordAt x i) 8 0) 1)) (getD (recordAt x i) 9 0) (getD (recordAt x i) 10 0) (getD (recordAt x i) 11 0) (eqb (getD (recordAt x i) 12 0) 1) false)
+    unfolding Able stationAt
+    in-reception = rw ek (subst (CanAct f) (hear-state (recordAt x i) (addressAt x i) (sym e ∙ h)) v)
+
+    pub hears-row : (r : ℕ) → r ≡ getD (recordAt x i) 5 0 → r ≡ 2 → k < 65536
+    unfolding mk within
+    hears-row r er z =
+        let g : getD (recordAt x i) 5 0 ≡ 2 = sym er ∙ z in
+        let u = in-reception .room .row in
+        omega (arith, rw g at u)
+
+    pub hears-room : k < 4294967295
+    unfolding mk within
+    hears-room =
+        by-test (eqb (getD (recordAt x i) 5 0) 2)
+        (λ z. omega (arith, hears-row (getD (recordAt x i) 5 0) refl (eqb-true (getD (recordAt x i) 5 0) 2 z)))
+        (λ z. let u = in-reception .room .bits in omega (arith, rw z at u))
 
   pub gap-room : (f .gap1 + f .gap2) < 65536
   unfolding Able

@@ -1,20 +1,19 @@
-// Turns that change little, in place: a station that rests, one in the middle of its frame, one that collects, one whose gap or backoff goes
-// on. Each is the general turn (`pair::turn`), made by the few words that it changes.
+// Turns that change little, in place: a station that rests, one in the middle of its frame, one whose reception goes on, one whose gap or
+// backoff goes on. Each is the general turn (`pair::turn`), made by the few words that it changes.
 
 use layout::Figures;
 use packet::Emission;
 use packet::Heard;
 ghost use mathlib.Core.Path.{_≡_};
 ghost use mathlib.Core.Bool.{true};
-ghost use Prim.Native.Nat.{_+_, _<_, _≤_};
+ghost use Prim.Native.Nat.{_+_, _%_, _<_, _≤_};
 ghost use lib.ListN.{length, getD};
 ghost use Rattle.octets.specs.NumberLaws.{Octets};
-ghost use Rattle.packet.specs.declared.Heard.the-variants.{Clean};
-ghost use Rattle.receiver.specs.Receive.{storedBit};
-ghost use Rattle.area.specs.Area.{recordAt, symbolAt, arrivalAt};
+ghost use Rattle.receiver.specs.Receive.{nextRow, storedBit};
+ghost use Rattle.area.specs.Area.{recordAt, symbolAt};
 ghost use Rattle.pair.specs.BitTime.{withStored};
 ghost use Rattle.pair.specs.Ready.{Able};
-ghost use Rattle.quick.specs.Quick.{Plain, Taken, restsIn, sendsIn, collectsIn, gapsIn, backsIn, calmIn, countedDown, collectedOn, sentOn};
+ghost use Rattle.quick.specs.Quick.{Plain, Taken, restsIn, sendsIn, hearsIn, gapsIn, backsIn, calmIn, countedDown, spoiledOn, collectedOn, rowOn, soughtOn, receivedOn, sentOn};
 
 // Whether station i rests. That the area holds octets is said here, and by the tests after it.
 pub fn rests(area: &[u8], i: usize) -> bool
@@ -44,16 +43,16 @@ fn sends(area: &[u8], i: usize) -> bool
     octets::both(x == 3, octets::both(d == 1, held))
 }
 
-// Whether station i collects, with nothing of its own on the pair.
-fn collects(area: &[u8], i: usize) -> bool
+// Whether station i is busy and in a reception, with nothing of its own on the pair.
+fn hears(area: &[u8], i: usize) -> bool
     requires { ⌜ (i < 16) × (57344 ≤ length (now area)) × Plain (now area) i ⌝ }
-    ensures value { λ r. ⌜ r ≡ collectsIn (recordAt (now (area .entry)) i) ⌝ }
+    ensures value { λ r. ⌜ r ≡ hearsIn (recordAt (now (area .entry)) i) ⌝ }
     ensures octets { λ r. ⌜ Octets (now (area .entry)) ⌝ }
 {
     let r = area::read_code(area, i, 5);
     let d = area::read_code(area, i, 0);
     let e = area::read_code(area, i, 13);
-    octets::both(r == 3, octets::both(d == 1, e == 0))
+    octets::both(1 < r, octets::both(d == 1, e == 0))
 }
 
 // Whether station i is in a gap, and receives nothing.
@@ -110,23 +109,75 @@ fn count_down(area: &mut [u8], i: usize, c: u32, k: u32)
     }
 }
 
-// Collected bit k is kept, where the buffer has a place for it.
-fn keep_one(area: &mut [u8], i: usize, k: u32, one: bool)
-    requires { ⌜ (i < 16) × (57344 ≤ length (now area)) ⌝ }
+// Collected bit k, with low octet p, is kept where the buffer has a place for it.
+fn keep_one(area: &mut [u8], i: usize, k: u32, p: u32, one: bool)
+    requires { ⌜ (i < 16) × (57344 ≤ length (now area)) × (p ≡ k % 256) ⌝ }
     ensures { λ r. ⌜ now (area .exit) ≡ withStored i (storedBit k one) (now (area .entry)) ⌝ }
 {
     if k < 12144 {
-        area::store_bit(area, i, k as usize, one);
+        area::store_at(area, i, (k / 8) as usize, (p % 8) as usize, one);
     }
 }
 
-fn collect_on(area: &mut [u8], t: usize, i: usize, k: u32, one: bool)
-    requires { ⌜ (i < 16) × (57344 ≤ length (now area)) × (k < 4294967295) ⌝ }
-    ensures { λ r. ⌜ now (area .exit) ≡ collectedOn t i k one (now (area .entry)) ⌝ }
+// A symbol with this code spoils the reception, unless it is a clean bit.
+fn spoil(area: &mut [u8], i: usize, code: u8)
+    requires { ⌜ (i < 16) × (57344 ≤ length (now area)) ⌝ }
+    ensures { λ r. ⌜ now (area .exit) ≡ spoiledOn i code (now (area .entry)) ⌝ }
 {
+    if code <= 2 {
+        return;
+    }
+    area::write_word(area, i, 7, 1);
+}
+
+// A symbol after k collected bits. The low octet of k is read by itself, so that k can be read as one word.
+fn collect_on(area: &mut [u8], i: usize, k: u32, code: u8)
+    requires { ⌜ (i < 16) × (57344 ≤ length (now area)) × (k < 4294967295) × (k ≡ getD (recordAt (now area) i) 6 0) ⌝ }
+    ensures { λ r. ⌜ now (area .exit) ≡ collectedOn i k code (now (area .entry)) ⌝ }
+{
+    let p = area::read_code(area, i, 6);
     area::write_word(area, i, 6, k + 1);
-    keep_one(area, i, k, one);
-    area::put_arrival(area, i, t, Heard::Nothing);
+    spoil(area, i, code);
+    keep_one(area, i, k, p, code == 2);
+}
+
+// A clean bit after this row of them.
+fn seek_bit(area: &mut [u8], i: usize, row: u32, one: bool)
+    requires { ⌜ (i < 16) × (57344 ≤ length (now area)) × (row < 65536) ⌝ }
+    ensures { λ r. ⌜ now (area .exit) ≡ rowOn i (nextRow row one) (now (area .entry)) ⌝ }
+{
+    let next = receiver::next_row(row, one);
+    if next == 427 {
+        area::write_word(area, i, 5, 3);
+        area::write_word(area, i, 6, 0);
+        return;
+    }
+    area::write_word(area, i, 6, next);
+}
+
+// A symbol before the delimiter, after this row of clean bits.
+fn seek_on(area: &mut [u8], i: usize, row: u32, code: u8)
+    requires { ⌜ (i < 16) × (57344 ≤ length (now area)) × (row < 65536) ⌝ }
+    ensures { λ r. ⌜ now (area .exit) ≡ soughtOn i row code (now (area .entry)) ⌝ }
+{
+    if code <= 2 {
+        seek_bit(area, i, row, code == 2);
+        return;
+    }
+    area::write_word(area, i, 6, 1);
+    area::write_word(area, i, 7, 1);
+}
+
+// A symbol of a reception, where r is the receiver's code and k its number.
+fn receive_on(area: &mut [u8], i: usize, r: u32, k: u32, code: u8)
+    requires { ⌜ (i < 16) × (57344 ≤ length (now area)) × (k < 4294967295) × (k ≡ getD (recordAt (now area) i) 6 0) × (r ≡ 2 → k < 65536) ⌝ }
+    ensures { λ r′. ⌜ now (area .exit) ≡ receivedOn i r k code (now (area .entry)) ⌝ }
+{
+    if r == 2 {
+        seek_on(area, i, k, code);
+        return;
+    }
+    collect_on(area, i, k, code);
 }
 
 fn send_on(area: &mut [u8], n: usize, t: usize, i: usize, k: u32, size: u32)
@@ -208,27 +259,29 @@ fn quick_silent(area: &mut [u8], n: usize, depth: u32, t: usize, f: Figures, i: 
     false
 }
 
-// The turn of a station that hears a clean bit, where it collects.
-fn quick_bit(
+// The turn of a station that hears a symbol with this code, where its reception goes on.
+fn quick_heard(
     area: &mut [u8],
     n: usize,
     depth: u32,
     t: usize,
     f: Figures,
     i: usize,
-    one: bool,
+    code: u8,
 ) -> bool
     requires { ⌜ (i < 16) × (n ≤ 16) × (t < 4294967296) × (57344 ≤ length (now area)) × Able f (now area) i × Plain (now area) i ⌝ }
-    requires { ⌜ arrivalAt (now area) i t ≡ Clean one ⌝ }
+    requires { ⌜ (code ≡ symbolAt (now area) i t) × (code ≡ 0 → ⊥) ⌝ }
     ensures { λ r. ⌜ Taken f depth n t i (now (area .entry)) (now (area .exit)) r ⌝ }
 {
-    if collects(area, i) {
+    if hears(area, i) {
         let c = area::read_code(area, i, 3);
         if calm(area, i, c) {
             let m = area::read_word(area, i, 4);
+            let r = area::read_code(area, i, 5);
             let k = area::read_word(area, i, 6);
+            area::put_arrival(area, i, t, Heard::Nothing);
             count_down(area, i, c, m);
-            collect_on(area, t, i, k, one);
+            receive_on(area, i, r, k, code);
             return true;
         }
     }
@@ -244,8 +297,5 @@ pub fn turn(area: &mut [u8], n: usize, depth: u32, t: usize, f: Figures, i: usiz
     if code == 0 {
         return quick_silent(area, n, depth, t, f, i);
     }
-    if code <= 2 {
-        return quick_bit(area, n, depth, t, f, i, code == 2);
-    }
-    false
+    quick_heard(area, n, depth, t, f, i, code)
 }

@@ -55,7 +55,7 @@ fn digit_of(b: bool) -> u32
 }
 
 // The row of clean symbols with one more.
-fn next_row(row: u32, one: bool) -> u32
+pub fn next_row(row: u32, one: bool) -> u32
     requires { ⌜ row < 65536 ⌝ }
     ensures { λ r. ⌜ r ≡ nextRow row one ⌝ }
 {

@@ -1,17 +1,20 @@
 -- `area::apart` meets its contract. Assumes nothing.
-use Rattle.area.specs.CodeLaws.{apart-less, apart-more}
+use Rattle.area.specs.CodeLaws.{apart-is}
 use borrow.Author.Needs.{needs}
 use Rattle.area.proofs.apart.Statement.{statement}
 use Rattle.area.proofs.apart.Tie as tie
+
+larger-requires : tie.Need-larger-requires
+larger-requires c κs = search needs
+
+smaller-requires : tie.Need-smaller-requires
+smaller-requires c κs = search needs
 
 sub-result : tie.Need-sub-result
 sub-result c = search needs
 
 returns : tie.Need-returns
-returns c = search apart-less
-
-returns-2 : tie.Need-returns-2
-returns-2 c = search apart-more
+returns c = search apart-is
 
 pub apart-spec : {M : Type 1} → statement M
-apart-spec = tie.close (tie.spec sub-result returns returns-2)
+apart-spec = tie.close (tie.spec larger-requires smaller-requires sub-result returns)

@@ -1,5 +1,5 @@
 -- `area::octet_with` meets its contract. Assumes nothing.
-use Rattle.area.specs.CodeLaws.{bit-one, bit-zero}
+use Rattle.area.specs.CodeLaws.{octet-is}
 use borrow.Author.Needs.{needs}
 use Rattle.area.proofs.octet_with.Statement.{statement}
 use Rattle.area.proofs.octet_with.Tie as tie
@@ -13,6 +13,9 @@ wide-requires c κs = search needs
 low-bits-requires : tie.Need-low-bits-requires
 low-bits-requires c κs = search needs
 
+raised-requires : tie.Need-raised-requires
+raised-requires c κs = search needs
+
 add-result : tie.Need-add-result
 add-result c = search needs
 
@@ -20,13 +23,7 @@ cast-result : tie.Need-cast-result
 cast-result c = search needs
 
 returns : tie.Need-returns
-returns c = search bit-one
-
-cast-result-2 : tie.Need-cast-result-2
-cast-result-2 c = search needs
-
-returns-2 : tie.Need-returns-2
-returns-2 c = search bit-zero
+returns c = search octet-is
 
 pub octet-with-spec : {M : Type 1} → statement M
 octet-with-spec =
@@ -35,8 +32,7 @@ octet-with-spec =
     power-requires
     wide-requires
     low-bits-requires
+    raised-requires
     add-result
     cast-result
-    returns
-    cast-result-2
-    returns-2)
+    returns)

@@ -5,19 +5,19 @@ use Prim.Native.Nat.{_≤_, _-_}
 use mathlib.Core.Path.{_≡_, refl}
 use lib.ListN.{length}
 use Rattle.octets.specs.Turns.{turns, turns-none}
-use Rattle.pair.specs.BitTime.{sendTo}
+use Rattle.pair.specs.BitTime.{codeTo}
 use Rattle.pair.specs.CodeLaws.{push-none, push-position, push-more, push-all}
 use Rattle.pair.proofs.push.Statement.{statement}
 use Rattle.pair.proofs.push.Tie as tie
 
 abbrev Inv-loop : tie.InvT-loop
-Inv-loop area₀ n t i s p j₀ area j = (j ≤ n) × (length area ≡ length area₀) × (area ≡ turns (sendTo t i s) j area₀)
+Inv-loop area₀ n t i code p j₀ area j = (j ≤ n) × (length area ≡ length area₀) × (area ≡ turns (codeTo t i code) j area₀)
 
 abbrev μ-loop : tie.MeasureT-loop
-μ-loop area₀ n t i s p j₀ area j = n - j
+μ-loop area₀ n t i code p j₀ area j = n - j
 
-is-silence-requires : tie.Need-is-silence-requires Inv-loop μ-loop
-is-silence-requires c κs = search needs
+symbol-code-requires : tie.Need-symbol-code-requires Inv-loop μ-loop
+symbol-code-requires c κs = search needs
 
 returns : tie.Need-returns Inv-loop μ-loop
 returns c = search push-none
@@ -29,7 +29,7 @@ loop-holds : tie.Need-loop-holds Inv-loop μ-loop
 loop-holds c = (omega arith, refl, search turns-none)
 
 send-to-requires : tie.Need-send-to-requires Inv-loop μ-loop
-send-to-requires c κs = (omega arith, omega arith, omega arith, omega arith, push-position _ _ _ _ _ _ _ (c .before .before .loop .inv .2) (omega arith) (c .before .before .before .read-position .ensures))
+send-to-requires c κs = (omega arith, omega arith, omega arith, omega arith, search push-position)
 
 add-j : tie.Need-add-j Inv-loop μ-loop
 add-j c = omega arith
@@ -52,7 +52,7 @@ push-spec =
     (tie.spec
     Inv-loop
     μ-loop
-    is-silence-requires
+    symbol-code-requires
     returns
     read-position-requires
     loop-holds

@@ -19,14 +19,8 @@ cast-u c = search needs
 add-u : tie.Need-add-u
 add-u c = search needs
 
-arrival-requires : tie.Need-arrival-requires
-arrival-requires c κs = search needs
-
-join-requires : tie.Need-join-requires
-join-requires c κs = search needs
-
-put-arrival-requires : tie.Need-put-arrival-requires
-put-arrival-requires c κs = search needs
+add-symbol-requires : tie.Need-add-symbol-requires
+add-symbol-requires c κs = search needs
 
 same-length : tie.Need-same-length
 same-length c = search needs
@@ -43,8 +37,6 @@ send-to-spec =
     apart-requires
     cast-u
     add-u
-    arrival-requires
-    join-requires
-    put-arrival-requires
+    add-symbol-requires
     same-length
     returns-2)

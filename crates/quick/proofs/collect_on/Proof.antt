@@ -1,8 +1,12 @@
 -- `quick::collect_on` meets its contract. Assumes nothing.
+use mathlib.Core.Path.{refl}
 use Rattle.quick.specs.Quick.{collected-is}
 use borrow.Author.Needs.{needs}
 use Rattle.quick.proofs.collect_on.Statement.{statement}
 use Rattle.quick.proofs.collect_on.Tie as tie
+
+read-code-requires : tie.Need-read-code-requires
+read-code-requires c κs = search needs
 
 add-write-word : tie.Need-add-write-word
 add-write-word c = search needs
@@ -10,25 +14,26 @@ add-write-word c = search needs
 write-word-requires : tie.Need-write-word-requires
 write-word-requires c κs = search needs
 
+spoil-requires : tie.Need-spoil-requires
+spoil-requires c κs = search needs
+
 keep-one-requires : tie.Need-keep-one-requires
 keep-one-requires c κs = search needs
-
-put-arrival-requires : tie.Need-put-arrival-requires
-put-arrival-requires c κs = search needs
 
 same-length : tie.Need-same-length
 same-length c = search needs
 
 returns : tie.Need-returns
-returns c = collected-is _ _ _ _ _ _ _ _ (c .before .before .put-arrival .ensures) (c .before .before .before .before .before .before .keep-one .ensures) (c .before .before .before .before .before .before .before .before .before .before .write-word .ensures)
+returns c = collected-is _ _ _ _ _ _ _ _ (c .before .before .keep-one .ensures) (c .before .before .before .before .before .before .spoil .ensures) (c .before .before .before .before .before .before .before .before .before .before .write-word .ensures) refl
 
 pub collect-on-spec : {M : Type 1} → statement M
 collect-on-spec =
     tie.close
     (tie.spec
+    read-code-requires
     add-write-word
     write-word-requires
+    spoil-requires
     keep-one-requires
-    put-arrival-requires
     same-length
     returns)

@@ -1,10 +1,10 @@
--- `quick::collects` meets its contract. Assumes nothing.
-use Rattle.quick.specs.Quick.{collects-is}
+-- `quick::hears` meets its contract. Assumes nothing.
+use Rattle.quick.specs.Quick.{hears-is}
 use Rattle.octets.specs.NumberLaws.{octets-by}
 use native.Mathlib.Omega.{arith}
 use borrow.Author.Needs.{needs}
-use Rattle.quick.proofs.collects.Statement.{statement}
-use Rattle.quick.proofs.collects.Tie as tie
+use Rattle.quick.proofs.hears.Statement.{statement}
+use Rattle.quick.proofs.hears.Tie as tie
 
 read-code-requires : tie.Need-read-code-requires
 read-code-requires c κs = search needs
@@ -22,10 +22,10 @@ both-requires-2 : tie.Need-both-requires-2
 both-requires-2 c κs = search needs
 
 returns : tie.Need-returns
-returns c = (search collects-is, octets-by _ (λ k. omega (arith, c .before .before .before .before .before .shared-slice-known .given k)))
+returns c = (search hears-is, octets-by _ (λ k. omega (arith, c .before .before .before .before .before .shared-slice-known .given k)))
 
-pub collects-spec : {M : Type 1} → statement M
-collects-spec =
+pub hears-spec : {M : Type 1} → statement M
+hears-spec =
     tie.close
     (tie.spec
     read-code-requires
