@@ -16,7 +16,7 @@ use Rattle.octets.specs.Region.{Same, put-leaves}
 use Rattle.octets.specs.Store.{octet-same, octet-other}
 use Rattle.octets.specs.Words.{wordsAt, putWords}
 use Rattle.octets.specs.WordsLaws.{length-words, word-at}
-use Rattle.station.specs.declared.step.Station.{Station}
+use Rattle.state.specs.declared.Station.{Station}
 use Rattle.record.specs.Codec.{encoded}
 use Rattle.area.specs.Places.{Part, station, at, size, Off, Keeps}
 use Rattle.area.specs.Area.{recordAt, withStation, withWord}

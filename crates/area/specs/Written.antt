@@ -16,7 +16,7 @@ use Rattle.octets.specs.Store.{Apart, octet-same, octet-other}
 use Rattle.octets.specs.Words.{wordsAt, putWords}
 use Rattle.octets.specs.WordsLaws.{length-words, length-put-words, word-at}
 use Rattle.packet.specs.declared.Heard.{Heard}
-use Rattle.station.specs.declared.step.Station.{Station}
+use Rattle.state.specs.declared.Station.{Station}
 use Rattle.record.specs.Codec.{encoded}
 use Rattle.area.specs.Area.{recordAt, withStation, withWord, octetWith, withBit, heardCode, withArrival}
 use Rattle.area.specs.AreaLaws.{code-small}

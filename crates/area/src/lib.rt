@@ -20,7 +20,7 @@ use layout::Tap;
 use packet::Emission;
 use packet::Heard;
 use packet::Symbol;
-use station::step::Station;
+use state::Station;
 ghost use mathlib.Core.Path.{_≡_};
 ghost use Prim.Native.Nat.{_+_, _*_, _/_, _%_, _^_, _<_, _≤_, min, max};
 ghost use lib.Dec.{eqb};

@@ -7,8 +7,8 @@ use borrow.Author.Tests.{le-leb, lt-leb}
 use Rattle.octets.specs.Base.{pick}
 use Rattle.layout.specs.declared.Figures.{Figures}
 use Rattle.layout.specs.Layout.{gapOf}
-use Rattle.deference.specs.declared.Deference.{Deference}
-use Rattle.deference.specs.declared.Deference.the-variants.{Quiet, Busy, Gap}
+use Rattle.state.specs.declared.Deference.{Deference}
+use Rattle.state.specs.declared.Deference.the-variants.{Quiet, Busy, Gap}
 use Rattle.deference.specs.declared.Deferred.{Deferred}
 use Rattle.deference.specs.Defer.{to, quietRule, busyRule, goesBack, gapOver, gapRule, defer}
 

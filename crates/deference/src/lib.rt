@@ -1,18 +1,12 @@
 // Deference: when a station may start.
 
 use layout::Figures;
+use state::Deference;
 ghost use mathlib.Core.Path.{_≡_};
 ghost use mathlib.Core.Bool.{_&&_, not};
 ghost use Prim.Native.Nat.{_+_, _<_, _≤_};
 ghost use lib.Dec.{ltb};
 ghost use Rattle.deference.specs.Defer.{quietRule, busyRule, gapRule, goesBack, defer};
-
-// Quiet, busy or gap. A gap counts its quiet bits; busy and gap remember whether the station itself emitted in that busy stretch.
-pub enum Deference {
-    Quiet,
-    Busy(bool),
-    Gap { count: u32, own: bool },
-}
 
 // What a step's deference leads to: the next phase, and whether a waiting frame starts in the step.
 pub struct Deferred {

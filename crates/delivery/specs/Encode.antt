@@ -20,11 +20,11 @@ use Rattle.packet.specs.declared.Symbol.the-variants.{Silence, Bit, Jam}
 use Rattle.packet.specs.declared.Emission.{Emission}
 use Rattle.packet.specs.declared.Emission.the-variants.{Rest}
 use Rattle.packet.specs.Packet.{symbolOf, hearsAny}
-use Rattle.transmitter.specs.declared.Transmitter.{Transmitter}
-use Rattle.transmitter.specs.declared.Transmitter.the-variants.{NoFrame, Waiting, BackingOff, Sending, Heading, Jamming}
+use Rattle.state.specs.declared.Transmitter.{Transmitter}
+use Rattle.state.specs.declared.Transmitter.the-variants.{NoFrame, Waiting, BackingOff, Sending, Heading, Jamming}
 use Rattle.transmitter.specs.Transmit.{octetsHeld, transmit}
 use Rattle.receiver.specs.declared.Stored.{Stored}
-use Rattle.station.specs.declared.step.Station.{Station}
+use Rattle.state.specs.declared.Station.{Station}
 use Rattle.station.specs.declared.step.Stepped.{Stepped}
 use Rattle.station.specs.Step.{triesAfter, deferring, sending, stepped, nextStation}
 use Rattle.area.specs.Places.{Part, clock, depth, layout, draws, counters, station, frame, buffer, place, at, size, Off, Keeps}

@@ -18,8 +18,8 @@ use Rattle.layout.specs.Check.{refusalOf}
 use Rattle.layout.specs.CheckLaws.{Figured, Sound, sound}
 use Rattle.packet.specs.declared.Heard.the-variants.{Nothing}
 use Rattle.packet.specs.declared.Symbol.the-variants.{Silence}
-use Rattle.transmitter.specs.declared.Transmitter.the-variants.{NoFrame}
-use Rattle.station.specs.declared.step.Station.{Station}
+use Rattle.state.specs.declared.Transmitter.the-variants.{NoFrame}
+use Rattle.state.specs.declared.Station.{Station}
 use Rattle.area.specs.Area.{clockAt, depthAt, drawAt, figuresAt, countAt, positionAt, addressAt, distance, spaceAt, stationAt, bufferAt, arrivalAt}
 use Rattle.start.specs.Fresh.{tapIn, fresh}
 use Rattle.start.specs.FreshLaws.{Formed, fresh-length, fresh-clock, fresh-count, fresh-figures, fresh-position, fresh-address, fresh-arrival}

@@ -9,8 +9,8 @@ use lib.Dec.{eqb}
 use lib.ListN.{length}
 use Rattle.octets.specs.Base.{pick}
 use Rattle.octets.specs.BaseLaws.{by-test, by-eq}
-use Rattle.transmitter.specs.declared.Transmitter.the-variants.{NoFrame, Waiting, BackingOff, Sending, Heading, Jamming}
-use Rattle.station.specs.declared.step.Station.{Station}
+use Rattle.state.specs.declared.Transmitter.the-variants.{NoFrame, Waiting, BackingOff, Sending, Heading, Jamming}
+use Rattle.state.specs.declared.Station.{Station}
 use Rattle.area.specs.Places.{Part, clock, depth, layout, draws, counters, station, frame, buffer, place, at, size, Off, Keeps}
 use Rattle.area.specs.Area.{clockAt, countAt, stationAt, withStation, withCounters, frameAt, withFrame, bufferAt, arrivalAt}
 use Rattle.area.specs.AreaLaws.{keeps-trans, frame-by, buffer-by, arrival-by, frame-same, station-keeps, counters-keeps, length-frame, length-station, length-counters}

@@ -22,11 +22,11 @@ use Rattle.layout.specs.declared.Layout.{Layout}
 use Rattle.layout.specs.Layout as lay
 use Rattle.layout.specs.Check.{refusalOf}
 use Rattle.layout.specs.CheckLaws.{Figured, Sound, sound, refusal-same}
-use Rattle.deference.specs.declared.Deference.the-variants.{Quiet}
-use Rattle.transmitter.specs.declared.Transmitter.{Transmitter}
-use Rattle.transmitter.specs.declared.Transmitter.the-variants.{NoFrame, Waiting}
-use Rattle.receiver.specs.declared.Receiver.the-variants.{Listening}
-use Rattle.station.specs.declared.step.Station.{Station}
+use Rattle.state.specs.declared.Deference.the-variants.{Quiet}
+use Rattle.state.specs.declared.Transmitter.{Transmitter}
+use Rattle.state.specs.declared.Transmitter.the-variants.{NoFrame, Waiting}
+use Rattle.state.specs.declared.Receiver.the-variants.{Listening}
+use Rattle.state.specs.declared.Station.{Station}
 use Rattle.station.specs.Count.{added}
 use Rattle.record.specs.Codec.{decoded, encoded}
 use Rattle.record.specs.CodecLaws.{Fit, decoded-encoded}

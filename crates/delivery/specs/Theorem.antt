@@ -23,12 +23,12 @@ use Rattle.layout.specs.CheckLaws.{sound}
 use Rattle.packet.specs.declared.Heard.the-variants.{Nothing}
 use Rattle.transmitter.specs.declared.TransmitEvent.{TransmitEvent}
 use Rattle.transmitter.specs.declared.TransmitEvent.the-variants.{Collision, Late, Sent, GivenUp}
-use Rattle.receiver.specs.declared.Receiver.{Receiver}
-use Rattle.receiver.specs.declared.Receiver.the-variants.{Readable}
+use Rattle.state.specs.declared.Receiver.{Receiver}
+use Rattle.state.specs.declared.Receiver.the-variants.{Readable}
 use Rattle.receiver.specs.declared.ReceiveEvent.{ReceiveEvent}
 use Rattle.receiver.specs.declared.ReceiveEvent.the-variants.{GotOk}
 use Rattle.receiver.specs.Receive.{addressed}
-use Rattle.station.specs.declared.step.Station.{Station}
+use Rattle.state.specs.declared.Station.{Station}
 use Rattle.station.specs.declared.step.Stepped.{Stepped}
 use Rattle.station.specs.Count.{octetsIn}
 use Rattle.station.specs.Step.{triesAfter}

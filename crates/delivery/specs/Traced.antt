@@ -15,9 +15,9 @@ use Rattle.octets.specs.NumberLaws.{Octets}
 use Rattle.frame.specs.Limits.{refusesData}
 use Rattle.frame.specs.Build.{frameOf}
 use Rattle.packet.specs.declared.Heard.{Heard}
-use Rattle.transmitter.specs.declared.Transmitter.{Transmitter}
+use Rattle.state.specs.declared.Transmitter.{Transmitter}
 use Rattle.transmitter.specs.Transmit.{transmit}
-use Rattle.station.specs.declared.step.Station.{Station}
+use Rattle.state.specs.declared.Station.{Station}
 use Rattle.station.specs.declared.step.Stepped.{Stepped}
 use Rattle.station.specs.Step.{triesAfter, stepped, nextStation}
 use Rattle.station.specs.StepLaws.{tries-more, tries-same}

@@ -7,9 +7,9 @@ use lib.ListN.{length}
 use Rattle.octets.specs.Base.{pick, Answer, refused, accepted, Outcome, outcome}
 use Rattle.frame.specs.Limits.{refusesData}
 use Rattle.frame.specs.Build.{frameOf}
-use Rattle.transmitter.specs.declared.Transmitter.{Transmitter}
-use Rattle.transmitter.specs.declared.Transmitter.the-variants.{NoFrame, Waiting, BackingOff, Sending, Heading, Jamming}
-use Rattle.station.specs.declared.step.Station.{Station}
+use Rattle.state.specs.declared.Transmitter.{Transmitter}
+use Rattle.state.specs.declared.Transmitter.the-variants.{NoFrame, Waiting, BackingOff, Sending, Heading, Jamming}
+use Rattle.state.specs.declared.Station.{Station}
 use Rattle.station.specs.Count.{added}
 use Rattle.area.specs.Area.{countAt, addressAt, stationAt, withStation, countersAt, withCounters, withFrame}
 use Rattle.valid.specs.Valid.{areaRefusal}

@@ -12,8 +12,8 @@ use Rattle.octets.specs.Store.{length-part}
 use Rattle.frame.specs.Limits.{refusesData}
 use Rattle.frame.specs.Build.{frameOf}
 use Rattle.frame.specs.BuildLaws.{frame-size, data-within}
-use Rattle.transmitter.specs.declared.Transmitter.{Transmitter}
-use Rattle.station.specs.declared.step.Station.{Station}
+use Rattle.state.specs.declared.Transmitter.{Transmitter}
+use Rattle.state.specs.declared.Station.{Station}
 use Rattle.station.specs.Count.{added}
 use Rattle.area.specs.Area.{countAt, addressAt, stationAt, withStation, countersAt, withCounters, withFrame, frameBuilt}
 use Rattle.valid.specs.Valid.{areaRefusal}

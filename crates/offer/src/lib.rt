@@ -1,8 +1,8 @@
 // An offer of a frame to a station.
 
 use octets::Done;
-use station::step::Station;
-use transmitter::Transmitter;
+use state::Station;
+use state::Transmitter;
 ghost use mathlib.Core.Path.{_≡_};
 ghost use mathlib.Core.Bool.{false};
 ghost use Prim.Native.Nat.{_<_, _≤_};

@@ -22,7 +22,7 @@ use Rattle.receiver.specs.declared.Stored.the-variants.{NoStore, Store}
 use Rattle.transmitter.specs.declared.TransmitEvent.{TransmitEvent}
 use Rattle.transmitter.specs.declared.TransmitEvent.the-variants.{NoTransmit, Collision, Late, Sent, GivenUp}
 use Rattle.transmitter.specs.Transmit.{octetsHeld}
-use Rattle.station.specs.declared.step.Station.{Station}
+use Rattle.state.specs.declared.Station.{Station}
 use Rattle.station.specs.declared.step.Stepped.{Stepped}
 use Rattle.station.specs.Step.{stepped}
 use Rattle.station.specs.Count.{counted}

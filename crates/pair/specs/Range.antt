@@ -20,17 +20,18 @@ use Rattle.layout.specs.CheckLaws.{Figured}
 use Rattle.packet.specs.declared.Heard.{Heard}
 use Rattle.packet.specs.declared.Heard.the-variants.{Nothing, Clean, Jammed, Several}
 use Rattle.packet.specs.Packet.{hearsAny, isEmission}
-use Rattle.deference.specs.declared.Deference.{Deference}
-use Rattle.deference.specs.declared.Deference.the-variants.{Quiet, Busy, Gap}
+use Rattle.state.specs.declared.Deference.{Deference}
+use Rattle.state.specs.declared.Deference.the-variants.{Quiet, Busy, Gap}
 use Rattle.deference.specs.Defer.{defer, quietRule, busyRule, gapRule, gapOver, goesBack, isBusy}
-use Rattle.transmitter.specs.declared.Transmitter.{Transmitter}
-use Rattle.transmitter.specs.declared.Transmitter.the-variants.{NoFrame, Waiting, BackingOff, Sending, Heading, Jamming}
-use Rattle.transmitter.specs.Transmit.{waits, numberIn, octetsHeld, packetLength, afterBit, collision, sendBit, headBit, backoffRange, backOff, lastJam, jamBit, backoffBit, waitBit, transmit}
-use Rattle.receiver.specs.declared.Receiver.{Receiver}
-use Rattle.receiver.specs.declared.Receiver.the-variants.{Listening, Readable, Seeking, Collecting}
+use Rattle.state.specs.declared.Transmitter.{Transmitter}
+use Rattle.state.specs.declared.Transmitter.the-variants.{NoFrame, Waiting, BackingOff, Sending, Heading, Jamming}
+use Rattle.transmitter.specs.Transmit.{waits, octetsHeld, packetLength, afterBit, collision, sendBit, headBit, backoffRange, backOff, lastJam, jamBit, backoffBit, waitBit, transmit}
+use Rattle.state.specs.State.{numberIn}
+use Rattle.state.specs.declared.Receiver.{Receiver}
+use Rattle.state.specs.declared.Receiver.the-variants.{Listening, Readable, Seeking, Collecting}
 use Rattle.receiver.specs.declared.Received.{Received}
 use Rattle.receiver.specs.Receive.{nextRow, storedBit, seekBit, collectBit, seek, collect, hear, addressed, openAnswer, readableAfter, opening, decide, ended, receive, rowIn, bitsIn}
-use Rattle.station.specs.declared.step.Station.{Station}
+use Rattle.state.specs.declared.Station.{Station}
 use Rattle.station.specs.Step.{Roomy, triesAfter, drawAfter, deferring, sending, receiving, nextStation, stepped}
 use Rattle.station.specs.StepLaws.{tries-more, tries-same}
 use Rattle.record.specs.Codec.{deferenceCount, receiverNumber}

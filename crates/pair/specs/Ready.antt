@@ -18,12 +18,12 @@ use Rattle.layout.specs.CheckLaws.{Figured}
 use Rattle.layout.specs.Check.{refusalOf}
 use Rattle.packet.specs.declared.Heard.{Heard}
 use Rattle.packet.specs.declared.Heard.the-variants.{Nothing, Clean, Jammed, Several}
-use Rattle.receiver.specs.declared.Receiver.{Receiver}
-use Rattle.receiver.specs.declared.Receiver.the-variants.{Listening, Readable, Seeking, Collecting}
+use Rattle.state.specs.declared.Receiver.{Receiver}
+use Rattle.state.specs.declared.Receiver.the-variants.{Listening, Readable, Seeking, Collecting}
 use Rattle.receiver.specs.declared.Stored.{Stored}
 use Rattle.receiver.specs.Receive.{storedBit, seek, seekBit, collect, collectBit, hear, addressed, opening, decide, ended, receive}
 use Rattle.transmitter.specs.Transmit.{octetsHeld}
-use Rattle.station.specs.declared.step.Station.{Station}
+use Rattle.state.specs.declared.Station.{Station}
 use Rattle.station.specs.declared.step.Stepped.{Stepped}
 use Rattle.station.specs.Step.{Roomy, stepped}
 use Rattle.area.specs.Places.{Part, layout, Keeps}

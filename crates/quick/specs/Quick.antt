@@ -22,20 +22,20 @@ use Rattle.packet.specs.declared.Symbol.the-variants.{Bit}
 use Rattle.packet.specs.declared.Emission.{Emission}
 use Rattle.packet.specs.declared.Emission.the-variants.{Rest, PacketBit}
 use Rattle.packet.specs.Packet.{hearsAny, symbolOf, packetBit}
-use Rattle.deference.specs.declared.Deference.{Deference}
-use Rattle.deference.specs.declared.Deference.the-variants.{Quiet, Busy, Gap}
+use Rattle.state.specs.declared.Deference.{Deference}
+use Rattle.state.specs.declared.Deference.the-variants.{Quiet, Busy, Gap}
 use Rattle.deference.specs.Defer.{defer, quietRule, busyRule, gapRule, goesBack}
-use Rattle.transmitter.specs.declared.Transmitter.{Transmitter}
-use Rattle.transmitter.specs.declared.Transmitter.the-variants.{NoFrame, Waiting, BackingOff, Sending, Heading, Jamming}
+use Rattle.state.specs.declared.Transmitter.{Transmitter}
+use Rattle.state.specs.declared.Transmitter.the-variants.{NoFrame, Waiting, BackingOff, Sending, Heading, Jamming}
 use Rattle.transmitter.specs.declared.TransmitEvent.the-variants.{NoTransmit}
 use Rattle.transmitter.specs.Transmit.{waits, transmit, waitBit, backoffBit, sendBit, octetsHeld}
-use Rattle.receiver.specs.declared.Receiver.{Receiver}
-use Rattle.receiver.specs.declared.Receiver.the-variants.{Listening, Readable, Seeking, Collecting}
+use Rattle.state.specs.declared.Receiver.{Receiver}
+use Rattle.state.specs.declared.Receiver.the-variants.{Listening, Readable, Seeking, Collecting}
 use Rattle.receiver.specs.declared.ReceiveEvent.the-variants.{NoReceive}
 use Rattle.receiver.specs.declared.Stored.{Stored}
 use Rattle.receiver.specs.declared.Stored.the-variants.{NoStore, Store}
 use Rattle.receiver.specs.Receive.{nextRow, hearing, receive, ended, hear, seek, seekBit, collect, collectBit, storedBit}
-use Rattle.station.specs.declared.step.Station.{Station}
+use Rattle.state.specs.declared.Station.{Station}
 use Rattle.station.specs.declared.step.Stepped.{Stepped}
 use Rattle.station.specs.Step.{stepped, nextStation, triesAfter, drawAfter, deferredAfter}
 use Rattle.record.specs.Codec.{flag, deferenceOf, deferenceCode, deferenceOwn, transmitterOf, transmitterCode, receiverOf, receiverCode, decoded, encoded}

@@ -7,8 +7,8 @@ use lib.Dec.{ltb, leb, eqb}
 use lib.ListN.{length, take}
 use lib.Seq.{sets}
 use Rattle.octets.specs.Base.{pick, Answer, refused, accepted, Outcome, outcome}
-use Rattle.receiver.specs.declared.Receiver.{Receiver}
-use Rattle.receiver.specs.declared.Receiver.the-variants.{Listening, Readable, Seeking, Collecting}
+use Rattle.state.specs.declared.Receiver.{Receiver}
+use Rattle.state.specs.declared.Receiver.the-variants.{Listening, Readable, Seeking, Collecting}
 use Rattle.station.specs.Count.{octetsIn}
 use Rattle.area.specs.Area.{countAt, stationAt, bufferAt}
 use Rattle.valid.specs.Valid.{areaRefusal}

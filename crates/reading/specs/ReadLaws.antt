@@ -11,9 +11,9 @@ use lib.Seq.{sets}
 use Rattle.octets.specs.Base.{pick, Answer, refused, accepted, Outcome, outcome}
 use Rattle.octets.specs.NumberLaws.{Octets}
 use Rattle.octets.specs.Store.{length-part}
-use Rattle.receiver.specs.declared.Receiver.{Receiver}
-use Rattle.receiver.specs.declared.Receiver.the-variants.{Listening, Readable, Seeking, Collecting}
-use Rattle.station.specs.declared.step.Station.{Station}
+use Rattle.state.specs.declared.Receiver.{Receiver}
+use Rattle.state.specs.declared.Receiver.the-variants.{Listening, Readable, Seeking, Collecting}
+use Rattle.state.specs.declared.Station.{Station}
 use Rattle.station.specs.Count.{octetsIn}
 use Rattle.area.specs.Area.{countAt, stationAt, bufferAt}
 use Rattle.valid.specs.Valid.{areaRefusal}

@@ -1,6 +1,6 @@
 // Readings of received frames.
 
-use receiver::Receiver;
+use state::Receiver;
 ghost use mathlib.Core.Path.{_≡_};
 ghost use Prim.Native.Nat.{_<_, _≤_};
 ghost use lib.ListN.{length, take};

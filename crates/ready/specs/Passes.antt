@@ -20,14 +20,14 @@ use Rattle.layout.specs.declared.Layout.{Layout}
 use Rattle.layout.specs.Layout as lay
 use Rattle.layout.specs.Check.{refusalOf}
 use Rattle.layout.specs.CheckLaws.{Figured, Sound, sound}
-use Rattle.deference.specs.declared.Deference.{Deference}
-use Rattle.deference.specs.declared.Deference.the-variants.{Quiet, Busy, Gap}
-use Rattle.transmitter.specs.declared.Transmitter.{Transmitter}
-use Rattle.transmitter.specs.declared.Transmitter.the-variants.{NoFrame, Waiting, BackingOff, Sending, Heading, Jamming}
-use Rattle.transmitter.specs.Transmit.{numberIn}
-use Rattle.receiver.specs.declared.Receiver.{Receiver}
-use Rattle.receiver.specs.declared.Receiver.the-variants.{Listening, Readable, Seeking, Collecting}
-use Rattle.station.specs.declared.step.Station.{Station}
+use Rattle.state.specs.declared.Deference.{Deference}
+use Rattle.state.specs.declared.Deference.the-variants.{Quiet, Busy, Gap}
+use Rattle.state.specs.declared.Transmitter.{Transmitter}
+use Rattle.state.specs.declared.Transmitter.the-variants.{NoFrame, Waiting, BackingOff, Sending, Heading, Jamming}
+use Rattle.state.specs.State.{numberIn}
+use Rattle.state.specs.declared.Receiver.{Receiver}
+use Rattle.state.specs.declared.Receiver.the-variants.{Listening, Readable, Seeking, Collecting}
+use Rattle.state.specs.declared.Station.{Station}
 use Rattle.record.specs.Codec.{flag, deferenceOf, deferenceCode, deferenceOwn, deferenceCount, transmitterOf, transmitterCode, receiverOf, receiverCode, receiverNumber, receiverSpoiled, receiverOwn, decoded, encoded}
 use Rattle.record.specs.CodecLaws.{Fit, code-none}
 use Rattle.area.specs.Area.{clockAt, depthAt, figuresAt, countAt, positionAt, addressAt, tapAt, layoutAt, distance, spaceAt, countersAt, recordAt, stationAt, symbolAt}

@@ -15,7 +15,7 @@ use Rattle.layout.specs.declared.Layout.{Layout}
 use Rattle.layout.specs.Layout.{blankTap}
 use Rattle.layout.specs.Check.{refusalOf}
 use Rattle.layout.specs.CheckLaws.{Figured}
-use Rattle.station.specs.declared.step.Station.{Station}
+use Rattle.state.specs.declared.Station.{Station}
 use Rattle.station.specs.Step.{stepped, nextStation}
 use Rattle.station.specs.Count.{counted}
 use Rattle.record.specs.Codec.{decoded, encoded}

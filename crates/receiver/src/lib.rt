@@ -2,6 +2,7 @@
 
 use opener::ReceiveStatus;
 use packet::Heard;
+use state::Receiver;
 ghost use mathlib.Core.Path.{_≡_};
 ghost use mathlib.Core.Bool.{_||_, not};
 ghost use Prim.Native.Nat.{_+_, _*_, _<_, _≤_};
@@ -20,15 +21,6 @@ pub enum ReceiveEvent {
     GotAlignment(u32),
     GotCheck(u32),
     GotLength(u32),
-}
-
-// Hearing nothing, with no readable frame, or with one of so many octets; in a reception, looking for the delimiter, with the row of
-// clean symbols, or collecting, with the bits so far. Both remember whether a symbol was spoiled and whether the station itself emitted.
-pub enum Receiver {
-    Listening,
-    Readable(u32),
-    Seeking { row: u32, spoiled: bool, own: bool },
-    Collecting { bits: u32, spoiled: bool, own: bool },
 }
 
 // The collected bit that a step stores: its number, counted from 0, and its value.

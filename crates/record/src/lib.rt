@@ -9,13 +9,13 @@
 //
 // A flag is 0 or 1. Words that a state does not use are 0.
 
-use deference::Deference;
-use receiver::Receiver;
-use station::step::Station;
-use transmitter::Transmitter;
+use state::Deference;
+use state::Receiver;
+use state::Station;
+use state::Transmitter;
 ghost use mathlib.Core.Path.{_≡_};
 ghost use Rattle.record.specs.Codec.{flag, deferenceOf, deferenceCode, deferenceOwn, deferenceCount, transmitterOf, transmitterCode, receiverOf, receiverCode, receiverNumber, receiverSpoiled, receiverOwn, decoded, encoded};
-ghost use Rattle.transmitter.specs.Transmit.{numberIn};
+ghost use Rattle.state.specs.State.{numberIn};
 
 fn flag_of(b: bool) -> u32
     ensures { λ r. ⌜ r ≡ flag b ⌝ }

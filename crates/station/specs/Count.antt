@@ -6,8 +6,8 @@ use mathlib.Core.List.{List}
 use lib.Dec.{leb, eqb}
 use lib.ListN.{getD, set}
 use Rattle.octets.specs.Base.{pick}
-use Rattle.receiver.specs.declared.Receiver.{Receiver}
-use Rattle.receiver.specs.declared.Receiver.the-variants.{Listening, Readable, Seeking, Collecting}
+use Rattle.state.specs.declared.Receiver.{Receiver}
+use Rattle.state.specs.declared.Receiver.the-variants.{Listening, Readable, Seeking, Collecting}
 use Rattle.station.specs.declared.step.Stepped.{Stepped}
 use Rattle.transmitter.specs.declared.TransmitEvent.{TransmitEvent}
 use Rattle.transmitter.specs.declared.TransmitEvent.the-variants.{NoTransmit, Collision, Late, Sent, GivenUp}

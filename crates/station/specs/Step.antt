@@ -11,11 +11,12 @@ use Rattle.packet.specs.declared.Heard.{Heard}
 use Rattle.deference.specs.declared.Deferred.{Deferred}
 use Rattle.transmitter.specs.declared.Transmitted.{Transmitted}
 use Rattle.receiver.specs.declared.Received.{Received}
-use Rattle.station.specs.declared.step.Station.{Station}
+use Rattle.state.specs.declared.Station.{Station}
 use Rattle.station.specs.declared.step.Stepped.{Stepped}
 use Rattle.packet.specs.Packet.{hearsAny, isEmission}
 use Rattle.deference.specs.Defer.{defer}
-use Rattle.transmitter.specs.Transmit.{waits, numberIn, octetsHeld, transmit}
+use Rattle.transmitter.specs.Transmit.{waits, octetsHeld, transmit}
+use Rattle.state.specs.State.{numberIn}
 use Rattle.receiver.specs.Receive.{rowIn, bitsIn, receive}
 
 -- "its attempt counts, in the first step .."

@@ -2,7 +2,7 @@
 
 use crate::step::Stepped;
 use receiver::ReceiveEvent;
-use receiver::Receiver;
+use state::Receiver;
 use transmitter::TransmitEvent;
 ghost use mathlib.Core.Path.{_≡_};
 ghost use Prim.Native.Nat.{_-_, _<_};

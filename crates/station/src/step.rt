@@ -1,36 +1,23 @@
 // One station by value, and its step.
 
-use deference::Deference;
 use deference::Deferred;
 use layout::Figures;
 use packet::Emission;
 use packet::Heard;
 use receiver::ReceiveEvent;
 use receiver::Received;
-use receiver::Receiver;
 use receiver::Stored;
+use state::Deference;
+use state::Receiver;
+use state::Station;
+use state::Transmitter;
 use transmitter::TransmitEvent;
 use transmitter::Transmitted;
-use transmitter::Transmitter;
 ghost use mathlib.Core.Path.{_≡_};
 ghost use Prim.Native.Nat.{_+_, _<_, _≤_};
 ghost use lib.ListN.{length};
 ghost use Rattle.station.specs.Step.{Roomy, triesAfter, drawAfter, deferredAfter, stepped};
 ghost use Rattle.station.specs.StepLaws.{finished};
-
-// A station: its address; deference, transmitter and receiver; the octets and attempts of the frame it holds; the place of its next draw;
-// whether that frame did not start in its first step; whether it emitted in the last step.
-pub struct Station {
-    pub address: [u8; 6],
-    pub deference: Deference,
-    pub transmitter: Transmitter,
-    pub receiver: Receiver,
-    pub frame: u32,
-    pub attempts: u32,
-    pub draw: u32,
-    pub deferred: bool,
-    pub emitted: bool,
-}
 
 // What a step leads to: the next state, what is emitted, whether a frame started, the events, the collected bit to store.
 pub struct Stepped {

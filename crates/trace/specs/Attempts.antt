@@ -13,10 +13,10 @@ use Rattle.octets.specs.BaseLaws.{by-test, by-eq}
 use Rattle.layout.specs.declared.Figures.{Figures}
 use Rattle.packet.specs.Packet.{hearsAny}
 use Rattle.transmitter.specs.declared.TransmitEvent.the-variants.{GivenUp}
-use Rattle.transmitter.specs.declared.Transmitter.{Transmitter}
-use Rattle.transmitter.specs.declared.Transmitter.the-variants.{NoFrame, Waiting, BackingOff, Sending, Heading, Jamming}
+use Rattle.state.specs.declared.Transmitter.{Transmitter}
+use Rattle.state.specs.declared.Transmitter.the-variants.{NoFrame, Waiting, BackingOff, Sending, Heading, Jamming}
 use Rattle.transmitter.specs.Transmit.{packetLength, collision, sendBit, headBit, lastJam, jamBit, backoffBit, waitBit, transmit}
-use Rattle.station.specs.declared.step.Station.{Station}
+use Rattle.state.specs.declared.Station.{Station}
 use Rattle.station.specs.Step.{triesAfter}
 use Rattle.pair.specs.Range.{AttemptsIn}
 use Rattle.offer.specs.Offer.{holds, offeredStation}

@@ -17,8 +17,8 @@ use Rattle.frame.specs.Limits.{maxFrame}
 use Rattle.packet.specs.declared.Heard.{Heard}
 use Rattle.packet.specs.declared.Heard.the-variants.{Nothing, Clean, Jammed, Several}
 use Rattle.receiver.specs.declared.ReceiveEvent.the-variants.{NoReceive, GotOk}
-use Rattle.receiver.specs.declared.Receiver.{Receiver}
-use Rattle.receiver.specs.declared.Receiver.the-variants.{Listening, Readable, Seeking, Collecting}
+use Rattle.state.specs.declared.Receiver.{Receiver}
+use Rattle.state.specs.declared.Receiver.the-variants.{Listening, Readable, Seeking, Collecting}
 use Rattle.receiver.specs.Receive.{seekBit, seek, collectBit, collect, hear, addressed, openAnswer, gotEvent, readableAfter, deciding, opening, decide, ended, receive, nextRow}
 use Rattle.trace.specs.Basic.{clash}
 use Rattle.trace.specs.Listen.{Idle, ended-idle}

@@ -16,8 +16,8 @@ use Rattle.packet.specs.declared.Symbol.the-variants.{Bit, Jam}
 use Rattle.packet.specs.declared.Emission.the-variants.{PacketBit, JamBit}
 use Rattle.packet.specs.Packet.{packetBit, symbolOf}
 use Rattle.transmitter.specs.declared.TransmitEvent.the-variants.{Sent}
-use Rattle.transmitter.specs.declared.Transmitter.{Transmitter}
-use Rattle.transmitter.specs.declared.Transmitter.the-variants.{NoFrame, Waiting, BackingOff, Sending, Heading, Jamming}
+use Rattle.state.specs.declared.Transmitter.{Transmitter}
+use Rattle.state.specs.declared.Transmitter.the-variants.{NoFrame, Waiting, BackingOff, Sending, Heading, Jamming}
 use Rattle.transmitter.specs.Transmit.{packetLength, afterBit, collision, sendBit, headBit, backoffRange, backOff, lastJam, jamBit, backoffBit, waitBit, transmit}
 use Rattle.pair.specs.Range.{NumberIn}
 use Rattle.offer.specs.Offer.{holds}

@@ -13,12 +13,12 @@ use Rattle.layout.specs.declared.Figures.{Figures}
 use Rattle.layout.specs.Layout.{gapOf}
 use Rattle.packet.specs.declared.Heard.the-variants.{Nothing}
 use Rattle.packet.specs.Packet.{hearsAny, isEmission}
-use Rattle.deference.specs.declared.Deference.{Deference}
+use Rattle.state.specs.declared.Deference.{Deference}
 use Rattle.deference.specs.Defer.{defer}
-use Rattle.transmitter.specs.declared.Transmitter.{Transmitter}
-use Rattle.transmitter.specs.declared.Transmitter.the-variants.{NoFrame, Waiting, BackingOff, Sending, Heading, Jamming}
+use Rattle.state.specs.declared.Transmitter.{Transmitter}
+use Rattle.state.specs.declared.Transmitter.the-variants.{NoFrame, Waiting, BackingOff, Sending, Heading, Jamming}
 use Rattle.transmitter.specs.Transmit.{waits, headBit, backoffBit, waitBit, transmit}
-use Rattle.station.specs.declared.step.Station.{Station}
+use Rattle.state.specs.declared.Station.{Station}
 use Rattle.station.specs.Step.{triesAfter}
 use Rattle.pair.specs.Range.{FrameIn, no-start}
 use Rattle.offer.specs.Offer.{holds, offeredStation}

@@ -13,8 +13,8 @@ use Rattle.layout.specs.Layout.{gapOf}
 use Rattle.packet.specs.Packet.{hearsAny, isEmission}
 use Rattle.transmitter.specs.declared.TransmitEvent.{TransmitEvent}
 use Rattle.transmitter.specs.declared.TransmitEvent.the-variants.{NoTransmit, Collision, Late}
-use Rattle.transmitter.specs.declared.Transmitter.{Transmitter}
-use Rattle.transmitter.specs.declared.Transmitter.the-variants.{NoFrame, Waiting, BackingOff, Sending, Heading, Jamming}
+use Rattle.state.specs.declared.Transmitter.{Transmitter}
+use Rattle.state.specs.declared.Transmitter.the-variants.{NoFrame, Waiting, BackingOff, Sending, Heading, Jamming}
 use Rattle.transmitter.specs.Transmit.{packetLength, collision, sendBit, headBit, lastJam, jamBit, backoffBit, waitBit, transmit}
 use Rattle.station.specs.Step.{triesAfter}
 use Rattle.trace.specs.Basic.{either, clash}

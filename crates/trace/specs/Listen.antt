@@ -10,13 +10,13 @@ use Rattle.octets.specs.BaseLaws.{by-test}
 use Rattle.packet.specs.declared.Heard.{Heard}
 use Rattle.packet.specs.declared.Heard.the-variants.{Nothing, Clean}
 use Rattle.packet.specs.Packet.{isEmission}
-use Rattle.receiver.specs.declared.Receiver.{Receiver}
-use Rattle.receiver.specs.declared.Receiver.the-variants.{Listening, Readable, Seeking, Collecting}
+use Rattle.state.specs.declared.Receiver.{Receiver}
+use Rattle.state.specs.declared.Receiver.the-variants.{Listening, Readable, Seeking, Collecting}
 use Rattle.receiver.specs.declared.Received.{Received}
 use Rattle.receiver.specs.declared.Stored.{Stored}
 use Rattle.receiver.specs.declared.Stored.the-variants.{NoStore, Store}
 use Rattle.receiver.specs.Receive.{hear, addressed, openAnswer, readableAfter, opening, decide, ended, receive}
-use Rattle.station.specs.declared.step.Station.{Station}
+use Rattle.state.specs.declared.Station.{Station}
 use Rattle.offer.specs.Offer.{offeredStation}
 use Rattle.trace.specs.Basic.{either}
 use Rattle.ready.specs.After.{storedIn}

@@ -11,8 +11,8 @@ use borrow.Author.Tests.{leb-true, leb-false}
 use Rattle.octets.specs.Base.{pick}
 use Rattle.octets.specs.BaseLaws.{by-eq}
 use Rattle.layout.specs.Layout.{gapOf}
-use Rattle.deference.specs.declared.Deference.{Deference}
-use Rattle.deference.specs.declared.Deference.the-variants.{Quiet, Busy, Gap}
+use Rattle.state.specs.declared.Deference.{Deference}
+use Rattle.state.specs.declared.Deference.the-variants.{Quiet, Busy, Gap}
 use Rattle.deference.specs.declared.Deferred.{Deferred}
 use Rattle.deference.specs.Defer.{defer, to, quietRule, busyRule, goesBack, gapOver, gapRule}
 use Rattle.trace.specs.Basic.{either, clash, and-left}

@@ -10,7 +10,7 @@ use Rattle.octets.specs.BaseLaws.{by-eq}
 use Rattle.layout.specs.Layout.{gapOf}
 use Rattle.packet.specs.declared.Heard.the-variants.{Nothing}
 use Rattle.receiver.specs.declared.ReceiveEvent.the-variants.{NoReceive, GotOk}
-use Rattle.receiver.specs.declared.Receiver.the-variants.{Readable}
+use Rattle.state.specs.declared.Receiver.the-variants.{Readable}
 use Rattle.receiver.specs.declared.Received.{Received}
 use Rattle.receiver.specs.Receive.{addressed, deciding, ended, receive}
 use Rattle.trace.specs.Basic.{either}

@@ -16,7 +16,7 @@ use Rattle.packet.specs.declared.Symbol.the-variants.{Bit}
 use Rattle.packet.specs.Packet.{packetBit}
 use Rattle.transmitter.specs.declared.TransmitEvent.the-variants.{Sent}
 use Rattle.receiver.specs.declared.ReceiveEvent.the-variants.{NoReceive, GotOk}
-use Rattle.receiver.specs.declared.Receiver.the-variants.{Listening, Readable, Collecting}
+use Rattle.state.specs.declared.Receiver.the-variants.{Listening, Readable, Collecting}
 use Rattle.receiver.specs.declared.Received.{Received}
 use Rattle.receiver.specs.Receive.{addressed, deciding, decide, ended}
 use Rattle.trace.specs.Basic.{clash}

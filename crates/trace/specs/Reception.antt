@@ -13,8 +13,8 @@ use Rattle.layout.specs.Layout.{gapOf}
 use Rattle.packet.specs.declared.Heard.the-variants.{Nothing, Clean}
 use Rattle.packet.specs.Packet.{preamble, delimiter, packetBits, frameBit, packetBit}
 use Rattle.packet.specs.PacketLaws.{bit-of-frame}
-use Rattle.receiver.specs.declared.Receiver.{Receiver}
-use Rattle.receiver.specs.declared.Receiver.the-variants.{Listening, Readable, Seeking, Collecting}
+use Rattle.state.specs.declared.Receiver.{Receiver}
+use Rattle.state.specs.declared.Receiver.the-variants.{Listening, Readable, Seeking, Collecting}
 use Rattle.receiver.specs.declared.Received.{Received}
 use Rattle.receiver.specs.declared.Stored.the-variants.{Store}
 use Rattle.receiver.specs.Receive.{nextRow, storedBit, hearing, seekBit, seek, collectBit, collect, hear}

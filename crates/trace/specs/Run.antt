@@ -21,11 +21,11 @@ use Rattle.packet.specs.declared.Emission.{Emission}
 use Rattle.packet.specs.declared.Emission.the-variants.{Rest, PacketBit, JamBit}
 use Rattle.packet.specs.Packet.{symbolOf, isEmission}
 use Rattle.deference.specs.declared.Deferred.{Deferred}
-use Rattle.transmitter.specs.declared.Transmitter.{Transmitter}
-use Rattle.transmitter.specs.declared.Transmitter.the-variants.{NoFrame, Waiting, BackingOff, Sending, Heading, Jamming}
+use Rattle.state.specs.declared.Transmitter.{Transmitter}
+use Rattle.state.specs.declared.Transmitter.the-variants.{NoFrame, Waiting, BackingOff, Sending, Heading, Jamming}
 use Rattle.transmitter.specs.declared.Transmitted.{Transmitted}
 use Rattle.receiver.specs.declared.Received.{Received}
-use Rattle.station.specs.declared.step.Station.{Station}
+use Rattle.state.specs.declared.Station.{Station}
 use Rattle.station.specs.declared.step.Stepped.{Stepped}
 use Rattle.station.specs.Step.{stepped, nextStation, triesAfter, deferring, sending, receiving}
 use Rattle.pair.specs.Range.{Fine, fine-stepped}

@@ -16,10 +16,10 @@ use Rattle.packet.specs.declared.Heard.the-variants.{Nothing}
 use Rattle.packet.specs.declared.Symbol.{Symbol}
 use Rattle.packet.specs.declared.Symbol.the-variants.{Silence}
 use Rattle.packet.specs.Packet.{symbolOf}
-use Rattle.deference.specs.declared.Deference.the-variants.{Quiet}
-use Rattle.transmitter.specs.declared.Transmitter.the-variants.{NoFrame}
-use Rattle.receiver.specs.declared.Receiver.the-variants.{Listening}
-use Rattle.station.specs.declared.step.Station.{Station}
+use Rattle.state.specs.declared.Deference.the-variants.{Quiet}
+use Rattle.state.specs.declared.Transmitter.the-variants.{NoFrame}
+use Rattle.state.specs.declared.Receiver.the-variants.{Listening}
+use Rattle.state.specs.declared.Station.{Station}
 use Rattle.station.specs.declared.step.Stepped.{Stepped}
 use Rattle.station.specs.Step.{stepped}
 use Rattle.area.specs.Area.{joined}

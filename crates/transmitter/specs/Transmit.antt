@@ -9,8 +9,8 @@ use Rattle.transmitter.specs.declared.TransmitEvent.{TransmitEvent}
 use Rattle.transmitter.specs.declared.TransmitEvent.the-variants.{NoTransmit, Collision, Late, Sent, GivenUp}
 use Rattle.packet.specs.declared.Emission.{Emission}
 use Rattle.packet.specs.declared.Emission.the-variants.{Rest, PacketBit, JamBit}
-use Rattle.transmitter.specs.declared.Transmitter.{Transmitter}
-use Rattle.transmitter.specs.declared.Transmitter.the-variants.{NoFrame, Waiting, BackingOff, Sending, Heading, Jamming}
+use Rattle.state.specs.declared.Transmitter.{Transmitter}
+use Rattle.state.specs.declared.Transmitter.the-variants.{NoFrame, Waiting, BackingOff, Sending, Heading, Jamming}
 use Rattle.transmitter.specs.declared.Transmitted.{Transmitted}
 
 -- whether a frame waits; one in backoff does not
@@ -21,15 +21,6 @@ waits (BackingOff w) = false
 waits (Sending k) = false
 waits (Heading k) = false
 waits (Jamming n) = false
-
--- the number that a phase carries
-abbrev pub numberIn : Transmitter → ℕ
-numberIn NoFrame = 0
-numberIn Waiting = 0
-numberIn (BackingOff w) = w
-numberIn (Sending k) = k
-numberIn (Heading k) = k
-numberIn (Jamming n) = n
 
 -- the octets of the frame that a station holds: what its record has for them, and 0 where it holds none
 abbrev pub octetsHeld : Transmitter → ℕ → ℕ

@@ -2,9 +2,11 @@
 
 use layout::Figures;
 use packet::Emission;
+use state::Transmitter;
 ghost use mathlib.Core.Path.{_≡_};
 ghost use Prim.Native.Nat.{_+_, _*_, _<_, _≤_, _^_, min};
-ghost use Rattle.transmitter.specs.Transmit.{waits, numberIn, octetsHeld, afterBit, collision, sendBit, headBit, jamBit, lastJam, backOff, backoffRange, resting, backoffBit, transmit};
+ghost use Rattle.transmitter.specs.Transmit.{waits, octetsHeld, afterBit, collision, sendBit, headBit, jamBit, lastJam, backOff, backoffRange, resting, backoffBit, transmit};
+ghost use Rattle.state.specs.State.{numberIn};
 
 // What a transmitter reports in a step, at most one: a collision or a late one with its bit; sent or given up with the frame's attempts.
 pub enum TransmitEvent {
@@ -13,17 +15,6 @@ pub enum TransmitEvent {
     Late(u32),
     Sent(u32),
     GivenUp(u32),
-}
-
-// No frame; a frame that waits; one in backoff, with the steps left; one going out, with its next packet bit; one that collided and
-// finishes its header, with the next bit; one that jams, with the jam bits left.
-pub enum Transmitter {
-    NoFrame,
-    Waiting,
-    BackingOff(u32),
-    Sending(u32),
-    Heading(u32),
-    Jamming(u32),
 }
 
 // What a step of the transmitter leads to: the next phase, the emission, the event, and whether a draw was used.

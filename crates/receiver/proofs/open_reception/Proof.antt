@@ -12,7 +12,7 @@ use Rattle.opener.specs.declared.ReceiveStatus.{ReceiveStatus}
 use Rattle.opener.specs.Open.{statusAnswer}
 use Rattle.opener.proofs.ReceiveStatus.{the-type}
 use Rattle.receiver.specs.declared.ReceiveEvent.{ReceiveEvent}
-use Rattle.receiver.specs.declared.Receiver.the-variants.{Listening}
+use Rattle.state.specs.declared.Receiver.the-variants.{Listening}
 use Rattle.receiver.specs.Receive.{openAnswer, deciding, opening}
 use Rattle.receiver.specs.ReceiveLaws.{gotError, opening-ok, opening-error, ok-small}
 use Rattle.receiver.proofs.open_reception.Statement.{statement}
