@@ -3,7 +3,9 @@
 
 use libc::STDIN_FILENO;
 use libc::STDOUT_FILENO;
+use pieces::Handed;
 use pieces::Piece;
+use pieces::Progress;
 ghost use Prim.Native.Nat.{_+_, _<_, _≤_};
 ghost use lib.ListN.{length};
 
@@ -40,11 +42,20 @@ fn keep_piece(piece: Piece, out: &[u8], text: &mut [u8], at: usize) -> usize
     }
 }
 
+// The first piece, and those after it, with no more said of them than that they are handed out.
+fn first_piece(input: &[u8], area: &mut [u8], out: &mut [u8]) -> Handed {
+    begin::begin(input, area, out)
+}
+
+fn next_piece(input: &[u8], area: &mut [u8], out: &mut [u8], g: Progress) -> Handed {
+    plan::advance(input, area, out, g)
+}
+
 // Puts all that is printed for the input into text, and answers how many octets that are.
 fn keep_run(input: &[u8], area: &mut [u8], out: &mut [u8], text: &mut [u8]) -> usize
     ensures { λ r. ⌜ r ≤ length (now (text .exit)) ⌝ }
 {
-    let first = begin::begin(input, area, out);
+    let first = first_piece(input, area, out);
     let start = first.piece;
     let mut at = keep_piece(start, out, text, 0);
     let mut g = first.progress;
@@ -53,7 +64,7 @@ fn keep_run(input: &[u8], area: &mut [u8], out: &mut [u8], text: &mut [u8]) -> u
         if g.ended {
             return at;
         }
-        let next = plan::advance(input, area, out, g);
+        let next = next_piece(input, area, out, g);
         let piece = next.piece;
         at = keep_piece(piece, out, text, at);
         g = next.progress;

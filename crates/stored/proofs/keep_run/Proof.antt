@@ -13,8 +13,8 @@ Inv-loop input area₀ out₀ text₀ at₀ g₀ k₀ area out text at g k = (le
 abbrev μ-loop : tie.MeasureT-loop
 μ-loop input area₀ out₀ text₀ at₀ g₀ k₀ area out text at g k = 16777281 - k
 
-begin-requires : tie.Need-begin-requires Inv-loop μ-loop
-begin-requires c κs = search needs
+first-piece-requires : tie.Need-first-piece-requires Inv-loop μ-loop
+first-piece-requires c κs = search needs
 
 keep-piece-requires : tie.Need-keep-piece-requires Inv-loop μ-loop
 keep-piece-requires c κs = omega arith
@@ -34,8 +34,8 @@ same-length-3 c = omega arith
 returns : tie.Need-returns Inv-loop μ-loop
 returns c = omega arith
 
-advance-requires : tie.Need-advance-requires Inv-loop μ-loop
-advance-requires c κs = search needs
+next-piece-requires : tie.Need-next-piece-requires Inv-loop μ-loop
+next-piece-requires c κs = search needs
 
 keep-piece-requires-2 : tie.Need-keep-piece-requires-2 Inv-loop μ-loop
 keep-piece-requires-2 c κs = omega arith
@@ -67,14 +67,14 @@ keep-run-spec =
     (tie.spec
     Inv-loop
     μ-loop
-    begin-requires
+    first-piece-requires
     keep-piece-requires
     loop-holds
     same-length
     same-length-2
     same-length-3
     returns
-    advance-requires
+    next-piece-requires
     keep-piece-requires-2
     add-k
     loop-less
