@@ -1,19 +1,18 @@
 -- The laws of the work area. A reader goes by its part alone; a writer keeps every part that is off its own. Any reader after any
 -- writer elsewhere follows from the two; besides, what was written is read back. Assumes nothing.
-use Prim.Native.Nat.{ℕ, zero, suc, _+_, _*_, _-_, _/_, _%_, _^_, _≤_, _<_}
+use Prim.Native.Nat.{ℕ, _+_, _*_, _-_, _/_, _%_, _^_, _≤_, _<_}
 use mathlib.Core.Path.{_≡_, refl, _∙_, ap, ap₂, sym}
 use mathlib.Core.Bool.{Bool, true, false}
-use mathlib.Core.List.{List, [], _∷_}
+use mathlib.Core.List.{List}
 use native.Mathlib.Decide.{ℕ-discrete}
 use native.Mathlib.Omega.{arith}
 use lib.ListN.{length, getD, set, drop, length-set}
-use lib.Seq.{sets, length-sets, getD-set-same, getD-set-other, getD-take, getD-drop, ext-getD}
+use lib.Seq.{length-sets, getD-set-same, getD-set-other, getD-take, getD-drop, ext-getD}
 use Rattle.octets.specs.BaseLaws.{by-eq}
-use Rattle.octets.specs.Number.{get, put}
+use Rattle.octets.specs.Number.{get}
 use Rattle.octets.specs.NumberLaws.{length-put, get-put-same}
 use Rattle.octets.specs.Store.{part, part-same, length-part}
 use Rattle.octets.specs.Region.{Same, same-refl, same-part, same-trans, set-leaves, sets-leaves, put-leaves, words-leave, get-goes-by, words-go-by, part-goes-by}
-use Rattle.octets.specs.Words.{wordsAt, putWords}
 use Rattle.octets.specs.WordsLaws.{Small, length-put-words, words-same}
 use Rattle.layout.specs.declared.Figures.{Figures}
 use Rattle.packet.specs.declared.Heard.{Heard}

@@ -1,24 +1,24 @@
 -- A record written word by word is the record written whole, and the order of writes to different places does not matter. Assumes nothing.
-use Prim.Native.Nat.{ℕ, zero, suc, _+_, _*_, _-_, _/_, _%_, _^_, _≤_, _<_}
+use Prim.Native.Nat.{ℕ, zero, suc, _+_, _*_, _-_, _/_, _%_, _≤_, _<_}
 use mathlib.Core.Path.{_≡_, refl, sym, _∙_, ap}
-use mathlib.Core.Bool.{Bool, true, false}
-use mathlib.Core.List.{List, [], _∷_, _++_}
+use mathlib.Core.Bool.{Bool}
+use mathlib.Core.List.{List, [], _∷_}
 use native.Mathlib.Omega.{arith}
 use lib.Dec.{ltb}
 use lib.ListN.{length, getD, set, length-set, List·getD-append}
 use lib.Seq.{sets, getD-at, getD-set-same, getD-set-other, set-comm, set-out, ext-getD}
 use borrow.Author.Tests.{ltb-true, ltb-false}
 use Rattle.octets.specs.BaseLaws.{by-test, by-eq}
-use Rattle.octets.specs.Number.{get, spelled, put}
-use Rattle.octets.specs.NumberLaws.{Octets, octets-by, get-small, length-spelled, get-put-same, get-put-other}
-use Rattle.octets.specs.Region.{Same, put-leaves, set-leaves}
+use Rattle.octets.specs.Number.{spelled, put}
+use Rattle.octets.specs.NumberLaws.{Octets, get-small, length-spelled, get-put-same, get-put-other}
+use Rattle.octets.specs.Region.{Same, put-leaves}
 use Rattle.octets.specs.Store.{Apart, octet-same, octet-other}
 use Rattle.octets.specs.Words.{wordsAt, putWords}
 use Rattle.octets.specs.WordsLaws.{length-words, length-put-words, word-at}
 use Rattle.packet.specs.declared.Heard.{Heard}
 use Rattle.state.specs.declared.Station.{Station}
 use Rattle.record.specs.Codec.{encoded}
-use Rattle.area.specs.Area.{recordAt, withStation, withWord, octetWith, withBit, heardCode, withArrival}
+use Rattle.area.specs.Area.{recordAt, withStation, withWord, withBit, heardCode, withArrival}
 use Rattle.area.specs.AreaLaws.{code-small}
 use Rattle.area.specs.OneWord.{station-back, length-word}
 

@@ -1,6 +1,6 @@
 -- Reading a station's counters (document 01, refusals 1, 2, 10). The laws are in StepLaws. Assumes nothing.
 use Prim.Native.Nat.{ℕ}
-use mathlib.Core.Bool.{Bool, true, false}
+use mathlib.Core.Bool.{Bool}
 use mathlib.Core.List.{List, []}
 use lib.Dec.{leb, eqb}
 use lib.ListN.{replicate}

@@ -1,13 +1,12 @@
 -- A law for each way through the code of a step and of the counters. Assumes nothing.
 use Prim.Native.Nat.{ℕ, _+_, _≤_, _<_}
-use mathlib.Core.Path.{_≡_, refl, sym, _∙_, ap, ap₂}
-use mathlib.Core.Bool.{Bool, true, false}
+use mathlib.Core.Path.{_≡_, sym, _∙_}
+use mathlib.Core.Bool.{Bool}
 use mathlib.Core.List.{List, []}
 use native.Mathlib.Omega.{arith}
 use borrow.Author.Tests.{eq-eqb, ne-eqb, lt-ltb, le-ltb, le-leb, lt-leb}
-use lib.Dec.{ltb, eqb}
-use lib.ListN.{length, replicate}
-use Rattle.octets.specs.Base.{pick, Answer, refused, accepted, Outcome, outcome, doneAnswer}
+use lib.ListN.{replicate}
+use Rattle.octets.specs.Base.{Answer, refused, accepted, Outcome, doneAnswer}
 use Rattle.octets.specs.NumberLaws.{Octets}
 use Rattle.area.specs.Area.{clockAt, countAt, countersAt}
 use Rattle.valid.specs.Valid.{areaRefusal}

@@ -1,10 +1,9 @@
 -- A law for each way through the deference code. Assumes nothing.
 use Prim.Native.Nat.{ℕ, _+_, _≤_, _<_}
-use mathlib.Core.Path.{_≡_, refl, sym, _∙_, ap}
+use mathlib.Core.Path.{_≡_, _∙_}
 use mathlib.Core.Bool.{Bool, true, false, not, _||_, _&&_}
-use lib.Dec.{ltb, leb}
+use lib.Dec.{ltb}
 use borrow.Author.Tests.{le-leb, lt-leb}
-use Rattle.octets.specs.Base.{pick}
 use Rattle.layout.specs.declared.Figures.{Figures}
 use Rattle.layout.specs.Layout.{gapOf}
 use Rattle.state.specs.declared.Deference.{Deference}

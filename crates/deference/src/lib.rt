@@ -3,9 +3,7 @@
 use layout::Figures;
 use state::Deference;
 ghost use mathlib.Core.Path.{_≡_};
-ghost use mathlib.Core.Bool.{_&&_, not};
-ghost use Prim.Native.Nat.{_+_, _<_, _≤_};
-ghost use lib.Dec.{ltb};
+ghost use Prim.Native.Nat.{_+_, _<_};
 ghost use Rattle.deference.specs.Defer.{quietRule, busyRule, gapRule, goesBack, defer};
 
 // What a step's deference leads to: the next phase, and whether a waiting frame starts in the step.

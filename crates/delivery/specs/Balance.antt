@@ -1,15 +1,15 @@
 -- "From a fresh start, offered equals sent plus excessive plus frames still held." On any layout, fitting or not. Assumes nothing.
-use Prim.Native.Nat.{ℕ, zero, suc, _+_, _*_, _%_, _≤_, _<_, min}
-use mathlib.Core.Path.{_≡_, refl, sym, _∙_, ap, ap₂, subst}
-use mathlib.Core.Bool.{Bool, true, false, true≢false}
-use mathlib.Core.List.{List, [], _∷_}
+use Prim.Native.Nat.{ℕ, _+_, _*_, _%_, _≤_, _<_, min}
+use mathlib.Core.Path.{_≡_, refl, _∙_, ap}
+use mathlib.Core.Bool.{Bool, true, false}
+use mathlib.Core.List.{List, []}
 use native.Mathlib.Omega.{arith}
-use borrow.Author.Tests.{eq-eqb, leb-false, ltb-false, eqb-true, eqb-false}
+use borrow.Author.Tests.{eq-eqb, leb-false}
 use lib.Dec.{ltb, leb, eqb}
-use lib.ListN.{length, getD, set, length-set}
+use lib.ListN.{length, getD, length-set}
 use lib.Seq.{getD-set-same, getD-set-other}
-use Rattle.octets.specs.Base.{pick, outside, Answer, accepted}
-use Rattle.octets.specs.BaseLaws.{by-test, by-eq, within}
+use Rattle.octets.specs.Base.{Answer, accepted}
+use Rattle.octets.specs.BaseLaws.{by-test, by-eq}
 use Rattle.octets.specs.Bits.{digit}
 use Rattle.octets.specs.Number.{get}
 use Rattle.octets.specs.Words.{wordsAt}
@@ -20,7 +20,6 @@ use Rattle.layout.specs.declared.Figures.{Figures}
 use Rattle.layout.specs.declared.Layout.{Layout}
 use Rattle.layout.specs.Layout as lay
 use Rattle.layout.specs.Check.{refusalOf}
-use Rattle.packet.specs.Packet.{hearsAny}
 use Rattle.state.specs.declared.Transmitter.{Transmitter}
 use Rattle.state.specs.declared.Transmitter.the-variants.{NoFrame, Waiting, BackingOff, Sending, Heading, Jamming}
 use Rattle.transmitter.specs.declared.TransmitEvent.{TransmitEvent}
@@ -30,12 +29,12 @@ use Rattle.receiver.specs.declared.ReceiveEvent.{ReceiveEvent}
 use Rattle.receiver.specs.declared.ReceiveEvent.the-variants.{NoReceive, GotOk, GotTooLong, GotAlignment, GotCheck, GotLength}
 use Rattle.state.specs.declared.Station.{Station}
 use Rattle.station.specs.declared.step.Stepped.{Stepped}
-use Rattle.station.specs.Step.{triesAfter, deferring, sending, stepped, nextStation}
+use Rattle.station.specs.Step.{stepped, nextStation}
 use Rattle.station.specs.Count.{offered, sent, excessive, added, addedIf, countSent, countTransmit, countReceive, counted}
-use Rattle.area.specs.Area.{clockAt, countAt, addressAt, countersAt, stationAt, figuresAt, depthAt, drawAt, bufferAt, arrivalAt}
+use Rattle.area.specs.Area.{clockAt, countAt, addressAt, countersAt, stationAt, figuresAt}
 use Rattle.area.specs.AreaLaws.{count-by}
 use Rattle.start.specs.Fresh.{fresh}
-use Rattle.start.specs.FreshLaws.{Formed, fresh-counters, fresh-clock, fresh-count}
+use Rattle.start.specs.FreshLaws.{Formed, fresh-counters, fresh-count}
 use Rattle.layout.specs.CheckLaws.{sound}
 use Rattle.valid.specs.Valid.{areaRefusal}
 use Rattle.pair.specs.BitTime.{outcomeIn, actIn, actAt, stepArea}

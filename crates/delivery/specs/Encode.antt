@@ -1,16 +1,14 @@
 -- The area is the encoding of a world: the same clock, stations, frames and buffers, and in each delay line what the emissions so far
 -- will come to. A step keeps it. Assumes nothing.
-use Prim.Native.Nat.{ℕ, zero, suc, _+_, _*_, _-_, _%_, _^_, _≤_, _<_}
+use Prim.Native.Nat.{ℕ, suc, _+_, _-_, _%_, _≤_, _<_}
 use mathlib.Core.Path.{_≡_, refl, sym, _∙_, ap, ap₂, subst}
 use mathlib.Core.Bool.{Bool, true, false, true≢false}
 use mathlib.Core.List.{List}
 use native.Mathlib.Omega.{arith}
 use native.Mathlib.Numerals.{add-one}
-use lib.Dec.{ltb, eqb}
 use lib.ListN.{length}
 use borrow.Author.Tests.{eq-eqb, ne-eqb}
-use Rattle.octets.specs.Base.{pick}
-use Rattle.octets.specs.BaseLaws.{by-test, by-eq}
+use Rattle.octets.specs.BaseLaws.{by-eq}
 use Rattle.octets.specs.Turns.{turns}
 use Rattle.layout.specs.declared.Figures.{Figures}
 use Rattle.packet.specs.declared.Heard.{Heard}
@@ -26,10 +24,10 @@ use Rattle.transmitter.specs.Transmit.{octetsHeld, transmit}
 use Rattle.receiver.specs.declared.Stored.{Stored}
 use Rattle.state.specs.declared.Station.{Station}
 use Rattle.station.specs.declared.step.Stepped.{Stepped}
-use Rattle.station.specs.Step.{triesAfter, deferring, sending, stepped, nextStation}
-use Rattle.area.specs.Places.{Part, clock, depth, layout, draws, counters, station, frame, buffer, place, at, size, Off, Keeps}
-use Rattle.area.specs.Area.{clockAt, withClock, depthAt, drawAt, figuresAt, countAt, addressAt, spaceAt, stationAt, frameAt, bufferAt, arrivalAt}
-use Rattle.area.specs.AreaLaws.{keeps-trans, depth-by, draw-by, figures-by, count-by, address-by, space-by, frame-by, arrival-by, arrival-turn, clock-keeps}
+use Rattle.station.specs.Step.{triesAfter, deferring, stepped, nextStation}
+use Rattle.area.specs.Places.{Part, clock, depth, layout, draws, station, frame, buffer, place, Off, Keeps}
+use Rattle.area.specs.Area.{clockAt, depthAt, drawAt, figuresAt, countAt, addressAt, spaceAt, stationAt, frameAt, bufferAt, arrivalAt}
+use Rattle.area.specs.AreaLaws.{depth-by, draw-by, figures-by, count-by, address-by, space-by, frame-by, arrival-by, arrival-turn, clock-keeps}
 use Rattle.pair.specs.declared.Act.{Act}
 use Rattle.pair.specs.BitTime.{outcomeIn, actIn, actAt, settled, stepArea}
 use Rattle.pair.specs.Range.{FrameIn}

@@ -1,11 +1,11 @@
 -- What a step does to the delay lines: a place that is not the present one gets the symbols that reach it, the present one is cleared.
 -- Assumes nothing.
-use Prim.Native.Nat.{ℕ, zero, suc, _+_, _*_, _%_, _≤_, _<_}
+use Prim.Native.Nat.{ℕ, zero, suc, _+_, _%_, _≤_, _<_}
 use mathlib.Core.Path.{_≡_, refl, sym, _∙_, ap, ap₂}
 use mathlib.Core.Bool.{Bool, true, false, true≢false}
 use mathlib.Core.List.{List}
 use native.Mathlib.Omega.{arith}
-use lib.Dec.{ltb, eqb}
+use lib.Dec.{eqb}
 use lib.ListN.{length}
 use borrow.Author.Tests.{eq-eqb, ne-eqb}
 use Rattle.octets.specs.Base.{pick}
@@ -15,13 +15,15 @@ use Rattle.packet.specs.declared.Heard.{Heard}
 use Rattle.packet.specs.declared.Heard.the-variants.{Nothing}
 use Rattle.packet.specs.declared.Symbol.{Symbol}
 use Rattle.packet.specs.declared.Symbol.the-variants.{Silence, Bit, Jam}
-use Rattle.area.specs.Places.{Part, layout, counters, station, frame, buffer, place, at, size, Off, Keeps}
-use Rattle.area.specs.Area.{spaceAt, arrivalAt, withArrival, alone, joined}
+use Rattle.area.specs.Places.{Part, counters, station, buffer, place, Off, Keeps}
+use Rattle.area.specs.Area.{spaceAt, arrivalAt, alone, joined}
 use Rattle.area.specs.AreaLaws.{space-by, arrival-by, arrival-keeps, arrival-same, arrival-turn}
 use Rattle.station.specs.declared.step.Stepped.{Stepped}
 use Rattle.pair.specs.declared.Act.{Act}
-use Rattle.pair.specs.BitTime.{sendTo, isSilence, pushed, withStored, withCounted, placed, settled}
-use Rattle.pair.specs.InPlace.{Kept, Spread, Foreign, Ahead, send-keeps, sends-layout, sends-keep, push-keeps, place-keeps, settle-keeps, placed-layout, length-sends, length-placed}
+use Rattle.medium.specs.Medium.{sendTo, isSilence, pushed}
+use Rattle.pair.specs.BitTime.{placed, settled}
+use Rattle.pair.specs.InPlace.{Kept, Spread, Foreign, Ahead, place-keeps, settle-keeps, placed-layout, length-placed}
+use Rattle.medium.specs.MediumLaws.{send-keeps, sends-layout, sends-keep, push-keeps, length-sends}
 use Rattle.ready.specs.After.{length-after, ahead, placed-clear}
 use Rattle.trace.specs.World.{gathered}
 use Rattle.trace.specs.Gather.{joined-none}

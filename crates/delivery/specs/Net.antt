@@ -1,13 +1,11 @@
 -- The net that an area's layout and draws make, and that a fresh start's area encodes its fresh world. Assumes nothing.
-use Prim.Native.Nat.{ℕ, zero, suc, _+_, _*_, _-_, _≤_, _<_}
+use Prim.Native.Nat.{ℕ, _+_, _*_, _-_, _≤_, _<_}
 use mathlib.Core.Path.{_≡_, refl, sym, _∙_, ap, ap₂, subst}
-use mathlib.Core.Bool.{Bool, true, false, _&&_, true≢false}
-use mathlib.Core.List.{List, []}
+use mathlib.Core.Bool.{Bool, true, false, true≢false}
+use mathlib.Core.List.{List}
 use native.Mathlib.Omega.{arith}
-use borrow.Author.Tests.{ltb-true, ltb-false, leb-true}
-use lib.Dec.{ltb, leb, eqb}
+use lib.Dec.{leb, eqb}
 use lib.ListN.{length}
-use Rattle.octets.specs.Base.{pick}
 use Rattle.octets.specs.BaseLaws.{by-test, by-eq}
 use Rattle.octets.specs.NumberLaws.{Octets}
 use Rattle.octets.specs.Store.{length-part}
@@ -20,12 +18,11 @@ use Rattle.packet.specs.declared.Heard.the-variants.{Nothing}
 use Rattle.packet.specs.declared.Symbol.the-variants.{Silence}
 use Rattle.state.specs.declared.Transmitter.the-variants.{NoFrame}
 use Rattle.state.specs.declared.Station.{Station}
-use Rattle.area.specs.Area.{clockAt, depthAt, drawAt, figuresAt, countAt, positionAt, addressAt, distance, spaceAt, stationAt, bufferAt, arrivalAt}
+use Rattle.area.specs.Area.{depthAt, drawAt, figuresAt, countAt, positionAt, addressAt, distance, spaceAt, bufferAt}
 use Rattle.start.specs.Fresh.{tapIn, fresh}
-use Rattle.start.specs.FreshLaws.{Formed, fresh-length, fresh-clock, fresh-count, fresh-figures, fresh-position, fresh-address, fresh-arrival}
+use Rattle.start.specs.FreshLaws.{Formed, fresh-clock, fresh-count, fresh-position, fresh-address, fresh-arrival}
 use Rattle.pair.specs.Ready.{Readiness}
 use Rattle.ready.specs.Passes.{Passing, rise}
-use Rattle.offer.specs.Offer.{holds}
 use Rattle.offer.specs.OfferLaws.{address-six}
 use Rattle.trace.specs.Trace.{Metric}
 use Rattle.trace.specs.World as world

@@ -1,18 +1,16 @@
 -- An accepted offer keeps the encoding. Assumes nothing.
-use Prim.Native.Nat.{ℕ, zero, suc, _+_, _*_, _%_, _≤_, _<_}
+use Prim.Native.Nat.{ℕ, _+_, _≤_, _<_}
 use mathlib.Core.Path.{_≡_, refl, sym, _∙_, ap, ap₂, subst}
 use mathlib.Core.Bool.{Bool, true, false}
 use mathlib.Core.List.{List}
 use native.Mathlib.Omega.{arith}
 use borrow.Author.Tests.{eq-eqb, ne-eqb}
-use lib.Dec.{eqb}
 use lib.ListN.{length}
-use Rattle.octets.specs.Base.{pick}
-use Rattle.octets.specs.BaseLaws.{by-test, by-eq}
+use Rattle.octets.specs.BaseLaws.{by-eq}
 use Rattle.state.specs.declared.Transmitter.the-variants.{NoFrame, Waiting, BackingOff, Sending, Heading, Jamming}
 use Rattle.state.specs.declared.Station.{Station}
-use Rattle.area.specs.Places.{Part, clock, depth, layout, draws, counters, station, frame, buffer, place, at, size, Off, Keeps}
-use Rattle.area.specs.Area.{clockAt, countAt, stationAt, withStation, withCounters, frameAt, withFrame, bufferAt, arrivalAt}
+use Rattle.area.specs.Places.{Part, clock, depth, draws, counters, station, frame, buffer, place, Off, Keeps}
+use Rattle.area.specs.Area.{clockAt, countAt, stationAt, frameAt, withFrame, bufferAt, arrivalAt}
 use Rattle.area.specs.AreaLaws.{keeps-trans, frame-by, buffer-by, arrival-by, frame-same, station-keeps, counters-keeps, length-frame, length-station, length-counters}
 use Rattle.pair.specs.Range.{FrameIn}
 use Rattle.ready.specs.Passes.{Passing}

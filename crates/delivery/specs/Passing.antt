@@ -1,14 +1,14 @@
 -- "Each call gets the area as the call before left it, and nobody else writes there; so none of them is refused under 1 or 2."
 -- A fresh start leaves an area that passes checks 1 and 2; an offer and a step leave one of one. Assumes nothing.
-use Prim.Native.Nat.{ℕ, zero, suc, _+_, _*_, _^_, _≤_, _<_, max, min}
+use Prim.Native.Nat.{ℕ, _+_, _*_, _≤_, _<_}
 use mathlib.Core.Path.{_≡_, refl, sym, _∙_, ap, ap₂, subst}
-use mathlib.Core.Bool.{Bool, true, false}
-use mathlib.Core.List.{List, [], _∷_}
+use mathlib.Core.Bool.{Bool, false}
+use mathlib.Core.List.{List, []}
 use native.Mathlib.Omega.{arith}
-use borrow.Author.Tests.{eq-eqb, ne-eqb, eqb-true, eqb-false, ltb-true, ltb-false, leb-true, leb-false, le-ltb, lt-leb}
+use borrow.Author.Tests.{eq-eqb, eqb-true, eqb-false, ltb-false, leb-false}
 use lib.Dec.{ltb, leb, eqb}
-use lib.ListN.{length, getD}
-use Rattle.octets.specs.Base.{pick, outside, Answer, refused, accepted, Outcome, outcome}
+use lib.ListN.{length}
+use Rattle.octets.specs.Base.{outside, Answer, accepted, Outcome}
 use Rattle.octets.specs.BaseLaws.{by-test, by-eq, refused-none, within}
 use Rattle.octets.specs.Number.{get}
 use Rattle.octets.specs.Words.{wordsAt}
@@ -30,13 +30,12 @@ use Rattle.state.specs.declared.Station.{Station}
 use Rattle.station.specs.Count.{added}
 use Rattle.record.specs.Codec.{decoded, encoded}
 use Rattle.record.specs.CodecLaws.{Fit, decoded-encoded}
-use Rattle.area.specs.Places.{Part, clock, depth, layout, draws, counters, station, frame, buffer, place, at, size, Off, Keeps}
-use Rattle.area.specs.Area.{clockAt, depthAt, figuresAt, countAt, positionAt, addressAt, tapAt, layoutAt, countersAt, withCounters, recordAt, stationAt, withStation, withFrame, symbolAt}
+use Rattle.area.specs.Places.{Part, clock, depth, layout, counters, station, frame, place, at, Off, Keeps}
+use Rattle.area.specs.Area.{clockAt, depthAt, figuresAt, countAt, addressAt, tapAt, layoutAt, countersAt, recordAt, stationAt, withStation, withFrame}
 use Rattle.area.specs.AreaLaws.{keeps-trans, clock-by, depth-by, figures-by, count-by, address-by, counters-by, record-by, station-by, symbol-by, station-keeps, counters-keeps, frame-keeps, record-same, counters-same, length-station, length-counters, length-frame}
-use Rattle.start.specs.Fresh.{tapIn, fresh}
+use Rattle.start.specs.Fresh.{fresh}
 use Rattle.start.specs.FreshLaws.{Formed, fresh-length, fresh-clock, fresh-record, fresh-counters, fresh-symbol, fresh-depth, fresh-count, fresh-figures, fresh-position, fresh-address}
 use Rattle.valid.specs.Valid.{recordWrong, areaRefusal}
-use Rattle.pair.specs.BitTime.{stepArea}
 use Rattle.pair.specs.Range.{Fine, fine-fit}
 use Rattle.pair.specs.InPlace.{Spread}
 use Rattle.pair.specs.Ready.{Readiness}

@@ -6,12 +6,12 @@ use mathlib.Core.Bool.{Bool, true, false, _&&_, true≢false}
 use mathlib.Core.List.{List, [], _∷_, _++_}
 use mathlib.Core.Logic.{_⊎_, inl, inr}
 use native.Mathlib.Omega.{arith}
-use borrow.Author.Tests.{eq-eqb, ne-eqb, lt-leb, ltb-false, leb-true, eqb-true, eqb-false}
+use borrow.Author.Tests.{eq-eqb, lt-leb, leb-true, eqb-true}
 use lib.Dec.{ltb, leb, eqb}
-use lib.ListN.{length, getD, take, replicate}
+use lib.ListN.{length, take, replicate}
 use lib.Seq.{sets}
-use Rattle.octets.specs.Base.{pick, some, outside, Answer, refused, accepted, Outcome, outcome}
-use Rattle.octets.specs.BaseLaws.{by-test, by-eq, within}
+use Rattle.octets.specs.Base.{pick, some, Answer, refused, accepted, Outcome, outcome}
+use Rattle.octets.specs.BaseLaws.{by-test}
 use Rattle.octets.specs.Filled.{filled-at}
 use Rattle.octets.specs.NumberLaws.{Octets}
 use Rattle.frame.specs.Limits.{refusesData}
@@ -30,8 +30,6 @@ use Rattle.receiver.specs.declared.ReceiveEvent.the-variants.{GotOk}
 use Rattle.receiver.specs.Receive.{addressed}
 use Rattle.state.specs.declared.Station.{Station}
 use Rattle.station.specs.declared.step.Stepped.{Stepped}
-use Rattle.station.specs.Count.{octetsIn}
-use Rattle.station.specs.Step.{triesAfter}
 use Rattle.area.specs.Area.{clockAt, figuresAt, countAt, addressAt, spaceAt, stationAt, bufferAt, arrivalAt}
 use Rattle.start.specs.Fresh.{fresh}
 use Rattle.start.specs.FreshLaws.{fresh-figures}
@@ -44,7 +42,7 @@ use Rattle.offer.specs.Offer.{holds, offered}
 use Rattle.start.specs.Start.{started}
 use Rattle.bus.specs.Step.{steppedOnce}
 use Rattle.runs.specs.Run.{tallied, lateAt, Ran, runOf, ran}
-use Rattle.reading.specs.Read.{isReadable, frameRead}
+use Rattle.reading.specs.Read.{frameRead}
 use Rattle.trace.specs.World as world
 use Rattle.trace.specs.World.{Net, Offer, ready}
 use Rattle.trace.specs.Run as exec

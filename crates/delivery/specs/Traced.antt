@@ -1,37 +1,35 @@
 -- A list of calls made the steps of an execution: each area is the encoding of its world. Assumes nothing.
-use Prim.Native.Nat.{ℕ, zero, suc, _+_, _*_, _-_, _≤_, _<_}
+use Prim.Native.Nat.{ℕ, zero, suc, _+_, _-_, _≤_, _<_}
 use mathlib.Core.Path.{_≡_, refl, sym, _∙_, ap, ap₂, subst}
 use mathlib.Core.Bool.{Bool, true, false}
 use mathlib.Core.List.{List, [], _∷_, _++_, append-assoc, append-nil}
 use native.Mathlib.Numerals.{add-one}
 use native.Mathlib.Omega.{arith}
-use borrow.Author.Tests.{eq-eqb, ne-eqb, eqb-true, eqb-false, ltb-false, leb-false}
+use borrow.Author.Tests.{eq-eqb, ne-eqb, eqb-true, ltb-false, leb-false}
 use lib.Dec.{ltb, leb, eqb}
-use lib.ListN.{length, getD, length-append, List·getD-append}
+use lib.ListN.{length, length-append, List·getD-append}
 use lib.Seq.{getD-append-seam}
-use Rattle.octets.specs.Base.{pick, some, refused, accepted}
+use Rattle.octets.specs.Base.{pick}
 use Rattle.octets.specs.BaseLaws.{by-test, by-eq}
 use Rattle.octets.specs.NumberLaws.{Octets}
 use Rattle.frame.specs.Limits.{refusesData}
 use Rattle.frame.specs.Build.{frameOf}
 use Rattle.packet.specs.declared.Heard.{Heard}
 use Rattle.state.specs.declared.Transmitter.{Transmitter}
-use Rattle.transmitter.specs.Transmit.{transmit}
 use Rattle.state.specs.declared.Station.{Station}
 use Rattle.station.specs.declared.step.Stepped.{Stepped}
 use Rattle.station.specs.Step.{triesAfter, stepped, nextStation}
 use Rattle.station.specs.StepLaws.{tries-more, tries-same}
-use Rattle.area.specs.Area.{clockAt, countAt, addressAt, stationAt, arrivalAt}
+use Rattle.area.specs.Area.{clockAt, countAt, addressAt, stationAt}
 use Rattle.valid.specs.Valid.{areaRefusal}
-use Rattle.pair.specs.BitTime.{actAt, eventsAt, stepArea}
 use Rattle.ready.specs.Passes.{Passing, ready-passes}
 use Rattle.ready.specs.Stays.{step-passing}
 use Rattle.offer.specs.Offer.{holds, offeredStation, withOffer, offered}
 use Rattle.offer.specs.OfferLaws.{address-six}
 use Rattle.bus.specs.Step.{steppedOnce}
-use Rattle.runs.specs.Run.{lateAt, runOf, ran}
+use Rattle.runs.specs.Run.{ran}
 use Rattle.trace.specs.World as world
-use Rattle.trace.specs.World.{Net, Offer, frameFor, World, heard, outcome, given, offers, before, ready}
+use Rattle.trace.specs.World.{Net, Offer, frameFor, World, outcome, given, offers, before, ready}
 use Rattle.trace.specs.Run.{before-suc, ready-clock}
 use Rattle.trace.specs.Keep.{held-back}
 use Rattle.delivery.specs.Passing.{frame-range, holding, offer-passing}

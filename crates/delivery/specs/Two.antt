@@ -1,13 +1,12 @@
 -- Document 01's two stations: its layout fits and its start is accepted, so demand 3 holds of every list of calls on them. Assumes nothing.
 use Prim.Native.Nat.{ℕ, zero, suc, _<_}
-use mathlib.Core.Path.{_≡_, refl, ap}
+use mathlib.Core.Path.{_≡_, refl}
 use mathlib.Core.Bool.{true}
 use mathlib.Core.List.{List, [], _∷_}
 use native.Mathlib.Omega.{arith}
 use borrow.Author.Tests.{le-ltb}
-use lib.Dec.{ltb}
 use lib.ListN.{length, getD, replicate, length-replicate}
-use Rattle.octets.specs.Base.{pick, some, outside, accepted}
+use Rattle.octets.specs.Base.{some, outside, accepted}
 use Rattle.octets.specs.Equal.{equal}
 use Rattle.octets.specs.NumberLaws.{Octets, octets-by}
 use Rattle.layout.specs.declared.Figures.{Figures}

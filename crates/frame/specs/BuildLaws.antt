@@ -1,8 +1,8 @@
 -- The sizes of a frame and its parts, and a law for each way through the builder. Assumes nothing.
 use Prim.Native.Nat.{ℕ, zero, suc, _+_, _-_, _≤_, _<_, max}
-use mathlib.Core.Path.{_≡_, refl, sym, _∙_, ap, ap₂}
+use mathlib.Core.Path.{_≡_, refl, _∙_, ap}
 use mathlib.Core.Bool.{Bool, true, false, not, true≢false}
-use mathlib.Core.List.{List, [], _∷_, _++_, append-assoc}
+use mathlib.Core.List.{List, [], _∷_, _++_}
 use native.Mathlib.Omega.{arith}
 use borrow.Author.Tests.{lt-ltb, le-ltb, le-leb, lt-leb, ltb-false}
 use lib.Dec.{ltb, eqb}
@@ -14,7 +14,7 @@ use Rattle.octets.specs.NumberLaws.{length-spelled}
 use Rattle.octets.specs.Store.{sets-append, take-sets}
 use Rattle.crc32.specs.Crc.{checkSequence}
 use Rattle.crc32.specs.Division.{length-sequence}
-use Rattle.frame.specs.Limits.{minData, minType, maxLength, maxData, refusesValue, refusesData}
+use Rattle.frame.specs.Limits.{maxData, refusesValue, refusesData}
 use Rattle.frame.specs.Build.{header, padded, covered, frameOf, built}
 
 -- ---- refusal 11

@@ -4,7 +4,7 @@ use pair::Events;
 use receiver::ReceiveEvent;
 use transmitter::TransmitEvent;
 ghost use mathlib.Core.Path.{_≡_};
-ghost use Prim.Native.Nat.{_+_, _*_, _≤_};
+ghost use Prim.Native.Nat.{_+_, _≤_};
 ghost use lib.ListN.{length};
 ghost use Rattle.text.specs.Text.{written, puts};
 ghost use Rattle.lines.specs.Events.{sentLine, gotLine, stationLines, stepLines};

@@ -1,13 +1,12 @@
 -- A law for each way through the code of an offer. Assumes nothing.
 use Prim.Native.Nat.{ℕ, _+_, _*_, _≤_, _<_, max}
-use mathlib.Core.Path.{_≡_, refl, sym, _∙_, ap, ap₂}
+use mathlib.Core.Path.{_≡_, sym, _∙_, ap}
 use mathlib.Core.Bool.{Bool, true, false}
-use mathlib.Core.List.{List, [], _∷_}
+use mathlib.Core.List.{List, []}
 use native.Mathlib.Omega.{arith}
 use borrow.Author.Tests.{eq-eqb, ne-eqb, le-leb, lt-leb}
-use lib.Dec.{leb, eqb}
 use lib.ListN.{length}
-use Rattle.octets.specs.Base.{pick, Answer, refused, accepted, Outcome, outcome}
+use Rattle.octets.specs.Base.{Answer, refused, accepted, Outcome, outcome}
 use Rattle.octets.specs.Store.{length-part}
 use Rattle.frame.specs.Limits.{refusesData}
 use Rattle.frame.specs.Build.{frameOf}

@@ -1,7 +1,7 @@
 -- Opening a frame (document 01, "Frames"): f are its octets, e its excess bits.
 -- The laws are in OpenLaws, the round trip with the builder in RoundTrip. Assumes nothing.
 use Prim.Native.Nat.{ℕ, _-_, max}
-use mathlib.Core.Bool.{Bool, true, false, not, _||_}
+use mathlib.Core.Bool.{Bool, not, _||_}
 use mathlib.Core.List.{List, [], _∷_}
 use lib.Dec.{ltb, leb, eqb}
 use lib.ListN.{length, take, drop}

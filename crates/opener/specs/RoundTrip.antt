@@ -1,25 +1,24 @@
 -- Opening what the builder made gives back its fields. Assumes nothing.
-use Prim.Native.Nat.{ℕ, zero, suc, _+_, _-_, _≤_, _<_, max}
+use Prim.Native.Nat.{ℕ, _+_, _-_, _≤_, _<_, max}
 use mathlib.Core.Path.{_≡_, refl, sym, _∙_, ap, subst⁻¹}
-use mathlib.Core.Bool.{Bool, true, false, not, true≢false}
+use mathlib.Core.Bool.{Bool, true, false}
 use mathlib.Core.List.{List, [], _∷_, _++_, append-assoc}
 use native.Mathlib.Omega.{arith}
-use borrow.Author.Tests.{lt-ltb, le-ltb, le-leb, lt-leb, eq-eqb, ltb-false, leb-true, leb-false, eqb-true, not-false}
+use borrow.Author.Tests.{le-ltb, eq-eqb, ltb-false, eqb-true, not-false}
 use lib.Dec.{ltb, leb, eqb}
-use lib.ListN.{length, getD, take, drop, replicate, length-append}
-use lib.Seq.{take-at, drop-at, take-append-seam, take-length, take-all, sets}
+use lib.ListN.{length, getD, take, replicate, length-append}
+use lib.Seq.{take-at, drop-at, take-append-seam, take-length, sets}
 use Rattle.octets.specs.BaseLaws.{refused-none}
 use Rattle.octets.specs.Base.{pick, Answer, refused, accepted, Outcome, outcome}
-use Rattle.octets.specs.Equal.{equal}
 use Rattle.octets.specs.EqualLaws.{equal-refl}
 use Rattle.octets.specs.Number.{get, spelled}
 use Rattle.octets.specs.NumberLaws.{length-spelled, get-spelled, get-front, get-after}
-use Rattle.octets.specs.Store.{part, take-sets}
+use Rattle.octets.specs.Store.{take-sets}
 use Rattle.crc32.specs.Crc.{checkSequence}
 use Rattle.crc32.specs.Division.{length-sequence}
 use Rattle.frame.specs.Limits.{maxLength, maxData, maxFrame, refusesValue, refusesData}
 use Rattle.frame.specs.Build.{header, padded, covered, frameOf, built}
-use Rattle.frame.specs.BuildLaws.{length-header, length-padded, length-covered, length-frame, within, length-padded-max, frame-size}
+use Rattle.frame.specs.BuildLaws.{length-header, length-padded, length-frame, within, length-padded-max, frame-size}
 use Rattle.opener.specs.Open.{destinationOf, sourceOf, valueOf, dataField, receiveOK, Opening, checkWrong, lengthWrong, clientSize, unpadded, opened}
 
 -- what a receiver is handed back of the data x: under a length the data, under a type the data with their padding

@@ -6,7 +6,7 @@ ghost use mathlib.Core.Bool.{false};
 ghost use Prim.Native.Nat.{_+_, _≤_, max};
 ghost use lib.ListN.{length};
 ghost use Rattle.frame.specs.Limits.{minData};
-ghost use Rattle.opener.specs.Open.{statusAnswer, checkWrong, checkError, lengthWrong, clientSize, unpadded, opened};
+ghost use Rattle.opener.specs.Open.{statusAnswer, checkWrong, checkError, unpadded, opened};
 
 // What opening says of a frame: a refusal by its number, or document 01's status. ReceiveOk has the octets of client data.
 pub enum ReceiveStatus {

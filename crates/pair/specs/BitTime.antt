@@ -4,7 +4,6 @@
 use Prim.Native.Nat.{ℕ, _+_}
 use mathlib.Core.Bool.{Bool, true, false, _||_}
 use mathlib.Core.List.{List}
-use lib.Dec.{eqb}
 use lib.ListN.{getD}
 use Rattle.octets.specs.Base.{pick}
 use Rattle.octets.specs.Turns.{turns}
@@ -13,7 +12,6 @@ use Rattle.layout.specs.declared.Figures.{Figures}
 use Rattle.packet.specs.declared.Heard.{Heard}
 use Rattle.packet.specs.declared.Heard.the-variants.{Nothing}
 use Rattle.packet.specs.declared.Symbol.{Symbol}
-use Rattle.packet.specs.declared.Symbol.the-variants.{Silence, Bit, Jam}
 use Rattle.packet.specs.Packet.{symbolOf}
 use Rattle.receiver.specs.declared.ReceiveEvent.{ReceiveEvent}
 use Rattle.receiver.specs.declared.ReceiveEvent.the-variants.{NoReceive, GotOk, GotTooLong, GotAlignment, GotCheck, GotLength}
@@ -26,7 +24,8 @@ use Rattle.state.specs.declared.Station.{Station}
 use Rattle.station.specs.declared.step.Stepped.{Stepped}
 use Rattle.station.specs.Step.{stepped}
 use Rattle.station.specs.Count.{counted}
-use Rattle.area.specs.Area.{clockAt, withClock, depthAt, drawAt, figuresAt, countAt, spaceAt, countersAt, withCounters, stationAt, withStation, frameAt, bufferAt, withBit, arrivalAt, withArrival, joined, withSymbol}
+use Rattle.area.specs.Area.{clockAt, withClock, depthAt, drawAt, figuresAt, countAt, countersAt, withCounters, stationAt, withStation, frameAt, bufferAt, withBit, arrivalAt, withArrival}
+use Rattle.medium.specs.Medium.{pushed}
 use Rattle.pair.specs.declared.Events.{Events}
 use Rattle.pair.specs.declared.Act.{Act}
 
@@ -49,19 +48,6 @@ unfoldable pub actAt : List ℕ → ℕ → Act
 actAt a i = actIn (figuresAt a) (depthAt a) (clockAt a) a i
 
 -- ---- what it leaves in area x
-
--- "What station i emits at t is heard at j≠i at t + |p(i)−p(j)|": the symbol s is on its way to station j
-unfoldable pub sendTo : (t i : ℕ) → Symbol → (j : ℕ) → List ℕ → List ℕ
-sendTo t i s j x = pick (eqb j i) x (withArrival x j (t + spaceAt x i j) (joined (arrivalAt x j (t + spaceAt x i j)) s))
-
-abbrev pub isSilence : Symbol → Bool
-isSilence Silence = true
-isSilence (Bit b) = false
-isSilence Jam = false
-
--- and to each of n stations; silence is not put anywhere
-unfoldable pub pushed : (n t i : ℕ) → Symbol → List ℕ → List ℕ
-pushed n t i s x = pick (isSilence s) x (turns (sendTo t i s) n x)
 
 -- the bit that it collected
 abbrev pub withStored : ℕ → Stored → List ℕ → List ℕ
@@ -118,10 +104,6 @@ unfoldable pub eventsAt : List ℕ → List Events
 eventsAt a = filled noEvents (λ i. eventsOf (actAt a i)) (countAt a)
 
 -- ---- the same in parts, for the code
-
--- a symbol on its way, by its code
-unfoldable pub codeTo : (t i c j : ℕ) → List ℕ → List ℕ
-codeTo t i c j x = pick (eqb j i) x (withSymbol x j (t + spaceAt x i j) c)
 
 -- the first k of n stations have had their turn, and their events
 unfoldable pub turnedIn : Figures → (d n t : ℕ) → List ℕ → (k : ℕ) → List ℕ

@@ -1,20 +1,16 @@
 -- A law for each way through the code of a step. Assumes nothing.
-use Prim.Native.Nat.{ℕ, zero, suc, _+_, _≤_, _<_}
-use mathlib.Core.Path.{_≡_, refl, sym, _∙_, ap, ap₂}
+use Prim.Native.Nat.{ℕ, _+_, _≤_, _<_}
+use mathlib.Core.Path.{_≡_, refl, _∙_, ap, ap₂}
 use mathlib.Core.Bool.{Bool, true, false, _||_}
 use mathlib.Core.List.{List}
 use native.Mathlib.Omega.{arith}
-use borrow.Author.Tests.{eq-eqb, ne-eqb}
-use lib.Dec.{eqb}
-use lib.ListN.{length, replicate}
-use Rattle.octets.specs.Base.{pick}
+use lib.ListN.{replicate}
 use Rattle.octets.specs.Filled.{filled-none}
-use Rattle.octets.specs.Turns.{turns, turns-more, turns-end}
+use Rattle.octets.specs.Turns.{turns}
 use Rattle.layout.specs.declared.Figures.{Figures}
 use Rattle.packet.specs.declared.Heard.{Heard}
 use Rattle.packet.specs.declared.Heard.the-variants.{Nothing}
 use Rattle.packet.specs.declared.Symbol.{Symbol}
-use Rattle.packet.specs.declared.Symbol.the-variants.{Silence, Bit, Jam}
 use Rattle.packet.specs.Packet.{symbolOf}
 use Rattle.receiver.specs.declared.Stored.{Stored}
 use Rattle.receiver.specs.declared.Stored.the-variants.{NoStore, Store}
@@ -23,64 +19,12 @@ use Rattle.state.specs.declared.Station.{Station}
 use Rattle.station.specs.declared.step.Stepped.{Stepped}
 use Rattle.station.specs.Step.{stepped}
 use Rattle.station.specs.Count.{counted}
-use Rattle.area.specs.Area.{withClock, drawAt, positionAt, distance, spaceAt, countersAt, withCounters, stationAt, withStation, frameAt, bufferAt, withBit, arrivalAt, withArrival, heardCode, alone, withSymbol}
-use Rattle.area.specs.AreaLaws.{position-by}
-use Rattle.area.specs.CodeLaws.{space-is, joined-code}
+use Rattle.area.specs.Area.{withClock, drawAt, countersAt, withCounters, stationAt, withStation, frameAt, bufferAt, withBit, arrivalAt, withArrival}
 use Rattle.pair.specs.declared.Act.{Act}
 use Rattle.pair.specs.declared.Events.{Events}
-use Rattle.pair.specs.BitTime.{outcomeIn, actIn, sendTo, codeTo, isSilence, pushed, withStored, isTransmit, isReceive, happened, withCounted, placed, settled, turnedIn, turnIn, advancedIn, eventsOf, noEvents, eventsIn}
-use Rattle.pair.specs.InPlace.{Kept, sends-layout}
-
-module _ (t i c j : ℕ) (a : List ℕ) where
-  pub send-own : j ≡ i → a ≡ codeTo t i c j a
-  unfolding codeTo
-  send-own p = rw (eq-eqb j i p)
-
-  -- the distance by both positions
-  pub send-apart : (b : List ℕ) (u d p q : ℕ) → b ≡ withSymbol a j u c → u ≡ t + d → d ≡ distance p q → q ≡ positionAt a j → p ≡ positionAt a i → (j ≡ i → ⊥)
-      → b ≡ codeTo t i c j a
-  unfolding codeTo
-  send-apart b u d p q eb eu ed eq ep ne =
-      let w : u ≡ t + spaceAt a i j = eu ∙ ap (λ (x : ℕ). t + x) (space-is a i j d p q ed eq ep) in
-      eb ∙ rw (ne-eqb j i ne, w)
-
--- by its code a symbol that is not silence goes the same way
-code-sends : (t i c j : ℕ) (s : Symbol) (a : List ℕ) → c ≡ heardCode (alone s) → (c ≡ 0 → ⊥) → codeTo t i c j a ≡ sendTo t i s j a
-unfolding codeTo sendTo
-code-sends t i c j s a e ne = ap (pick (eqb j i) a) (joined-code a j (t + spaceAt a i j) s c e ne)
-
-code-silence : (s : Symbol) → heardCode (alone s) ≡ 0 → isSilence s ≡ true
-code-silence Silence h = refl
-code-silence (Bit true) h = absurd (omega (arith, h))
-code-silence (Bit false) h = absurd (omega (arith, h))
-code-silence Jam h = absurd (omega (arith, h))
-
-code-sound : (s : Symbol) → (heardCode (alone s) ≡ 0 → ⊥) → isSilence s ≡ false
-code-sound Silence h = absurd (h refl)
-code-sound (Bit b) h = refl
-code-sound Jam h = refl
-
-module _ (t i c : ℕ) (s : Symbol) (a : List ℕ) (e : c ≡ heardCode (alone s)) (ne : c ≡ 0 → ⊥) where
-  codes-send : (j : ℕ) → turns (codeTo t i c) j a ≡ turns (sendTo t i s) j a
-  unfolding turns
-  codes-send zero = refl
-  codes-send (suc j) = code-sends t i c j s (turns (codeTo t i c) j a) e ne ∙ ap (sendTo t i s j) (codes-send j)
-
-  -- the sender stays where it is
-  pub push-position : (j p : ℕ) (x : List ℕ) → x ≡ turns (codeTo t i c) j a → i < 16 → p ≡ positionAt a i → p ≡ positionAt x i
-  push-position j p x r h q =
-      q ∙ sym (position-by (turns (sendTo t i s) j a) a i h (sends-layout t i s j a)) ∙ ap (λ (y : List ℕ). positionAt y i) (sym (r ∙ codes-send j))
-
-  pub push-all : (n j : ℕ) (b : List ℕ) → j ≤ n → n ≤ j → b ≡ turns (codeTo t i c) j a → b ≡ pushed n t i s a
-  unfolding pushed
-  push-all n j b h g r = turns-end (sendTo t i s) n j a b h g (r ∙ codes-send j) ∙ rw (code-sound s (λ z. ne (e ∙ z)))
-
-pub push-none : (n t i : ℕ) (s : Symbol) (a : List ℕ) (c : ℕ) → c ≡ heardCode (alone s) → c ≡ 0 → a ≡ pushed n t i s a
-unfolding pushed
-push-none n t i s a c e z = rw (code-silence s (sym e ∙ z))
-
-pub push-more : (t i c j : ℕ) (a x b : List ℕ) → b ≡ codeTo t i c j x → x ≡ turns (codeTo t i c) j a → b ≡ turns (codeTo t i c) (j + 1) a
-push-more t i c j a x b p q = turns-more (codeTo t i c) j a x b p q
+use Rattle.pair.specs.BitTime.{outcomeIn, actIn, withStored, isTransmit, isReceive, happened, withCounted, placed, settled, turnedIn, turnIn, advancedIn, eventsOf, noEvents, eventsIn}
+use Rattle.medium.specs.Medium.{pushed}
+use Rattle.pair.specs.InPlace.{Kept}
 
 pub bit-room : (o : Stored) (k : ℕ) (b : Bool) → o ≡ Store k b → Kept o → k < 12144
 bit-room o k b e h = rw e at h

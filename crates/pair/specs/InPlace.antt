@@ -1,31 +1,27 @@
 -- In place is the same as all at once: nobody reads what the same step wrote. Assumes nothing.
-use Prim.Native.Nat.{ℕ, zero, suc, _+_, _*_, _%_, _≤_, _<_}
-use mathlib.Core.Path.{_≡_, refl, sym, _∙_, ap, ap₂}
-use mathlib.Core.Bool.{Bool, true, false}
+use Prim.Native.Nat.{ℕ, zero, suc, _+_, _≤_, _<_}
+use mathlib.Core.Path.{_≡_, refl, sym, _∙_}
+use mathlib.Core.Bool.{Bool}
 use mathlib.Core.List.{List}
 use native.Mathlib.Omega.{arith}
-use lib.Dec.{ltb, eqb}
 use lib.ListN.{length}
-use borrow.Author.Tests.{eqb-false, ltb-true}
-use Rattle.octets.specs.Base.{pick}
 use Rattle.octets.specs.BaseLaws.{by-test}
 use Rattle.octets.specs.Turns.{turns, length-turns}
 use Rattle.layout.specs.declared.Figures.{Figures}
 use Rattle.packet.specs.declared.Heard.the-variants.{Nothing}
 use Rattle.packet.specs.declared.Symbol.{Symbol}
-use Rattle.packet.specs.Packet.{symbolOf}
 use Rattle.receiver.specs.declared.Stored.{Stored}
 use Rattle.receiver.specs.declared.Stored.the-variants.{NoStore, Store}
 use Rattle.transmitter.specs.Transmit.{octetsHeld}
 use Rattle.state.specs.declared.Station.{Station}
 use Rattle.station.specs.declared.step.Stepped.{Stepped}
-use Rattle.station.specs.Step.{stepped}
-use Rattle.station.specs.Count.{counted}
-use Rattle.area.specs.Places.{Part, clock, depth, layout, draws, counters, station, frame, buffer, place, at, size, Off, Keeps}
-use Rattle.area.specs.Area.{clockAt, withClock, depthAt, drawAt, figuresAt, countAt, spaceAt, countersAt, withCounters, stationAt, withStation, frameAt, bufferAt, withBit, arrivalAt, withArrival, joined}
+use Rattle.area.specs.Places.{Part, clock, depth, layout, draws, counters, station, frame, buffer, place, Off, Keeps}
+use Rattle.area.specs.Area.{drawAt, spaceAt, stationAt, withStation, frameAt, bufferAt, arrivalAt, withArrival}
 use Rattle.area.specs.AreaLaws.{keeps-refl, keeps-trans, draw-by, space-by, station-by, arrival-by, frame-by, buffer-by, station-keeps, counters-keeps, arrival-keeps, bit-keeps, length-station, length-counters, length-arrival, length-bit}
 use Rattle.pair.specs.declared.Act.{Act}
-use Rattle.pair.specs.BitTime.{outcomeIn, actIn, sendTo, isSilence, pushed, withStored, happened, withCounted, placed, settled, turnedIn}
+use Rattle.pair.specs.BitTime.{outcomeIn, actIn, withStored, happened, withCounted, placed, settled, turnedIn}
+use Rattle.medium.specs.Medium.{pushed}
+use Rattle.medium.specs.MediumLaws.{length-pushed, push-keeps}
 
 -- a bit that the receive buffer holds
 abbrev pub Kept : Stored → Type 0
@@ -33,17 +29,6 @@ Kept NoStore = Unit {0}
 Kept (Store k b) = k < 12144
 
 -- ---- lengths
-
-length-send : (t i : ℕ) (s : Symbol) (j : ℕ) (x : List ℕ) → length (sendTo t i s j x) ≡ length x
-unfolding sendTo
-length-send t i s j x = by-test (eqb j i) (λ e. rw e) (λ e. rw e (length-arrival x j _ _))
-
-pub length-sends : (t i : ℕ) (s : Symbol) (k : ℕ) (x : List ℕ) → length (turns (sendTo t i s) k x) ≡ length x
-length-sends t i s k x = length-turns (sendTo t i s) k x (λ j y. length-send t i s j y)
-
-pub length-pushed : (n t i : ℕ) (s : Symbol) (x : List ℕ) → length (pushed n t i s x) ≡ length x
-unfolding pushed
-length-pushed n t i s x = by-test (isSilence s) (λ e. rw e) (λ e. rw e (length-sends t i s n x))
 
 pub length-stored : (i : ℕ) (o : Stored) (x : List ℕ) → length (withStored i o x) ≡ length x
 length-stored i NoStore x = refl
@@ -70,34 +55,6 @@ unfolding turnedIn
 length-turned f d n t a k = length-turns (λ i x. settled n t i (actIn f d t a i) x) k a (λ i x. length-settled n t i (actIn f d t a i) x)
 
 -- ---- what the writers of a step keep
-
-pub send-keeps : (p : Part) (t i : ℕ) (s : Symbol) (j : ℕ) (x : List ℕ) → ((j ≡ i → ⊥) → Off p (place j (t + spaceAt x i j))) → Keeps p (sendTo t i s j x) x
-unfolding sendTo
-send-keeps p t i s j x o =
-    by-test (eqb j i)
-    (λ e. rw e (keeps-refl p x))
-    (λ e. rw e (arrival-keeps p x j (t + spaceAt x i j) (joined (arrivalAt x j (t + spaceAt x i j)) s) (o (eqb-false j i e))))
-
-pub sends-layout : (t i : ℕ) (s : Symbol) (k : ℕ) (x : List ℕ) → Keeps layout (turns (sendTo t i s) k x) x
-unfolding turns
-sends-layout t i s zero x = keeps-refl layout x
-sends-layout t i s (suc k) x =
-    keeps-trans layout (sendTo t i s k (turns (sendTo t i s) k x)) (turns (sendTo t i s) k x) x
-    (send-keeps layout t i s k (turns (sendTo t i s) k x) (λ ne p q. omega arith)) (sends-layout t i s k x)
-
-pub sends-keep : (p : Part) (t i : ℕ) (s : Symbol) (k : ℕ) (x : List ℕ) → i < 16 → k ≤ 16 → ((j : ℕ) → j < k → (j ≡ i → ⊥) → Off p (place j (t + spaceAt x i j)))
-    → Keeps p (turns (sendTo t i s) k x) x
-unfolding turns
-sends-keep p t i s zero x hi hk o = keeps-refl p x
-sends-keep p t i s (suc k) x hi hk o =
-    keeps-trans p (sendTo t i s k (turns (sendTo t i s) k x)) (turns (sendTo t i s) k x) x
-    (send-keeps p t i s k (turns (sendTo t i s) k x) (λ ne. rw (space-by (turns (sendTo t i s) k x) x i k hi hk (sends-layout t i s k x)) (o k (omega arith) ne)))
-    (sends-keep p t i s k x hi (omega arith) (λ j h. o j (omega arith)))
-
-pub push-keeps : (p : Part) (n t i : ℕ) (s : Symbol) (x : List ℕ) → i < 16 → n ≤ 16 → ((j : ℕ) → j < n → (j ≡ i → ⊥) → Off p (place j (t + spaceAt x i j)))
-    → Keeps p (pushed n t i s x) x
-unfolding pushed
-push-keeps p n t i s x hi hn o = by-test (isSilence s) (λ e. rw e (keeps-refl p x)) (λ e. rw e (sends-keep p t i s n x hi hn o))
 
 -- a part that is none of station i's own
 pub record Foreign (p : Part) (t i : ℕ) : Type 0 where

@@ -1,19 +1,19 @@
 -- The ranges of a station's fields, as check 2 lists them: kept by every step, and small enough for the code's sums and for the words of
 -- a record. Assumes nothing.
-use Prim.Native.Nat.{ℕ, zero, suc, _+_, _-_, _*_, _/_, _%_, _^_, _≤_, _<_, min}
-use mathlib.Core.Path.{_≡_, refl, sym, _∙_, ap, subst}
-use mathlib.Core.Bool.{Bool, true, false, not, _||_, _&&_, true≢false}
+use Prim.Native.Nat.{ℕ, suc, _+_, _-_, _*_, _/_, _%_, _^_, _≤_, _<_, min}
+use mathlib.Core.Path.{_≡_, refl, _∙_, ap}
+use mathlib.Core.Bool.{Bool, true, false, _||_}
 use mathlib.Core.List.{List}
 use native.Mathlib.Nat.{mod-lt, mul-le-mul-left}
 use native.Mathlib.Omega.{arith}
 use lib.Dec.{ltb, leb, eqb}
-use lib.ListN.{length, getD, take}
+use lib.ListN.{getD, take}
 use lib.Pow.{pow-pos, pow-mono}
-use borrow.Author.Tests.{ltb-true, ltb-false, leb-true, leb-false, eqb-true, eqb-false}
-use Rattle.octets.specs.Base.{pick, Answer}
+use borrow.Author.Tests.{ltb-true, ltb-false, leb-false, eqb-false}
+use Rattle.octets.specs.Base.{Answer}
 use Rattle.octets.specs.BaseLaws.{by-test}
 use Rattle.octets.specs.Bits.{digit}
-use Rattle.opener.specs.Open.{frameTooLong, opened}
+use Rattle.opener.specs.Open.{opened}
 use Rattle.layout.specs.declared.Figures.{Figures}
 use Rattle.layout.specs.Layout.{gapOf}
 use Rattle.layout.specs.CheckLaws.{Figured}
@@ -22,7 +22,7 @@ use Rattle.packet.specs.declared.Heard.the-variants.{Nothing, Clean, Jammed, Se
 use Rattle.packet.specs.Packet.{hearsAny, isEmission}
 use Rattle.state.specs.declared.Deference.{Deference}
 use Rattle.state.specs.declared.Deference.the-variants.{Quiet, Busy, Gap}
-use Rattle.deference.specs.Defer.{defer, quietRule, busyRule, gapRule, gapOver, goesBack, isBusy}
+use Rattle.deference.specs.Defer.{defer, quietRule, busyRule, gapRule, gapOver, goesBack}
 use Rattle.state.specs.declared.Transmitter.{Transmitter}
 use Rattle.state.specs.declared.Transmitter.the-variants.{NoFrame, Waiting, BackingOff, Sending, Heading, Jamming}
 use Rattle.transmitter.specs.Transmit.{waits, octetsHeld, packetLength, afterBit, collision, sendBit, headBit, backoffRange, backOff, lastJam, jamBit, backoffBit, waitBit, transmit}
@@ -30,9 +30,9 @@ use Rattle.state.specs.State.{numberIn}
 use Rattle.state.specs.declared.Receiver.{Receiver}
 use Rattle.state.specs.declared.Receiver.the-variants.{Listening, Readable, Seeking, Collecting}
 use Rattle.receiver.specs.declared.Received.{Received}
-use Rattle.receiver.specs.Receive.{nextRow, storedBit, seekBit, collectBit, seek, collect, hear, addressed, openAnswer, readableAfter, opening, decide, ended, receive, rowIn, bitsIn}
+use Rattle.receiver.specs.Receive.{nextRow, seekBit, collectBit, seek, collect, hear, addressed, openAnswer, readableAfter, opening, decide, ended, receive, rowIn, bitsIn}
 use Rattle.state.specs.declared.Station.{Station}
-use Rattle.station.specs.Step.{Roomy, triesAfter, drawAfter, deferring, sending, receiving, nextStation, stepped}
+use Rattle.station.specs.Step.{Roomy, triesAfter, drawAfter, deferring, sending, nextStation, stepped}
 use Rattle.station.specs.StepLaws.{tries-more, tries-same}
 use Rattle.record.specs.Codec.{deferenceCount, receiverNumber}
 use Rattle.record.specs.CodecLaws.{Fit}

@@ -1,18 +1,17 @@
 -- What an area must be for a step without checks 1 and 2: those checks give it, and a step keeps it. Assumes nothing.
-use Prim.Native.Nat.{ℕ, zero, suc, _+_, _*_, _^_, _≤_, _<_}
-use mathlib.Core.Path.{_≡_, refl, sym, _∙_, ap, ap₂, subst}
-use mathlib.Core.Bool.{Bool, true, false, not, _||_}
+use Prim.Native.Nat.{ℕ, _+_, _*_, _≤_, _<_}
+use mathlib.Core.Path.{_≡_, sym, _∙_, ap, subst}
+use mathlib.Core.Bool.{Bool, true, false, _||_}
 use mathlib.Core.List.{List}
 use native.Mathlib.Omega.{arith}
-use lib.Dec.{ltb, eqb}
+use lib.Dec.{ltb}
 use lib.ListN.{length, set}
 use borrow.Author.Tests.{ltb-true}
-use Rattle.octets.specs.Base.{pick}
 use Rattle.octets.specs.BaseLaws.{by-test}
-use Rattle.octets.specs.Filled.{filled, filled-none, filled-more}
+use Rattle.octets.specs.Filled.{filled-more}
 use Rattle.octets.specs.Store.{length-part}
 use Rattle.octets.specs.WordsLaws.{Small}
-use Rattle.octets.specs.Turns.{turns, turns-none, turns-more}
+use Rattle.octets.specs.Turns.{turns-more}
 use Rattle.layout.specs.declared.Figures.{Figures}
 use Rattle.layout.specs.CheckLaws.{Figured}
 use Rattle.layout.specs.Check.{refusalOf}
@@ -26,8 +25,8 @@ use Rattle.transmitter.specs.Transmit.{octetsHeld}
 use Rattle.state.specs.declared.Station.{Station}
 use Rattle.station.specs.declared.step.Stepped.{Stepped}
 use Rattle.station.specs.Step.{Roomy, stepped}
-use Rattle.area.specs.Places.{Part, layout, Keeps}
-use Rattle.area.specs.Area.{clockAt, withClock, depthAt, figuresAt, countAt, layoutAt, spaceAt, countersAt, stationAt, bufferAt, symbolAt, arrivalAt}
+use Rattle.area.specs.Places.{Part, Keeps}
+use Rattle.area.specs.Area.{clockAt, depthAt, figuresAt, countAt, layoutAt, countersAt, stationAt, bufferAt, symbolAt, arrivalAt}
 use Rattle.area.specs.AreaLaws.{station-by}
 use Rattle.pair.specs.declared.Act.{Act}
 use Rattle.pair.specs.declared.Events.{Events}

@@ -1,7 +1,6 @@
 // One bit time of all stations on the pair, in place (document 01, "One bit time"). Checks 1 and 2 are not made here.
 
 use layout::Figures;
-use packet::Emission;
 use packet::Heard;
 use packet::Symbol;
 use receiver::ReceiveEvent;
@@ -10,9 +9,9 @@ use station::step::Stepped;
 use transmitter::TransmitEvent;
 ghost use mathlib.Core.Path.{_≡_};
 ghost use Prim.Native.Nat.{_+_, _<_, _≤_};
-ghost use lib.ListN.{length, getD};
-ghost use Rattle.area.specs.Area.{clockAt, positionAt, recordAt, symbolAt, arrivalAt};
-ghost use Rattle.pair.specs.BitTime.{happened, codeTo, pushed, withStored, withCounted, placed, settled, isTransmit, isReceive, actIn, turnIn, eventsOf, turnedIn, eventsIn, advancedIn, stepArea, eventsAt};
+ghost use lib.ListN.{length};
+ghost use Rattle.area.specs.Area.{clockAt};
+ghost use Rattle.pair.specs.BitTime.{happened, withStored, withCounted, placed, settled, isTransmit, isReceive, actIn, turnIn, eventsOf, turnedIn, eventsIn, advancedIn, stepArea, eventsAt};
 ghost use Rattle.pair.specs.InPlace.{Kept};
 ghost use Rattle.pair.specs.Ready.{Able, AllAble, Ready};
 
@@ -26,36 +25,6 @@ pub struct Events {
 pub struct Act {
     pub outcome: Stepped,
     pub symbol: Symbol,
-}
-
-// The symbol with this code that station i, at p, emits in step t is on its way to station j.
-fn send_to(area: &mut [u8], t: usize, i: usize, p: u32, code: u8, j: usize)
-    requires { ⌜ (i < 16) × (j < 16) × (t < 4294967296) × (57344 ≤ length (now area)) × (p ≡ positionAt (now area) i) ⌝ }
-    ensures { λ r. ⌜ now (area .exit) ≡ codeTo t i code j (now (area .entry)) ⌝ }
-{
-    if j == i {
-        return;
-    }
-    let q = area::read_position(area, j);
-    let u = t + area::apart(p, q) as usize;
-    area::add_symbol(area, j, u, code);
-}
-
-// The symbol goes to each of n stations but its own.
-pub fn push(area: &mut [u8], n: usize, t: usize, i: usize, s: Symbol)
-    requires { ⌜ (i < 16) × (n ≤ 16) × (t < 4294967296) × (57344 ≤ length (now area)) ⌝ }
-    ensures { λ r. ⌜ now (area .exit) ≡ pushed n t i s (now (area .entry)) ⌝ }
-{
-    let code = area::symbol_code(s);
-    if code == 0 {
-        return;
-    }
-    let p = area::read_position(area, i);
-    let mut j: usize = 0;
-    while j < n {
-        send_to(area, t, i, p, code, j);
-        j += 1;
-    }
 }
 
 // A collected bit is kept.
@@ -136,7 +105,7 @@ fn settle(area: &mut [u8], n: usize, t: usize, i: usize, a: Act)
     let o = a.outcome;
     let s = a.symbol;
     place(area, t, i, o);
-    push(area, n, t, i, s);
+    medium::push(area, n, t, i, s);
 }
 
 // What station i does in step t, from the area as it stands.

@@ -1,13 +1,13 @@
 -- A law for each way through the code that hands out the pieces. Assumes nothing.
 use Prim.Native.Nat.{ℕ, zero, suc, _+_, _-_, _*_, _≤_, _<_, min}
-use mathlib.Core.Path.{_≡_, refl, sym, _∙_, ap, ap₂, subst}
+use mathlib.Core.Path.{_≡_, refl, sym, _∙_, ap, subst}
 use mathlib.Core.Bool.{Bool, true, false, not, _&&_, _||_, true≢false}
-use mathlib.Core.List.{List, [], _∷_, _++_}
+use mathlib.Core.List.{List, [], _∷_}
 use native.Mathlib.Omega.{arith}
 use borrow.Author.Tests.{eq-eqb, ne-eqb, lt-ltb, le-ltb, le-leb, lt-leb, leb-true, leb-false, ltb-true, ltb-false, eqb-true, eqb-false}
 use borrow.Rule.Slice.PartMut.{putMid}
 use lib.Dec.{eqb, ltb, leb}
-use lib.ListN.{length, getD, replicate, take, drop}
+use lib.ListN.{length, getD, replicate, take}
 use lib.Seq.{sets}
 use Rattle.octets.specs.Base.{pick, some, Answer, refused, accepted, Outcome, outcome, doneAnswer}
 use Rattle.octets.specs.BaseLaws.{by-test, some-none, some-more, some-hit, some-end}
@@ -38,7 +38,7 @@ use Rattle.pieces.specs.declared.Piece.{Piece}
 use Rattle.pieces.specs.declared.Piece.the-variants.{Refused, Text}
 use Rattle.pieces.specs.declared.Handed.{Handed}
 use Rattle.pieces.specs.declared.Stretch.{Stretch}
-use Rattle.pieces.specs.Printed.{nextOffer, lies, made, offerLine, offerText, runText, firstText, startArea}
+use Rattle.pieces.specs.Printed.{nextOffer, lies, made, offerLine, offerText, firstText, startArea}
 use Rattle.pieces.specs.Pieces.{hasEvent, eventful, Stretched, stretchOf, oneMore, untilEvent, Moved, moved, standing, isDue, spanOf, lastPiece, offerPiece, timesLeft, stretchPiece, stepPiece, move, Hand, pieceAnswer, handing, given, withheld, offerShort, moveRefusal, advancedOn, onFront, advanced, noProgress, startPiece, firstPiece, begun}
 
 -- ---- whether some station has an event

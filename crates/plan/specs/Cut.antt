@@ -1,23 +1,23 @@
 -- "More than 16,384 octets": of a longer input the first 16,385 octets decide what is printed, so the rest need not be kept.
 -- Assumes nothing.
 use Prim.Native.Nat.{ℕ, zero, suc, _+_, _*_, _≤_, _<_}
-use mathlib.Core.Path.{_≡_, refl, sym, _∙_, ap, ap₂, subst}
-use mathlib.Core.Bool.{Bool, true, false, _||_}
+use mathlib.Core.Path.{_≡_, refl, sym, _∙_, ap}
+use mathlib.Core.Bool.{Bool, true, false}
 use mathlib.Core.List.{List, [], _∷_, _++_}
 use native.Mathlib.Nat.{mul-le-mul}
 use native.Mathlib.Omega.{arith}
-use borrow.Author.Tests.{eq-eqb, ne-eqb, lt-ltb, le-ltb, eqb-true, eqb-false, ltb-true, ltb-false}
+use borrow.Author.Tests.{ne-eqb, lt-ltb, le-ltb, eqb-false, ltb-true, ltb-false}
 use lib.Dec.{eqb, ltb}
 use lib.ListN.{length, getD, take, drop, length-append, take-append-drop, List·getD-append}
 use lib.Seq.{take-all, length-take-le}
 use Rattle.octets.specs.Base.{pick, outside}
 use Rattle.octets.specs.BaseLaws.{by-test, within}
 use Rattle.octets.specs.NumberLaws.{Octets, octets-by}
-use Rattle.sheet.specs.Sheet.{stands, width, fieldAt, countPlace, countIn, layoutIn, sheetSize, Reading, readSheet}
+use Rattle.sheet.specs.Sheet.{stands, width, fieldAt, countPlace, countIn, layoutIn, sheetSize, Reading}
 use Rattle.sheet.specs.SheetTheorems.{sheet-front, size-front, count-front}
 use Rattle.text.specs.Text.{refusedLine}
 use Rattle.input.specs.Plan.{depthIn, offersPlace, drawsWrong, planWrong, lastRefusal, afterSheet, sheetRefusal, planRefusal, Planned, unplanned, wholeFrom, unless, planRead}
-use Rattle.pieces.specs.Printed.{planText, printed}
+use Rattle.pieces.specs.Printed.{printed}
 
 -- ---- a refused input prints its number
 

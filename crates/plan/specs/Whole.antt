@@ -1,12 +1,11 @@
 -- The pieces are what is printed: from `begin` on, no `advance` is refused, each hands out the next piece of it, and they come to an end.
 -- Assumes nothing.
-use Prim.Native.Nat.{ℕ, zero, suc, _+_, _-_, _*_, _≤_, _<_, min}
+use Prim.Native.Nat.{ℕ, zero, suc, _+_, _-_, _≤_, _<_, min}
 use mathlib.Core.Path.{_≡_, refl, sym, _∙_, ap, ap₂, subst}
-use mathlib.Core.Bool.{Bool, true, false, not, _&&_, _||_, true≢false}
+use mathlib.Core.Bool.{Bool, true, false, true≢false}
 use mathlib.Core.List.{List, [], _∷_, _++_, append-assoc, append-nil}
-use native.Mathlib.Numerals.{add-one}
 use native.Mathlib.Omega.{arith}
-use borrow.Author.Tests.{eq-eqb, ne-eqb, lt-ltb, le-ltb, le-leb, eqb-true, eqb-false, ltb-true, ltb-false}
+use borrow.Author.Tests.{eq-eqb, ne-eqb, le-ltb, le-leb, eqb-false, ltb-false}
 use lib.Dec.{eqb, ltb}
 use lib.ListN.{length, getD, replicate, take, drop, length-append, length-replicate, getD-replicate}
 use lib.Seq.{sets, length-sets, ext-getD, take-at, drop-at, length-take-le}
@@ -37,7 +36,7 @@ use Rattle.input.specs.Plan.{offerTime, offerStation, offerDestination, offerVa
 use Rattle.input.specs.PlanTheorems.{Right, read-right, read-passes, read-formed}
 use Rattle.pieces.specs.declared.Progress.{Progress}
 use Rattle.pieces.specs.Printed.{nextOffer, lies, made, offerLine, offerText, none, after, dueOffers, stepThen, runText, firstText, startArea, zeros, planText, printed}
-use Rattle.pieces.specs.Pieces.{hasEvent, eventful, Stretched, oneMore, untilEvent, Moved, moved, standing, isDue, spanOf, lastPiece, offerPiece, timesLeft, stretchPiece, stepPiece, move, Hand, pieceOf, given, withheld, offerShort, moveRefusal, advancedOn, onFront, advanced, noProgress, startPiece, firstPiece, begun, remaining, told}
+use Rattle.pieces.specs.Pieces.{hasEvent, eventful, Stretched, oneMore, untilEvent, Moved, moved, standing, isDue, spanOf, lastPiece, offerPiece, timesLeft, stretchPiece, stepPiece, move, Hand, given, offerShort, moveRefusal, advancedOn, onFront, advanced, noProgress, startPiece, firstPiece, begun, remaining, told}
 use Rattle.pieces.specs.PieceLaws.{move-last, move-offer, move-step, due-offers, span-most, span-some, stretch-steps, stretch-some, lies-room, short-none, short-is}
 
 -- ---- a step without an event has no lines, and no late collision

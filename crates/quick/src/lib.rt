@@ -186,7 +186,7 @@ fn send_on(area: &mut [u8], n: usize, t: usize, i: usize, k: u32, size: u32)
 {
     let s = area::symbol(area, i, size as usize, Emission::PacketBit(k));
     area::write_word(area, i, 4, k + 1);
-    pair::push(area, n, t, i, s);
+    medium::push(area, n, t, i, s);
 }
 
 // The turn of a station that sends: not the one of its last bit.

@@ -1,10 +1,10 @@
 -- What is read of the area after a step: each station is what its act made of it. Assumes nothing.
 use Prim.Native.Nat.{ℕ, zero, suc, _+_, _*_, _/_, _%_, _^_, _≤_, _<_, min}
-use mathlib.Core.Path.{_≡_, refl, sym, _∙_, ap, ap₂, subst}
+use mathlib.Core.Path.{_≡_, refl, sym, _∙_, ap, subst}
 use mathlib.Core.Bool.{Bool, true, false, _||_, true≢false}
 use mathlib.Core.List.{List, [], _∷_}
 use native.Mathlib.Omega.{arith}
-use lib.Dec.{ltb, eqb}
+use lib.Dec.{eqb}
 use lib.ListN.{length, getD, set, length-set}
 use Rattle.octets.specs.Base.{pick}
 use Rattle.octets.specs.BaseLaws.{by-test, by-eq, neither}
@@ -25,12 +25,14 @@ use Rattle.station.specs.declared.step.Stepped.{Stepped}
 use Rattle.station.specs.Count.{added, addedIf, countSent, countTransmit, countReceive, counted}
 use Rattle.record.specs.Codec.{encoded}
 use Rattle.record.specs.CodecLaws.{Fit}
-use Rattle.area.specs.Places.{Part, clock, depth, layout, draws, counters, station, frame, buffer, place, at, size, Off, Keeps}
-use Rattle.area.specs.Area.{clockAt, withClock, spaceAt, addressAt, countersAt, withCounters, recordAt, stationAt, withStation, bufferAt, withBit, octetWith, symbolAt, arrivalAt, withArrival, joined, heardCode}
-use Rattle.area.specs.AreaLaws.{keeps-refl, keeps-trans, record-by, record-same, address-by, counters-by, symbol-by, buffer-by, station-keeps, counters-keeps, arrival-keeps, bit-keeps, arrival-same, bit-same, counters-same, symbol-same, code-small, length-station, length-counters, length-arrival}
+use Rattle.area.specs.Places.{Part, counters, station, buffer, place, Off, Keeps}
+use Rattle.area.specs.Area.{countersAt, recordAt, withStation, bufferAt, octetWith, symbolAt, arrivalAt, withArrival}
+use Rattle.area.specs.AreaLaws.{keeps-refl, keeps-trans, record-by, record-same, counters-by, symbol-by, buffer-by, station-keeps, arrival-keeps, arrival-same, bit-same, counters-same, symbol-same, code-small, length-station}
 use Rattle.pair.specs.declared.Act.{Act}
-use Rattle.pair.specs.BitTime.{sendTo, isSilence, pushed, withStored, isTransmit, isReceive, happened, withCounted, placed, settled}
-use Rattle.pair.specs.InPlace.{Kept, Spread, Foreign, settle-keeps, push-keeps, stored-keeps, counted-keeps, length-sends, length-placed, length-settled, length-counted, length-stored, ahead-all, Ahead}
+use Rattle.medium.specs.Medium.{sendTo, isSilence, pushed}
+use Rattle.pair.specs.BitTime.{withStored, isTransmit, isReceive, happened, withCounted, placed, settled}
+use Rattle.pair.specs.InPlace.{Kept, Spread, Foreign, settle-keeps, stored-keeps, counted-keeps, length-placed, length-settled, length-counted, length-stored, ahead-all, Ahead}
+use Rattle.medium.specs.MediumLaws.{push-keeps, length-sends}
 
 -- ---- counters stay sixteen words
 

@@ -1,16 +1,15 @@
 -- An area that passes checks 1 and 2 is ready for steps, and an area that is ready passes them. Assumes nothing.
 use Prim.Native.Nat.{ℕ, zero, suc, _+_, _-_, _*_, _%_, _^_, _≤_, _<_, min}
-use mathlib.Core.Path.{_≡_, refl, sym, _∙_, ap, ap₂, subst}
-use mathlib.Core.Bool.{Bool, true, false, _||_, true≢false}
+use mathlib.Core.Path.{_≡_, refl, ap, subst}
+use mathlib.Core.Bool.{Bool, true, false, true≢false}
 use mathlib.Core.List.{List, [], _∷_}
 use native.Mathlib.Omega.{arith}
 use lib.Dec.{ltb, leb, eqb}
 use lib.ListN.{length, getD}
-use borrow.Author.Tests.{ltb-true, ltb-false, leb-true, leb-false, eqb-true, eqb-false, lt-ltb, le-ltb, le-leb, lt-leb, eq-eqb, ne-eqb}
+use borrow.Author.Tests.{ltb-true, ltb-false, leb-true, leb-false, eqb-true, eqb-false, le-ltb, le-leb, lt-leb, eq-eqb, ne-eqb}
 use Rattle.octets.specs.Base.{pick, some, outside}
 use Rattle.octets.specs.BaseLaws.{by-test, by-eq, neither, within, outside-not, none-below, below-none}
 use Rattle.octets.specs.Filled.{filled-at}
-use Rattle.octets.specs.Number.{get}
 use Rattle.octets.specs.NumberLaws.{Octets, get-small}
 use Rattle.octets.specs.Words.{wordsAt}
 use Rattle.octets.specs.WordsLaws.{Small, word-at, length-words}

@@ -1,8 +1,8 @@
 -- A step leaves an area that passes checks 1 and 2 as one that passes them; and what is read of the area after a step.
 -- Assumes nothing.
-use Prim.Native.Nat.{ℕ, zero, suc, _+_, _*_, _^_, _≤_, _<_, min}
+use Prim.Native.Nat.{ℕ, suc, _+_, _*_, _≤_, _<_, min}
 use mathlib.Core.Path.{_≡_, refl, sym, _∙_, ap, ap₂, subst}
-use mathlib.Core.List.{List, []}
+use mathlib.Core.List.{List}
 use native.Mathlib.Numerals.{add-one}
 use native.Mathlib.Omega.{arith}
 use lib.ListN.{length}
@@ -20,17 +20,16 @@ use Rattle.station.specs.Step.{stepped, nextStation}
 use Rattle.station.specs.Count.{counted}
 use Rattle.record.specs.Codec.{decoded, encoded}
 use Rattle.record.specs.CodecLaws.{Fit, decoded-encoded}
-use Rattle.area.specs.Places.{Part, clock, depth, layout, draws, counters, station, frame, buffer, place, at, size, Off, Keeps}
-use Rattle.area.specs.Area.{clockAt, withClock, depthAt, figuresAt, countAt, positionAt, addressAt, tapAt, layoutAt, spaceAt, countersAt, recordAt, stationAt, bufferAt, symbolAt}
+use Rattle.area.specs.Places.{Part, clock, depth, layout, draws, counters, station, frame, buffer, place, Off, Keeps}
+use Rattle.area.specs.Area.{clockAt, depthAt, figuresAt, countAt, addressAt, tapAt, layoutAt, spaceAt, countersAt, recordAt, stationAt, bufferAt, symbolAt}
 use Rattle.area.specs.AreaLaws.{keeps-trans, depth-by, figures-by, count-by, position-by, address-by, space-by, counters-by, record-by, symbol-by, buffer-by, clock-keeps, clock-same, length-clock}
-use Rattle.valid.specs.Valid.{recordWrong, areaRefusal}
 use Rattle.pair.specs.declared.Act.{Act}
 use Rattle.pair.specs.BitTime.{outcomeIn, actIn, actAt, settled, stepArea}
 use Rattle.pair.specs.Range.{Fine, fine-stepped, fine-fit}
 use Rattle.pair.specs.InPlace.{Kept, Spread, Ahead}
 use Rattle.pair.specs.Ready.{Readiness, Ready, kept}
 use Rattle.ready.specs.After.{length-after, ahead, codes-all, record-all, buffer-all, storedIn, counters-all, counted-words}
-use Rattle.ready.specs.Passes.{Passing, record-right, ready-passes}
+use Rattle.ready.specs.Passes.{Passing, record-right}
 
 -- ---- the layout goes by its part
 

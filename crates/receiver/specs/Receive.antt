@@ -2,8 +2,8 @@
 -- "A reception is an unbroken stretch of steps in which others are heard." The laws are in ReceiveLaws. Assumes nothing.
 use Prim.Native.Nat.{ℕ, _+_, _*_, _/_, _%_}
 use mathlib.Core.Bool.{Bool, true, false, not, _||_}
-use mathlib.Core.List.{List, [], _∷_}
-use lib.Dec.{ltb, leb, eqb}
+use mathlib.Core.List.{List}
+use lib.Dec.{ltb, eqb}
 use lib.ListN.{getD, take, replicate}
 use Rattle.octets.specs.Base.{pick, Answer}
 use Rattle.octets.specs.Bits.{digit}

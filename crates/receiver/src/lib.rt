@@ -4,7 +4,6 @@ use opener::ReceiveStatus;
 use packet::Heard;
 use state::Receiver;
 ghost use mathlib.Core.Path.{_≡_};
-ghost use mathlib.Core.Bool.{_||_, not};
 ghost use Prim.Native.Nat.{_+_, _*_, _<_, _≤_};
 ghost use lib.ListN.{length};
 ghost use Rattle.octets.specs.Bits.{digit};

@@ -1,13 +1,12 @@
 -- What is encoded reads back; a law for each way through the code. Assumes nothing.
-use Prim.Native.Nat.{ℕ, _^_, _≤_, _<_}
-use mathlib.Core.Path.{_≡_, refl, sym, _∙_, ap}
+use Prim.Native.Nat.{ℕ, _^_, _<_}
+use mathlib.Core.Path.{_≡_, refl, ap}
 use mathlib.Core.Bool.{Bool, true, false}
 use mathlib.Core.List.{List, [], _∷_}
 use native.Mathlib.Omega.{arith}
 use borrow.Author.Tests.{eq-eqb, ne-eqb}
 use lib.Dec.{eqb}
 use lib.ListN.{length, getD}
-use Rattle.octets.specs.Base.{pick}
 use Rattle.octets.specs.WordsLaws.{Small}
 use Rattle.state.specs.declared.Deference.{Deference}
 use Rattle.state.specs.declared.Deference.the-variants.{Quiet, Busy, Gap}

@@ -6,10 +6,9 @@ use mathlib.Core.List.{List, [], _∷_, _++_}
 use native.Mathlib.Numerals.{add-one}
 use native.Mathlib.Omega.{arith}
 use borrow.Author.Tests.{not-true}
-use lib.Dec.{eqb}
 use lib.ListN.{length, getD, set, replicate, length-append}
 use lib.Seq.{getD-append-add, set-getD}
-use Rattle.octets.specs.Base.{pick, some, accepted}
+use Rattle.octets.specs.Base.{some, accepted}
 use Rattle.octets.specs.BaseLaws.{some-none, some-more, some-same}
 use Rattle.octets.specs.Filled.{listed, filled, filled-at, filled-none, filled-more}
 use Rattle.octets.specs.Turns.{turns}

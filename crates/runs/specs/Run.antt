@@ -1,10 +1,10 @@
 -- A run of n bit times (document 01: "A run of n bit times ends early after the first step in which any station has a late collision. ..
 -- a run answers the steps made and how many events of each word came"; refusals 1, 2, 13). The laws are in RunLaws. Assumes nothing.
 use Prim.Native.Nat.{ℕ, zero, suc, _+_}
-use mathlib.Core.Bool.{Bool, true, false}
+use mathlib.Core.Bool.{Bool}
 use mathlib.Core.List.{List, []}
 use lib.Dec.{ltb, eqb}
-use lib.ListN.{getD, set, replicate}
+use lib.ListN.{replicate}
 use Rattle.octets.specs.Base.{pick, some, Answer, refused, accepted, doneAnswer}
 use Rattle.octets.specs.Turns.{turns}
 use Rattle.receiver.specs.declared.ReceiveEvent.{ReceiveEvent}

@@ -2,10 +2,10 @@
 use Prim.Native.Nat.{ℕ, zero, suc, _+_, _-_, _*_, _≤_, _<_}
 use mathlib.Core.Path.{_≡_, refl, sym, _∙_, ap, subst}
 use mathlib.Core.Bool.{Bool, true, false}
-use mathlib.Core.List.{List, [], _∷_}
+use mathlib.Core.List.{List, []}
 use native.Mathlib.Omega.{arith}
 use borrow.Author.Tests.{eq-eqb, ne-eqb, lt-ltb, le-ltb}
-use lib.ListN.{getD, set, replicate}
+use lib.ListN.{replicate}
 use Rattle.octets.specs.Base.{pick, some, refused, accepted, doneAnswer}
 use Rattle.octets.specs.BaseLaws.{by-eq, some-hit}
 use Rattle.octets.specs.NumberLaws.{Octets}
@@ -25,7 +25,7 @@ use Rattle.ready.specs.Stays.{step-ready, step-clock}
 use Rattle.runs.specs.declared.Ended.{Ended}
 use Rattle.runs.specs.declared.Ended.the-variants as how
 use Rattle.runs.specs.declared.RunAnswer.{RunAnswer}
-use Rattle.tally.specs.Tally.{bumped, sentCounted, gotCounted}
+use Rattle.tally.specs.Tally.{sentCounted}
 use Rattle.runs.specs.Run.{tallied, lateAt, first, Ran, runOf, runOutcome, ran}
 
 -- ---- the words have room

@@ -5,12 +5,12 @@ use mathlib.Core.List.{List, [], _∷_, _++_}
 use Rattle.octets.specs.BaseLaws.{by-eq}
 use native.Mathlib.Nat.{not-suc-le-zero}
 use native.Mathlib.Omega.{arith}
-use lib.ListN.{length, getD, take, drop, replicate}
+use lib.ListN.{length, getD}
 use lib.Seq.{sets, length-sets}
 use Rattle.octets.specs.Number.{get, put}
 use Rattle.octets.specs.NumberLaws.{length-put, get-put-same, get-put-other}
 use Rattle.octets.specs.Store.{part, part-same, Apart}
-use Rattle.octets.specs.Region.{Same, same-refl, same-part, same-trans, sets-leaves, put-leaves, words-leave, get-goes-by, words-go-by, part-goes-by}
+use Rattle.octets.specs.Region.{Same, same-refl, same-part, same-trans, sets-leaves, put-leaves, words-leave, get-goes-by, part-goes-by}
 use Rattle.octets.specs.Turns.{turns, turns-none, turns-more, length-turns, blanked, blanked-same, length-blanked}
 use Rattle.octets.specs.Words.{wordsAt, putWords}
 use Rattle.octets.specs.WordsLaws.{length-put-words, get-words-same}
@@ -20,8 +20,8 @@ use Rattle.layout.specs.declared.Layout.{Layout}
 use Rattle.layout.specs.Layout as lay
 use Rattle.layout.specs.CheckLaws.{Figured, Sound}
 use Rattle.packet.specs.declared.Heard.the-variants.{Nothing}
-use Rattle.area.specs.Places.{Part, clock, depth, layout, draws, counters, station, frame, buffer, place, at, size, Off, Keeps}
-use Rattle.area.specs.Area.{clockAt, depthAt, drawAt, figuresAt, countAt, positionAt, addressAt, recordAt, countersAt, symbolAt, arrivalAt, heardOf, frameAt, bufferAt}
+use Rattle.area.specs.Places.{Part, at, Off, Keeps}
+use Rattle.area.specs.Area.{clockAt, depthAt, drawAt, figuresAt, countAt, positionAt, addressAt, recordAt, countersAt, symbolAt, arrivalAt, heardOf}
 use Rattle.start.specs.Fresh.{withFigures, withTap, tapIn, withTaps, withDepth, withDraw, withRow, withDraws, withPlan, fresh}
 
 -- ---- the code

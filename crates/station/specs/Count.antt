@@ -1,7 +1,7 @@
 -- Counters (document 01, "Counters, 32 bits, per station"), sixteen in the document's order.
 -- The laws are in CountLaws. Assumes nothing.
 use Prim.Native.Nat.{ℕ, _+_, _-_, min}
-use mathlib.Core.Bool.{Bool, true, false}
+use mathlib.Core.Bool.{Bool}
 use mathlib.Core.List.{List}
 use lib.Dec.{leb, eqb}
 use lib.ListN.{getD, set}

@@ -2,7 +2,7 @@
 -- It is local: a function of the layout's figures, the station's own state, draws and collected octets, and what it hears.
 -- The laws are in StepLaws. Assumes nothing.
 use Prim.Native.Nat.{ℕ, _+_, _<_, _≤_}
-use mathlib.Core.Bool.{Bool, true, false, not, _||_, _&&_}
+use mathlib.Core.Bool.{Bool, not, _||_, _&&_}
 use mathlib.Core.List.{List}
 use lib.Dec.{eqb}
 use Rattle.octets.specs.Base.{pick}

@@ -1,11 +1,10 @@
 -- A law for each way through the step's code. Assumes nothing.
-use Prim.Native.Nat.{ℕ, _+_, _<_, _≤_}
-use mathlib.Core.Path.{_≡_, refl, sym, _∙_, ap}
+use Prim.Native.Nat.{ℕ, _+_}
+use mathlib.Core.Path.{_≡_, refl, _∙_, ap}
 use mathlib.Core.Bool.{Bool, true, false, not, _||_, _&&_}
 use mathlib.Core.List.{List}
 use lib.Dec.{eqb}
 use borrow.Author.Tests.{eq-eqb, ne-eqb}
-use Rattle.octets.specs.Base.{pick}
 use Rattle.layout.specs.declared.Figures.{Figures}
 use Rattle.packet.specs.declared.Heard.{Heard}
 use Rattle.packet.specs.declared.Emission.{Emission}

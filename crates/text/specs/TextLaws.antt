@@ -1,17 +1,15 @@
 -- A law for each way through the code that writes numbers and words. Assumes nothing.
 use Prim.Native.Nat.{ℕ, zero, suc, _+_, _-_, _/_, _%_, _≤_, _<_}
 use mathlib.Core.Path.{_≡_, refl, sym, _∙_, ap, ap₂}
-use mathlib.Core.Bool.{Bool, true, false}
+use mathlib.Core.Bool.{Bool}
 use mathlib.Core.List.{List, [], _∷_, _++_, append-assoc, append-nil}
 use native.Mathlib.Numerals.{add-one}
 use native.Mathlib.Omega.{arith}
 use borrow.Author.Tests.{eq-eqb, ne-eqb}
-use lib.Dec.{eqb}
 use lib.ListN.{length, getD, set, take, drop, replicate, length-append, length-set, length-drop}
 use lib.Seq.{sets, take-all, drop-cons, drop-set-lt, getD-set-same}
-use Rattle.octets.specs.Base.{pick}
 use Rattle.octets.specs.Store.{sets-append}
-use Rattle.text.specs.Text.{Written, written, puts, digits, lean, decimal, space, newline, numbered, counted, placed, line, stationsWord, firstLine}
+use Rattle.text.specs.Text.{Written, written, puts, digits, lean, decimal, numbered, counted, placed, line, stationsWord, firstLine}
 
 -- ---- the digits
 

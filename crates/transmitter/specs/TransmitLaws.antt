@@ -1,15 +1,13 @@
 -- A law for each way through the transmitter's code. Assumes nothing.
-use Prim.Native.Nat.{ℕ, zero, suc, _+_, _-_, _*_, _%_, _^_, _≤_, _<_, min}
-use mathlib.Core.Path.{_≡_, refl, sym, _∙_, ap}
+use Prim.Native.Nat.{ℕ, _+_, _-_, _*_, _%_, _^_, _≤_, _<_, min}
+use mathlib.Core.Path.{_≡_, refl, _∙_, ap}
 use mathlib.Core.Bool.{Bool, true, false}
-use mathlib.Core.List.{List, [], _∷_}
+use mathlib.Core.List.{List}
 use native.Mathlib.Nat.{mod-lt, lt-of-le-of-lt, mul-le-mul-left, mul-lt-mul-of-pos-right}
 use native.Mathlib.Omega.{arith}
 use lib.Pow.{pow-pos, pow-lt}
-use lib.Dec.{ltb, leb, eqb}
 use lib.ListN.{getD}
 use borrow.Author.Tests.{lt-ltb, le-ltb, le-leb, lt-leb, eq-eqb, ne-eqb}
-use Rattle.octets.specs.Base.{pick}
 use Rattle.octets.specs.Table.{tabulated, entry}
 use Rattle.layout.specs.declared.Figures.{Figures}
 use Rattle.transmitter.specs.declared.TransmitEvent.{TransmitEvent}
@@ -20,7 +18,7 @@ use Rattle.state.specs.declared.Transmitter.{Transmitter}
 use Rattle.state.specs.declared.Transmitter.the-variants.{NoFrame, Waiting, BackingOff, Sending, Heading, Jamming}
 use Rattle.transmitter.specs.declared.Transmitted.{Transmitted}
 use Rattle.state.specs.State.{numberIn}
-use Rattle.transmitter.specs.Transmit.{octetsHeld, resting, emitting, packetLength, afterBit, collision, sendBit, headBit, backoffRange, backOff, lastJam, jamBit, backoffBit, waitBit, transmit}
+use Rattle.transmitter.specs.Transmit.{octetsHeld, resting, emitting, afterBit, collision, sendBit, headBit, backoffRange, backOff, lastJam, jamBit, backoffBit, waitBit, transmit}
 
 pub after-heading : (jam k : ℕ) → k < 64 → Heading (k + 1) ≡ afterBit jam k
 unfolding afterBit

@@ -4,7 +4,7 @@ use layout::Figures;
 use packet::Emission;
 use state::Transmitter;
 ghost use mathlib.Core.Path.{_≡_};
-ghost use Prim.Native.Nat.{_+_, _*_, _<_, _≤_, _^_, min};
+ghost use Prim.Native.Nat.{_+_, _*_, _<_, _≤_, min};
 ghost use Rattle.transmitter.specs.Transmit.{waits, octetsHeld, afterBit, collision, sendBit, headBit, jamBit, lastJam, backOff, backoffRange, resting, backoffBit, transmit};
 ghost use Rattle.state.specs.State.{numberIn};
 

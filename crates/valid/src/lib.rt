@@ -3,7 +3,7 @@
 use layout::Figures;
 ghost use mathlib.Core.Path.{_≡_};
 ghost use Prim.Native.Nat.{_+_, _<_, _≤_};
-ghost use lib.ListN.{length, getD};
+ghost use lib.ListN.{length};
 ghost use lib.Dec.{ltb};
 ghost use Rattle.octets.specs.Base.{pick, some};
 ghost use Rattle.area.specs.Area.{figuresAt};

@@ -1,14 +1,14 @@
--- `pair::push` meets its contract. Assumes nothing.
+-- `medium::push` meets its contract. Assumes nothing.
 use borrow.Author.Needs.{needs}
 use native.Mathlib.Omega.{arith}
 use Prim.Native.Nat.{_≤_, _-_}
 use mathlib.Core.Path.{_≡_, refl}
 use lib.ListN.{length}
 use Rattle.octets.specs.Turns.{turns, turns-none}
-use Rattle.pair.specs.BitTime.{codeTo}
-use Rattle.pair.specs.CodeLaws.{push-none, push-position, push-more, push-all}
-use Rattle.pair.proofs.push.Statement.{statement}
-use Rattle.pair.proofs.push.Tie as tie
+use Rattle.medium.specs.Medium.{codeTo}
+use Rattle.medium.specs.MediumLaws.{push-none, push-position, push-more, push-all}
+use Rattle.medium.proofs.push.Statement.{statement}
+use Rattle.medium.proofs.push.Tie as tie
 
 abbrev Inv-loop : tie.InvT-loop
 Inv-loop area₀ n t i code p j₀ area j = (j ≤ n) × (length area ≡ length area₀) × (area ≡ turns (codeTo t i code) j area₀)

@@ -1,8 +1,8 @@
--- `pair::send_to` meets its contract. Assumes nothing.
-use Rattle.pair.specs.CodeLaws.{send-own, send-apart}
+-- `medium::send_to` meets its contract. Assumes nothing.
+use Rattle.medium.specs.MediumLaws.{send-own, send-apart}
 use borrow.Author.Needs.{needs}
-use Rattle.pair.proofs.send_to.Statement.{statement}
-use Rattle.pair.proofs.send_to.Tie as tie
+use Rattle.medium.proofs.send_to.Statement.{statement}
+use Rattle.medium.proofs.send_to.Tie as tie
 
 returns : tie.Need-returns
 returns c = search send-own
