@@ -1,13 +1,15 @@
 -- A law for each way through the code that checks a work area. Assumes nothing.
-use Prim.Native.Nat.{ℕ, suc, _+_, _≤_, _<_}
+use Prim.Native.Nat.{ℕ, suc, _+_, _≤_, _<_, max}
 use mathlib.Core.Path.{_≡_, refl, sym, _∙_, ap, ap₂}
 use mathlib.Core.Bool.{Bool, true, false, _||_, true≢false}
 use mathlib.Core.List.{List}
 use native.Mathlib.Omega.{arith}
-use borrow.Author.Tests.{lt-ltb, le-ltb, eq-eqb, ne-eqb, ltb-false, eqb-true}
+use native.Mathlib.Numerals.{add-one}
+use borrow.Author.Tests.{lt-ltb, le-ltb, eq-eqb, ne-eqb, ltb-true, ltb-false, eqb-true}
 use lib.Dec.{ltb, eqb}
 use lib.ListN.{length}
 use Rattle.octets.specs.Base.{pick, some, outside}
+use Rattle.octets.specs.BaseLaws.{by-test}
 use Rattle.layout.specs.declared.Figures.{Figures}
 use Rattle.layout.specs.declared.Layout.{Layout}
 use Rattle.layout.specs.Check.{refusalOf}
@@ -15,9 +17,25 @@ use Rattle.layout.specs.CheckLaws.{Sound, sound}
 use Rattle.area.specs.Area.{clockAt, depthAt, figuresAt, countAt, layoutAt, recordAt, symbolAt}
 use Rattle.valid.specs.Valid.{recordWrong, symbolWrong, stationWrong, areaWrong, areaRefusal}
 
-pub symbol-is : (a : List ℕ) (i u x : ℕ) → x ≡ symbolAt a i u → ltb 4 x ≡ symbolWrong a i u
-unfolding symbolWrong
-symbol-is a i u x p = ap (ltb 4) p
+-- the highest code tells whether one is over 4
+pub top-none : (a : List ℕ) (i : ℕ) → ltb 4 0 ≡ some (symbolWrong a i) 0
+unfolding some
+top-none a i = refl
+
+over-either : (x y : ℕ) → ltb 4 (max x y) ≡ (ltb 4 x || ltb 4 y)
+over-either x y =
+    by-test (ltb 4 x)
+    (λ p. rw p (lt-ltb 4 (max x y) (omega (arith, ltb-true 4 x p))))
+    (λ p. by-test (ltb 4 y)
+    (λ q. rw (p, q) (lt-ltb 4 (max x y) (omega (arith, ltb-true 4 y q))))
+    (λ q. rw (p, q) (le-ltb 4 (max x y) (omega (arith, ltb-false 4 x p, ltb-false 4 y q)))))
+
+pub top-more : (a : List ℕ) (i u x y z : ℕ) → z ≡ max x y → y ≡ symbolAt a i u → ltb 4 x ≡ some (symbolWrong a i) u → ltb 4 z ≡ some (symbolWrong a i) (u + 1)
+unfolding some symbolWrong
+top-more a i u x y z p q r = rw (p, add-one u, ← r, ← q) (over-either x y)
+
+pub top-end : (a : List ℕ) (i u x : ℕ) → u ≤ 256 → 256 ≤ u → ltb 4 x ≡ some (symbolWrong a i) u → ltb 4 x ≡ some (symbolWrong a i) 256
+top-end a i u x h g p = let e : u ≡ 256 = omega arith in rw e at p
 
 pub station-is : (a w : List ℕ) (i d t : ℕ) (f : Figures) (r b c : Bool) → r ≡ (b || c) → c ≡ some (symbolWrong a i) 256
     → b ≡ recordWrong f d t w → w ≡ recordAt a i → f ≡ figuresAt a → d ≡ depthAt a → t ≡ clockAt a → r ≡ stationWrong a i

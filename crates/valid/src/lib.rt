@@ -2,7 +2,7 @@
 
 use layout::Figures;
 ghost use mathlib.Core.Path.{_≡_};
-ghost use Prim.Native.Nat.{_+_, _<_, _≤_};
+ghost use Prim.Native.Nat.{_+_, _<_, _≤_, max};
 ghost use lib.ListN.{length, getD};
 ghost use Rattle.octets.specs.Base.{some};
 ghost use Rattle.area.specs.Area.{figuresAt};
@@ -125,26 +125,24 @@ fn record_wrong(f: Figures, depth: u32, clock: u32, w: [u32; 14]) -> bool
     1 < w[13]
 }
 
-fn symbol_wrong(area: &[u8], i: usize, u: usize) -> bool
-    requires { ⌜ (i < 16) × (57344 ≤ length (now area)) ⌝ }
-    ensures { λ r. ⌜ r ≡ symbolWrong (now (area .entry)) i u ⌝ }
+fn larger(a: u8, b: u8) -> u8
+    ensures { λ r. ⌜ r ≡ max a b ⌝ }
 {
-    4 < area::read_symbol(area, i, u)
+    if a < b { b } else { a }
 }
 
-// Whether a code in the delay line of station i stands for nothing.
+// Whether a code in the delay line of station i stands for nothing: by the highest of them, without a test at each.
 fn line_wrong(area: &[u8], i: usize) -> bool
     requires { ⌜ (i < 16) × (57344 ≤ length (now area)) ⌝ }
     ensures { λ r. ⌜ r ≡ some (symbolWrong (now (area .entry)) i) 256 ⌝ }
 {
+    let mut top: u8 = 0;
     let mut u: usize = 0;
     while u < 256 {
-        if symbol_wrong(area, i, u) {
-            return true;
-        }
+        top = larger(top, area::read_symbol(area, i, u));
         u += 1;
     }
-    false
+    4 < top
 }
 
 fn station_wrong(area: &[u8], i: usize) -> bool

@@ -1,28 +1,29 @@
 -- `valid::line_wrong` meets its contract. Assumes nothing.
+use borrow.Author.Needs.{needs}
 use native.Mathlib.Omega.{arith}
 use Prim.Native.Nat.{_≤_, _-_}
 use mathlib.Core.Path.{_≡_}
-use mathlib.Core.Bool.{false}
+use lib.Dec.{ltb}
 use Rattle.octets.specs.Base.{some}
-use Rattle.octets.specs.BaseLaws.{some-none, some-more, some-hit, some-end}
 use Rattle.valid.specs.Valid.{symbolWrong}
+use Rattle.valid.specs.AreaCheckLaws.{top-none, top-more, top-end}
 use Rattle.valid.proofs.line_wrong.Statement.{statement}
 use Rattle.valid.proofs.line_wrong.Tie as tie
 
 abbrev Inv-loop : tie.InvT-loop
-Inv-loop area i u₀ u = (u ≤ 256) × (some (symbolWrong area i) u ≡ false)
+Inv-loop area i top₀ u₀ top u = (u ≤ 256) × (ltb 4 top ≡ some (symbolWrong area i) u)
 
 abbrev μ-loop : tie.MeasureT-loop
-μ-loop area i u₀ u = 256 - u
+μ-loop area i top₀ u₀ top u = 256 - u
 
 loop-holds : tie.Need-loop-holds Inv-loop μ-loop
-loop-holds c = (omega arith, search some-none)
+loop-holds c = (omega arith, search top-none)
 
-symbol-wrong-requires : tie.Need-symbol-wrong-requires Inv-loop μ-loop
-symbol-wrong-requires c κs = omega arith
+read-symbol-requires : tie.Need-read-symbol-requires Inv-loop μ-loop
+read-symbol-requires c κs = omega arith
 
-returns : tie.Need-returns Inv-loop μ-loop
-returns c = search some-hit
+larger-requires : tie.Need-larger-requires Inv-loop μ-loop
+larger-requires c κs = search needs
 
 add-u : tie.Need-add-u Inv-loop μ-loop
 add-u c = omega arith
@@ -31,10 +32,10 @@ loop-less : tie.Need-loop-less Inv-loop μ-loop
 loop-less c = omega arith
 
 loop-again : tie.Need-loop-again Inv-loop μ-loop
-loop-again c = (omega arith, search some-more)
+loop-again c = (omega arith, search top-more)
 
-returns-2 : tie.Need-returns-2 Inv-loop μ-loop
-returns-2 c = search some-end
+returns : tie.Need-returns Inv-loop μ-loop
+returns c = search top-end
 
 pub line-wrong-spec : {M : Type 1} → statement M
 line-wrong-spec =
@@ -43,9 +44,9 @@ line-wrong-spec =
     Inv-loop
     μ-loop
     loop-holds
-    symbol-wrong-requires
-    returns
+    read-symbol-requires
+    larger-requires
     add-u
     loop-less
     loop-again
-    returns-2)
+    returns)
