@@ -13,6 +13,7 @@ ghost use Rattle.receiver.specs.Receive.{nextRow, storedBit};
 ghost use Rattle.area.specs.Area.{recordAt, symbolAt};
 ghost use Rattle.pair.specs.BitTime.{withStored};
 ghost use Rattle.pair.specs.Ready.{Able};
+ghost use Rattle.quick.specs.Several.{Begun, Passed};
 ghost use Rattle.quick.specs.Quick.{Plain, Taken, restsIn, sendsIn, hearsIn, gapsIn, backsIn, calmIn, countedDown, spoiledOn, collectedOn, rowOn, soughtOn, receivedOn, sentOn};
 
 // Whether station i rests. That the area holds octets is said here, and by the tests after it.
@@ -238,7 +239,7 @@ fn quick_back(area: &mut [u8], n: usize, depth: u32, t: usize, f: Figures, i: us
     false
 }
 
-// The turn of a station that hears nothing.
+// The turn of a station that hears nothing, and sends nothing.
 fn quick_silent(area: &mut [u8], n: usize, depth: u32, t: usize, f: Figures, i: usize) -> bool
     requires { ⌜ (i < 16) × (n ≤ 16) × (t < 4294967296) × (57344 ≤ length (now area)) × Able f (now area) i × Plain (now area) i ⌝ }
     requires { ⌜ symbolAt (now area) i t ≡ 0 ⌝ }
@@ -246,9 +247,6 @@ fn quick_silent(area: &mut [u8], n: usize, depth: u32, t: usize, f: Figures, i: 
 {
     if rests(area, i) {
         return true;
-    }
-    if sends(area, i) {
-        return quick_send(area, n, depth, t, f, i);
     }
     if gaps(area, i) {
         return quick_gap(area, n, depth, t, f, i);
@@ -287,7 +285,21 @@ fn quick_heard(
     false
 }
 
-// Takes the turn of station i where it changes little and nothing happens in it; says whether it did.
+// Takes the turn of station i where it sends in the middle of its frame and hears nothing; says whether it did.
+pub fn send(area: &mut [u8], n: usize, depth: u32, t: usize, f: Figures, i: usize) -> bool
+    requires { ⌜ (i < 16) × (n ≤ 16) × (t < 4294967296) × (57344 ≤ length (now area)) × Able f (now area) i × Plain (now area) i ⌝ }
+    ensures { λ r. ⌜ Taken f depth n t i (now (area .entry)) (now (area .exit)) r ⌝ }
+{
+    let code = area::read_symbol(area, i, t);
+    if code == 0 {
+        if sends(area, i) {
+            return quick_send(area, n, depth, t, f, i);
+        }
+    }
+    false
+}
+
+// Takes the turn of station i where it changes little, sends nothing, and nothing happens in it; says whether it did.
 pub fn turn(area: &mut [u8], n: usize, depth: u32, t: usize, f: Figures, i: usize) -> bool
     requires { ⌜ (i < 16) × (n ≤ 16) × (t < 4294967296) × (57344 ≤ length (now area)) × Able f (now area) i × Plain (now area) i ⌝ }
     ensures { λ r. ⌜ Taken f depth n t i (now (area .entry)) (now (area .exit)) r ⌝ }
@@ -297,4 +309,20 @@ pub fn turn(area: &mut [u8], n: usize, depth: u32, t: usize, f: Figures, i: usiz
         return quick_silent(area, n, depth, t, f, i);
     }
     quick_heard(area, n, depth, t, f, i, code)
+}
+
+// Takes such turns of the stations from i on; answers with the first whose turn is still to be taken.
+pub fn turns(area: &mut [u8], n: usize, depth: u32, t: usize, f: Figures, i: usize) -> usize
+    requires { ⌜ (i ≤ n) × (n ≤ 16) × (t < 4294967296) × (57344 ≤ length (now area)) × Begun true f depth n t i (now area) ⌝ }
+    ensures passed { λ r. ⌜ Passed f depth n t i (now (area .entry)) r (now (area .exit)) ⌝ }
+    ensures bounds { λ r. ⌜ (i ≤ r) × (r ≤ n) ⌝ }
+{
+    let mut j = i;
+    while j < n {
+        if !turn(area, n, depth, t, f, j) {
+            return j;
+        }
+        j += 1;
+    }
+    j
 }
