@@ -399,19 +399,20 @@ record-arrival : (i t : ℕ) (x : List ℕ) → i < 16 → recordAt (withArrival
 record-arrival i t x hi = record-by (withArrival x i t Nothing) x i (arrival-keeps (station i) x i t Nothing (λ a b. omega arith))
 
 -- a step of backoff leaves the receiver's number
-pub count-number : (t i : ℕ) (x : List ℕ) → i < 16 → 57344 ≤ length x → Octets x → (k m u : ℕ) (v x₀ : List ℕ) → v ≡ countedDown i u m x₀ → x₀ ≡ withArrival x i t Nothing
-    → m ≡ getD (recordAt x i) 4 0 → k ≡ getD (recordAt x i) 6 0 → k ≡ getD (recordAt v i) 6 0
+pub count-number : (t i : ℕ) (x : List ℕ) → i < 16 → 57344 ≤ length x → Octets x → (u : ℕ) (v x₀ : List ℕ) → v ≡ countedDown i u (getD (recordAt x₀ i) 4 0) x₀ → x₀ ≡ withArrival x i t Nothing
+    → getD (recordAt v i) 6 0 ≡ getD (recordAt x i) 6 0
 unfolding countedDown
-count-number t i x hi room o k m u v x₀ ev ex em ek =
+count-number t i x hi room o u v x₀ ev ex =
     let w = recordAt x i in
+    let m = getD w 4 0 in
     let y : List ℕ = withArrival x i t Nothing in
     let long : 57344 ≤ length y = omega (arith, length-arrival x i t Nothing) in
     let none : Wrote i y y w = wrote-none i y hi long w (octets-arrival x i t Nothing hi o) (record-arrival i t x hi) in
     let one : Wrote i y (withWord y i 4 (m - 1)) (set w 4 (m - 1)) = wrote-word i y hi long y w 4 (m - 1) none (omega arith) (omega (arith, word-small x i 4 o (omega arith))) in
-    ek
-    ∙ by-test (eqb u 2)
-    (λ z. let e : v ≡ withWord y i 4 (m - 1) = ev ∙ rw (z, ex) in rw (e, one .words) (sym (getD-set-other w 4 6 (m - 1) 0 (λ q. omega arith))))
-    (λ z. let e : v ≡ y = ev ∙ rw (z, ex) in rw (e, none .words))
+    let ev′ : v ≡ pick (eqb u 2) (withWord y i 4 (m - 1)) y = ev ∙ rw (ex, record-arrival i t x hi) in
+    by-test (eqb u 2)
+    (λ z. let e : v ≡ withWord y i 4 (m - 1) = ev′ ∙ rw z in rw (e, one .words) (getD-set-other w 4 6 (m - 1) 0 (λ q. omega arith)))
+    (λ z. let e : v ≡ y = ev′ ∙ rw z in rw (e, none .words))
 
 -- ---- turns
 
@@ -457,14 +458,6 @@ module _ (f : Figures) (d n t i : ℕ) (x : List ℕ) (hi : i < 16) (room : 5734
   now : Transmitter
   now = transmitterOf (getD (recordAt x i) 3 0) (getD (recordAt x i) 4 0)
 
-  gap-two : (own : Bool) (r : Receiver) (m j : ℕ) → encoded (such (Gap (m + 1) own) (BackingOff (j - 1)) r) ≡ set (set (encoded (such (Gap m own) (BackingOff j) r)) 2 (m + 1)) 4 (j - 1)
-  unfolding encoded such mk
-  gap-two own r m j = refl
-
-  gap-one : (own : Bool) (q : Transmitter) (r : Receiver) (m : ℕ) → encoded (such (Gap (m + 1) own) q r) ≡ set (encoded (such (Gap m own) q r)) 2 (m + 1)
-  unfolding encoded such mk
-  gap-one own q r m = refl
-
   back-four : (dp : Deference) (r : Receiver) (j : ℕ) → encoded (such dp (BackingOff (j - 1)) r) ≡ set (encoded (such dp (BackingOff j) r)) 4 (j - 1)
   unfolding encoded such mk
   back-four dp r j = refl
@@ -473,25 +466,31 @@ module _ (f : Figures) (d n t i : ℕ) (x : List ℕ) (hi : i < 16) (room : 5734
   unfolding encoded such mk
   back-one r j = refl
 
-  module _ (calm : calmIn (recordAt x i) ≡ true) where
-    write-gap : (m : ℕ) (own : Bool) (r : Receiver) → stationAt x i ≡ such (Gap m own) now r
-        → withStation x i (such (Gap (m + 1) own) (later now) r) ≡ countedDown i (getD (recordAt x i) 3 0) (getD (recordAt x i) 4 0) (withWord x i 2 (m + 1))
-    unfolding now countedDown
-    write-gap m own r es =
-        let w = recordAt x i in
-        let ad = addressAt x i in
-        let j = getD w 4 0 in
-        by-eq (getD w 3 0) 2
-        (λ z. rw (eq-eqb (getD w 3 0) 2 z)
-        (station-two x i (such (Gap (m + 1) own) (later now) r) hi room o 2 (m + 1) 4 (j - 1) (omega arith) (omega arith)
-        (ap (λ (y : Transmitter). encoded (such (Gap (m + 1) own) y r)) (later-back w ad z)
-        ∙ gap-two own r m j
-        ∙ ap (λ (l : List ℕ). set (set l 2 (m + 1)) 4 (j - 1)) (plain-as (such (Gap m own) (BackingOff j) r) (es ∙ ap (λ (y : Transmitter). such (Gap m own) y r) (code-back w ad z))))))
-        (λ z. rw (ne-eqb (getD w 3 0) 2 z)
-        (station-one x i (such (Gap (m + 1) own) (later now) r) hi room o 2 (m + 1) (omega arith)
-        (ap (λ (y : Transmitter). encoded (such (Gap (m + 1) own) y r)) (later-same w ad calm z)
-        ∙ gap-one own now r m
-        ∙ ap (λ (l : List ℕ). set l 2 (m + 1)) (plain-as (such (Gap m own) now r) es))))
+  -- the words of a step of backoff, in an area z with this record
+  count-writes : (z : List ℕ) → 57344 ≤ length z → Octets z → recordAt z i ≡ recordAt x i → (dp : Deference) (r : Receiver) → calmIn (recordAt x i) ≡ true → stationAt x i ≡ such dp now r
+      → Wrote i z (countedDown i (getD (recordAt x i) 3 0) (getD (recordAt x i) 4 0) z) (encoded (such dp (later now) r))
+  unfolding countedDown now
+  count-writes z zr zo ze dp r calm es =
+      let w = recordAt x i in
+      let ad = addressAt x i in
+      let j = getD w 4 0 in
+      let none : Wrote i z z w = wrote-none i z hi zr w zo ze in
+      by-eq (getD w 3 0) 2
+      (λ q. let e : encoded (such dp (later now) r) ≡ set w 4 (j - 1) =
+      ap (λ (y : Transmitter). encoded (such dp y r)) (later-back w ad q)
+      ∙ back-four dp r j
+      ∙ ap (λ (l : List ℕ). set l 4 (j - 1)) (plain-as (such dp (BackingOff j) r) (es ∙ ap (λ (y : Transmitter). such dp y r) (code-back w ad q))) in
+      rw (eq-eqb (getD w 3 0) 2 q, e) (wrote-word i z hi zr z w 4 (j - 1) none (omega arith) (omega (arith, word-small x i 4 o (omega arith)))))
+      (λ q. let e : encoded (such dp (later now) r) ≡ w =
+      ap (λ (y : Transmitter). encoded (such dp y r)) (later-same w ad calm q) ∙ plain-as (such dp now r) es in
+      rw (ne-eqb (getD w 3 0) 2 q, e) none)
+
+  -- a turn that hears nothing and writes the state's words
+  silent-by : (s : Station) (y : List ℕ) → symbolAt x i t ≡ 0 → Wrote i x y (encoded s) → y ≡ withArrival (withStation x i s) i t Nothing
+  unfolding symbolAt
+  silent-by s y hs v =
+      let e : withStation x i s ≡ y = wrote-station i x hi room y s v in
+      sym (clear-back y i t (v .rest (4096 + 256 * i + t % 256) (λ a b. omega arith) ∙ hs)) ∙ rw e
 
   -- the area with the symbol taken from the line
   cleared : List ℕ
@@ -503,29 +502,6 @@ module _ (f : Figures) (d n t i : ℕ) (x : List ℕ) (hi : i < 16) (room : 5734
 
   Writes : List ℕ → Station → Type 0
   Writes y s = Wrote i cleared y (encoded s)
-
-  -- its words with those of a state
-  written : (s : Station) (y : List ℕ) (k v : ℕ) → Writes y s → k < 14 → v < 4294967296 → Wrote i cleared (withWord y i k v) (set (encoded s) k v)
-  unfolding Writes
-  written s y k v r h g = wrote-word i cleared hi cleared-room y (encoded s) k v r h g
-
-  count-writes : (dp : Deference) (r : Receiver) → calmIn (recordAt x i) ≡ true → stationAt x i ≡ such dp now r
-      → Writes (countedDown i (getD (recordAt x i) 3 0) (getD (recordAt x i) 4 0) cleared) (such dp (later now) r)
-  unfolding countedDown Writes now cleared
-  count-writes dp r calm es =
-      let w = recordAt x i in
-      let ad = addressAt x i in
-      let j = getD w 4 0 in
-      let none : Wrote i cleared cleared w = wrote-none i cleared hi cleared-room w (octets-arrival x i t Nothing hi o) (record-arrival i t x hi) in
-      by-eq (getD w 3 0) 2
-      (λ z. let e : encoded (such dp (later now) r) ≡ set w 4 (j - 1) =
-      ap (λ (y : Transmitter). encoded (such dp y r)) (later-back w ad z)
-      ∙ back-four dp r j
-      ∙ ap (λ (l : List ℕ). set l 4 (j - 1)) (plain-as (such dp (BackingOff j) r) (es ∙ ap (λ (y : Transmitter). such dp y r) (code-back w ad z))) in
-      rw (eq-eqb (getD w 3 0) 2 z, e) (wrote-word i cleared hi cleared-room cleared w 4 (j - 1) none (omega arith) (omega (arith, word-small x i 4 o (omega arith)))))
-      (λ z. let e : encoded (such dp (later now) r) ≡ w =
-      ap (λ (y : Transmitter). encoded (such dp y r)) (later-same w ad calm z) ∙ plain-as (such dp now r) es in
-      rw (ne-eqb (getD w 3 0) 2 z, e) none)
 
   -- the words of a reception that goes on
   heard-writes : (dp : Deference) (q : Transmitter) (r k c : ℕ) (sp ow : Bool) (y : List ℕ) → k < 4294967295 → Writes y (such dp q (within r k sp ow))
@@ -553,50 +529,52 @@ module _ (f : Figures) (d n t i : ℕ) (x : List ℕ) (hi : i < 16) (room : 5734
       ∙ ap (withStored i st) (sym (wrote-station i cleared hi cleared-room y s v) ∙ station-arrival x i t Nothing hi s)
       ∙ stored-arrival i t st (withStation x i s) hi
 
-  pub heard-taken : (c r k m u : ℕ) (hs e : Bool) (y v x₀ : List ℕ) → y ≡ receivedOn i r k c v → v ≡ countedDown i u m x₀ → x₀ ≡ withArrival x i t Nothing
-      → k ≡ getD (recordAt x i) 6 0 → k < 4294967295 → r ≡ getD (recordAt x i) 5 0 → m ≡ getD (recordAt x i) 4 0 → u ≡ getD (recordAt x i) 3 0
+  pub heard-taken : (c r u : ℕ) (hs e : Bool) (y v x₀ : List ℕ) → y ≡ receivedOn i r (getD (recordAt v i) 6 0) c v → v ≡ countedDown i u (getD (recordAt x₀ i) 4 0) x₀ → x₀ ≡ withArrival x i t Nothing
+      → getD (recordAt x i) 6 0 < 4294967295 → r ≡ getD (recordAt x i) 5 0 → u ≡ getD (recordAt x i) 3 0
       → c ≡ symbolAt x i t → (c ≡ 0 → ⊥) → hs ≡ hearsIn (recordAt x i) → hs ≡ true → e ≡ calmIn (recordAt x i) → e ≡ true → Taken f d n t i x y true
-  unfolding stationAt pushed receivedOn collectedOn keeping such now mk cleared
-  heard-taken c r k m u hs e y v x₀ ey ev ex ek small er em eu ec ne eh hh ee he =
+  unfolding stationAt pushed receivedOn collectedOn keeping such now mk cleared Writes
+  heard-taken c r u hs e y v x₀ ey ev ex small er eu ec ne eh hh ee he =
       let w = recordAt x i in
+      let k = getD w 6 0 in
       let sp = eqb (getD w 7 0) 1 in
       let ow = eqb (getD w 8 0) 1 in
       let own = eqb (getD w 1 0) 1 in
       let calm : calmIn w ≡ true = sym ee ∙ he in
-      let es : stationAt x i ≡ such (Busy own) now (within r k sp ow) = hear-state w (addressAt x i) (sym eh ∙ hh) ∙ rw (er, ek) in
-      let ev′ : v ≡ countedDown i (getD w 3 0) (getD w 4 0) cleared = ev ∙ rw (eu, em, ex) in
-      let v₁ : Writes v (such (Busy own) (later now) (within r k sp ow)) = rw ev′ (count-writes (Busy own) (within r k sp ow) calm es) in
+      let es : stationAt x i ≡ such (Busy own) now (within r k sp ow) = hear-state w (addressAt x i) (sym eh ∙ hh) ∙ rw er in
+      let ev′ : v ≡ countedDown i (getD w 3 0) (getD w 4 0) cleared = ev ∙ rw (eu, ex, record-arrival i t x hi) in
+      let v₁ : Writes v (such (Busy own) (later now) (within r k sp ow)) =
+      rw ev′ (count-writes cleared cleared-room (octets-arrival x i t Nothing hi o) (record-arrival i t x hi) (Busy own) (within r k sp ow) calm es) in
+      let ek : getD (recordAt v i) 6 0 ≡ k = count-number t i x hi room o u v x₀ ev ex in
       let eb : y ≡ withStored i (keeping r k c) (pick (eqb r 2) (soughtOn i k c v) (spoiledOn i c (withWord v i 6 (k + 1)))) =
-      ey ∙ by-test (eqb r 2) (λ z. rw z) (λ z. rw z) in
+      ey ∙ rw ek (by-test (eqb r 2) (λ z. rw z) (λ z. rw z)) in
       let ea : arrivalAt x i t ≡ heardOf c = heard-code x i t c ec in
       taken-by f d n t i x (such (Busy own) (later now) (onward r k c sp ow)) Rest (keeping r k c) y
       (rw (es, ea) (heard-step f (addressAt x i) now (getD w 9 0) (getD w 10 0) (getD w 11 0) (eqb (getD w 12 0) 1) d (drawAt x i (getD w 11 0)) (bufferAt x i) (calm-state w (addressAt x i) calm) own
       (within r k sp ow) (onward r k c sp ow) (keeping r k c) (heardOf c) (heard-any c ne) (heard-on (addressAt x i) (bufferAt x i) r k c sp ow ne)))
       (heard-by (such (Busy own) (later now) (onward r k c sp ow)) (keeping r k c) _ y (heard-writes (Busy own) (later now) r k c sp ow v small v₁) eb)
 
-  pub gap-taken : (e : Bool) (g m k u : ℕ) (y v : List ℕ) → y ≡ countedDown i u k v → v ≡ withWord x i 2 (m + 1) → g ≡ f .gap1 + f .gap2 → m < g → m ≡ getD (recordAt x i) 2 0 → k ≡ getD (recordAt x i) 4 0 → u ≡ getD (recordAt x i) 3 0
-      → symbolAt x i t ≡ 0 → gapsIn (recordAt x i) ≡ true → e ≡ calmIn (recordAt x i) → e ≡ true → Taken f d n t i x y true
-  unfolding stationAt pushed such now mk countedDown gapOf
-  gap-taken e g m k u y v ey ev eg lt em ek eu hs hc ee he =
+  gap-one : (own : Bool) (q : Transmitter) (r : Receiver) (m : ℕ) → encoded (such (Gap (m + 1) own) q r) ≡ set (encoded (such (Gap m own) q r)) 2 (m + 1)
+  unfolding encoded such mk
+  gap-one own q r m = refl
+
+  pub gap-taken : (e : Bool) (g m u : ℕ) (y v : List ℕ) → y ≡ withWord v i 2 (m + 1) → v ≡ countedDown i u (getD (recordAt x i) 4 0) x → g ≡ f .gap1 + f .gap2 → g < 65536 → m < g → m ≡ getD (recordAt x i) 2 0
+      → u ≡ getD (recordAt x i) 3 0 → symbolAt x i t ≡ 0 → gapsIn (recordAt x i) ≡ true → e ≡ calmIn (recordAt x i) → e ≡ true → Taken f d n t i x y true
+  unfolding stationAt pushed such now mk gapOf
+  gap-taken e g m u y v ey ev eg small lt em eu hs hc ee he =
       let w = recordAt x i in
       let own = eqb (getD w 1 0) 1 in
       let r = receiverOf (getD w 5 0) (getD w 6 0) (eqb (getD w 7 0) 1) (eqb (getD w 8 0) 1) in
       let calm : calmIn w ≡ true = sym ee ∙ he in
       let q = gap-state w (addressAt x i) hc in
-      let es : stationAt x i ≡ such (Gap (getD w 2 0) own) now r = q .0 in
-      let ey′ : y ≡ countedDown i (getD w 3 0) (getD w 4 0) (withWord x i 2 (getD w 2 0 + 1)) = ey ∙ rw (ev, em, ek, eu) in
-      taken-by f d n t i x (such (Gap (getD w 2 0 + 1) own) (later now) r) Rest NoStore y
+      let es : stationAt x i ≡ such (Gap m own) now r = q .0 ∙ rw em in
+      let ev′ : v ≡ countedDown i (getD w 3 0) (getD w 4 0) x = ev ∙ rw eu in
+      let v₁ : Wrote i x v (encoded (such (Gap m own) (later now) r)) = rw ev′ (count-writes x room o refl (Gap m own) r calm es) in
+      let v₂ : Wrote i x y (encoded (such (Gap (m + 1) own) (later now) r)) = rw (ey, gap-one own (later now) r m) (wrote-word i x hi room v _ 2 (m + 1) v₁ (omega arith) (omega arith)) in
+      taken-by f d n t i x (such (Gap (m + 1) own) (later now) r) Rest NoStore y
       (rw (es, hears-nothing x i t hs)
-      (gap-step f (addressAt x i) now (getD w 9 0) (getD w 10 0) (getD w 11 0) (eqb (getD w 12 0) 1) d (drawAt x i (getD w 11 0)) (bufferAt x i) (calm-state w (addressAt x i) calm) (getD w 2 0) own r
-      (lt-leb (f .gap1 + f .gap2) (getD w 2 0) (omega arith)) (still-code (getD w 5 0) (getD w 6 0) (eqb (getD w 7 0) 1) (eqb (getD w 8 0) 1) (q .1))))
-      (ey′ ∙ sym (clear-back _ i t (counted-clear (getD w 3 0) (getD w 4 0) (getD w 2 0 + 1))) ∙ rw (← write-gap calm (getD w 2 0) own r es))
-    where
-      counted-clear : (u k v : ℕ) → symbolAt (countedDown i u k (withWord x i 2 v)) i t ≡ 0
-      counted-clear u k v =
-          let e₂ : symbolAt (withWord x i 2 v) i t ≡ symbolAt x i t = symbol-by (withWord x i 2 v) x i t (word-keeps (place i t) x i 2 v (omega arith) (λ a b. omega arith)) in
-          by-test (eqb u 2)
-          (λ z. rw z (symbol-by (withWord (withWord x i 2 v) i 4 (k - 1)) (withWord x i 2 v) i t (word-keeps (place i t) (withWord x i 2 v) i 4 (k - 1) (omega arith) (λ a b. omega arith)) ∙ e₂ ∙ hs))
-          (λ z. rw z (e₂ ∙ hs))
+      (gap-step f (addressAt x i) now (getD w 9 0) (getD w 10 0) (getD w 11 0) (eqb (getD w 12 0) 1) d (drawAt x i (getD w 11 0)) (bufferAt x i) (calm-state w (addressAt x i) calm) m own r
+      (lt-leb (f .gap1 + f .gap2) m (omega arith)) (still-code (getD w 5 0) (getD w 6 0) (eqb (getD w 7 0) 1) (eqb (getD w 8 0) 1) (q .1))))
+      (silent-by (such (Gap (m + 1) own) (later now) r) y hs v₂)
 
   pub back-taken : (k : ℕ) (y : List ℕ) → y ≡ withWord x i 4 (k - 1) → k ≡ getD (recordAt x i) 4 0 → 1 < k → symbolAt x i t ≡ 0 → backsIn (recordAt x i) ≡ true → Taken f d n t i x y true
   unfolding stationAt pushed such mk
@@ -729,19 +707,23 @@ module _ (w : List ℕ) (c : ℕ) (ec : c ≡ getD w 3 0) where
   calm-not ne ne′ ne″ = rw (← ec, ne-eqb c 0 ne, ne-eqb c 1 ne′, ne-eqb c 2 ne″)
 
   -- a backoff that goes on has more than a step left
-  pub calm-more : (k : ℕ) (b : Bool) → b ≡ calmIn w → b ≡ true → k ≡ getD w 4 0 → c ≡ 2 → 1 ≤ k
+  pub calm-more : (b : Bool) → b ≡ calmIn w → b ≡ true → c ≡ 2 → 1 ≤ getD w 4 0
   unfolding calmIn
-  calm-more k b p q e z =
+  calm-more b p q z =
       let h : calmIn w ≡ true = sym p ∙ q in
       let y : getD w 3 0 ≡ 2 = sym ec ∙ z in
-      omega (arith, e, ltb-true 1 (getD w 4 0) (rw y at h))
+      omega (arith, ltb-true 1 (getD w 4 0) (rw y at h))
 
-module _ (i c k : ℕ) (x : List ℕ) where
-  pub down-one : (y : List ℕ) → c ≡ 2 → y ≡ withWord x i 4 (k - 1) → y ≡ countedDown i c k x
+-- also where the symbol is taken from the line
+pub calm-cleared : (t i c : ℕ) (x x₀ : List ℕ) (b : Bool) → i < 16 → c ≡ getD (recordAt x i) 3 0 → x₀ ≡ withArrival x i t Nothing → b ≡ calmIn (recordAt x i) → b ≡ true → c ≡ 2 → 1 ≤ getD (recordAt x₀ i) 4 0
+calm-cleared t i c x x₀ b hi ec ex p q z = rw (ex, record-arrival i t x hi) (calm-more (recordAt x i) c ec b p q z)
+
+module _ (i c : ℕ) (x : List ℕ) where
+  pub down-one : (k : ℕ) (y : List ℕ) → c ≡ 2 → y ≡ withWord x i 4 (k - 1) → k ≡ getD (recordAt x i) 4 0 → y ≡ countedDown i c (getD (recordAt x i) 4 0) x
   unfolding countedDown
-  down-one y e p = p ∙ rw (eq-eqb c 2 e)
+  down-one k y e p q = p ∙ rw (eq-eqb c 2 e, q)
 
-  pub down-none : (c ≡ 2 → ⊥) → x ≡ countedDown i c k x
+  pub down-none : (c ≡ 2 → ⊥) → x ≡ countedDown i c (getD (recordAt x i) 4 0) x
   unfolding countedDown
   down-none e = rw (ne-eqb c 2 e)
 
@@ -765,18 +747,19 @@ module _ (i c : ℕ) (x : List ℕ) where
   unfolding spoiledOn
   spoiled-is y h p = p ∙ rw (lt-leb c 2 h)
 
-pub collected-is : (i k c : ℕ) (b : Bool) (a x₁ x₂ y : List ℕ) → y ≡ withStored i (storedBit k b) x₂ → x₂ ≡ spoiledOn i c x₁ → x₁ ≡ withWord a i 6 (k + 1) → b ≡ eqb c 2 → y ≡ collectedOn i k c a
+pub collected-is : (i k c : ℕ) (b : Bool) (a x₁ x₂ y : List ℕ) → y ≡ withStored i (storedBit k b) x₂ → x₂ ≡ spoiledOn i c x₁ → x₁ ≡ withWord a i 6 (k + 1) → b ≡ eqb c 2 → k ≡ getD (recordAt a i) 6 0
+    → y ≡ collectedOn i (getD (recordAt a i) 6 0) c a
 unfolding collectedOn
-collected-is i k c b a x₁ x₂ y p q r e = p ∙ rw (q, r, e)
+collected-is i k c b a x₁ x₂ y p q r e g = p ∙ rw (q, r, e, ← g)
 
-module _ (i row next : ℕ) (b : Bool) (x : List ℕ) (g : next ≡ nextRow row b) where
-  pub row-delimiter : (y z : List ℕ) → next ≡ 427 → y ≡ withWord z i 6 0 → z ≡ withWord x i 5 3 → y ≡ rowOn i (nextRow row b) x
+module _ (i row next : ℕ) (b : Bool) (x : List ℕ) (g : next ≡ nextRow row b) (h : row ≡ getD (recordAt x i) 6 0) where
+  pub row-delimiter : (y z : List ℕ) → next ≡ 427 → y ≡ withWord z i 6 0 → z ≡ withWord x i 5 3 → y ≡ rowOn i (nextRow (getD (recordAt x i) 6 0) b) x
   unfolding rowOn
-  row-delimiter y z e p q = p ∙ rw (q, ← g, eq-eqb next 427 e)
+  row-delimiter y z e p q = p ∙ rw (q, ← h, ← g, eq-eqb next 427 e)
 
-  pub row-longer : (y : List ℕ) → (next ≡ 427 → ⊥) → y ≡ withWord x i 6 next → y ≡ rowOn i (nextRow row b) x
+  pub row-longer : (y : List ℕ) → (next ≡ 427 → ⊥) → y ≡ withWord x i 6 next → y ≡ rowOn i (nextRow (getD (recordAt x i) 6 0) b) x
   unfolding rowOn
-  row-longer y e p = p ∙ rw (← g, ne-eqb next 427 e)
+  row-longer y e p = p ∙ rw (← h, ← g, ne-eqb next 427 e)
 
 module _ (i row c : ℕ) (x : List ℕ) where
   pub sought-bit : (b : Bool) (y : List ℕ) → c ≤ 2 → b ≡ eqb c 2 → y ≡ rowOn i (nextRow row b) x → y ≡ soughtOn i row c x

@@ -13,6 +13,7 @@ ghost use Rattle.receiver.specs.Receive.{nextRow, storedBit};
 ghost use Rattle.area.specs.Area.{recordAt, symbolAt};
 ghost use Rattle.pair.specs.BitTime.{withStored};
 ghost use Rattle.pair.specs.Ready.{Able};
+ghost use Rattle.quick.specs.Several.{Begun, Passed};
 ghost use Rattle.quick.specs.Quick.{Plain, Taken, restsIn, sendsIn, hearsIn, gapsIn, backsIn, calmIn, countedDown, spoiledOn, collectedOn, rowOn, soughtOn, receivedOn, sentOn};
 
 // Whether station i rests. That the area holds octets is said here, and by the tests after it.
@@ -99,12 +100,13 @@ fn calm(area: &[u8], i: usize, c: u32) -> bool
     false
 }
 
-// A step of backoff, where c is its code and k the steps left.
-fn count_down(area: &mut [u8], i: usize, c: u32, k: u32)
-    requires { ⌜ (i < 16) × (57344 ≤ length (now area)) × (c ≡ 2 → 1 ≤ k) ⌝ }
-    ensures { λ r. ⌜ now (area .exit) ≡ countedDown i c k (now (area .entry)) ⌝ }
+// A step of backoff, where c is its code.
+fn count_down(area: &mut [u8], i: usize, c: u32)
+    requires { ⌜ (i < 16) × (57344 ≤ length (now area)) × (c ≡ 2 → 1 ≤ getD (recordAt (now area) i) 4 0) ⌝ }
+    ensures { λ r. ⌜ now (area .exit) ≡ countedDown i c (getD (recordAt (now (area .entry)) i) 4 0) (now (area .entry)) ⌝ }
 {
     if c == 2 {
+        let k = area::read_word(area, i, 4);
         area::write_word(area, i, 4, k - 1);
     }
 }
@@ -130,23 +132,23 @@ fn spoil(area: &mut [u8], i: usize, code: u8)
     area::write_word(area, i, 7, 1);
 }
 
-// A symbol after k collected bits. The low octet of k is read by itself, so that k can be read as one word.
-fn collect_on(area: &mut [u8], i: usize, k: u32, code: u8)
-    requires { ⌜ (i < 16) × (57344 ≤ length (now area)) × (k < 4294967295) × (k ≡ getD (recordAt (now area) i) 6 0) ⌝ }
-    ensures { λ r. ⌜ now (area .exit) ≡ collectedOn i k code (now (area .entry)) ⌝ }
+// A symbol after the bits collected so far. The low octet of their number was read by itself before, so that it is read as one word here.
+fn collect_on(area: &mut [u8], i: usize, low: u32, code: u8)
+    requires { ⌜ (i < 16) × (57344 ≤ length (now area)) × (getD (recordAt (now area) i) 6 0 < 4294967295) × (low ≡ getD (recordAt (now area) i) 6 0 % 256) ⌝ }
+    ensures { λ r. ⌜ now (area .exit) ≡ collectedOn i (getD (recordAt (now (area .entry)) i) 6 0) code (now (area .entry)) ⌝ }
 {
-    let p = area::read_code(area, i, 6);
+    let k = area::read_word(area, i, 6);
     area::write_word(area, i, 6, k + 1);
     spoil(area, i, code);
-    keep_one(area, i, k, p, code == 2);
+    keep_one(area, i, k, low, code == 2);
 }
 
-// A clean bit after this row of them.
-fn seek_bit(area: &mut [u8], i: usize, row: u32, one: bool)
-    requires { ⌜ (i < 16) × (57344 ≤ length (now area)) × (row < 65536) ⌝ }
-    ensures { λ r. ⌜ now (area .exit) ≡ rowOn i (nextRow row one) (now (area .entry)) ⌝ }
+// A clean bit after the row of them.
+fn seek_bit(area: &mut [u8], i: usize, one: bool)
+    requires { ⌜ (i < 16) × (57344 ≤ length (now area)) × (getD (recordAt (now area) i) 6 0 < 65536) ⌝ }
+    ensures { λ r. ⌜ now (area .exit) ≡ rowOn i (nextRow (getD (recordAt (now (area .entry)) i) 6 0) one) (now (area .entry)) ⌝ }
 {
-    let next = receiver::next_row(row, one);
+    let next = receiver::next_row(area::read_word(area, i, 6), one);
     if next == 427 {
         area::write_word(area, i, 5, 3);
         area::write_word(area, i, 6, 0);
@@ -155,29 +157,29 @@ fn seek_bit(area: &mut [u8], i: usize, row: u32, one: bool)
     area::write_word(area, i, 6, next);
 }
 
-// A symbol before the delimiter, after this row of clean bits.
-fn seek_on(area: &mut [u8], i: usize, row: u32, code: u8)
-    requires { ⌜ (i < 16) × (57344 ≤ length (now area)) × (row < 65536) ⌝ }
-    ensures { λ r. ⌜ now (area .exit) ≡ soughtOn i row code (now (area .entry)) ⌝ }
+// A symbol before the delimiter.
+fn seek_on(area: &mut [u8], i: usize, code: u8)
+    requires { ⌜ (i < 16) × (57344 ≤ length (now area)) × (getD (recordAt (now area) i) 6 0 < 65536) ⌝ }
+    ensures { λ r. ⌜ now (area .exit) ≡ soughtOn i (getD (recordAt (now (area .entry)) i) 6 0) code (now (area .entry)) ⌝ }
 {
     if code <= 2 {
-        seek_bit(area, i, row, code == 2);
+        seek_bit(area, i, code == 2);
         return;
     }
     area::write_word(area, i, 6, 1);
     area::write_word(area, i, 7, 1);
 }
 
-// A symbol of a reception, where r is the receiver's code and k its number.
-fn receive_on(area: &mut [u8], i: usize, r: u32, k: u32, code: u8)
-    requires { ⌜ (i < 16) × (57344 ≤ length (now area)) × (k < 4294967295) × (k ≡ getD (recordAt (now area) i) 6 0) × (r ≡ 2 → k < 65536) ⌝ }
-    ensures { λ r′. ⌜ now (area .exit) ≡ receivedOn i r k code (now (area .entry)) ⌝ }
+// A symbol of a reception, where r is the receiver's code and `low` the low octet of its number.
+fn receive_on(area: &mut [u8], i: usize, r: u32, low: u32, code: u8)
+    requires { ⌜ (i < 16) × (57344 ≤ length (now area)) × (getD (recordAt (now area) i) 6 0 < 4294967295) × (low ≡ getD (recordAt (now area) i) 6 0 % 256) × (r ≡ 2 → getD (recordAt (now area) i) 6 0 < 65536) ⌝ }
+    ensures { λ r′. ⌜ now (area .exit) ≡ receivedOn i r (getD (recordAt (now (area .entry)) i) 6 0) code (now (area .entry)) ⌝ }
 {
     if r == 2 {
-        seek_on(area, i, k, code);
+        seek_on(area, i, code);
         return;
     }
-    collect_on(area, i, k, code);
+    collect_on(area, i, low, code);
 }
 
 fn send_on(area: &mut [u8], n: usize, t: usize, i: usize, k: u32, size: u32)
@@ -212,12 +214,11 @@ fn quick_gap(area: &mut [u8], n: usize, depth: u32, t: usize, f: Figures, i: usi
 {
     let c = area::read_code(area, i, 3);
     if calm(area, i, c) {
-        let k = area::read_word(area, i, 4);
         let m = area::read_word(area, i, 2);
         let g = f.gap1 + f.gap2;
         if m < g {
+            count_down(area, i, c);
             area::write_word(area, i, 2, m + 1);
-            count_down(area, i, c, k);
             return true;
         }
     }
@@ -238,7 +239,7 @@ fn quick_back(area: &mut [u8], n: usize, depth: u32, t: usize, f: Figures, i: us
     false
 }
 
-// The turn of a station that hears nothing.
+// The turn of a station that hears nothing, and sends nothing.
 fn quick_silent(area: &mut [u8], n: usize, depth: u32, t: usize, f: Figures, i: usize) -> bool
     requires { ⌜ (i < 16) × (n ≤ 16) × (t < 4294967296) × (57344 ≤ length (now area)) × Able f (now area) i × Plain (now area) i ⌝ }
     requires { ⌜ symbolAt (now area) i t ≡ 0 ⌝ }
@@ -246,9 +247,6 @@ fn quick_silent(area: &mut [u8], n: usize, depth: u32, t: usize, f: Figures, i: 
 {
     if rests(area, i) {
         return true;
-    }
-    if sends(area, i) {
-        return quick_send(area, n, depth, t, f, i);
     }
     if gaps(area, i) {
         return quick_gap(area, n, depth, t, f, i);
@@ -276,19 +274,32 @@ fn quick_heard(
     if hears(area, i) {
         let c = area::read_code(area, i, 3);
         if calm(area, i, c) {
-            let m = area::read_word(area, i, 4);
             let r = area::read_code(area, i, 5);
-            let k = area::read_word(area, i, 6);
+            let low = area::read_code(area, i, 6);
             area::put_arrival(area, i, t, Heard::Nothing);
-            count_down(area, i, c, m);
-            receive_on(area, i, r, k, code);
+            count_down(area, i, c);
+            receive_on(area, i, r, low, code);
             return true;
         }
     }
     false
 }
 
-// Takes the turn of station i where it changes little and nothing happens in it; says whether it did.
+// Takes the turn of station i where it sends in the middle of its frame and hears nothing; says whether it did.
+pub fn send(area: &mut [u8], n: usize, depth: u32, t: usize, f: Figures, i: usize) -> bool
+    requires { ⌜ (i < 16) × (n ≤ 16) × (t < 4294967296) × (57344 ≤ length (now area)) × Able f (now area) i × Plain (now area) i ⌝ }
+    ensures { λ r. ⌜ Taken f depth n t i (now (area .entry)) (now (area .exit)) r ⌝ }
+{
+    let code = area::read_symbol(area, i, t);
+    if code == 0 {
+        if sends(area, i) {
+            return quick_send(area, n, depth, t, f, i);
+        }
+    }
+    false
+}
+
+// Takes the turn of station i where it changes little, sends nothing, and nothing happens in it; says whether it did.
 pub fn turn(area: &mut [u8], n: usize, depth: u32, t: usize, f: Figures, i: usize) -> bool
     requires { ⌜ (i < 16) × (n ≤ 16) × (t < 4294967296) × (57344 ≤ length (now area)) × Able f (now area) i × Plain (now area) i ⌝ }
     ensures { λ r. ⌜ Taken f depth n t i (now (area .entry)) (now (area .exit)) r ⌝ }
@@ -298,4 +309,20 @@ pub fn turn(area: &mut [u8], n: usize, depth: u32, t: usize, f: Figures, i: usiz
         return quick_silent(area, n, depth, t, f, i);
     }
     quick_heard(area, n, depth, t, f, i, code)
+}
+
+// Takes such turns of the stations from i on; answers with the first whose turn is still to be taken.
+pub fn turns(area: &mut [u8], n: usize, depth: u32, t: usize, f: Figures, i: usize) -> usize
+    requires { ⌜ (i ≤ n) × (n ≤ 16) × (t < 4294967296) × (57344 ≤ length (now area)) × Begun true f depth n t i (now area) ⌝ }
+    ensures passed { λ r. ⌜ Passed f depth n t i (now (area .entry)) r (now (area .exit)) ⌝ }
+    ensures bounds { λ r. ⌜ (i ≤ r) × (r ≤ n) ⌝ }
+{
+    let mut j = i;
+    while j < n {
+        if !turn(area, n, depth, t, f, j) {
+            return j;
+        }
+        j += 1;
+    }
+    j
 }

@@ -18,15 +18,16 @@ use Rattle.area.specs.Area.{clockAt, withClock, depthAt, figuresAt, countAt}
 use Rattle.area.specs.AreaLaws.{depth-by, figures-by, count-by}
 use Rattle.pair.specs.declared.Events.{Events}
 use Rattle.pair.specs.BitTime.{actIn, turnedIn, turnIn, advancedIn, eventsOf, eventsIn, noEvents, eventsAt, stepArea, eventAt}
-use Rattle.pair.specs.CodeLaws.{turned-end, advanced-is}
-use Rattle.pair.specs.Ready.{Readiness, Ready, Able, AllAble, acts-same, ready-few, ready-able, step-is, step-events}
-use Rattle.quick.specs.Quick.{Plain, AllPlain, Taken, taken-events, left-area}
+use Rattle.pair.specs.CodeLaws.{turned-none, turned-end, advanced-is}
+use Rattle.pair.specs.Ready.{Readiness, Ready, Able, AllAble, acts-same, turn-next, ready-few, ready-able, step-is, step-events}
+use Rattle.quick.specs.Quick.{Plain, AllPlain, Taken, taken-area, taken-events, left-area}
+use Rattle.quick.specs.Several.{Begun, Went, Passed}
 use Rattle.ready.specs.Stays.{step-clock, step-layout, step-depth, step-record, step-station}
-use Rattle.runs.specs.declared.Ended.the-variants as how
 use Rattle.tally.specs.Tally.{sentCounted, gotCounted, isLate}
+use Rattle.tally.specs.TallyLaws.{Bounded, start-bounded, got-bounded}
+use Rattle.runs.specs.declared.Ended.the-variants as how
 use Rattle.runs.specs.Run.{tallied, lateAt, Ran, runOf}
-use Rattle.tally.specs.TallyLaws.{Bounded, got-bounded}
-use Rattle.runs.specs.RunLaws.{Runnable, run-next, run-on, run-late}
+use Rattle.runs.specs.RunLaws.{Runnable, tally-none, run-next, run-on, run-late}
 
 -- ---- a turn
 
@@ -175,12 +176,110 @@ module _ (f : Figures) (d n t i : ℕ) (a x : List ℕ) (v : AllAble n f a) (hi 
       let g : getD late i false ≡ false = ap (λ (l : List Bool). getD l i false) e ∙ ap (λ (k : ℕ). getD (filled false (lateAt (eventsIn f d t a n)) i) k false) (sym z) ∙ filled-past false (lateAt (eventsIn f d t a n)) i 0 in
       sym (set-getD late i false) ∙ ap (set late i) g ∙ lates-turn late false h q e
 
-pub advanced-turned : (f : Figures) (d n t i : ℕ) (a x b : List ℕ) → b ≡ withClock x (t + 1) → x ≡ turnedIn f d n t a i → i ≤ n → n ≤ i → b ≡ advancedIn f d n t a
-advanced-turned f d n t i a x b p q lo up = advanced-is f d n t a b x p (turned-end f d n t a x i lo up q)
+-- ---- stations whose turns were taken quickly, one after the other
+
+module _ (f : Figures) (d n t : ℕ) (a : List ℕ) (i j : ℕ) (y : List ℕ) (w : Went f d n t a i j y) (hj : j ≤ n) (few : n ≤ 16) where
+  ev : List Events
+  ev = eventsIn f d t a n
+
+  event-none : (k : ℕ) → i ≤ k → k < j → eventAt ev k ≡ noEvents
+  unfolding Went ev eventsIn
+  event-none k lo up = filled-at noEvents (λ m. eventsOf (actIn f d t a m)) n k noEvents (omega arith) ∙ w .1 k lo up
+
+  tally-pass : (m : ℕ) (ws : List ℕ) → i + m ≤ j → tallied ev (i + m) ws ≡ tallied ev i ws
+  unfolding tallied turns sentCounted gotCounted
+  tally-pass zero ws h = let e : i + 0 ≡ i = omega arith in rw e
+  tally-pass (suc m) ws h = let e : i + suc m ≡ suc (i + m) = omega arith in rw (e, event-none (i + m) (omega arith) (omega arith)) (tally-pass m ws (omega arith))
+
+  late-none : (k : ℕ) → i ≤ k → k < j → lateAt ev k ≡ false
+  unfolding lateAt
+  late-none k lo up = rw (event-none k lo up)
+
+  any-pass : (m : ℕ) → i + m ≤ j → some (lateAt ev) (i + m) ≡ some (lateAt ev) i
+  unfolding some
+  any-pass zero h = let e : i + 0 ≡ i = omega arith in rw e
+  any-pass (suc m) h =
+      let e : i + suc m ≡ suc (i + m) = omega arith in
+      rw (e, late-none (i + m) (omega arith) (omega arith)) (or-false (some (lateAt ev) (i + m)) ∙ any-pass m (omega arith))
+
+  lates-one : (k : ℕ) → i ≤ k → k < j → lates ev (k + 1) ≡ lates ev k
+  unfolding lates
+  lates-one k lo up =
+      let z : k + 0 ≡ k = omega arith in
+      let l : List Bool = filled false (lateAt ev) k in
+      let g : getD l k false ≡ false = ap (λ (m : ℕ). getD l m false) (sym z) ∙ filled-past false (lateAt ev) k 0 in
+      sym (filled-more false (lateAt ev) k n l false (sym (late-none k lo up)) (omega arith) few refl) ∙ ap (set l k) (sym g) ∙ set-getD l k false
+
+  lates-pass : (m : ℕ) → i + m ≤ j → lates ev (i + m) ≡ lates ev i
+  lates-pass zero h = let e : i + 0 ≡ i = omega arith in rw e
+  lates-pass (suc m) h =
+      let e : i + suc m ≡ i + m + 1 = omega arith in
+      rw e (lates-one (i + m) (omega arith) (omega arith) ∙ lates-pass m (omega arith))
 
 pub turn-bounded : (ws vs : List ℕ) (e : Events) (m i : ℕ) → vs ≡ eventsCounted ws e → Bounded ws (m + 2 * i) → Bounded vs (m + 2 * (i + 1))
 unfolding eventsCounted
 turn-bounded ws vs e m i p h = got-bounded ws (sentCounted ws (e .sent)) vs (e .sent) (e .got) m i p refl h
+
+-- in the middle of a step: the first i stations have had their turn
+abbrev pub Midway : Figures → (d n t : ℕ) → (a ws₀ : List ℕ) → (top i : ℕ) → (x ws : List ℕ) → Bool → List Bool → Type 0
+Midway f d n t a ws₀ top i x ws any late =
+    (x ≡ turnedIn f d n t a i) × (ws ≡ tallied (eventsIn f d t a n) i ws₀) × Bounded ws (top + 2 * i) × (any ≡ some (lateAt (eventsIn f d t a n)) i) × (late ≡ lates (eventsIn f d t a n) i)
+
+-- so from i₀ stations, whatever area the step began with
+abbrev pub Onward : Figures → (d n t : ℕ) → (ws₀ : List ℕ) → (top i₀ : ℕ) → (x₀ : List ℕ) → Bool → List Bool → (i : ℕ) → (x ws : List ℕ) → Bool → List Bool → Type 0
+Onward f d n t ws₀ top i₀ x₀ any₀ late₀ i x ws any late =
+    (a : List ℕ) → AllAble n f a → 57344 ≤ length a → n ≤ 16 → Midway f d n t a ws₀ top i₀ x₀ ws₀ any₀ late₀ → Midway f d n t a ws₀ top i x ws any late
+
+pub midway-pass : (f : Figures) (d n t : ℕ) (a ws₀ : List ℕ) (top i j : ℕ) (x y ws : List ℕ) (any : Bool) (late : List Bool) → Passed f d n t i x j y → AllAble n f a → 57344 ≤ length a → n ≤ 16
+    → i ≤ j → j ≤ n → Midway f d n t a ws₀ top i x ws any late → Midway f d n t a ws₀ top j y ws any late
+unfolding Passed Went Bounded ev
+midway-pass f d n t a ws₀ top i j x y ws any late p v room few lo hj h =
+    let w : Went f d n t a i j y = p a v room (h .0) in
+    let e : i + (j - i) ≡ j = omega arith in (
+      w .0,
+      h .1 ∙ sym (tally-pass f d n t a i j y w hj few (j - i) ws₀ (omega arith)) ∙ ap (λ (m : ℕ). tallied (eventsIn f d t a n) m ws₀) e,
+      λ k. omega (arith, h .2 k),
+      h .3 ∙ sym (any-pass f d n t a i j y w hj few (j - i) (omega arith)) ∙ ap (some (lateAt (eventsIn f d t a n))) e,
+      h .4 ∙ sym (lates-pass f d n t a i j y w hj few (j - i) (omega arith)) ∙ ap (lates (eventsIn f d t a n)) e,
+    )
+
+module _ (f : Figures) (d n t : ℕ) (a ws₀ : List ℕ) (top i : ℕ) (x b ws : List ℕ) (any : Bool) (late : List Bool) (r : Bool) (h : Taken f d n t i x b r) (v : AllAble n f a) (hi : i < n)
+    (room : 57344 ≤ length a) (few : n ≤ 16) (m : Midway f d n t a ws₀ top i x ws any late) where
+  -- its turn was taken quickly
+  pub midway-taken : (b′ ws′ : List ℕ) (any′ : Bool) (late′ : List Bool) → r ≡ true → b′ ≡ b → ws′ ≡ ws → any′ ≡ any → late′ ≡ late → Midway f d n t a ws₀ top (i + 1) b′ ws′ any′ late′
+  midway-taken b′ ws′ any′ late′ e eb ew ea el =
+      let p = ew ∙ taken-words f d n t i x b r h ws e in
+      let l = taken-late f d n t i x b r h e in (
+        turn-next f d n t i a x v hi room (m .0) b′ (eb ∙ taken-area f d n t i x b r h e),
+        tally-turn f d n t i a x v hi room (m .0) ws₀ ws ws′ p (m .1),
+        turn-bounded ws ws′ (eventsOf (actIn f d t x i)) top i p (m .2),
+        ea ∙ any-skip f d n t i a x v hi room (m .0) any l (m .3),
+        el ∙ lates-skip f d n t i a x v hi room (m .0) late few l (m .4),
+      )
+
+  -- or the general way
+  pub midway-left : (b′ ws′ : List ℕ) (any′ has : Bool) (late′ : List Bool) → r ≡ false → b′ ≡ turnIn f d n t i b → ws′ ≡ eventsCounted ws (eventsOf (actIn f d t b i))
+      → has ≡ hasLate (eventsOf (actIn f d t b i)) → any′ ≡ (any || has) → late′ ≡ set late i has → Midway f d n t a ws₀ top (i + 1) b′ ws′ any′ late′
+  midway-left b′ ws′ any′ has late′ e eb ew eh ea el =
+      let p = left-words f d n t i x b r h ws ws′ e ew in
+      let l = left-late f d n t i x b r h has e eh in (
+        turn-next f d n t i a x v hi room (m .0) b′ (left-turn f d n t i x b r h b′ e eb),
+        tally-turn f d n t i a x v hi room (m .0) ws₀ ws ws′ p (m .1),
+        turn-bounded ws ws′ (eventsOf (actIn f d t x i)) top i p (m .2),
+        any-turn f d n t i a x v hi room (m .0) any any′ has ea l (m .3),
+        el ∙ lates-turn f d n t i a x v hi room (m .0) late has few l (m .4),
+      )
+
+pub begun-is : (swift : Bool) (f : Figures) (d n t i : ℕ) (a x : List ℕ) → AllAble n f a → 57344 ≤ length a → AllPlain swift n a → x ≡ turnedIn f d n t a i → Begun swift f d n t i x
+unfolding Begun
+begun-is swift f d n t i a x v room p e = (a, v, room, p, e)
+
+pub midway-start : (f : Figures) (d n t : ℕ) (a ws₀ : List ℕ) (top : ℕ) → Bounded ws₀ top → Midway f d n t a ws₀ top 0 a ws₀ false (replicate 16 false)
+midway-start f d n t a ws₀ top h =
+    (turned-none f d n t a, tally-none (eventsIn f d t a n) ws₀, start-bounded ws₀ top h, any-none (eventsIn f d t a n), lates-none (eventsIn f d t a n))
+
+pub advanced-turned : (f : Figures) (d n t i : ℕ) (a x b : List ℕ) → b ≡ withClock x (t + 1) → x ≡ turnedIn f d n t a i → i ≤ n → n ≤ i → b ≡ advancedIn f d n t a
+advanced-turned f d n t i a x b p q lo up = advanced-is f d n t a b x p (turned-end f d n t a x i lo up q)
 
 -- ---- the run
 

@@ -11,6 +11,7 @@ ghost use Rattle.octets.specs.NumberLaws.{Octets};
 ghost use Rattle.pair.specs.BitTime.{actIn, turnIn, eventsOf, eventsIn, advancedIn};
 ghost use Rattle.pair.specs.Ready.{Able, AllAble};
 ghost use Rattle.quick.specs.Quick.{PlainIf, AllPlain, Taken};
+ghost use Rattle.quick.specs.Several.{Begun, Passed};
 ghost use Rattle.runs.specs.Run.{tallied, lateAt, courseOf, runOf, runOutcome, ran};
 ghost use Rattle.tally.specs.TallyLaws.{Bounded};
 ghost use Rattle.runs.specs.RunLaws.{Runnable};
@@ -45,15 +46,27 @@ pub struct Lates {
     pub late: [bool; 16],
 }
 
-// The turn of station i where it changes little. `swift` says that the records are plain.
-fn quick(area: &mut [u8], swift: bool, n: usize, depth: u32, t: usize, f: Figures, i: usize) -> bool
+// The turn of station i where it sends on. `swift` says that the records are plain.
+fn send(area: &mut [u8], swift: bool, n: usize, depth: u32, t: usize, f: Figures, i: usize) -> bool
     requires { ⌜ (i < 16) × (n ≤ 16) × (t < 4294967296) × (57344 ≤ length (now area)) × Able f (now area) i × PlainIf swift (now area) i ⌝ }
     ensures { λ r. ⌜ Taken f depth n t i (now (area .entry)) (now (area .exit)) r ⌝ }
 {
     if swift {
-        return quick::turn(area, n, depth, t, f, i);
+        return quick::send(area, n, depth, t, f, i);
     }
     false
+}
+
+// The turns of stations from i on that change little and send nothing; the first station whose turn is still to be taken.
+fn pass(area: &mut [u8], swift: bool, n: usize, depth: u32, t: usize, f: Figures, i: usize) -> usize
+    requires { ⌜ (i ≤ n) × (n ≤ 16) × (t < 4294967296) × (57344 ≤ length (now area)) × Begun swift f depth n t i (now area) ⌝ }
+    ensures passed { λ r. ⌜ Passed f depth n t i (now (area .entry)) r (now (area .exit)) ⌝ }
+    ensures bounds { λ r. ⌜ (i ≤ r) × (r ≤ n) ⌝ }
+{
+    if swift {
+        return quick::turns(area, n, depth, t, f, i);
+    }
+    i
 }
 
 // The turn of station i, its events counted into `words`; whether it has a late collision. No word is past `top` yet.
@@ -101,14 +114,14 @@ fn step_on(
 {
     let mut any = false;
     let mut late = [false; 16];
-    let mut i: usize = 0;
+    let mut i = pass(area, swift, n, depth, t as usize, f, 0);
     while i < n {
-        if !quick(area, swift, n, depth, t as usize, f, i) {
+        if !send(area, swift, n, depth, t as usize, f, i) {
             let has = turn_on(area, words, n, depth, t as usize, f, i, top + 2 * i as u32);
             late[i] = has;
             any = octets::either(any, has);
         }
-        i += 1;
+        i = pass(area, swift, n, depth, t as usize, f, i + 1);
     }
     area::write_clock(area, t + 1);
     Lates { any, late }

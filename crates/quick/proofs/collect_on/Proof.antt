@@ -1,12 +1,12 @@
 -- `quick::collect_on` meets its contract. Assumes nothing.
-use mathlib.Core.Path.{refl}
 use Rattle.quick.specs.Quick.{collected-is}
+use mathlib.Core.Path.{refl}
 use borrow.Author.Needs.{needs}
 use Rattle.quick.proofs.collect_on.Statement.{statement}
 use Rattle.quick.proofs.collect_on.Tie as tie
 
-read-code-requires : tie.Need-read-code-requires
-read-code-requires c κs = search needs
+read-word-requires : tie.Need-read-word-requires
+read-word-requires c κs = search needs
 
 add-write-word : tie.Need-add-write-word
 add-write-word c = search needs
@@ -24,13 +24,13 @@ same-length : tie.Need-same-length
 same-length c = search needs
 
 returns : tie.Need-returns
-returns c = collected-is _ _ _ _ _ _ _ _ (c .before .before .keep-one .ensures) (c .before .before .before .before .before .before .spoil .ensures) (c .before .before .before .before .before .before .before .before .before .before .write-word .ensures) refl
+returns c = collected-is _ _ _ _ _ _ _ _ (c .before .before .keep-one .ensures) (c .before .before .before .before .before .before .spoil .ensures) (c .before .before .before .before .before .before .before .before .before .before .write-word .ensures) refl (c .before .before .before .before .before .before .before .before .before .before .before .before .read-word .ensures)
 
 pub collect-on-spec : {M : Type 1} → statement M
 collect-on-spec =
     tie.close
     (tie.spec
-    read-code-requires
+    read-word-requires
     add-write-word
     write-word-requires
     spoil-requires

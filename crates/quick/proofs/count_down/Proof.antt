@@ -5,8 +5,11 @@ use borrow.Author.Needs.{needs}
 use Rattle.quick.proofs.count_down.Statement.{statement}
 use Rattle.quick.proofs.count_down.Tie as tie
 
+read-word-requires : tie.Need-read-word-requires
+read-word-requires c κs = search needs
+
 sub-write-word : tie.Need-sub-write-word
-sub-write-word c = omega (arith, c .before .before .before .pre .2 (c .before .if1 .taken))
+sub-write-word c = omega (arith, c .before .before .before .before .before .pre .2 (c .before .before .before .if1 .taken), c .before .read-word .ensures)
 
 write-word-requires : tie.Need-write-word-requires
 write-word-requires c κs = search needs
@@ -22,4 +25,5 @@ returns-2 c = search down-none
 
 pub count-down-spec : {M : Type 1} → statement M
 count-down-spec =
-    tie.close (tie.spec sub-write-word write-word-requires same-length returns returns-2)
+    tie.close
+    (tie.spec read-word-requires sub-write-word write-word-requires same-length returns returns-2)

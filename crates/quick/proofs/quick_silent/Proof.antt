@@ -14,11 +14,11 @@ same-length c = search needs
 returns : tie.Need-returns
 returns c = search rest-taken
 
-sends-requires : tie.Need-sends-requires
-sends-requires c κs = search needs
+gaps-requires : tie.Need-gaps-requires
+gaps-requires c κs = search needs
 
-quick-send-requires : tie.Need-quick-send-requires
-quick-send-requires c κs = ((omega arith, omega arith, omega arith, omega arith, search needs, search needs), (search needs, found _ _ (c .before .before .sends .ensures .0) (c .before .if2 .taken), search needs))
+quick-gap-requires : tie.Need-quick-gap-requires
+quick-gap-requires c κs = ((omega arith, omega arith, omega arith, omega arith, search needs, search needs), (search needs, found _ _ (c .before .before .gaps .ensures .0) (c .before .if2 .taken), search needs))
 
 same-length-2 : tie.Need-same-length-2
 same-length-2 c = search needs
@@ -26,11 +26,11 @@ same-length-2 c = search needs
 returns-2 : tie.Need-returns-2
 returns-2 c = search needs
 
-gaps-requires : tie.Need-gaps-requires
-gaps-requires c κs = search needs
+backs-requires : tie.Need-backs-requires
+backs-requires c κs = search needs
 
-quick-gap-requires : tie.Need-quick-gap-requires
-quick-gap-requires c κs = ((omega arith, omega arith, omega arith, omega arith, search needs, search needs), (search needs, found _ _ (c .before .before .gaps .ensures .0) (c .before .if3 .taken), search needs))
+quick-back-requires : tie.Need-quick-back-requires
+quick-back-requires c κs = ((omega arith, omega arith, omega arith, omega arith, search needs, search needs), (search needs, found _ _ (c .before .before .backs .ensures .0) (c .before .if3 .taken), search needs))
 
 same-length-3 : tie.Need-same-length-3
 same-length-3 c = search needs
@@ -38,23 +38,11 @@ same-length-3 c = search needs
 returns-3 : tie.Need-returns-3
 returns-3 c = search needs
 
-backs-requires : tie.Need-backs-requires
-backs-requires c κs = search needs
-
-quick-back-requires : tie.Need-quick-back-requires
-quick-back-requires c κs = ((omega arith, omega arith, omega arith, omega arith, search needs, search needs), (search needs, found _ _ (c .before .before .backs .ensures .0) (c .before .if4 .taken), search needs))
-
 same-length-4 : tie.Need-same-length-4
 same-length-4 c = search needs
 
 returns-4 : tie.Need-returns-4
-returns-4 c = search needs
-
-same-length-5 : tie.Need-same-length-5
-same-length-5 c = search needs
-
-returns-5 : tie.Need-returns-5
-returns-5 c = search not-taken
+returns-4 c = search not-taken
 
 pub quick-silent-spec : {M : Type 1} → statement M
 quick-silent-spec =
@@ -63,17 +51,13 @@ quick-silent-spec =
     rests-requires
     same-length
     returns
-    sends-requires
-    quick-send-requires
-    same-length-2
-    returns-2
     gaps-requires
     quick-gap-requires
-    same-length-3
-    returns-3
+    same-length-2
+    returns-2
     backs-requires
     quick-back-requires
+    same-length-3
+    returns-3
     same-length-4
-    returns-4
-    same-length-5
-    returns-5)
+    returns-4)

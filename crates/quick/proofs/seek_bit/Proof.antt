@@ -4,6 +4,9 @@ use borrow.Author.Needs.{needs}
 use Rattle.quick.proofs.seek_bit.Statement.{statement}
 use Rattle.quick.proofs.seek_bit.Tie as tie
 
+read-word-requires : tie.Need-read-word-requires
+read-word-requires c κs = search needs
+
 next-row-requires : tie.Need-next-row-requires
 next-row-requires c κs = search needs
 
@@ -32,6 +35,7 @@ pub seek-bit-spec : {M : Type 1} → statement M
 seek-bit-spec =
     tie.close
     (tie.spec
+    read-word-requires
     next-row-requires
     write-word-requires
     write-word-requires-2
