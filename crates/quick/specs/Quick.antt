@@ -1,6 +1,6 @@
 -- Turns that change little: a station that rests, one in the middle of its frame, one whose reception goes on, one whose gap or backoff goes
 -- on. They are found by a few words of the record, and write only what changes. Assumes nothing.
-use Prim.Native.Nat.{ℕ, zero, suc, _+_, _-_, _*_, _/_, _%_, _≤_, _<_}
+use Prim.Native.Nat.{ℕ, zero, suc, _+_, _-_, _*_, _/_, _%_, _≤_, _<_, min}
 use mathlib.Core.Path.{_≡_, refl, sym, _∙_, ap, subst}
 use mathlib.Core.Bool.{Bool, true, false, not, _||_, _&&_, true≢false}
 use mathlib.Core.List.{List}
@@ -727,15 +727,16 @@ module _ (i c : ℕ) (x : List ℕ) where
   down-none e = rw (ne-eqb c 2 e)
 
 module _ (i k : ℕ) (b : Bool) (a : List ℕ) where
-  pub one-kept : (p : ℕ) (y : List ℕ) → k < 12144 → p ≡ k % 256 → y ≡ withBit a i (8 * (k / 8) + p % 8) b → y ≡ withStored i (storedBit k b) a
+  -- m is k, capped far above the buffer
+  pub one-kept : (m l : ℕ) (y : List ℕ) → m < 12144 → m ≡ min k l → 57344 ≤ l → y ≡ withBit a i m b → y ≡ withStored i (storedBit k b) a
   unfolding storedBit
-  one-kept p y h q e =
-      let z : 8 * (k / 8) + p % 8 ≡ k = omega arith in
-      rw (lt-ltb k 12144 h) (rw z at e)
+  one-kept m l y h q g e =
+      let z : m ≡ k = omega arith in
+      rw (lt-ltb k 12144 (omega arith)) (rw z at e)
 
-  pub one-dropped : 12144 ≤ k → a ≡ withStored i (storedBit k b) a
+  pub one-dropped : (m l : ℕ) → 12144 ≤ m → m ≡ min k l → a ≡ withStored i (storedBit k b) a
   unfolding storedBit
-  one-dropped h = rw (le-ltb k 12144 h)
+  one-dropped m l h q = rw (le-ltb k 12144 (omega arith))
 
 module _ (i c : ℕ) (x : List ℕ) where
   pub spoiled-not : c ≤ 2 → x ≡ spoiledOn i c x

@@ -6,7 +6,7 @@ use packet::Emission;
 use packet::Heard;
 ghost use mathlib.Core.Path.{_≡_};
 ghost use mathlib.Core.Bool.{true};
-ghost use Prim.Native.Nat.{_+_, _%_, _<_, _≤_};
+ghost use Prim.Native.Nat.{_+_, _<_, _≤_, min};
 ghost use lib.ListN.{length, getD};
 ghost use Rattle.octets.specs.NumberLaws.{Octets};
 ghost use Rattle.receiver.specs.Receive.{nextRow, storedBit};
@@ -111,13 +111,21 @@ fn count_down(area: &mut [u8], i: usize, c: u32)
     }
 }
 
-// Collected bit k, with low octet p, is kept where the buffer has a place for it.
-fn keep_one(area: &mut [u8], i: usize, k: u32, p: u32, one: bool)
-    requires { ⌜ (i < 16) × (57344 ≤ length (now area)) × (p ≡ k % 256) ⌝ }
+fn capped(k: usize, most: usize) -> usize
+    ensures { λ r. ⌜ r ≡ min k most ⌝ }
+{
+    if k < most { k } else { most }
+}
+
+// Collected bit k is kept where the buffer has a place for it. The cap changes nothing: by it k is read as one word, though its low octet is
+// also used alone.
+fn keep_one(area: &mut [u8], i: usize, k: u32, one: bool)
+    requires { ⌜ (i < 16) × (57344 ≤ length (now area)) ⌝ }
     ensures { λ r. ⌜ now (area .exit) ≡ withStored i (storedBit k one) (now (area .entry)) ⌝ }
 {
-    if k < 12144 {
-        area::store_at(area, i, (k / 8) as usize, (p % 8) as usize, one);
+    let m = capped(k as usize, area.len());
+    if m < 12144 {
+        area::store_bit(area, i, m, one);
     }
 }
 
@@ -132,15 +140,15 @@ fn spoil(area: &mut [u8], i: usize, code: u8)
     area::write_word(area, i, 7, 1);
 }
 
-// A symbol after the bits collected so far. The low octet of their number was read by itself before, so that it is read as one word here.
-fn collect_on(area: &mut [u8], i: usize, low: u32, code: u8)
-    requires { ⌜ (i < 16) × (57344 ≤ length (now area)) × (getD (recordAt (now area) i) 6 0 < 4294967295) × (low ≡ getD (recordAt (now area) i) 6 0 % 256) ⌝ }
+// A symbol after the bits collected so far.
+fn collect_on(area: &mut [u8], i: usize, code: u8)
+    requires { ⌜ (i < 16) × (57344 ≤ length (now area)) × (getD (recordAt (now area) i) 6 0 < 4294967295) ⌝ }
     ensures { λ r. ⌜ now (area .exit) ≡ collectedOn i (getD (recordAt (now (area .entry)) i) 6 0) code (now (area .entry)) ⌝ }
 {
     let k = area::read_word(area, i, 6);
     area::write_word(area, i, 6, k + 1);
     spoil(area, i, code);
-    keep_one(area, i, k, low, code == 2);
+    keep_one(area, i, k, code == 2);
 }
 
 // A clean bit after the row of them.
@@ -170,16 +178,16 @@ fn seek_on(area: &mut [u8], i: usize, code: u8)
     area::write_word(area, i, 7, 1);
 }
 
-// A symbol of a reception, where r is the receiver's code and `low` the low octet of its number.
-fn receive_on(area: &mut [u8], i: usize, r: u32, low: u32, code: u8)
-    requires { ⌜ (i < 16) × (57344 ≤ length (now area)) × (getD (recordAt (now area) i) 6 0 < 4294967295) × (low ≡ getD (recordAt (now area) i) 6 0 % 256) × (r ≡ 2 → getD (recordAt (now area) i) 6 0 < 65536) ⌝ }
+// A symbol of a reception, where r is the receiver's code.
+fn receive_on(area: &mut [u8], i: usize, r: u32, code: u8)
+    requires { ⌜ (i < 16) × (57344 ≤ length (now area)) × (getD (recordAt (now area) i) 6 0 < 4294967295) × (r ≡ 2 → getD (recordAt (now area) i) 6 0 < 65536) ⌝ }
     ensures { λ r′. ⌜ now (area .exit) ≡ receivedOn i r (getD (recordAt (now (area .entry)) i) 6 0) code (now (area .entry)) ⌝ }
 {
     if r == 2 {
         seek_on(area, i, code);
         return;
     }
-    collect_on(area, i, low, code);
+    collect_on(area, i, code);
 }
 
 fn send_on(area: &mut [u8], n: usize, t: usize, i: usize, k: u32, size: u32)
@@ -275,10 +283,9 @@ fn quick_heard(
         let c = area::read_code(area, i, 3);
         if calm(area, i, c) {
             let r = area::read_code(area, i, 5);
-            let low = area::read_code(area, i, 6);
             area::put_arrival(area, i, t, Heard::Nothing);
             count_down(area, i, c);
-            receive_on(area, i, r, low, code);
+            receive_on(area, i, r, code);
             return true;
         }
     }
