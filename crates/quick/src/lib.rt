@@ -6,7 +6,7 @@ use packet::Emission;
 use packet::Heard;
 ghost use mathlib.Core.Path.{_≡_};
 ghost use mathlib.Core.Bool.{true};
-ghost use Prim.Native.Nat.{_+_, _%_, _<_, _≤_};
+ghost use Prim.Native.Nat.{_+_, _<_, _≤_, min};
 ghost use lib.ListN.{length, getD};
 ghost use Rattle.octets.specs.NumberLaws.{Octets};
 ghost use Rattle.receiver.specs.Receive.{nextRow, storedBit};
@@ -14,7 +14,7 @@ ghost use Rattle.area.specs.Area.{recordAt, symbolAt};
 ghost use Rattle.pair.specs.BitTime.{withStored};
 ghost use Rattle.pair.specs.Ready.{Able};
 ghost use Rattle.quick.specs.Several.{Begun, Passed};
-ghost use Rattle.quick.specs.Quick.{Plain, Taken, restsIn, sendsIn, hearsIn, gapsIn, backsIn, calmIn, countedDown, spoiledOn, collectedOn, rowOn, soughtOn, receivedOn, sentOn};
+ghost use Rattle.quick.specs.Quick.{Plain, Taken, restsIn, sendsIn, hearsIn, clashesIn, gapsIn, backsIn, calmIn, countedDown, spoiledOn, collectedOn, rowOn, soughtOn, receivedOn, clashedOn, sentOn};
 
 // Whether station i rests. That the area holds octets is said here, and by the tests after it.
 pub fn rests(area: &[u8], i: usize) -> bool
@@ -54,6 +54,22 @@ fn hears(area: &[u8], i: usize) -> bool
     let d = area::read_code(area, i, 0);
     let e = area::read_code(area, i, 13);
     octets::both(1 < r, octets::both(d == 1, e == 0))
+}
+
+// Whether station i, with its header or jam after a collision, is in a reception of which it was part before.
+fn clashes(area: &[u8], i: usize) -> bool
+    requires { ⌜ (i < 16) × (57344 ≤ length (now area)) × Plain (now area) i ⌝ }
+    ensures value { λ r. ⌜ r ≡ clashesIn (recordAt (now (area .entry)) i) ⌝ }
+    ensures octets { λ r. ⌜ Octets (now (area .entry)) ⌝ }
+{
+    let x = area::read_code(area, i, 3);
+    let d = area::read_code(area, i, 0);
+    let own = area::read_code(area, i, 1);
+    let e = area::read_code(area, i, 13);
+    let r = area::read_code(area, i, 5);
+    let o = area::read_code(area, i, 8);
+    let held = octets::both(own == 1, octets::both(e == 1, octets::both(1 < r, o == 1)));
+    octets::both(3 < x, octets::both(d == 1, held))
 }
 
 // Whether station i is in a gap, and receives nothing.
@@ -111,13 +127,21 @@ fn count_down(area: &mut [u8], i: usize, c: u32)
     }
 }
 
-// Collected bit k, with low octet p, is kept where the buffer has a place for it.
-fn keep_one(area: &mut [u8], i: usize, k: u32, p: u32, one: bool)
-    requires { ⌜ (i < 16) × (57344 ≤ length (now area)) × (p ≡ k % 256) ⌝ }
+fn capped(k: usize, most: usize) -> usize
+    ensures { λ r. ⌜ r ≡ min k most ⌝ }
+{
+    if k < most { k } else { most }
+}
+
+// Collected bit k is kept where the buffer has a place for it. The cap changes nothing: by it k is read as one word, though its low octet is
+// also used alone.
+fn keep_one(area: &mut [u8], i: usize, k: u32, one: bool)
+    requires { ⌜ (i < 16) × (57344 ≤ length (now area)) ⌝ }
     ensures { λ r. ⌜ now (area .exit) ≡ withStored i (storedBit k one) (now (area .entry)) ⌝ }
 {
-    if k < 12144 {
-        area::store_at(area, i, (k / 8) as usize, (p % 8) as usize, one);
+    let m = capped(k as usize, area.len());
+    if m < 12144 {
+        area::store_bit(area, i, m, one);
     }
 }
 
@@ -132,15 +156,15 @@ fn spoil(area: &mut [u8], i: usize, code: u8)
     area::write_word(area, i, 7, 1);
 }
 
-// A symbol after the bits collected so far. The low octet of their number was read by itself before, so that it is read as one word here.
-fn collect_on(area: &mut [u8], i: usize, low: u32, code: u8)
-    requires { ⌜ (i < 16) × (57344 ≤ length (now area)) × (getD (recordAt (now area) i) 6 0 < 4294967295) × (low ≡ getD (recordAt (now area) i) 6 0 % 256) ⌝ }
+// A symbol after the bits collected so far.
+fn collect_on(area: &mut [u8], i: usize, code: u8)
+    requires { ⌜ (i < 16) × (57344 ≤ length (now area)) × (getD (recordAt (now area) i) 6 0 < 4294967295) ⌝ }
     ensures { λ r. ⌜ now (area .exit) ≡ collectedOn i (getD (recordAt (now (area .entry)) i) 6 0) code (now (area .entry)) ⌝ }
 {
     let k = area::read_word(area, i, 6);
     area::write_word(area, i, 6, k + 1);
     spoil(area, i, code);
-    keep_one(area, i, k, low, code == 2);
+    keep_one(area, i, k, code == 2);
 }
 
 // A clean bit after the row of them.
@@ -170,16 +194,16 @@ fn seek_on(area: &mut [u8], i: usize, code: u8)
     area::write_word(area, i, 7, 1);
 }
 
-// A symbol of a reception, where r is the receiver's code and `low` the low octet of its number.
-fn receive_on(area: &mut [u8], i: usize, r: u32, low: u32, code: u8)
-    requires { ⌜ (i < 16) × (57344 ≤ length (now area)) × (getD (recordAt (now area) i) 6 0 < 4294967295) × (low ≡ getD (recordAt (now area) i) 6 0 % 256) × (r ≡ 2 → getD (recordAt (now area) i) 6 0 < 65536) ⌝ }
+// A symbol of a reception, where r is the receiver's code.
+fn receive_on(area: &mut [u8], i: usize, r: u32, code: u8)
+    requires { ⌜ (i < 16) × (57344 ≤ length (now area)) × (getD (recordAt (now area) i) 6 0 < 4294967295) × (r ≡ 2 → getD (recordAt (now area) i) 6 0 < 65536) ⌝ }
     ensures { λ r′. ⌜ now (area .exit) ≡ receivedOn i r (getD (recordAt (now (area .entry)) i) 6 0) code (now (area .entry)) ⌝ }
 {
     if r == 2 {
         seek_on(area, i, code);
         return;
     }
-    collect_on(area, i, low, code);
+    collect_on(area, i, code);
 }
 
 fn send_on(area: &mut [u8], n: usize, t: usize, i: usize, k: u32, size: u32)
@@ -188,6 +212,21 @@ fn send_on(area: &mut [u8], n: usize, t: usize, i: usize, k: u32, size: u32)
 {
     let s = area::symbol(area, i, size as usize, Emission::PacketBit(k));
     area::write_word(area, i, 4, k + 1);
+    medium::push(area, n, t, i, s);
+}
+
+// A symbol of a reception while station i itself emits e; m is the number of its transmitter then.
+fn clash_on(area: &mut [u8], n: usize, t: usize, i: usize, code: u8, e: Emission, m: u32)
+    requires { ⌜ (i < 16) × (n ≤ 16) × (t < 4294967296) × (57344 ≤ length (now area)) × Octets (now area) × (getD (recordAt (now area) i) 5 0 < 256) ⌝ }
+    requires { ⌜ (getD (recordAt (now area) i) 6 0 < 4294967295) × (getD (recordAt (now area) i) 5 0 ≡ 2 → getD (recordAt (now area) i) 6 0 < 65536) × (getD (recordAt (now area) i) 9 0 ≤ 1518) ⌝ }
+    ensures { λ r. ⌜ now (area .exit) ≡ clashedOn n t i code e m (now (area .entry)) ⌝ }
+{
+    let r = area::read_code(area, i, 5);
+    let size = area::read_word(area, i, 9);
+    let s = area::symbol(area, i, size as usize, e);
+    area::put_arrival(area, i, t, Heard::Nothing);
+    area::write_word(area, i, 4, m);
+    receive_on(area, i, r, code);
     medium::push(area, n, t, i, s);
 }
 
@@ -275,17 +314,46 @@ fn quick_heard(
         let c = area::read_code(area, i, 3);
         if calm(area, i, c) {
             let r = area::read_code(area, i, 5);
-            let low = area::read_code(area, i, 6);
             area::put_arrival(area, i, t, Heard::Nothing);
             count_down(area, i, c);
-            receive_on(area, i, r, low, code);
+            receive_on(area, i, r, code);
             return true;
         }
     }
     false
 }
 
-// Takes the turn of station i where it sends in the middle of its frame and hears nothing; says whether it did.
+// The turn of a station after a collision that still hears another: not the one of its last header or jam bit.
+fn quick_clash(
+    area: &mut [u8],
+    n: usize,
+    depth: u32,
+    t: usize,
+    f: Figures,
+    i: usize,
+    code: u8,
+) -> bool
+    requires { ⌜ (i < 16) × (n ≤ 16) × (t < 4294967296) × (57344 ≤ length (now area)) × Able f (now area) i × Plain (now area) i ⌝ }
+    requires { ⌜ (code ≡ symbolAt (now area) i t) × (code ≡ 0 → ⊥) × (clashesIn (recordAt (now area) i) ≡ true) × Octets (now area) ⌝ }
+    ensures { λ r. ⌜ Taken f depth n t i (now (area .entry)) (now (area .exit)) r ⌝ }
+{
+    let x = area::read_code(area, i, 3);
+    let k = area::read_word(area, i, 4);
+    if x == 4 {
+        if k < 64 {
+            clash_on(area, n, t, i, code, Emission::PacketBit(k), k + 1);
+            return true;
+        }
+        return false;
+    }
+    if 1 < k {
+        clash_on(area, n, t, i, code, Emission::JamBit, k - 1);
+        return true;
+    }
+    false
+}
+
+// Takes the turn of station i where it sends in the middle of its frame or after a collision; says whether it did.
 pub fn send(area: &mut [u8], n: usize, depth: u32, t: usize, f: Figures, i: usize) -> bool
     requires { ⌜ (i < 16) × (n ≤ 16) × (t < 4294967296) × (57344 ≤ length (now area)) × Able f (now area) i × Plain (now area) i ⌝ }
     ensures { λ r. ⌜ Taken f depth n t i (now (area .entry)) (now (area .exit)) r ⌝ }
@@ -295,6 +363,10 @@ pub fn send(area: &mut [u8], n: usize, depth: u32, t: usize, f: Figures, i: usiz
         if sends(area, i) {
             return quick_send(area, n, depth, t, f, i);
         }
+        return false;
+    }
+    if clashes(area, i) {
+        return quick_clash(area, n, depth, t, f, i, code);
     }
     false
 }

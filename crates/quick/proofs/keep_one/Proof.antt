@@ -4,14 +4,11 @@ use borrow.Author.Needs.{needs}
 use Rattle.quick.proofs.keep_one.Statement.{statement}
 use Rattle.quick.proofs.keep_one.Tie as tie
 
-cast-store-at : tie.Need-cast-store-at
-cast-store-at c = search needs
+capped-requires : tie.Need-capped-requires
+capped-requires c κs = search needs
 
-cast-store-at-2 : tie.Need-cast-store-at-2
-cast-store-at-2 c = search needs
-
-store-at-requires : tie.Need-store-at-requires
-store-at-requires c κs = search needs
+store-bit-requires : tie.Need-store-bit-requires
+store-bit-requires c κs = search needs
 
 same-length : tie.Need-same-length
 same-length c = search needs
@@ -24,5 +21,4 @@ returns-2 c = search one-dropped
 
 pub keep-one-spec : {M : Type 1} → statement M
 keep-one-spec =
-    tie.close
-    (tie.spec cast-store-at cast-store-at-2 store-at-requires same-length returns returns-2)
+    tie.close (tie.spec capped-requires store-bit-requires same-length returns returns-2)

@@ -6,7 +6,7 @@ use Rattle.quick.proofs.receive_on.Statement.{statement}
 use Rattle.quick.proofs.receive_on.Tie as tie
 
 seek-on-requires : tie.Need-seek-on-requires
-seek-on-requires c κs = (omega arith, omega arith, c .before .before .before .pre .4 (c .before .if1 .taken))
+seek-on-requires c κs = (omega arith, omega arith, c .before .before .before .pre .3 (c .before .if1 .taken))
 
 same-length : tie.Need-same-length
 same-length c = search needs
