@@ -316,7 +316,11 @@ fn quick_heard(
             let r = area::read_code(area, i, 5);
             area::put_arrival(area, i, t, Heard::Nothing);
             count_down(area, i, c);
-            receive_on(area, i, r, code);
+            if r == 2 {
+                seek_on(area, i, code);
+                return true;
+            }
+            collect_on(area, i, code);
             return true;
         }
     }
