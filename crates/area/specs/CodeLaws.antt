@@ -228,15 +228,10 @@ pub octet-is : (x y z p u r : ℕ) (b : Bool) → r ≡ digit b * 2 ^ p → z �
 unfolding octetWith
 octet-is x y z p u r b e d f g = rw (d, e, f, g)
 
-pub with-bit-at : (a : List ℕ) (i k p x : ℕ) (b : Bool) → x ≡ octetWith (getD a (32768 + 1536 * i + k) 0) p b → p < 8 → set a (32768 + 1536 * i + k) x ≡ withBit a i (8 * k + p) b
+pub with-bit-is : (a : List ℕ) (i k x : ℕ) (b : Bool) → x ≡ octetWith (getD a (32768 + 1536 * i + k / 8) 0) (k % 8) b
+    → set a (32768 + 1536 * i + k / 8) x ≡ withBit a i k b
 unfolding withBit
-with-bit-at a i k p x b e h =
-    let q : (8 * k + p) / 8 ≡ k = omega arith in
-    let r : (8 * k + p) % 8 ≡ p = omega arith in
-    rw (e, q, r)
-
-pub with-bit-is : (a y : List ℕ) (i k : ℕ) (b : Bool) → y ≡ withBit a i (8 * (k / 8) + k % 8) b → y ≡ withBit a i k b
-with-bit-is a y i k b e = let q : 8 * (k / 8) + k % 8 ≡ k = omega arith in rw q at e
+with-bit-is a i k x b p = rw p
 
 -- ---- a frame, built into a lent part of the area
 

@@ -355,21 +355,13 @@ fn octet_with(x: u8, p: usize, one: bool) -> u8
     (low + raised(one, p)) as u8
 }
 
-// Stores a collected bit of station i: bit p of octet k.
-pub fn store_at(area: &mut [u8], i: usize, k: usize, p: usize, one: bool)
-    requires { ⌜ (i < 16) × (k < 1518) × (p < 8) × (57344 ≤ length (now area)) ⌝ }
-    ensures { λ r. ⌜ now (area .exit) ≡ withBit (now (area .entry)) i (8 * k + p) one ⌝ }
-{
-    let at = 32768 + 1536 * i + k;
-    area[at] = octet_with(area[at], p, one);
-}
-
 // Stores collected bit k of station i.
 pub fn store_bit(area: &mut [u8], i: usize, k: usize, one: bool)
     requires { ⌜ (i < 16) × (k < 12144) × (57344 ≤ length (now area)) ⌝ }
     ensures { λ r. ⌜ now (area .exit) ≡ withBit (now (area .entry)) i k one ⌝ }
 {
-    store_at(area, i, k / 8, k % 8, one);
+    let at = 32768 + 1536 * i + k / 8;
+    area[at] = octet_with(area[at], k % 8, one);
 }
 
 // What station i collected.

@@ -20,15 +20,15 @@ use Rattle.packet.specs.declared.Heard.the-variants.{Nothing}
 use Rattle.packet.specs.declared.Symbol.{Symbol}
 use Rattle.packet.specs.declared.Symbol.the-variants.{Bit}
 use Rattle.packet.specs.declared.Emission.{Emission}
-use Rattle.packet.specs.declared.Emission.the-variants.{Rest, PacketBit, JamBit}
-use Rattle.packet.specs.Packet.{hearsAny, isEmission, symbolOf, packetBit}
+use Rattle.packet.specs.declared.Emission.the-variants.{Rest, PacketBit}
+use Rattle.packet.specs.Packet.{hearsAny, symbolOf, packetBit}
 use Rattle.state.specs.declared.Deference.{Deference}
 use Rattle.state.specs.declared.Deference.the-variants.{Quiet, Busy, Gap}
 use Rattle.deference.specs.Defer.{defer, quietRule, busyRule, gapRule, goesBack}
 use Rattle.state.specs.declared.Transmitter.{Transmitter}
 use Rattle.state.specs.declared.Transmitter.the-variants.{NoFrame, Waiting, BackingOff, Sending, Heading, Jamming}
 use Rattle.transmitter.specs.declared.TransmitEvent.the-variants.{NoTransmit}
-use Rattle.transmitter.specs.Transmit.{waits, transmit, waitBit, backoffBit, sendBit, headBit, afterBit, jamBit, octetsHeld}
+use Rattle.transmitter.specs.Transmit.{waits, transmit, waitBit, backoffBit, sendBit, octetsHeld}
 use Rattle.state.specs.declared.Receiver.{Receiver}
 use Rattle.state.specs.declared.Receiver.the-variants.{Listening, Readable, Seeking, Collecting}
 use Rattle.receiver.specs.declared.ReceiveEvent.the-variants.{NoReceive}
@@ -38,12 +38,12 @@ use Rattle.receiver.specs.Receive.{nextRow, hearing, receive, ended, hear, seek
 use Rattle.state.specs.declared.Station.{Station}
 use Rattle.station.specs.declared.step.Stepped.{Stepped}
 use Rattle.station.specs.Step.{stepped, nextStation, triesAfter, drawAfter, deferredAfter}
-use Rattle.record.specs.Codec.{flag, deferenceOf, deferenceCode, deferenceOwn, transmitterOf, transmitterCode, receiverOf, receiverCode, receiverOwn, decoded, encoded}
+use Rattle.record.specs.Codec.{flag, deferenceOf, deferenceCode, deferenceOwn, transmitterOf, transmitterCode, receiverOf, receiverCode, decoded, encoded}
 use Rattle.area.specs.Places.{place, station, Off}
 use Rattle.area.specs.Area.{drawAt, addressAt, recordAt, stationAt, withStation, withWord, frameAt, bufferAt, withBit, heardOf, symbolAt, arrivalAt, withArrival}
 use Rattle.area.specs.AreaLaws.{record-by, station-by, symbol-by, arrival-keeps, length-arrival}
 use Rattle.area.specs.Written.{Wrote, wrote-none, wrote-word, wrote-station, station-arrival, bit-arrival, octets-arrival, word-small}
-use Rattle.area.specs.OneWord.{station-back, station-one, station-two, word-keeps}
+use Rattle.area.specs.OneWord.{station-back, station-one, station-two, word-keeps, length-word}
 use Rattle.pair.specs.declared.Act.{Act}
 use Rattle.pair.specs.BitTime.{outcomeIn, actIn, withStored, happened, withCounted, placed, settled, turnedIn, turnIn, eventsOf, noEvents}
 use Rattle.medium.specs.Medium.{pushed}
@@ -72,10 +72,6 @@ sendsIn w = eqb (getD w 3 0) 3 && (eqb (getD w 0 0) 1 && (eqb (getD w 1 0) 1 && 
 -- in a reception, busy, nothing emitted
 unfoldable pub hearsIn : List ℕ → Bool
 hearsIn w = ltb 1 (getD w 5 0) && (eqb (getD w 0 0) 1 && eqb (getD w 13 0) 0)
-
--- header or jam after a collision, busy by itself, in a reception that it was part of before
-unfoldable pub clashesIn : List ℕ → Bool
-clashesIn w = ltb 3 (getD w 3 0) && (eqb (getD w 0 0) 1 && (eqb (getD w 1 0) 1 && (eqb (getD w 13 0) 1 && (ltb 1 (getD w 5 0) && eqb (getD w 8 0) 1))))
 
 -- in a gap, listening or readable, nothing emitted
 unfoldable pub gapsIn : List ℕ → Bool
@@ -114,11 +110,6 @@ soughtOn i row c x = pick (leb c 2) (rowOn i (nextRow row (eqb c 2)) x) (withWor
 -- a symbol of a reception, where r is the receiver's code and k its number
 unfoldable pub receivedOn : (i r k c : ℕ) → List ℕ → List ℕ
 receivedOn i r k c x = pick (eqb r 2) (soughtOn i k c x) (collectedOn i k c x)
-
--- a symbol of a reception, by its code c, while e is emitted; m is the transmitter's number then
-unfoldable pub clashedOn : (n t i c : ℕ) → Emission → (m : ℕ) → List ℕ → List ℕ
-clashedOn n t i c e m x =
-    pushed n t i (symbolOf (frameAt x i (getD (recordAt x i) 9 0)) e) (receivedOn i (getD (recordAt x i) 5 0) (getD (recordAt x i) 6 0) c (withWord (withArrival x i t Nothing) i 4 m))
 
 -- bit k of a frame of z octets goes out
 unfoldable pub sentOn : (n t i k z : ℕ) → List ℕ → List ℕ
@@ -174,13 +165,6 @@ module _ (f : Figures) (a : List ℕ) (z n p : ℕ) (df : Bool) (d w : ℕ) (buf
   back-step (Readable m) k h g = rw (g, or-false df)
   back-step (Seeking row sp own) k h g = absurd (true≢false (sym h))
   back-step (Collecting m sp own) k h g = absurd (true≢false (sym h))
-
-  -- after a collision: the transmitter goes from q to q′ and emits em, another is heard
-  clash-step : (q q′ : Transmitter) (em : Emission) (r r′ : Receiver) (st : Stored) (h : Heard) → transmit f q z n w false true ≡ record { phase = q′; emission = em; event = NoTransmit; drew = false }
-      → waits q ≡ false → isEmission em ≡ true → hearsAny h ≡ true → receive a buffer r h true ≡ hearing r′ st
-      → stepped f (mk a (Busy true) q r z n p df true) d w buffer h ≡ quietly (mk a (Busy true) q′ r′ z n p df true) em st
-  unfolding stepped nextStation triesAfter drawAfter deferredAfter defer busyRule mk quietly
-  clash-step q q′ em r r′ st h et ew ee eh er = rw (eh, et, ew, ee, er, or-false df)
 
 -- a transmitter that goes on as it is, but for a step of backoff
 later : Transmitter → Transmitter
@@ -261,9 +245,9 @@ heard-any c ne =
 past-two : (c : ℕ) → (c ≡ 0 → ⊥) → (c ≡ 1 → ⊥) → (c ≡ 2 → ⊥) → 2 < c
 past-two c p q r = omega (arith, p, q, r)
 
-heard-as : (a buffer : List ℕ) (r : Receiver) (c : ℕ) (em : Bool) → (c ≡ 0 → ⊥) → receive a buffer r (heardOf c) em ≡ hear r (leb c 2) (eqb c 2) em
+heard-as : (a buffer : List ℕ) (r : Receiver) (c : ℕ) → (c ≡ 0 → ⊥) → receive a buffer r (heardOf c) false ≡ hear r (leb c 2) (eqb c 2) false
 unfolding heardOf receive
-heard-as a buffer r c em ne =
+heard-as a buffer r c ne =
     by-eq c 1
     (λ p. rw p)
     (λ p. by-eq c 2
@@ -272,15 +256,13 @@ heard-as a buffer r c em ne =
     (λ z. rw z)
     (λ z. rw (ne-eqb c 0 ne, ne-eqb c 1 p, ne-eqb c 2 q, ne-eqb c 3 z, lt-leb c 2 (past-two c ne p q)))))
 
--- the station's own part in it stays what it was
-heard-on : (a buffer : List ℕ) (r k c : ℕ) (sp ow em : Bool) → (ow || em) ≡ ow → (c ≡ 0 → ⊥)
-    → receive a buffer (within r k sp ow) (heardOf c) em ≡ hearing (onward r k c sp ow) (keeping r k c)
+heard-on : (a buffer : List ℕ) (r k c : ℕ) (sp ow : Bool) → (c ≡ 0 → ⊥) → receive a buffer (within r k sp ow) (heardOf c) false ≡ hearing (onward r k c sp ow) (keeping r k c)
 unfolding within onward keeping hear seek seekBit collect collectBit
-heard-on a buffer r k c sp ow em g ne =
-    heard-as a buffer (within r k sp ow) c em ne
+heard-on a buffer r k c sp ow ne =
+    heard-as a buffer (within r k sp ow) c ne
     ∙ by-test (eqb r 2)
-    (λ e. by-test (leb c 2) (λ p. rw (e, p, g)) (λ p. rw (e, p, g)))
-    (λ e. rw (e, g))
+    (λ e. by-test (leb c 2) (λ p. rw (e, p, or-false ow)) (λ p. rw (e, p, or-false ow)))
+    (λ e. rw (e, or-false ow))
 
 row-small : (k : ℕ) (b : Bool) → nextRow k b < 4294967296
 unfolding nextRow
@@ -324,26 +306,6 @@ module _ (w a : List ℕ) where
       let e₁₃ : getD w 13 0 ≡ 0 = eqb-true (getD w 13 0) 0 (q .1) in
       rw (ne-eqb (getD w 5 0) 0 (λ z. omega arith), ne-eqb (getD w 5 0) 1 (λ z. omega arith), e₀, e₁₃)
 
-  clash-state : clashesIn w ≡ true
-      → decoded w a ≡ mk a (Busy true) (transmitterOf (getD w 3 0) (getD w 4 0)) (within (getD w 5 0) (getD w 6 0) (eqb (getD w 7 0) 1) true) (getD w 9 0) (getD w 10 0) (getD w 11 0) (eqb (getD w 12 0) 1) true
-  unfolding clashesIn decoded deferenceOf receiverOf within mk
-  clash-state h =
-      let p = both-true (ltb 3 (getD w 3 0)) _ h in
-      let q = both-true (eqb (getD w 0 0) 1) _ (p .1) in
-      let r = both-true (eqb (getD w 1 0) 1) _ (q .1) in
-      let u = both-true (eqb (getD w 13 0) 1) _ (r .1) in
-      let y = both-true (ltb 1 (getD w 5 0)) _ (u .1) in
-      let g = ltb-true 1 (getD w 5 0) (y .0) in
-      let e₀ : getD w 0 0 ≡ 1 = eqb-true (getD w 0 0) 1 (q .0) in
-      rw (ne-eqb (getD w 5 0) 0 (λ z. omega arith), ne-eqb (getD w 5 0) 1 (λ z. omega arith), e₀, r .0, u .0, y .1)
-
-  clash-jams : clashesIn w ≡ true → (getD w 3 0 ≡ 4 → ⊥) → transmitterOf (getD w 3 0) (getD w 4 0) ≡ Jamming (getD w 4 0)
-  unfolding clashesIn transmitterOf
-  clash-jams h ne =
-      let p = both-true (ltb 3 (getD w 3 0)) _ h in
-      let g = ltb-true 3 (getD w 3 0) (p .0) in
-      rw (ne-eqb (getD w 3 0) 0 (λ z. omega arith), ne-eqb (getD w 3 0) 1 (λ z. omega arith), ne-eqb (getD w 3 0) 2 (λ z. omega arith), ne-eqb (getD w 3 0) 3 (λ z. omega arith), ne-eqb (getD w 3 0) 4 ne)
-
   gap-state : gapsIn w ≡ true
       → (decoded w a ≡ mk a (Gap (getD w 2 0) (eqb (getD w 1 0) 1)) (transmitterOf (getD w 3 0) (getD w 4 0)) (receiverOf (getD w 5 0) (getD w 6 0) (eqb (getD w 7 0) 1) (eqb (getD w 8 0) 1)) (getD w 9 0) (getD w 10 0) (getD w 11 0) (eqb (getD w 12 0) 1) false)
       × (leb (getD w 5 0) 1 ≡ true)
@@ -383,10 +345,6 @@ module _ (w a : List ℕ) where
       held true y g = refl
       held false true g = absurd (true≢false (sym g))
       held false false g = refl
-
-  code-heads : getD w 3 0 ≡ 4 → transmitterOf (getD w 3 0) (getD w 4 0) ≡ Heading (getD w 4 0)
-  unfolding transmitterOf
-  code-heads e = rw e
 
   code-back : getD w 3 0 ≡ 2 → transmitterOf (getD w 3 0) (getD w 4 0) ≡ BackingOff (getD w 4 0)
   unfolding transmitterOf
@@ -494,10 +452,6 @@ module _ (f : Figures) (d n t i : ℕ) (x : List ℕ) (hi : i < 16) (room : 5734
       (rw (station-back x i s hi room o (plain-as s es)) (sym (clear-back x i t hs)))
 
   -- the state, with a transmitter q, and with the one after it
-  so : Bool → Deference → Transmitter → Receiver → Station
-  so em dp q r = mk (addressAt x i) dp q r (getD (recordAt x i) 9 0) (getD (recordAt x i) 10 0) (getD (recordAt x i) 11 0) (eqb (getD (recordAt x i) 12 0) 1) em
-
-  -- with nothing emitted
   such : Deference → Transmitter → Receiver → Station
   such dp q r = mk (addressAt x i) dp q r (getD (recordAt x i) 9 0) (getD (recordAt x i) 10 0) (getD (recordAt x i) 11 0) (eqb (getD (recordAt x i) 12 0) 1) false
 
@@ -550,19 +504,19 @@ module _ (f : Figures) (d n t i : ℕ) (x : List ℕ) (hi : i < 16) (room : 5734
   Writes y s = Wrote i cleared y (encoded s)
 
   -- the words of a reception that goes on
-  heard-writes : (em : Bool) (dp : Deference) (q : Transmitter) (r k c : ℕ) (sp ow : Bool) (y : List ℕ) → k < 4294967295 → Writes y (so em dp q (within r k sp ow))
-      → Writes (pick (eqb r 2) (soughtOn i k c y) (spoiledOn i c (withWord y i 6 (k + 1)))) (so em dp q (onward r k c sp ow))
-  unfolding within onward soughtOn rowOn spoiledOn Writes so mk encoded
-  heard-writes em dp q r k c sp ow y small v =
+  heard-writes : (dp : Deference) (q : Transmitter) (r k c : ℕ) (sp ow : Bool) (y : List ℕ) → k < 4294967295 → Writes y (such dp q (within r k sp ow))
+      → Writes (pick (eqb r 2) (soughtOn i k c y) (spoiledOn i c (withWord y i 6 (k + 1)))) (such dp q (onward r k c sp ow))
+  unfolding within onward soughtOn rowOn spoiledOn Writes such mk encoded
+  heard-writes dp q r k c sp ow y small v =
       by-test (eqb r 2)
-      (λ e. let v₁ : Wrote i cleared y (encoded (so em dp q (Seeking k sp ow))) = rw e at v in
+      (λ e. let v₁ : Wrote i cleared y (encoded (such dp q (Seeking k sp ow))) = rw e at v in
       by-test (leb c 2)
       (λ p. by-test (eqb (nextRow k (eqb c 2)) 427)
-      (λ z. rw (e, p, z) (wrote-word i cleared hi cleared-room (withWord y i 5 3) (set (encoded (so em dp q (Seeking k sp ow))) 5 3) 6 0 (wrote-word i cleared hi cleared-room y _ 5 3 v₁ (omega arith) (omega arith)) (omega arith) (omega arith)))
-      (λ z. rw (e, p, z) (wrote-word i cleared hi cleared-room y (encoded (so em dp q (Seeking k sp ow))) 6 (nextRow k (eqb c 2)) v₁ (omega arith) (row-small k (eqb c 2)))))
-      (λ p. rw (e, p) (wrote-word i cleared hi cleared-room (withWord y i 6 1) (set (encoded (so em dp q (Seeking k sp ow))) 6 1) 7 1 (wrote-word i cleared hi cleared-room y _ 6 1 v₁ (omega arith) (omega arith)) (omega arith) (omega arith))))
-      (λ e. let v₁ : Wrote i cleared y (encoded (so em dp q (Collecting k sp ow))) = rw e at v in
-      let v₂ : Wrote i cleared (withWord y i 6 (k + 1)) (set (encoded (so em dp q (Collecting k sp ow))) 6 (k + 1)) = wrote-word i cleared hi cleared-room y (encoded (so em dp q (Collecting k sp ow))) 6 (k + 1) v₁ (omega arith) (omega arith) in
+      (λ z. rw (e, p, z) (wrote-word i cleared hi cleared-room (withWord y i 5 3) (set (encoded (such dp q (Seeking k sp ow))) 5 3) 6 0 (wrote-word i cleared hi cleared-room y _ 5 3 v₁ (omega arith) (omega arith)) (omega arith) (omega arith)))
+      (λ z. rw (e, p, z) (wrote-word i cleared hi cleared-room y (encoded (such dp q (Seeking k sp ow))) 6 (nextRow k (eqb c 2)) v₁ (omega arith) (row-small k (eqb c 2)))))
+      (λ p. rw (e, p) (wrote-word i cleared hi cleared-room (withWord y i 6 1) (set (encoded (such dp q (Seeking k sp ow))) 6 1) 7 1 (wrote-word i cleared hi cleared-room y _ 6 1 v₁ (omega arith) (omega arith)) (omega arith) (omega arith))))
+      (λ e. let v₁ : Wrote i cleared y (encoded (such dp q (Collecting k sp ow))) = rw e at v in
+      let v₂ : Wrote i cleared (withWord y i 6 (k + 1)) (set (encoded (such dp q (Collecting k sp ow))) 6 (k + 1)) = wrote-word i cleared hi cleared-room y (encoded (such dp q (Collecting k sp ow))) 6 (k + 1) v₁ (omega arith) (omega arith) in
       by-test (leb c 2)
       (λ p. rw (e, p, or-false sp) v₂)
       (λ p. rw (e, p, or-true sp) (wrote-word i cleared hi cleared-room (withWord y i 6 (k + 1)) _ 7 1 v₂ (omega arith) (omega arith))))
@@ -578,7 +532,7 @@ module _ (f : Figures) (d n t i : ℕ) (x : List ℕ) (hi : i < 16) (room : 5734
   pub heard-taken : (c r u : ℕ) (hs e : Bool) (y v x₀ : List ℕ) → y ≡ receivedOn i r (getD (recordAt v i) 6 0) c v → v ≡ countedDown i u (getD (recordAt x₀ i) 4 0) x₀ → x₀ ≡ withArrival x i t Nothing
       → getD (recordAt x i) 6 0 < 4294967295 → r ≡ getD (recordAt x i) 5 0 → u ≡ getD (recordAt x i) 3 0
       → c ≡ symbolAt x i t → (c ≡ 0 → ⊥) → hs ≡ hearsIn (recordAt x i) → hs ≡ true → e ≡ calmIn (recordAt x i) → e ≡ true → Taken f d n t i x y true
-  unfolding stationAt pushed receivedOn collectedOn keeping such so now mk cleared Writes
+  unfolding stationAt pushed receivedOn collectedOn keeping such now mk cleared Writes
   heard-taken c r u hs e y v x₀ ey ev ex small er eu ec ne eh hh ee he =
       let w = recordAt x i in
       let k = getD w 6 0 in
@@ -596,46 +550,8 @@ module _ (f : Figures) (d n t i : ℕ) (x : List ℕ) (hi : i < 16) (room : 5734
       let ea : arrivalAt x i t ≡ heardOf c = heard-code x i t c ec in
       taken-by f d n t i x (such (Busy own) (later now) (onward r k c sp ow)) Rest (keeping r k c) y
       (rw (es, ea) (heard-step f (addressAt x i) now (getD w 9 0) (getD w 10 0) (getD w 11 0) (eqb (getD w 12 0) 1) d (drawAt x i (getD w 11 0)) (bufferAt x i) (calm-state w (addressAt x i) calm) own
-      (within r k sp ow) (onward r k c sp ow) (keeping r k c) (heardOf c) (heard-any c ne) (heard-on (addressAt x i) (bufferAt x i) r k c sp ow false (or-false ow) ne)))
-      (heard-by (such (Busy own) (later now) (onward r k c sp ow)) (keeping r k c) _ y (heard-writes false (Busy own) (later now) r k c sp ow v small v₁) eb)
-
-  clash-taken : (q q′ : Transmitter) (em : Emission) (c m : ℕ) (y : List ℕ) → y ≡ clashedOn n t i c em m x → m < 4294967296 → getD (recordAt x i) 6 0 < 4294967295
-      → transmitterOf (getD (recordAt x i) 3 0) (getD (recordAt x i) 4 0) ≡ q → ((r : Receiver) → encoded (so true (Busy true) q′ r) ≡ set (encoded (so true (Busy true) q r)) 4 m)
-      → ((z k w : ℕ) → transmit f q z k w false true ≡ record { phase = q′; emission = em; event = NoTransmit; drew = false }) → waits q ≡ false → ((z : ℕ) → octetsHeld q z ≡ z) → isEmission em ≡ true
-      → c ≡ symbolAt x i t → (c ≡ 0 → ⊥) → clashesIn (recordAt x i) ≡ true → Taken f d n t i x y true
-  unfolding stationAt clashedOn receivedOn collectedOn keeping so mk cleared Writes
-  clash-taken q q′ em c m y ey hm small eq en et ew eo ee ec ne h =
-      let w = recordAt x i in
-      let r = getD w 5 0 in
-      let k = getD w 6 0 in
-      let sp = eqb (getD w 7 0) 1 in
-      let es : stationAt x i ≡ so true (Busy true) q (within r k sp true) = clash-state w (addressAt x i) h ∙ rw eq in
-      let none : Wrote i cleared cleared (encoded (so true (Busy true) q (within r k sp true))) =
-      wrote-none i cleared hi cleared-room _ (octets-arrival x i t Nothing hi o) (record-arrival i t x hi ∙ sym (plain-as (so true (Busy true) q (within r k sp true)) es)) in
-      let v : List ℕ = withWord cleared i 4 m in
-      let v₁ : Writes v (so true (Busy true) q′ (within r k sp true)) = rw (en (within r k sp true)) (wrote-word i cleared hi cleared-room cleared _ 4 m none (omega arith) hm) in
-      let b : List ℕ = receivedOn i r k c v in
-      let eb : b ≡ withStored i (keeping r k c) (pick (eqb r 2) (soughtOn i k c v) (spoiledOn i c (withWord v i 6 (k + 1)))) = by-test (eqb r 2) (λ z. rw z) (λ z. rw z) in
-      let ea : arrivalAt x i t ≡ heardOf c = heard-code x i t c ec in
-      taken-by f d n t i x (so true (Busy true) q′ (onward r k c sp true)) em (keeping r k c) y
-      (rw (es, ea) (clash-step f (addressAt x i) (getD w 9 0) (getD w 10 0) (getD w 11 0) (eqb (getD w 12 0) 1) d (drawAt x i (getD w 11 0)) (bufferAt x i) q q′ em
-      (within r k sp true) (onward r k c sp true) (keeping r k c) (heardOf c) (et (getD w 9 0) (getD w 10 0) (drawAt x i (getD w 11 0))) ew ee (heard-any c ne) (heard-on (addressAt x i) (bufferAt x i) r k c sp true true refl ne)))
-      (ey ∙ rw (es, eo (getD w 9 0)) (ap (pushed n t i (symbolOf (frameAt x i (getD w 9 0)) em))
-      (heard-by (so true (Busy true) q′ (onward r k c sp true)) (keeping r k c) _ b (heard-writes true (Busy true) q′ r k c sp true v small v₁) eb)))
-
-  pub head-taken : (c u k : ℕ) (y : List ℕ) → y ≡ clashedOn n t i c (PacketBit k) (k + 1) x → u ≡ getD (recordAt x i) 3 0 → u ≡ 4 → k ≡ getD (recordAt x i) 4 0 → k < 64 → getD (recordAt x i) 6 0 < 4294967295
-      → c ≡ symbolAt x i t → (c ≡ 0 → ⊥) → clashesIn (recordAt x i) ≡ true → Taken f d n t i x y true
-  unfolding transmit headBit afterBit so mk encoded
-  head-taken c u k y ey eu z ek lt small ec ne h =
-      clash-taken (Heading k) (Heading (k + 1)) (PacketBit k) c (k + 1) y ey (omega arith) small
-      (code-heads (recordAt x i) (addressAt x i) (sym eu ∙ z) ∙ rw ek) (λ r. refl) (λ z′ n′ w. rw (lt-ltb k 64 lt)) refl (λ z′. refl) refl ec ne h
-
-  pub jam-taken : (c u k : ℕ) (y : List ℕ) → y ≡ clashedOn n t i c JamBit (k - 1) x → u ≡ getD (recordAt x i) 3 0 → (u ≡ 4 → ⊥) → k ≡ getD (recordAt x i) 4 0 → 1 < k → getD (recordAt x i) 6 0 < 4294967295
-      → c ≡ symbolAt x i t → (c ≡ 0 → ⊥) → clashesIn (recordAt x i) ≡ true → Taken f d n t i x y true
-  unfolding transmit jamBit so mk encoded
-  jam-taken c u k y ey eu z ek lt small ec ne h =
-      clash-taken (Jamming k) (Jamming (k - 1)) JamBit c (k - 1) y ey (omega (arith, ek, word-small x i 4 o (omega arith))) small
-      (clash-jams (recordAt x i) (addressAt x i) h (λ g. z (eu ∙ g)) ∙ rw ek) (λ r. refl) (λ z′ n′ w. rw (lt-leb k 1 lt)) refl (λ z′. refl) refl ec ne h
+      (within r k sp ow) (onward r k c sp ow) (keeping r k c) (heardOf c) (heard-any c ne) (heard-on (addressAt x i) (bufferAt x i) r k c sp ow ne)))
+      (heard-by (such (Busy own) (later now) (onward r k c sp ow)) (keeping r k c) _ y (heard-writes (Busy own) (later now) r k c sp ow v small v₁) eb)
 
   gap-one : (own : Bool) (q : Transmitter) (r : Receiver) (m : ℕ) → encoded (such (Gap (m + 1) own) q r) ≡ set (encoded (such (Gap m own) q r)) 2 (m + 1)
   unfolding encoded such mk
@@ -698,11 +614,11 @@ module _ (f : Figures) (d n t i : ℕ) (x : List ℕ) (hi : i < 16) (room : 5734
 
 -- the codes and flags of a plain record are their low octets
 plain-codes : (a : List ℕ) (i : ℕ) → Plain a i
-    → (getD (recordAt a i) 0 0 < 256) × (getD (recordAt a i) 1 0 < 256) × (getD (recordAt a i) 3 0 < 256) × (getD (recordAt a i) 5 0 < 256) × (getD (recordAt a i) 12 0 < 256) × (getD (recordAt a i) 13 0 < 256) × (getD (recordAt a i) 8 0 < 256)
+    → (getD (recordAt a i) 0 0 < 256) × (getD (recordAt a i) 1 0 < 256) × (getD (recordAt a i) 3 0 < 256) × (getD (recordAt a i) 5 0 < 256) × (getD (recordAt a i) 12 0 < 256) × (getD (recordAt a i) 13 0 < 256)
 unfolding Plain encoded
 plain-codes a i p =
     let s = stationAt a i in
-    rw (← p) (of-d (s .deference), of-f (deferenceOwn (s .deference)), of-t (s .transmitter), of-r (s .receiver), of-f (s .deferred), of-f (s .emitted), of-f (receiverOwn (s .receiver)))
+    rw (← p) (of-d (s .deference), of-f (deferenceOwn (s .deference)), of-t (s .transmitter), of-r (s .receiver), of-f (s .deferred), of-f (s .emitted))
   where
     of-f : (b : Bool) → flag b < 256
     of-f true = omega arith
@@ -758,17 +674,6 @@ module _ (a : List ℕ) (i : ℕ) (p : Plain a i) where
   hears-is r d e b₁ b₂ q s ee ed er =
       let k = plain-codes a i p in
       q ∙ rw (s, low e _ (k .5) ee, low d _ (k .0) ed, low r _ (k .3) er)
-
-  pub code-small : getD (recordAt a i) 5 0 < 256
-  code-small = plain-codes a i p .3
-
-  pub clashes-is : (x d own e r u : ℕ) (b₁ b₂ b₃ b₄ b₅ : Bool) → b₁ ≡ (ltb 3 x && b₂) → b₂ ≡ (eqb d 1 && b₃) → b₃ ≡ (eqb own 1 && b₄) → b₄ ≡ (eqb e 1 && b₅) → b₅ ≡ (ltb 1 r && eqb u 1)
-      → u ≡ getD (recordAt a i) 8 0 % 256 → r ≡ getD (recordAt a i) 5 0 % 256 → e ≡ getD (recordAt a i) 13 0 % 256 → own ≡ getD (recordAt a i) 1 0 % 256 → d ≡ getD (recordAt a i) 0 0 % 256
-      → x ≡ getD (recordAt a i) 3 0 % 256 → b₁ ≡ clashesIn (recordAt a i)
-  unfolding clashesIn
-  clashes-is x d own e r u b₁ b₂ b₃ b₄ b₅ q₁ q₂ q₃ q₄ q₅ eu er ee eo ed ex =
-      let k = plain-codes a i p in
-      q₁ ∙ rw (q₂, q₃, q₄, q₅, low u _ (k .6) eu, low r _ (k .3) er, low e _ (k .5) ee, low own _ (k .1) eo, low d _ (k .0) ed, low x _ (k .2) ex)
 
   pub gaps-is : (d e r : ℕ) (b₁ b₂ : Bool) → b₁ ≡ (eqb d 2 && b₂) → b₂ ≡ (eqb e 0 && leb r 1)
       → r ≡ getD (recordAt a i) 5 0 % 256 → e ≡ getD (recordAt a i) 13 0 % 256 → d ≡ getD (recordAt a i) 0 0 % 256 → b₁ ≡ gapsIn (recordAt a i)
@@ -875,23 +780,6 @@ module _ (i r k c : ℕ) (x y : List ℕ) where
   unfolding receivedOn
   received-collects e p = p ∙ rw (ne-eqb r 2 e)
 
-module _ (t i m : ℕ) (x x₀ v : List ℕ) (hi : i < 16) (room : 57344 ≤ length x) (o : Octets x) (small : m < 4294967296) (ev : v ≡ withWord x₀ i 4 m) (ex : x₀ ≡ withArrival x i t Nothing) where
-  -- its number is still the receiver's
-  pub clash-number : getD (recordAt v i) 6 0 ≡ getD (recordAt x i) 6 0
-  clash-number =
-      let w = recordAt x i in
-      let y : List ℕ = withArrival x i t Nothing in
-      let long : 57344 ≤ length y = omega (arith, length-arrival x i t Nothing) in
-      let none : Wrote i y y w = wrote-none i y hi long w (octets-arrival x i t Nothing hi o) (record-arrival i t x hi) in
-      let one : Wrote i y (withWord y i 4 m) (set w 4 m) = wrote-word i y hi long y w 4 m none (omega arith) small in
-      let e : v ≡ withWord y i 4 m = ev ∙ rw ex in
-      rw (e, one .words) (getD-set-other w 4 6 m 0 (λ q. omega arith))
-
-  pub clashed-is : (n c r z : ℕ) (e : Emission) (s : Symbol) (y u : List ℕ) → y ≡ pushed n t i s u → u ≡ receivedOn i r (getD (recordAt v i) 6 0) c v → s ≡ symbolOf (frameAt x i z) e → z ≡ getD (recordAt x i) 9 0
-      → r ≡ getD (recordAt x i) 5 0 → y ≡ clashedOn n t i c e m x
-  unfolding clashedOn
-  clashed-is n c r z e s y u ey eu es ez er = ey ∙ rw (eu, clash-number, es, ez, er, ev, ex)
-
 pub sent-is : (n t i k z : ℕ) (s : Symbol) (a x y : List ℕ) → y ≡ pushed n t i s x → x ≡ withWord a i 4 (k + 1) → s ≡ symbolOf (frameAt a i z) (PacketBit k) → y ≡ sentOn n t i k z a
 unfolding sentOn
 sent-is n t i k z s a x y p q r = p ∙ rw (q, r)
@@ -930,31 +818,6 @@ module _ (f : Figures) (x : List ℕ) (i : ℕ) (v : Able f x i) where
         by-test (eqb (getD (recordAt x i) 5 0) 2)
         (λ z. omega (arith, hears-row (getD (recordAt x i) 5 0) refl (eqb-true (getD (recordAt x i) 5 0) 2 z)))
         (λ z. let u = in-reception .room .bits in omega (arith, rw z at u))
-
-  -- of a station after a collision
-  module _ (h : clashesIn (recordAt x i) ≡ true) where
-    in-clash : CanAct f (mk (addressAt x i) (Busy true) (transmitterOf (getD (recordAt x i) 3 0) (getD (recordAt x i) 4 0)) (within (getD (recordAt x i) 5 0) (getD (recordAt x i) 6 0) (eqb (getD (recordAt x i) 7 0) 1) true) (getD (recordAt x i) 9 0) (getD (recordAt x i) 10 0) (getD (recordAt x i) 11 0) (eqb (getD (recordAt x i) 12 0) 1) true)
-    unfolding Able stationAt
-    in-clash = subst (CanAct f) (clash-state (recordAt x i) (addressAt x i) h) v
-
-    pub clash-row : getD (recordAt x i) 5 0 ≡ 2 → getD (recordAt x i) 6 0 < 65536
-    unfolding mk within
-    clash-row z = let u = in-clash .room .row in omega (arith, rw z at u)
-
-    pub clash-room : getD (recordAt x i) 6 0 < 4294967295
-    unfolding mk within
-    clash-room =
-        by-test (eqb (getD (recordAt x i) 5 0) 2)
-        (λ z. omega (arith, clash-row (eqb-true (getD (recordAt x i) 5 0) 2 z)))
-        (λ z. let u = in-clash .room .bits in omega (arith, rw z at u))
-
-    pub clash-size : getD (recordAt x i) 9 0 ≤ 1518
-    unfolding mk
-    clash-size =
-        let u = in-clash .held in
-        by-eq (getD (recordAt x i) 3 0) 4
-        (λ z. let e = code-heads (recordAt x i) (addressAt x i) z in omega (arith, rw e at u))
-        (λ z. let e = clash-jams (recordAt x i) (addressAt x i) h z in omega (arith, rw e at u))
 
   pub gap-room : (f .gap1 + f .gap2) < 65536
   unfolding Able

@@ -14,7 +14,7 @@ ghost use Rattle.area.specs.Area.{recordAt, symbolAt};
 ghost use Rattle.pair.specs.BitTime.{withStored};
 ghost use Rattle.pair.specs.Ready.{Able};
 ghost use Rattle.quick.specs.Several.{Begun, Passed};
-ghost use Rattle.quick.specs.Quick.{Plain, Taken, restsIn, sendsIn, hearsIn, clashesIn, gapsIn, backsIn, calmIn, countedDown, spoiledOn, collectedOn, rowOn, soughtOn, receivedOn, clashedOn, sentOn};
+ghost use Rattle.quick.specs.Quick.{Plain, Taken, restsIn, sendsIn, hearsIn, gapsIn, backsIn, calmIn, countedDown, spoiledOn, collectedOn, rowOn, soughtOn, receivedOn, sentOn};
 
 // Whether station i rests. That the area holds octets is said here, and by the tests after it.
 pub fn rests(area: &[u8], i: usize) -> bool
@@ -54,22 +54,6 @@ fn hears(area: &[u8], i: usize) -> bool
     let d = area::read_code(area, i, 0);
     let e = area::read_code(area, i, 13);
     octets::both(1 < r, octets::both(d == 1, e == 0))
-}
-
-// Whether station i, with its header or jam after a collision, is in a reception of which it was part before.
-fn clashes(area: &[u8], i: usize) -> bool
-    requires { ⌜ (i < 16) × (57344 ≤ length (now area)) × Plain (now area) i ⌝ }
-    ensures value { λ r. ⌜ r ≡ clashesIn (recordAt (now (area .entry)) i) ⌝ }
-    ensures octets { λ r. ⌜ Octets (now (area .entry)) ⌝ }
-{
-    let x = area::read_code(area, i, 3);
-    let d = area::read_code(area, i, 0);
-    let own = area::read_code(area, i, 1);
-    let e = area::read_code(area, i, 13);
-    let r = area::read_code(area, i, 5);
-    let o = area::read_code(area, i, 8);
-    let held = octets::both(own == 1, octets::both(e == 1, octets::both(1 < r, o == 1)));
-    octets::both(3 < x, octets::both(d == 1, held))
 }
 
 // Whether station i is in a gap, and receives nothing.
@@ -215,21 +199,6 @@ fn send_on(area: &mut [u8], n: usize, t: usize, i: usize, k: u32, size: u32)
     medium::push(area, n, t, i, s);
 }
 
-// A symbol of a reception while station i itself emits e; m is the number of its transmitter then.
-fn clash_on(area: &mut [u8], n: usize, t: usize, i: usize, code: u8, e: Emission, m: u32)
-    requires { ⌜ (i < 16) × (n ≤ 16) × (t < 4294967296) × (57344 ≤ length (now area)) × Octets (now area) × (getD (recordAt (now area) i) 5 0 < 256) ⌝ }
-    requires { ⌜ (getD (recordAt (now area) i) 6 0 < 4294967295) × (getD (recordAt (now area) i) 5 0 ≡ 2 → getD (recordAt (now area) i) 6 0 < 65536) × (getD (recordAt (now area) i) 9 0 ≤ 1518) ⌝ }
-    ensures { λ r. ⌜ now (area .exit) ≡ clashedOn n t i code e m (now (area .entry)) ⌝ }
-{
-    let r = area::read_code(area, i, 5);
-    let size = area::read_word(area, i, 9);
-    let s = area::symbol(area, i, size as usize, e);
-    area::put_arrival(area, i, t, Heard::Nothing);
-    area::write_word(area, i, 4, m);
-    receive_on(area, i, r, code);
-    medium::push(area, n, t, i, s);
-}
-
 // The turn of a station that sends: not the one of its last bit.
 fn quick_send(area: &mut [u8], n: usize, depth: u32, t: usize, f: Figures, i: usize) -> bool
     requires { ⌜ (i < 16) × (n ≤ 16) × (t < 4294967296) × (57344 ≤ length (now area)) × Able f (now area) i × Plain (now area) i ⌝ }
@@ -316,48 +285,14 @@ fn quick_heard(
             let r = area::read_code(area, i, 5);
             area::put_arrival(area, i, t, Heard::Nothing);
             count_down(area, i, c);
-            if r == 2 {
-                seek_on(area, i, code);
-                return true;
-            }
-            collect_on(area, i, code);
+            receive_on(area, i, r, code);
             return true;
         }
     }
     false
 }
 
-// The turn of a station after a collision that still hears another: not the one of its last header or jam bit.
-fn quick_clash(
-    area: &mut [u8],
-    n: usize,
-    depth: u32,
-    t: usize,
-    f: Figures,
-    i: usize,
-    code: u8,
-) -> bool
-    requires { ⌜ (i < 16) × (n ≤ 16) × (t < 4294967296) × (57344 ≤ length (now area)) × Able f (now area) i × Plain (now area) i ⌝ }
-    requires { ⌜ (code ≡ symbolAt (now area) i t) × (code ≡ 0 → ⊥) × (clashesIn (recordAt (now area) i) ≡ true) × Octets (now area) ⌝ }
-    ensures { λ r. ⌜ Taken f depth n t i (now (area .entry)) (now (area .exit)) r ⌝ }
-{
-    let x = area::read_code(area, i, 3);
-    let k = area::read_word(area, i, 4);
-    if x == 4 {
-        if k < 64 {
-            clash_on(area, n, t, i, code, Emission::PacketBit(k), k + 1);
-            return true;
-        }
-        return false;
-    }
-    if 1 < k {
-        clash_on(area, n, t, i, code, Emission::JamBit, k - 1);
-        return true;
-    }
-    false
-}
-
-// Takes the turn of station i where it sends in the middle of its frame or after a collision; says whether it did.
+// Takes the turn of station i where it sends in the middle of its frame and hears nothing; says whether it did.
 pub fn send(area: &mut [u8], n: usize, depth: u32, t: usize, f: Figures, i: usize) -> bool
     requires { ⌜ (i < 16) × (n ≤ 16) × (t < 4294967296) × (57344 ≤ length (now area)) × Able f (now area) i × Plain (now area) i ⌝ }
     ensures { λ r. ⌜ Taken f depth n t i (now (area .entry)) (now (area .exit)) r ⌝ }
@@ -367,10 +302,6 @@ pub fn send(area: &mut [u8], n: usize, depth: u32, t: usize, f: Figures, i: usiz
         if sends(area, i) {
             return quick_send(area, n, depth, t, f, i);
         }
-        return false;
-    }
-    if clashes(area, i) {
-        return quick_clash(area, n, depth, t, f, i, code);
     }
     false
 }

@@ -26,23 +26,11 @@ same-length-2 c = search needs
 returns-2 : tie.Need-returns-2
 returns-2 c = search not-taken
 
-clashes-requires : tie.Need-clashes-requires
-clashes-requires c κs = search needs
-
-quick-clash-requires : tie.Need-quick-clash-requires
-quick-clash-requires c κs = ((omega arith, omega arith, omega arith, omega arith, search needs, search needs), (search needs, search needs, found _ _ (c .before .before .clashes .ensures .0) (c .before .if3 .taken), search needs))
-
 same-length-3 : tie.Need-same-length-3
 same-length-3 c = search needs
 
 returns-3 : tie.Need-returns-3
-returns-3 c = search needs
-
-same-length-4 : tie.Need-same-length-4
-same-length-4 c = search needs
-
-returns-4 : tie.Need-returns-4
-returns-4 c = search not-taken
+returns-3 c = search not-taken
 
 pub send-spec : {M : Type 1} → statement M
 send-spec =
@@ -55,9 +43,5 @@ send-spec =
     returns
     same-length-2
     returns-2
-    clashes-requires
-    quick-clash-requires
     same-length-3
-    returns-3
-    same-length-4
-    returns-4)
+    returns-3)
