@@ -1,6 +1,6 @@
 -- Turns that change little: a station that rests, one in the middle of its frame, one whose reception goes on, one whose gap or backoff goes
 -- on. They are found by a few words of the record, and write only what changes. Assumes nothing.
-use Prim.Native.Nat.{ℕ, zero, suc, _+_, _-_, _*_, _/_, _%_, _≤_, _<_, min}
+use Prim.Native.Nat.{ℕ, _+_, _-_, _*_, _%_, _≤_, _<_, min}
 use mathlib.Core.Path.{_≡_, refl, sym, _∙_, ap, subst}
 use mathlib.Core.Bool.{Bool, true, false, not, _||_, _&&_, true≢false}
 use mathlib.Core.List.{List}
@@ -43,7 +43,7 @@ use Rattle.area.specs.Places.{place, station, Off}
 use Rattle.area.specs.Area.{drawAt, addressAt, recordAt, stationAt, withStation, withWord, frameAt, bufferAt, withBit, heardOf, symbolAt, arrivalAt, withArrival}
 use Rattle.area.specs.AreaLaws.{record-by, station-by, symbol-by, arrival-keeps, length-arrival}
 use Rattle.area.specs.Written.{Wrote, wrote-none, wrote-word, wrote-station, station-arrival, bit-arrival, octets-arrival, word-small}
-use Rattle.area.specs.OneWord.{station-back, station-one, station-two, word-keeps, length-word}
+use Rattle.area.specs.OneWord.{station-back, station-one, word-keeps}
 use Rattle.pair.specs.declared.Act.{Act}
 use Rattle.pair.specs.BitTime.{outcomeIn, actIn, withStored, happened, withCounted, placed, settled, turnedIn, turnIn, eventsOf, noEvents}
 use Rattle.medium.specs.Medium.{pushed}

@@ -20,7 +20,7 @@ use Rattle.pair.specs.declared.Events.{Events}
 use Rattle.pair.specs.BitTime.{actIn, turnedIn, turnIn, advancedIn, eventsOf, eventsIn, noEvents, eventsAt, stepArea, eventAt}
 use Rattle.pair.specs.CodeLaws.{turned-none, turned-end, advanced-is}
 use Rattle.pair.specs.Ready.{Readiness, Ready, Able, AllAble, acts-same, turn-next, ready-few, ready-able, step-is, step-events}
-use Rattle.quick.specs.Quick.{Plain, AllPlain, Taken, taken-area, taken-events, left-area}
+use Rattle.quick.specs.Quick.{Plain, AllPlain, Taken, taken-events, left-area}
 use Rattle.quick.specs.Several.{Begun, Went, Passed}
 use Rattle.ready.specs.Stays.{step-clock, step-layout, step-depth, step-record, step-station}
 use Rattle.tally.specs.Tally.{sentCounted, gotCounted, isLate}
@@ -162,19 +162,9 @@ module _ (f : Figures) (d n t i : ℕ) (a x : List ℕ) (v : AllAble n f a) (hi 
   unfolding some
   any-turn any r has p q e = p ∙ rw (e, late-here has q, add-one i)
 
-  pub any-skip : (any : Bool) → false ≡ hasLate (eventsOf (actIn f d t x i)) → any ≡ some (lateAt (eventsIn f d t a n)) i → any ≡ some (lateAt (eventsIn f d t a n)) (i + 1)
-  any-skip any q e = any-turn any any false (sym (or-false any)) q e
-
   pub lates-turn : (late : List Bool) (has : Bool) → n ≤ 16 → has ≡ hasLate (eventsOf (actIn f d t x i)) → late ≡ lates (eventsIn f d t a n) i → set late i has ≡ lates (eventsIn f d t a n) (i + 1)
   unfolding lates
   lates-turn late has h q e = filled-more false (lateAt (eventsIn f d t a n)) i n late has (late-here has q) hi h e
-
-  pub lates-skip : (late : List Bool) → n ≤ 16 → false ≡ hasLate (eventsOf (actIn f d t x i)) → late ≡ lates (eventsIn f d t a n) i → late ≡ lates (eventsIn f d t a n) (i + 1)
-  unfolding lates
-  lates-skip late h q e =
-      let z : i + 0 ≡ i = omega arith in
-      let g : getD late i false ≡ false = ap (λ (l : List Bool). getD l i false) e ∙ ap (λ (k : ℕ). getD (filled false (lateAt (eventsIn f d t a n)) i) k false) (sym z) ∙ filled-past false (lateAt (eventsIn f d t a n)) i 0 in
-      sym (set-getD late i false) ∙ ap (set late i) g ∙ lates-turn late false h q e
 
 -- ---- stations whose turns were taken quickly, one after the other
 
@@ -225,11 +215,6 @@ abbrev pub Midway : Figures → (d n t : ℕ) → (a ws₀ : List ℕ) → (top 
 Midway f d n t a ws₀ top i x ws any late =
     (x ≡ turnedIn f d n t a i) × (ws ≡ tallied (eventsIn f d t a n) i ws₀) × Bounded ws (top + 2 * i) × (any ≡ some (lateAt (eventsIn f d t a n)) i) × (late ≡ lates (eventsIn f d t a n) i)
 
--- so from i₀ stations, whatever area the step began with
-abbrev pub Onward : Figures → (d n t : ℕ) → (ws₀ : List ℕ) → (top i₀ : ℕ) → (x₀ : List ℕ) → Bool → List Bool → (i : ℕ) → (x ws : List ℕ) → Bool → List Bool → Type 0
-Onward f d n t ws₀ top i₀ x₀ any₀ late₀ i x ws any late =
-    (a : List ℕ) → AllAble n f a → 57344 ≤ length a → n ≤ 16 → Midway f d n t a ws₀ top i₀ x₀ ws₀ any₀ late₀ → Midway f d n t a ws₀ top i x ws any late
-
 pub midway-pass : (f : Figures) (d n t : ℕ) (a ws₀ : List ℕ) (top i j : ℕ) (x y ws : List ℕ) (any : Bool) (late : List Bool) → Passed f d n t i x j y → AllAble n f a → 57344 ≤ length a → n ≤ 16
     → i ≤ j → j ≤ n → Midway f d n t a ws₀ top i x ws any late → Midway f d n t a ws₀ top j y ws any late
 unfolding Passed Went Bounded ev
@@ -243,32 +228,17 @@ midway-pass f d n t a ws₀ top i j x y ws any late p v room few lo hj h =
       h .4 ∙ sym (lates-pass f d n t a i j y w hj few (j - i) (omega arith)) ∙ ap (lates (eventsIn f d t a n)) e,
     )
 
-module _ (f : Figures) (d n t : ℕ) (a ws₀ : List ℕ) (top i : ℕ) (x b ws : List ℕ) (any : Bool) (late : List Bool) (r : Bool) (h : Taken f d n t i x b r) (v : AllAble n f a) (hi : i < n)
-    (room : 57344 ≤ length a) (few : n ≤ 16) (m : Midway f d n t a ws₀ top i x ws any late) where
-  -- its turn was taken quickly
-  pub midway-taken : (b′ ws′ : List ℕ) (any′ : Bool) (late′ : List Bool) → r ≡ true → b′ ≡ b → ws′ ≡ ws → any′ ≡ any → late′ ≡ late → Midway f d n t a ws₀ top (i + 1) b′ ws′ any′ late′
-  midway-taken b′ ws′ any′ late′ e eb ew ea el =
-      let p = ew ∙ taken-words f d n t i x b r h ws e in
-      let l = taken-late f d n t i x b r h e in (
-        turn-next f d n t i a x v hi room (m .0) b′ (eb ∙ taken-area f d n t i x b r h e),
-        tally-turn f d n t i a x v hi room (m .0) ws₀ ws ws′ p (m .1),
-        turn-bounded ws ws′ (eventsOf (actIn f d t x i)) top i p (m .2),
-        ea ∙ any-skip f d n t i a x v hi room (m .0) any l (m .3),
-        el ∙ lates-skip f d n t i a x v hi room (m .0) late few l (m .4),
-      )
-
-  -- or the general way
-  pub midway-left : (b′ ws′ : List ℕ) (any′ has : Bool) (late′ : List Bool) → r ≡ false → b′ ≡ turnIn f d n t i b → ws′ ≡ eventsCounted ws (eventsOf (actIn f d t b i))
-      → has ≡ hasLate (eventsOf (actIn f d t b i)) → any′ ≡ (any || has) → late′ ≡ set late i has → Midway f d n t a ws₀ top (i + 1) b′ ws′ any′ late′
-  midway-left b′ ws′ any′ has late′ e eb ew eh ea el =
-      let p = left-words f d n t i x b r h ws ws′ e ew in
-      let l = left-late f d n t i x b r h has e eh in (
-        turn-next f d n t i a x v hi room (m .0) b′ (left-turn f d n t i x b r h b′ e eb),
-        tally-turn f d n t i a x v hi room (m .0) ws₀ ws ws′ p (m .1),
-        turn-bounded ws ws′ (eventsOf (actIn f d t x i)) top i p (m .2),
-        any-turn f d n t i a x v hi room (m .0) any any′ has ea l (m .3),
-        el ∙ lates-turn f d n t i a x v hi room (m .0) late has few l (m .4),
-      )
+-- its turn, quick or not
+pub midway-turn : (f : Figures) (d n t : ℕ) (a ws₀ : List ℕ) (top i : ℕ) (x ws : List ℕ) (any : Bool) (late : List Bool) → AllAble n f a → i < n → 57344 ≤ length a → n ≤ 16
+    → Midway f d n t a ws₀ top i x ws any late → (y vs : List ℕ) (has more : Bool) → y ≡ turnIn f d n t i x → vs ≡ eventsCounted ws (eventsOf (actIn f d t x i))
+    → has ≡ hasLate (eventsOf (actIn f d t x i)) → more ≡ (any || has) → Midway f d n t a ws₀ top (i + 1) y vs more (set late i has)
+midway-turn f d n t a ws₀ top i x ws any late v hi room few m y vs has more ey ew eh ea = (
+  turn-next f d n t i a x v hi room (m .0) y ey,
+  tally-turn f d n t i a x v hi room (m .0) ws₀ ws vs ew (m .1),
+  turn-bounded ws vs (eventsOf (actIn f d t x i)) top i ew (m .2),
+  any-turn f d n t i a x v hi room (m .0) any more has ea eh (m .3),
+  lates-turn f d n t i a x v hi room (m .0) late has few eh (m .4),
+)
 
 pub begun-is : (swift : Bool) (f : Figures) (d n t i : ℕ) (a x : List ℕ) → AllAble n f a → 57344 ≤ length a → AllPlain swift n a → x ≡ turnedIn f d n t a i → Begun swift f d n t i x
 unfolding Begun
@@ -280,6 +250,15 @@ midway-start f d n t a ws₀ top h =
 
 pub advanced-turned : (f : Figures) (d n t i : ℕ) (a x b : List ℕ) → b ≡ withClock x (t + 1) → x ≡ turnedIn f d n t a i → i ≤ n → n ≤ i → b ≡ advancedIn f d n t a
 advanced-turned f d n t i a x b p q lo up = advanced-is f d n t a b x p (turned-end f d n t a x i lo up q)
+
+-- all turns are taken, and the clock goes on
+pub midway-end : (f : Figures) (d n t : ℕ) (a ws₀ : List ℕ) (top i : ℕ) (x ws : List ℕ) (any : Bool) (late : List Bool) → Midway f d n t a ws₀ top i x ws any late → n ≤ 16 → i ≤ n → n ≤ i
+    → (z y : List ℕ) → z ≡ x → y ≡ withClock z (t + 1)
+    → (y ≡ advancedIn f d n t a) × ((ws ≡ tallied (eventsIn f d t a n) 16 ws₀) × ((any ≡ some (lateAt (eventsIn f d t a n)) 16) × (late ≡ lates (eventsIn f d t a n) n)))
+midway-end f d n t a ws₀ top i x ws any late m few lo up z y e p = (
+  advanced-turned f d n t i a x y (p ∙ rw e) (m .0) lo up,
+  (tally-all f d t a n i ws₀ ws few lo up (m .1), (any-all f d t a n i any few lo up (m .3), lates-all f d t a n i late lo up (m .4))),
+)
 
 -- ---- the run
 

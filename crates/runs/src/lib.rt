@@ -94,6 +94,30 @@ fn turn_on(
     tally::is_late(sent)
 }
 
+// The turn of station i where it does not pass: sent on, or the general way.
+fn take(
+    area: &mut [u8],
+    words: &mut [u32],
+    swift: bool,
+    n: usize,
+    depth: u32,
+    t: usize,
+    f: Figures,
+    i: usize,
+    top: u32,
+) -> bool
+    requires { ⌜ (i < 16) × (n ≤ 16) × (t < 4294967296) × (57344 ≤ length (now area)) × Able f (now area) i × PlainIf swift (now area) i ⌝ }
+    requires { ⌜ (length (now words) ≡ 9) × Bounded (now words) top × (top + 1 < 4294967295) ⌝ }
+    ensures area { λ r. ⌜ now (area .exit) ≡ turnIn f depth n t i (now (area .entry)) ⌝ }
+    ensures words { λ r. ⌜ now (words .exit) ≡ eventsCounted (now (words .entry)) (eventsOf (actIn f depth t (now (area .entry)) i)) ⌝ }
+    ensures late { λ r. ⌜ r ≡ hasLate (eventsOf (actIn f depth t (now (area .entry)) i)) ⌝ }
+{
+    if send(area, swift, n, depth, t, f, i) {
+        return false;
+    }
+    turn_on(area, words, n, depth, t, f, i, top)
+}
+
 // One step, its events counted into `words`; which stations have a late collision.
 fn step_on(
     area: &mut [u8],
@@ -114,14 +138,26 @@ fn step_on(
 {
     let mut any = false;
     let mut late = [false; 16];
-    let mut i = pass(area, swift, n, depth, t as usize, f, 0);
+    let mut i: usize = 0;
     while i < n {
-        if !send(area, swift, n, depth, t as usize, f, i) {
-            let has = turn_on(area, words, n, depth, t as usize, f, i, top + 2 * i as u32);
-            late[i] = has;
-            any = octets::either(any, has);
+        i = pass(area, swift, n, depth, t as usize, f, i);
+        if n <= i {
+            break;
         }
-        i = pass(area, swift, n, depth, t as usize, f, i + 1);
+        let has = take(
+            area,
+            words,
+            swift,
+            n,
+            depth,
+            t as usize,
+            f,
+            i,
+            top + 2 * i as u32,
+        );
+        late[i] = has;
+        any = octets::either(any, has);
+        i += 1;
     }
     area::write_clock(area, t + 1);
     Lates { any, late }

@@ -1,44 +1,39 @@
 -- `runs::step_on` meets its contract. Assumes nothing.
 use borrow.Author.Needs.{needs}
 use native.Mathlib.Omega.{arith}
-use borrow.Author.Tests.{not-true, not-false}
 use Prim.Native.Nat.{_≤_, _-_}
-use mathlib.Core.Path.{_≡_, refl, _∙_, ap}
+use mathlib.Core.Path.{_≡_, refl, ap}
 use mathlib.Core.Logic.{⊎-elim}
 use lib.ListN.{length}
-use Rattle.pair.specs.CodeLaws.{turned-none}
 use Rattle.pair.specs.Ready.{turn-able}
 use Rattle.quick.specs.Quick.{turn-plain}
-use Rattle.runs.specs.OnLaws.{Onward, left-able, begun-is, midway-start, midway-pass, midway-taken, midway-left, advanced-turned, tally-all, any-all, lates-all}
+use Rattle.runs.specs.OnLaws.{Midway, begun-is, midway-start, midway-pass, midway-turn, midway-end}
 use Rattle.runs.proofs.step_on.Statement.{statement}
 use Rattle.runs.proofs.step_on.Tie as tie
 
 abbrev Inv-loop : tie.InvT-loop
-Inv-loop area₀ words₀ swift n depth t f top any₀ late₀ i₀ area words any late i = (i ≤ n) × (length area ≡ length area₀) × (length words ≡ length words₀) × Onward f depth n t words₀ top i₀ area₀ any₀ late₀ i area words any late
+Inv-loop area₀ words₀ swift n depth t f top any₀ late₀ i₀ area words any late i = (i ≤ n) × (length area ≡ length area₀) × (length words ≡ length words₀) × Midway f depth n t area₀ words₀ top i area words any late
 
 abbrev μ-loop : tie.MeasureT-loop
 μ-loop area₀ words₀ swift n depth t f top any₀ late₀ i₀ area words any late i = n - i
 
-pass-requires : tie.Need-pass-requires Inv-loop μ-loop
-pass-requires c κs = (omega arith, omega arith, omega arith, omega arith, begun-is _ _ _ _ _ _ _ _ (c .before .before .before .pre .0 .3) (c .before .before .before .pre .0 .2) (c .before .before .before .pre .0 .4) (turned-none _ _ _ _ _))
-
 loop-holds : tie.Need-loop-holds Inv-loop μ-loop
-loop-holds c = (omega (arith, c .before .before .pass .ensures .1), refl, refl, λ a v r fw m. m)
+loop-holds c = (omega arith, refl, refl, midway-start _ _ _ _ _ _ _ (c .before .before .pre .1 .1))
 
-send-requires : tie.Need-send-requires Inv-loop μ-loop
-send-requires c κs = (omega arith, omega arith, omega arith, omega arith, (turn-able _ _ _ _ _ _ _ (c .before .before .before .before .before .before .before .before .before .pre .0 .3) (c .before .loop-test .taken) (c .before .before .before .before .before .before .before .before .before .pre .0 .2) ((c .before .before .loop .inv .3 _ (c .before .before .before .before .before .before .before .before .before .pre .0 .3) (c .before .before .before .before .before .before .before .before .before .pre .0 .2) (c .before .before .before .before .before .before .before .before .before .pre .0 .0) (midway-pass _ _ _ _ _ _ _ _ _ _ _ _ _ _ (c .before .before .before .before .before .pass .ensures .0) (c .before .before .before .before .before .before .before .before .before .pre .0 .3) (c .before .before .before .before .before .before .before .before .before .pre .0 .2) (c .before .before .before .before .before .before .before .before .before .pre .0 .0) (omega arith) (c .before .before .before .before .before .pass .ensures .1 .1) (midway-start _ _ _ _ _ _ _ (c .before .before .before .before .before .before .before .before .before .pre .1 .1)))) .0)), turn-plain _ _ _ _ _ _ _ _ (c .before .before .before .before .before .before .before .before .before .pre .0 .4) (c .before .before .before .before .before .before .before .before .before .pre .0 .3) (c .before .loop-test .taken) (c .before .before .before .before .before .before .before .before .before .pre .0 .2) ((c .before .before .loop .inv .3 _ (c .before .before .before .before .before .before .before .before .before .pre .0 .3) (c .before .before .before .before .before .before .before .before .before .pre .0 .2) (c .before .before .before .before .before .before .before .before .before .pre .0 .0) (midway-pass _ _ _ _ _ _ _ _ _ _ _ _ _ _ (c .before .before .before .before .before .pass .ensures .0) (c .before .before .before .before .before .before .before .before .before .pre .0 .3) (c .before .before .before .before .before .before .before .before .before .pre .0 .2) (c .before .before .before .before .before .before .before .before .before .pre .0 .0) (omega arith) (c .before .before .before .before .before .pass .ensures .1 .1) (midway-start _ _ _ _ _ _ _ (c .before .before .before .before .before .before .before .before .before .pre .1 .1)))) .0))
+pass-requires : tie.Need-pass-requires Inv-loop μ-loop
+pass-requires c κs = (omega arith, omega arith, omega arith, omega arith, begun-is _ _ _ _ _ _ _ _ (c .before .before .before .before .before .pre .0 .3) (c .before .before .before .before .before .pre .0 .2) (c .before .before .before .before .before .pre .0 .4) (c .before .before .loop .inv .3 .0))
 
-cast-turn-on : tie.Need-cast-turn-on Inv-loop μ-loop
-cast-turn-on c = omega arith
+cast-take : tie.Need-cast-take Inv-loop μ-loop
+cast-take c = omega (arith, c .before .before .before .before .before .pass .ensures .1)
 
-mul-turn-on : tie.Need-mul-turn-on Inv-loop μ-loop
-mul-turn-on c = omega arith
+mul-take : tie.Need-mul-take Inv-loop μ-loop
+mul-take c = omega (arith, c .before .before .before .before .before .pass .ensures .1)
 
-add-turn-on : tie.Need-add-turn-on Inv-loop μ-loop
-add-turn-on c = omega arith
+add-take : tie.Need-add-take Inv-loop μ-loop
+add-take c = omega (arith, c .before .before .before .before .before .pass .ensures .1)
 
-turn-on-requires : tie.Need-turn-on-requires Inv-loop μ-loop
-turn-on-requires c κs = ((omega arith, omega arith, omega arith, omega arith, left-able _ _ _ _ _ _ _ _ (c .before .before .before .before .before .send .ensures) (not-true _ (c .before .before .if1 .taken)) (turn-able _ _ _ _ _ _ _ (c .before .before .before .before .before .before .before .before .before .before .before .before .before .before .before .pre .0 .3) (c .before .before .before .before .before .before .before .loop-test .taken) (c .before .before .before .before .before .before .before .before .before .before .before .before .before .before .before .pre .0 .2) ((c .before .before .before .before .before .before .before .before .loop .inv .3 _ (c .before .before .before .before .before .before .before .before .before .before .before .before .before .before .before .pre .0 .3) (c .before .before .before .before .before .before .before .before .before .before .before .before .before .before .before .pre .0 .2) (c .before .before .before .before .before .before .before .before .before .before .before .before .before .before .before .pre .0 .0) (midway-pass _ _ _ _ _ _ _ _ _ _ _ _ _ _ (c .before .before .before .before .before .before .before .before .before .before .before .pass .ensures .0) (c .before .before .before .before .before .before .before .before .before .before .before .before .before .before .before .pre .0 .3) (c .before .before .before .before .before .before .before .before .before .before .before .before .before .before .before .pre .0 .2) (c .before .before .before .before .before .before .before .before .before .before .before .before .before .before .before .pre .0 .0) (omega arith) (c .before .before .before .before .before .before .before .before .before .before .before .pass .ensures .1 .1) (midway-start _ _ _ _ _ _ _ (c .before .before .before .before .before .before .before .before .before .before .before .before .before .before .before .pre .1 .1)))) .0))), (omega arith, (c .before .before .before .before .before .before .before .before .loop .inv .3 _ (c .before .before .before .before .before .before .before .before .before .before .before .before .before .before .before .pre .0 .3) (c .before .before .before .before .before .before .before .before .before .before .before .before .before .before .before .pre .0 .2) (c .before .before .before .before .before .before .before .before .before .before .before .before .before .before .before .pre .0 .0) (midway-pass _ _ _ _ _ _ _ _ _ _ _ _ _ _ (c .before .before .before .before .before .before .before .before .before .before .before .pass .ensures .0) (c .before .before .before .before .before .before .before .before .before .before .before .before .before .before .before .pre .0 .3) (c .before .before .before .before .before .before .before .before .before .before .before .before .before .before .before .pre .0 .2) (c .before .before .before .before .before .before .before .before .before .before .before .before .before .before .before .pre .0 .0) (omega arith) (c .before .before .before .before .before .before .before .before .before .before .before .pass .ensures .1 .1) (midway-start _ _ _ _ _ _ _ (c .before .before .before .before .before .before .before .before .before .before .before .before .before .before .before .pre .1 .1)))) .2, omega arith))
+take-requires : tie.Need-take-requires Inv-loop μ-loop
+take-requires c κs = ((omega arith, omega arith, omega arith, omega arith, turn-able _ _ _ _ _ _ _ (c .before .before .before .before .before .before .before .before .before .before .before .pre .0 .3) (c .before .before .if1 .left) (c .before .before .before .before .before .before .before .before .before .before .before .pre .0 .2) ((midway-pass _ _ _ _ _ _ _ _ _ _ _ _ _ _ (c .before .before .before .before .before .pass .ensures .0) (c .before .before .before .before .before .before .before .before .before .before .before .pre .0 .3) (c .before .before .before .before .before .before .before .before .before .before .before .pre .0 .2) (c .before .before .before .before .before .before .before .before .before .before .before .pre .0 .0) (c .before .before .before .before .before .pass .ensures .1 .0) (c .before .before .before .before .before .pass .ensures .1 .1) (c .before .before .before .before .before .before .before .before .loop .inv .3)) .0), turn-plain _ _ _ _ _ _ _ _ (c .before .before .before .before .before .before .before .before .before .before .before .pre .0 .4) (c .before .before .before .before .before .before .before .before .before .before .before .pre .0 .3) (c .before .before .if1 .left) (c .before .before .before .before .before .before .before .before .before .before .before .pre .0 .2) ((midway-pass _ _ _ _ _ _ _ _ _ _ _ _ _ _ (c .before .before .before .before .before .pass .ensures .0) (c .before .before .before .before .before .before .before .before .before .before .before .pre .0 .3) (c .before .before .before .before .before .before .before .before .before .before .before .pre .0 .2) (c .before .before .before .before .before .before .before .before .before .before .before .pre .0 .0) (c .before .before .before .before .before .pass .ensures .1 .0) (c .before .before .before .before .before .pass .ensures .1 .1) (c .before .before .before .before .before .before .before .before .loop .inv .3)) .0)), (omega arith, (midway-pass _ _ _ _ _ _ _ _ _ _ _ _ _ _ (c .before .before .before .before .before .pass .ensures .0) (c .before .before .before .before .before .before .before .before .before .before .before .pre .0 .3) (c .before .before .before .before .before .before .before .before .before .before .before .pre .0 .2) (c .before .before .before .before .before .before .before .before .before .before .before .pre .0 .0) (c .before .before .before .before .before .pass .ensures .1 .0) (c .before .before .before .before .before .pass .ensures .1 .1) (c .before .before .before .before .before .before .before .before .loop .inv .3)) .2, omega arith))
 
 array-write-late : tie.Need-array-write-late Inv-loop μ-loop
 array-write-late c = omega arith
@@ -46,32 +41,29 @@ array-write-late c = omega arith
 either-requires : tie.Need-either-requires Inv-loop μ-loop
 either-requires c κs = search needs
 
-add-pass : tie.Need-add-pass Inv-loop μ-loop
-add-pass c = omega arith
-
-pass-requires-2 : tie.Need-pass-requires-2 Inv-loop μ-loop
-pass-requires-2 c κs = (omega arith, omega arith, omega arith, ⊎-elim (λ w. omega (arith, ap length (w .9), ap length (w .10))) (λ w. omega (arith, ap length (w .1), ap length (w .2))) (c .before .if1 .came), begun-is _ _ _ _ _ _ _ _ (c .before .before .before .before .before .before .before .before .before .before .before .before .before .before .pre .0 .3) (c .before .before .before .before .before .before .before .before .before .before .before .before .before .before .pre .0 .2) (c .before .before .before .before .before .before .before .before .before .before .before .before .before .before .pre .0 .4) ((⊎-elim (λ w. midway-left _ _ _ _ _ _ _ _ _ _ _ _ _ _ (c .before .before .before .before .send .ensures) (c .before .before .before .before .before .before .before .before .before .before .before .before .before .before .pre .0 .3) (c .before .before .before .before .before .before .loop-test .taken) (c .before .before .before .before .before .before .before .before .before .before .before .before .before .before .pre .0 .2) (c .before .before .before .before .before .before .before .before .before .before .before .before .before .before .pre .0 .0) (c .before .before .before .before .before .before .before .loop .inv .3 _ (c .before .before .before .before .before .before .before .before .before .before .before .before .before .before .pre .0 .3) (c .before .before .before .before .before .before .before .before .before .before .before .before .before .before .pre .0 .2) (c .before .before .before .before .before .before .before .before .before .before .before .before .before .before .pre .0 .0) (midway-pass _ _ _ _ _ _ _ _ _ _ _ _ _ _ (c .before .before .before .before .before .before .before .before .before .before .pass .ensures .0) (c .before .before .before .before .before .before .before .before .before .before .before .before .before .before .pre .0 .3) (c .before .before .before .before .before .before .before .before .before .before .before .before .before .before .pre .0 .2) (c .before .before .before .before .before .before .before .before .before .before .before .before .before .before .pre .0 .0) (omega arith) (c .before .before .before .before .before .before .before .before .before .before .pass .ensures .1 .1) (midway-start _ _ _ _ _ _ _ (c .before .before .before .before .before .before .before .before .before .before .before .before .before .before .pre .1 .1)))) _ _ _ _ _ (not-true _ (w .0 .taken)) (w .9 ∙ w .3 .ensures .0) (w .10 ∙ w .3 .ensures .1 .0) (w .3 .ensures .1 .1) (w .11 ∙ w .8 .ensures) (w .12)) (λ w. midway-taken _ _ _ _ _ _ _ _ _ _ _ _ _ _ (c .before .before .before .before .send .ensures) (c .before .before .before .before .before .before .before .before .before .before .before .before .before .before .pre .0 .3) (c .before .before .before .before .before .before .loop-test .taken) (c .before .before .before .before .before .before .before .before .before .before .before .before .before .before .pre .0 .2) (c .before .before .before .before .before .before .before .before .before .before .before .before .before .before .pre .0 .0) (c .before .before .before .before .before .before .before .loop .inv .3 _ (c .before .before .before .before .before .before .before .before .before .before .before .before .before .before .pre .0 .3) (c .before .before .before .before .before .before .before .before .before .before .before .before .before .before .pre .0 .2) (c .before .before .before .before .before .before .before .before .before .before .before .before .before .before .pre .0 .0) (midway-pass _ _ _ _ _ _ _ _ _ _ _ _ _ _ (c .before .before .before .before .before .before .before .before .before .before .pass .ensures .0) (c .before .before .before .before .before .before .before .before .before .before .before .before .before .before .pre .0 .3) (c .before .before .before .before .before .before .before .before .before .before .before .before .before .before .pre .0 .2) (c .before .before .before .before .before .before .before .before .before .before .before .before .before .before .pre .0 .0) (omega arith) (c .before .before .before .before .before .before .before .before .before .before .pass .ensures .1 .1) (midway-start _ _ _ _ _ _ _ (c .before .before .before .before .before .before .before .before .before .before .before .before .before .before .pre .1 .1)))) _ _ _ _ (not-false _ (w .0 .left)) (w .1) (w .2) (w .3) (w .4)) (c .before .if1 .came)) .0))
+add-i : tie.Need-add-i Inv-loop μ-loop
+add-i c = omega arith
 
 loop-less : tie.Need-loop-less Inv-loop μ-loop
-loop-less c = omega (arith, c .before .before .pass2 .ensures .1)
+loop-less c = omega (arith, c .before .before .before .before .before .before .before .before .before .before .before .pass .ensures .1)
 
 loop-again : tie.Need-loop-again Inv-loop μ-loop
-loop-again c = (omega (arith, c .before .before .pass2 .ensures .1), ⊎-elim (λ w. omega (arith, ap length (w .9), ap length (w .10))) (λ w. omega (arith, ap length (w .1), ap length (w .2))) (c .before .before .before .before .if1 .came), ⊎-elim (λ w. omega (arith, ap length (w .9), ap length (w .10))) (λ w. omega (arith, ap length (w .1), ap length (w .2))) (c .before .before .before .before .if1 .came), λ a v r fw m. midway-pass _ _ _ _ a _ _ _ _ _ _ _ _ _ (c .before .before .pass2 .ensures .0) v r fw (c .before .before .pass2 .ensures .1 .0) (c .before .before .pass2 .ensures .1 .1) (⊎-elim (λ w. midway-left _ _ _ _ a _ _ _ _ _ _ _ _ _ (c .before .before .before .before .before .before .before .send .ensures) v (c .before .before .before .before .before .before .before .before .before .loop-test .taken) r fw (c .before .before .before .before .before .before .before .before .before .before .loop .inv .3 a v r fw m) _ _ _ _ _ (not-true _ (w .0 .taken)) (w .9 ∙ w .3 .ensures .0) (w .10 ∙ w .3 .ensures .1 .0) (w .3 .ensures .1 .1) (w .11 ∙ w .8 .ensures) (w .12)) (λ w. midway-taken _ _ _ _ a _ _ _ _ _ _ _ _ _ (c .before .before .before .before .before .before .before .send .ensures) v (c .before .before .before .before .before .before .before .before .before .loop-test .taken) r fw (c .before .before .before .before .before .before .before .before .before .before .loop .inv .3 a v r fw m) _ _ _ _ (not-false _ (w .0 .left)) (w .1) (w .2) (w .3) (w .4)) (c .before .before .before .before .if1 .came)))
+loop-again c = (omega (arith, c .before .before .before .before .before .before .before .before .before .before .before .pass .ensures .1), omega arith, omega arith, midway-turn _ _ _ _ _ _ _ _ _ _ _ _ (c .before .before .before .before .before .before .before .before .before .before .before .before .before .before .before .before .before .pre .0 .3) (c .before .before .before .before .before .before .before .before .if1 .left) (c .before .before .before .before .before .before .before .before .before .before .before .before .before .before .before .before .before .pre .0 .2) (c .before .before .before .before .before .before .before .before .before .before .before .before .before .before .before .before .before .pre .0 .0) (midway-pass _ _ _ _ _ _ _ _ _ _ _ _ _ _ (c .before .before .before .before .before .before .before .before .before .before .before .pass .ensures .0) (c .before .before .before .before .before .before .before .before .before .before .before .before .before .before .before .before .before .pre .0 .3) (c .before .before .before .before .before .before .before .before .before .before .before .before .before .before .before .before .before .pre .0 .2) (c .before .before .before .before .before .before .before .before .before .before .before .before .before .before .before .before .before .pre .0 .0) (c .before .before .before .before .before .before .before .before .before .before .before .pass .ensures .1 .0) (c .before .before .before .before .before .before .before .before .before .before .before .pass .ensures .1 .1) (c .before .before .before .before .before .before .before .before .before .before .before .before .before .before .loop .inv .3)) _ _ _ _ (c .before .before .before .before .before .take .ensures .0) (c .before .before .before .before .before .take .ensures .1 .0) (c .before .before .before .before .before .take .ensures .1 .1) (c .either .ensures))
 
 add-write-clock : tie.Need-add-write-clock Inv-loop μ-loop
 add-write-clock c = omega arith
 
 write-clock-requires : tie.Need-write-clock-requires Inv-loop μ-loop
-write-clock-requires c κs = omega arith
+write-clock-requires c κs = ⊎-elim (λ w. omega (arith, ap length (w .1))) (λ w. omega (arith, ap length (w .6))) (c .before .loop-test .came)
 
 same-length : tie.Need-same-length Inv-loop μ-loop
-same-length c = omega arith
+same-length c = ⊎-elim (λ w. omega (arith, ap length (w .1))) (λ w. omega (arith, ap length (w .6))) (c .before .before .before .before .loop-test .came)
 
 same-length-2 : tie.Need-same-length-2 Inv-loop μ-loop
-same-length-2 c = omega arith
+same-length-2 c = ⊎-elim (λ w. omega (arith, ap length (w .1))) (λ w. omega (arith, ap length (w .6))) (c .before .before .before .before .loop-test .came)
 
 returns : tie.Need-returns Inv-loop μ-loop
-returns c = (advanced-turned _ _ _ _ _ _ _ _ (c .before .before .write-clock .ensures) ((c .before .before .before .before .before .loop .inv .3 _ (c .before .before .before .before .before .before .before .before .before .before .before .before .pre .0 .3) (c .before .before .before .before .before .before .before .before .before .before .before .before .pre .0 .2) (c .before .before .before .before .before .before .before .before .before .before .before .before .pre .0 .0) (midway-pass _ _ _ _ _ _ _ _ _ _ _ _ _ _ (c .before .before .before .before .before .before .before .before .pass .ensures .0) (c .before .before .before .before .before .before .before .before .before .before .before .before .pre .0 .3) (c .before .before .before .before .before .before .before .before .before .before .before .before .pre .0 .2) (c .before .before .before .before .before .before .before .before .before .before .before .before .pre .0 .0) (omega arith) (c .before .before .before .before .before .before .before .before .pass .ensures .1 .1) (midway-start _ _ _ _ _ _ _ (c .before .before .before .before .before .before .before .before .before .before .before .before .pre .1 .1)))) .0) (omega arith) (omega arith), (tally-all _ _ _ _ _ _ _ _ (c .before .before .before .before .before .before .before .before .before .before .before .before .pre .0 .0) (omega arith) (omega arith) ((c .before .before .before .before .before .loop .inv .3 _ (c .before .before .before .before .before .before .before .before .before .before .before .before .pre .0 .3) (c .before .before .before .before .before .before .before .before .before .before .before .before .pre .0 .2) (c .before .before .before .before .before .before .before .before .before .before .before .before .pre .0 .0) (midway-pass _ _ _ _ _ _ _ _ _ _ _ _ _ _ (c .before .before .before .before .before .before .before .before .pass .ensures .0) (c .before .before .before .before .before .before .before .before .before .before .before .before .pre .0 .3) (c .before .before .before .before .before .before .before .before .before .before .before .before .pre .0 .2) (c .before .before .before .before .before .before .before .before .before .before .before .before .pre .0 .0) (omega arith) (c .before .before .before .before .before .before .before .before .pass .ensures .1 .1) (midway-start _ _ _ _ _ _ _ (c .before .before .before .before .before .before .before .before .before .before .before .before .pre .1 .1)))) .1), (any-all _ _ _ _ _ _ _ (c .before .before .before .before .before .before .before .before .before .before .before .before .pre .0 .0) (omega arith) (omega arith) ((c .before .before .before .before .before .loop .inv .3 _ (c .before .before .before .before .before .before .before .before .before .before .before .before .pre .0 .3) (c .before .before .before .before .before .before .before .before .before .before .before .before .pre .0 .2) (c .before .before .before .before .before .before .before .before .before .before .before .before .pre .0 .0) (midway-pass _ _ _ _ _ _ _ _ _ _ _ _ _ _ (c .before .before .before .before .before .before .before .before .pass .ensures .0) (c .before .before .before .before .before .before .before .before .before .before .before .before .pre .0 .3) (c .before .before .before .before .before .before .before .before .before .before .before .before .pre .0 .2) (c .before .before .before .before .before .before .before .before .before .before .before .before .pre .0 .0) (omega arith) (c .before .before .before .before .before .before .before .before .pass .ensures .1 .1) (midway-start _ _ _ _ _ _ _ (c .before .before .before .before .before .before .before .before .before .before .before .before .pre .1 .1)))) .3), lates-all _ _ _ _ _ _ _ (omega arith) (omega arith) ((c .before .before .before .before .before .loop .inv .3 _ (c .before .before .before .before .before .before .before .before .before .before .before .before .pre .0 .3) (c .before .before .before .before .before .before .before .before .before .before .before .before .pre .0 .2) (c .before .before .before .before .before .before .before .before .before .before .before .before .pre .0 .0) (midway-pass _ _ _ _ _ _ _ _ _ _ _ _ _ _ (c .before .before .before .before .before .before .before .before .pass .ensures .0) (c .before .before .before .before .before .before .before .before .before .before .before .before .pre .0 .3) (c .before .before .before .before .before .before .before .before .before .before .before .before .pre .0 .2) (c .before .before .before .before .before .before .before .before .before .before .before .before .pre .0 .0) (omega arith) (c .before .before .before .before .before .before .before .before .pass .ensures .1 .1) (midway-start _ _ _ _ _ _ _ (c .before .before .before .before .before .before .before .before .before .before .before .before .pre .1 .1)))) .4))))
+returns c = ⊎-elim (λ w. midway-end _ _ _ _ _ _ _ _ _ _ _ _ (c .before .before .before .before .before .loop .inv .3) (c .before .before .before .before .before .before .before .before .pre .0 .0) (c .before .before .before .before .before .loop .inv .0) (w .0 .left) _ _ (w .1) (c .before .before .write-clock .ensures)) (λ w. midway-end _ _ _ _ _ _ _ _ _ _ _ _ (midway-pass _ _ _ _ _ _ _ _ _ _ _ _ _ _ (w .2 .ensures .0) (c .before .before .before .before .before .before .before .before .pre .0 .3) (c .before .before .before .before .before .before .before .before .pre .0 .2) (c .before .before .before .before .before .before .before .before .pre .0 .0) (w .2 .ensures .1 .0) (w .2 .ensures .1 .1) (c .before .before .before .before .before .loop .inv .3)) (c .before .before .before .before .before .before .before .before .pre .0 .0) (w .2 .ensures .1 .1) (w .5 .taken) _ _ (w .6) (c .before .before .write-clock .ensures)) (c .before .before .before .before .loop-test .came)
 
 pub step-on-spec : {M : Type 1} → statement M
 step-on-spec =
@@ -79,17 +71,15 @@ step-on-spec =
     (tie.spec
     Inv-loop
     μ-loop
-    pass-requires
     loop-holds
-    send-requires
-    cast-turn-on
-    mul-turn-on
-    add-turn-on
-    turn-on-requires
+    pass-requires
+    cast-take
+    mul-take
+    add-take
+    take-requires
     array-write-late
     either-requires
-    add-pass
-    pass-requires-2
+    add-i
     loop-less
     loop-again
     add-write-clock
