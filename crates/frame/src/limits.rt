@@ -13,7 +13,7 @@ pub const MAX_LENGTH: usize = 1500;
 pub const MIN_TYPE: usize = 1536;
 
 // The largest data under a length/type value.
-pub fn max_data(value: usize) -> usize
+pub(crate) fn max_data(value: usize) -> usize
     ensures size { λ r. ⌜ r ≡ maxData value ⌝ }
     ensures small { λ r. ⌜ r ≤ 65535 ⌝ }
 {
@@ -28,14 +28,14 @@ pub fn max_frame(value: usize) -> usize
 }
 
 // The octets of padding that n octets of data want.
-pub fn pad_size(n: usize) -> usize
+pub(crate) fn pad_size(n: usize) -> usize
     ensures { λ r. ⌜ r ≡ minData - n ⌝ }
 {
     if n < MIN_DATA { MIN_DATA - n } else { 0 }
 }
 
 // Whether n octets of data, few enough, are refused under a length/type value.
-pub fn refuses_value(value: usize, n: usize) -> bool
+pub(crate) fn refuses_value(value: usize, n: usize) -> bool
     ensures { λ r. ⌜ r ≡ refusesValue value n ⌝ }
 {
     if value <= MAX_LENGTH {

@@ -106,7 +106,7 @@ pub fn until_event(area: &mut [u8], n: u32) -> Stretch
 }
 
 // Whether the offer that begins at `at` lies within the input.
-pub fn offer_lies(input: &[u8], at: usize) -> bool
+fn offer_lies(input: &[u8], at: usize) -> bool
     ensures { λ r. ⌜ r ≡ lies (now (input .entry)) at ⌝ }
 {
     let n = input.len();

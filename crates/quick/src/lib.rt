@@ -307,7 +307,7 @@ pub fn send(area: &mut [u8], n: usize, depth: u32, t: usize, f: Figures, i: usiz
 }
 
 // Takes the turn of station i where it changes little, sends nothing, and nothing happens in it; says whether it did.
-pub fn turn(area: &mut [u8], n: usize, depth: u32, t: usize, f: Figures, i: usize) -> bool
+fn turn(area: &mut [u8], n: usize, depth: u32, t: usize, f: Figures, i: usize) -> bool
     requires { ⌜ (i < 16) × (n ≤ 16) × (t < 4294967296) × (57344 ≤ length (now area)) × Able f (now area) i × Plain (now area) i ⌝ }
     ensures { λ r. ⌜ Taken f depth n t i (now (area .entry)) (now (area .exit)) r ⌝ }
 {
