@@ -168,7 +168,7 @@ module _ (a : List ℕ) where
 
 -- ---- what was written is read back
 
-heard-back : (h : Heard) → heardOf (heardCode h) ≡ h
+pub heard-back : (h : Heard) → heardOf (heardCode h) ≡ h
 unfolding heardOf
 heard-back Nothing = refl
 heard-back (Clean true) = refl

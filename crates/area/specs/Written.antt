@@ -76,7 +76,7 @@ spelled-octet (suc w) v k h =
     rw (g, getD-at (spelled w (v / 256)) (v % 256) [] 0 w (length-spelled w (v / 256))) (omega arith))
 
 -- what is overwritten does not matter
-words-over : (n : ℕ) (x y : List ℕ) (b : ℕ) (ws : List ℕ) (k : ℕ) → b + 4 * n ≤ length x → b + 4 * n ≤ length y → (Apart k 1 b (4 * n) → getD x k 0 ≡ getD y k 0)
+pub words-over : (n : ℕ) (x y : List ℕ) (b : ℕ) (ws : List ℕ) (k : ℕ) → b + 4 * n ≤ length x → b + 4 * n ≤ length y → (Apart k 1 b (4 * n) → getD x k 0 ≡ getD y k 0)
     → getD (putWords n x b ws) k 0 ≡ getD (putWords n y b ws) k 0
 unfolding putWords put
 words-over zero x y b ws k hx hy e = e (λ p q. omega arith)

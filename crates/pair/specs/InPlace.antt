@@ -160,16 +160,22 @@ unfolding turns
 ahead-all n t zero r a sp kept hk = ahead-start t a
 ahead-all n t (suc k) r a sp kept hk = ahead-step n t k (r k) a (turns (λ i x. settled n t i (r i) x) k a) sp hk (kept k hk) (ahead-all n t k r a sp kept (omega arith))
 
+-- a station acts by the layout, the draws, its frame, its record, what it collected and what it hears
+pub act-by : (f : Figures) (d t i : ℕ) (a x : List ℕ) → i < 16 → 57344 ≤ length a → 57344 ≤ length x → stationAt a i .draw < 16
+    → octetsHeld (stationAt a i .transmitter) (stationAt a i .frame) ≤ 1536 → Keeps layout x a → Keeps draws x a → Keeps (frame i) x a → Keeps (station i) x a → Keeps (buffer i) x a
+    → Keeps (place i t) x a → actIn f d t x i ≡ actIn f d t a i
+unfolding actIn outcomeIn
+act-by f d t i a x hi room big hd hf plan lots frames own kept at =
+    let s : stationAt x i ≡ stationAt a i = station-by x a i hi big room plan own in
+    let b : bufferAt x i ≡ bufferAt a i = buffer-by x a i hi big room kept in
+    let h : arrivalAt x i t ≡ arrivalAt a i t = arrival-by x a i t at in
+    let w : drawAt x i (stationAt a i .draw) ≡ drawAt a i (stationAt a i .draw) = draw-by x a i (stationAt a i .draw) hi hd lots in
+    let z : frameAt x i (octetsHeld (stationAt a i .transmitter) (stationAt a i .frame)) ≡ frameAt a i (octetsHeld (stationAt a i .transmitter) (stationAt a i .frame)) =
+    frame-by x a i (octetsHeld (stationAt a i .transmitter) (stationAt a i .frame)) hi hf big room frames in
+    rw (s, b, h, w, z)
+
 -- a station acts the same from x as from a, where x is a but for what others have done in this step
 pub same-act : (f : Figures) (d t k i : ℕ) (a x : List ℕ) → i < 16 → k ≤ i → 57344 ≤ length a → length x ≡ length a → stationAt a i .draw < 16
     → octetsHeld (stationAt a i .transmitter) (stationAt a i .frame) ≤ 1536 → Ahead t k a x → actIn f d t x i ≡ actIn f d t a i
-unfolding actIn outcomeIn
 same-act f d t k i a x hi hk room el hd hf v =
-    let big : 57344 ≤ length x = omega arith in
-    let s : stationAt x i ≡ stationAt a i = station-by x a i hi big room (v .plan) (v .record-of i hk hi) in
-    let b : bufferAt x i ≡ bufferAt a i = buffer-by x a i hi big room (v .buffer-of i hk hi) in
-    let h : arrivalAt x i t ≡ arrivalAt a i t = arrival-by x a i t (v .place-of i hk hi) in
-    let w : drawAt x i (stationAt a i .draw) ≡ drawAt a i (stationAt a i .draw) = draw-by x a i (stationAt a i .draw) hi hd (v .lots) in
-    let z : frameAt x i (octetsHeld (stationAt a i .transmitter) (stationAt a i .frame)) ≡ frameAt a i (octetsHeld (stationAt a i .transmitter) (stationAt a i .frame)) =
-    frame-by x a i (octetsHeld (stationAt a i .transmitter) (stationAt a i .frame)) hi hf big room (v .frames i hi) in
-    rw (s, b, h, w, z)
+    act-by f d t i a x hi room (omega arith) hd hf (v .plan) (v .lots) (v .frames i hi) (v .record-of i hk hi) (v .buffer-of i hk hi) (v .place-of i hk hi)

@@ -111,7 +111,8 @@ fn count_down(area: &mut [u8], i: usize, c: u32)
     }
 }
 
-fn capped(k: usize, most: usize) -> usize
+// The smaller of the two.
+pub fn capped(k: usize, most: usize) -> usize
     ensures { λ r. ⌜ r ≡ min k most ⌝ }
 {
     if k < most { k } else { most }
@@ -307,7 +308,7 @@ pub fn send(area: &mut [u8], n: usize, depth: u32, t: usize, f: Figures, i: usiz
 }
 
 // Takes the turn of station i where it changes little, sends nothing, and nothing happens in it; says whether it did.
-fn turn(area: &mut [u8], n: usize, depth: u32, t: usize, f: Figures, i: usize) -> bool
+pub fn turn(area: &mut [u8], n: usize, depth: u32, t: usize, f: Figures, i: usize) -> bool
     requires { ⌜ (i < 16) × (n ≤ 16) × (t < 4294967296) × (57344 ≤ length (now area)) × Able f (now area) i × Plain (now area) i ⌝ }
     ensures { λ r. ⌜ Taken f depth n t i (now (area .entry)) (now (area .exit)) r ⌝ }
 {

@@ -25,50 +25,10 @@ use Rattle.quick.specs.Several.{Begun, Went, Passed}
 use Rattle.ready.specs.Stays.{step-clock, step-layout, step-depth, step-record, step-station}
 use Rattle.tally.specs.Tally.{sentCounted, gotCounted, isLate}
 use Rattle.tally.specs.TallyLaws.{Bounded, start-bounded, got-bounded}
+use Rattle.window.specs.Window.{eventsCounted, hasLate}
 use Rattle.runs.specs.declared.Ended.the-variants as how
 use Rattle.runs.specs.Run.{tallied, lateAt, Ran, runOf}
 use Rattle.runs.specs.RunLaws.{Runnable, tally-none, run-next, run-on, run-late}
-
--- ---- a turn
-
-unfoldable pub eventsCounted : List ℕ → Events → List ℕ
-eventsCounted ws e = gotCounted (sentCounted ws (e .sent)) (e .got)
-
-unfoldable pub hasLate : Events → Bool
-hasLate e = isLate (e .sent)
-
-module _ (f : Figures) (d n t i : ℕ) (x b : List ℕ) (r : Bool) (h : Taken f d n t i x b r) where
-  pub taken-words : (ws : List ℕ) → r ≡ true → ws ≡ eventsCounted ws (eventsOf (actIn f d t x i))
-  unfolding eventsCounted sentCounted gotCounted
-  taken-words ws e = rw (taken-events f d n t i x b r h e)
-
-  pub taken-late : r ≡ true → false ≡ hasLate (eventsOf (actIn f d t x i))
-  unfolding hasLate
-  taken-late e = rw (taken-events f d n t i x b r h e)
-
-  pub left-able : r ≡ false → Able f x i → Able f b i
-  left-able e v = subst (λ (y : List ℕ). Able f y i) (sym (left-area f d n t i x b r h e)) v
-
-  same-events : r ≡ false → eventsOf (actIn f d t b i) ≡ eventsOf (actIn f d t x i)
-  same-events e = ap (λ (y : List ℕ). eventsOf (actIn f d t y i)) (left-area f d n t i x b r h e)
-
-  pub left-words : (ws vs : List ℕ) → r ≡ false → vs ≡ eventsCounted ws (eventsOf (actIn f d t b i)) → vs ≡ eventsCounted ws (eventsOf (actIn f d t x i))
-  left-words ws vs e p = p ∙ ap (eventsCounted ws) (same-events e)
-
-  pub left-late : (c : Bool) → r ≡ false → c ≡ hasLate (eventsOf (actIn f d t b i)) → c ≡ hasLate (eventsOf (actIn f d t x i))
-  left-late c e p = p ∙ ap hasLate (same-events e)
-
-  pub left-turn : (y : List ℕ) → r ≡ false → y ≡ turnIn f d n t i b → y ≡ turnIn f d n t i x
-  left-turn y e p = p ∙ ap (λ (z : List ℕ). turnIn f d n t i z) (left-area f d n t i x b r h e)
-
-module _ (g e : Events) (q : g ≡ e) where
-  pub counted-is : (ws vs us : List ℕ) → us ≡ gotCounted vs (g .got) → vs ≡ sentCounted ws (g .sent) → us ≡ eventsCounted ws e
-  unfolding eventsCounted
-  counted-is ws vs us p r = p ∙ rw (r, q)
-
-  pub has-late-is : (c : Bool) → c ≡ isLate (g .sent) → c ≡ hasLate e
-  unfolding hasLate
-  has-late-is c p = p ∙ ap (λ (z : Events). isLate (z .sent)) q
 
 -- ---- which stations have a late collision
 
@@ -297,7 +257,7 @@ module _ (k n d t : ℕ) (f : Figures) (swift : Bool) (a : List ℕ) (h : OnCour
   unfolding OnCourse
   course-events = step-events f d n t a (eventsIn f d t a n) refl (h .1) (h .3) (h .2) (h .4)
 
-plain-after : (a : List ℕ) → Readiness a → (i : ℕ) → i < countAt a → Plain (stepArea a) i
+pub plain-after : (a : List ℕ) → Readiness a → (i : ℕ) → i < countAt a → Plain (stepArea a) i
 unfolding Plain
 plain-after a r i h = ap encoded (step-station a r i h) ∙ sym (step-record a r i h)
 

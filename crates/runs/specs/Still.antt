@@ -60,7 +60,7 @@ clock-octets l v h o k =
     (λ c. let g = ltb-true k 4 c in rw (clock-octet l v k h g) (spelled-octet 4 v k g))
     (λ c. rw (past-clock l v k (ltb-false k 4 c)) (o k))
 
-clock-twice : (l : List ℕ) (v w : ℕ) → 4 ≤ length l → withClock (withClock l v) w ≡ withClock l w
+pub clock-twice : (l : List ℕ) (v w : ℕ) → 4 ≤ length l → withClock (withClock l v) w ≡ withClock l w
 clock-twice l v w h =
     ext-getD 0 (withClock (withClock l v) w) (withClock l w) (length-clock (withClock l v) w ∙ length-clock l v ∙ sym (length-clock l w))
     (λ k g. by-test (ltb k 4)

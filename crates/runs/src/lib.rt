@@ -15,7 +15,9 @@ ghost use Rattle.quick.specs.Several.{Begun, Passed};
 ghost use Rattle.runs.specs.Run.{tallied, lateAt, courseOf, runOf, runOutcome, ran};
 ghost use Rattle.tally.specs.TallyLaws.{Bounded};
 ghost use Rattle.runs.specs.RunLaws.{Runnable};
-ghost use Rattle.runs.specs.OnLaws.{eventsCounted, hasLate, lates};
+ghost use Rattle.window.specs.Window.{eventsCounted, hasLate, Reaches};
+ghost use Rattle.runs.specs.OnLaws.{lates, OnCourse};
+ghost use Rattle.runs.specs.Windows.{Windowed, Advanced};
 ghost use Rattle.runs.specs.Still.{Clear, CalmIf, Idle};
 ghost use Rattle.runs.specs.declared.Ended.the-variants.{All};
 
@@ -40,8 +42,9 @@ pub struct Course {
     pub ended: Ended,
 }
 
-// Which stations had a late collision in a step, and whether any had.
+// The steps that were made, which stations had a late collision in the last of them, and whether any had.
 pub struct Lates {
+    pub steps: u32,
     pub any: bool,
     pub late: [bool; 16],
 }
@@ -69,31 +72,6 @@ fn pass(area: &mut [u8], swift: bool, n: usize, depth: u32, t: usize, f: Figures
     i
 }
 
-// The turn of station i, its events counted into `words`; whether it has a late collision. No word is past `top` yet.
-fn turn_on(
-    area: &mut [u8],
-    words: &mut [u32],
-    n: usize,
-    depth: u32,
-    t: usize,
-    f: Figures,
-    i: usize,
-    top: u32,
-) -> bool
-    requires { ⌜ (i < 16) × (n ≤ 16) × (t < 4294967296) × (57344 ≤ length (now area)) × Able f (now area) i ⌝ }
-    requires { ⌜ (length (now words) ≡ 9) × Bounded (now words) top × (top + 1 < 4294967295) ⌝ }
-    ensures area { λ r. ⌜ now (area .exit) ≡ turnIn f depth n t i (now (area .entry)) ⌝ }
-    ensures words { λ r. ⌜ now (words .exit) ≡ eventsCounted (now (words .entry)) (eventsOf (actIn f depth t (now (area .entry)) i)) ⌝ }
-    ensures late { λ r. ⌜ r ≡ hasLate (eventsOf (actIn f depth t (now (area .entry)) i)) ⌝ }
-{
-    let e = pair::turn(area, n, depth, t, f, i);
-    let sent = e.sent;
-    let got = e.got;
-    tally::count_sent(words, sent, top);
-    tally::count_got(words, got, top + 1);
-    tally::is_late(sent)
-}
-
 // The turn of station i where it does not pass: sent on, or the general way.
 fn take(
     area: &mut [u8],
@@ -115,7 +93,7 @@ fn take(
     if send(area, swift, n, depth, t, f, i) {
         return false;
     }
-    turn_on(area, words, n, depth, t, f, i, top)
+    window::turn_on(area, words, n, depth, t, f, i, top)
 }
 
 // One step, its events counted into `words`; which stations have a late collision.
@@ -131,6 +109,7 @@ fn step_on(
 ) -> Lates
     requires { ⌜ (n ≤ 16) × (t < 4294967295) × (57344 ≤ length (now area)) × AllAble n f (now area) × AllPlain swift n (now area) ⌝ }
     requires { ⌜ (length (now words) ≡ 9) × Bounded (now words) top × (top + 32 < 4294967295) ⌝ }
+    ensures steps { λ r. ⌜ r .steps ≡ 1 ⌝ }
     ensures area { λ r. ⌜ now (area .exit) ≡ advancedIn f depth n t (now (area .entry)) ⌝ }
     ensures words { λ r. ⌜ now (words .exit) ≡ tallied (eventsIn f depth t (now (area .entry)) n) 16 (now (words .entry)) ⌝ }
     ensures any { λ r. ⌜ r .any ≡ some (lateAt (eventsIn f depth t (now (area .entry)) n)) 16 ⌝ }
@@ -160,7 +139,11 @@ fn step_on(
         i += 1;
     }
     area::write_clock(area, t + 1);
-    Lates { any, late }
+    Lates {
+        steps: 1,
+        any,
+        late,
+    }
 }
 
 // Whether nothing is on its way to station i.
@@ -190,12 +173,12 @@ fn is_calm(area: &[u8], swift: bool, n: usize, i: usize) -> bool
     false
 }
 
-// Whether all n stations rest, and nothing is on its way: looked at in one step of 256, after the first.
+// Whether all n stations rest, and nothing is on its way: looked at in a quarter of the steps, after the first; a window does not pass over it.
 fn is_idle(area: &[u8], swift: bool, n: usize, t: u32) -> bool
     requires { ⌜ (n ≤ 16) × (57344 ≤ length (now area)) × AllPlain swift n (now area) ⌝ }
     ensures { λ r. ⌜ Idle r n (now (area .entry)) ⌝ }
 {
-    if t % 256 != 255 {
+    if t % 256 < 192 {
         return false;
     }
     if !swift {
@@ -211,6 +194,68 @@ fn is_idle(area: &[u8], swift: bool, n: usize, t: u32) -> bool
     true
 }
 
+// A window of m steps, where so many are left, the records are plain and none of n stations can have a late collision in it; answers how many
+// steps were made, m or none.
+fn pass_window(
+    area: &mut [u8],
+    words: &mut [u32],
+    swift: bool,
+    n: usize,
+    depth: u32,
+    t: u32,
+    f: Figures,
+    m: usize,
+    left: u32,
+    top: u32,
+) -> u32
+    requires { ⌜ (0 < m) × (m ≤ 64) × (t + left ≤ 16777216) × (57344 ≤ length (now area)) × OnCourse left n depth t f swift (now area) × Reaches m n (now area) ⌝ }
+    requires { ⌜ (length (now words) ≡ 9) × Bounded (now words) top × (top + 2048 < 4294967295) ⌝ }
+    ensures went { λ r. ⌜ Windowed f depth n t m left r (now (area .entry)) (now (words .entry)) (now (area .exit)) (now (words .exit)) ⌝ }
+    ensures bound { λ r. ⌜ r ≤ left ⌝ }
+{
+    let steps = m as u32;
+    if !swift {
+        return 0;
+    }
+    if left < steps {
+        return 0;
+    }
+    if !window::are_safe(area, n, t as usize, f, m) {
+        return 0;
+    }
+    area::write_clock(area, t + steps);
+    window::together(area, words, n, depth, t as usize, f, m, top);
+    steps
+}
+
+// A window, or one step where none can be made.
+fn advance(
+    area: &mut [u8],
+    words: &mut [u32],
+    swift: bool,
+    n: usize,
+    depth: u32,
+    t: u32,
+    f: Figures,
+    m: usize,
+    left: u32,
+    top: u32,
+) -> Lates
+    requires { ⌜ (0 < left) × (0 < m) × (m ≤ 64) × (t + left ≤ 16777216) × (57344 ≤ length (now area)) × OnCourse left n depth t f swift (now area) × Reaches m n (now area) ⌝ }
+    requires { ⌜ (length (now words) ≡ 9) × Bounded (now words) top × (top + 2048 < 4294967295) ⌝ }
+    ensures { λ r. ⌜ Advanced f depth n t m left (r .steps) (r .any) (r .late) (now (area .entry)) (now (words .entry)) (now (area .exit)) (now (words .exit)) ⌝ }
+{
+    let steps = pass_window(area, words, swift, n, depth, t, f, m, left, top);
+    if steps != 0 {
+        return Lates {
+            steps,
+            any: false,
+            late: [false; 16],
+        };
+    }
+    step_on(area, words, swift, n, depth, t, f, top)
+}
+
 // At most n steps, on an area that is ready for them, counted into `words`.
 fn run_steps(area: &mut [u8], words: &mut [u32], n: u32) -> Course
     requires { ⌜ Runnable n (now area) × (57344 ≤ length (now area)) × (n ≤ 16777216) ⌝ }
@@ -220,6 +265,7 @@ fn run_steps(area: &mut [u8], words: &mut [u32], n: u32) -> Course
     let count = area::read_count(area) as usize;
     let depth = area::read_depth(area);
     let f = area::read_figures(area);
+    let reach = window::reach(area, count);
     let mut clock = area::read_clock(area);
     let mut ended = Ended::All;
     let mut swift = false;
@@ -232,9 +278,20 @@ fn run_steps(area: &mut [u8], words: &mut [u32], n: u32) -> Course
                 ended: Ended::All,
             };
         }
-        let step = step_on(area, words, swift, count, depth, clock, f, 32 * t);
-        t += 1;
-        clock += 1;
+        let step = advance(
+            area,
+            words,
+            swift,
+            count,
+            depth,
+            clock,
+            f,
+            reach,
+            n - t,
+            32 * t,
+        );
+        t += step.steps;
+        clock += step.steps;
         swift = true;
         if !step.any {
             continue;

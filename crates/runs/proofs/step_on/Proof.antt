@@ -63,7 +63,7 @@ same-length-2 : tie.Need-same-length-2 Inv-loop μ-loop
 same-length-2 c = ⊎-elim (λ w. omega (arith, ap length (w .1))) (λ w. omega (arith, ap length (w .6))) (c .before .before .before .before .loop-test .came)
 
 returns : tie.Need-returns Inv-loop μ-loop
-returns c = ⊎-elim (λ w. midway-end _ _ _ _ _ _ _ _ _ _ _ _ (c .before .before .before .before .before .loop .inv .3) (c .before .before .before .before .before .before .before .before .pre .0 .0) (c .before .before .before .before .before .loop .inv .0) (w .0 .left) _ _ (w .1) (c .before .before .write-clock .ensures)) (λ w. midway-end _ _ _ _ _ _ _ _ _ _ _ _ (midway-pass _ _ _ _ _ _ _ _ _ _ _ _ _ _ (w .2 .ensures .0) (c .before .before .before .before .before .before .before .before .pre .0 .3) (c .before .before .before .before .before .before .before .before .pre .0 .2) (c .before .before .before .before .before .before .before .before .pre .0 .0) (w .2 .ensures .1 .0) (w .2 .ensures .1 .1) (c .before .before .before .before .before .loop .inv .3)) (c .before .before .before .before .before .before .before .before .pre .0 .0) (w .2 .ensures .1 .1) (w .5 .taken) _ _ (w .6) (c .before .before .write-clock .ensures)) (c .before .before .before .before .loop-test .came)
+returns c = ⊎-elim (λ w. (refl, midway-end _ _ _ _ _ _ _ _ _ _ _ _ (c .before .before .before .before .before .loop .inv .3) (c .before .before .before .before .before .before .before .before .pre .0 .0) (c .before .before .before .before .before .loop .inv .0) (w .0 .left) _ _ (w .1) (c .before .before .write-clock .ensures))) (λ w. (refl, midway-end _ _ _ _ _ _ _ _ _ _ _ _ (midway-pass _ _ _ _ _ _ _ _ _ _ _ _ _ _ (w .2 .ensures .0) (c .before .before .before .before .before .before .before .before .pre .0 .3) (c .before .before .before .before .before .before .before .before .pre .0 .2) (c .before .before .before .before .before .before .before .before .pre .0 .0) (w .2 .ensures .1 .0) (w .2 .ensures .1 .1) (c .before .before .before .before .before .loop .inv .3)) (c .before .before .before .before .before .before .before .before .pre .0 .0) (w .2 .ensures .1 .1) (w .5 .taken) _ _ (w .6) (c .before .before .write-clock .ensures))) (c .before .before .before .before .loop-test .came)
 
 pub step-on-spec : {M : Type 1} → statement M
 step-on-spec =

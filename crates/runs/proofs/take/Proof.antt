@@ -1,7 +1,7 @@
 -- `runs::take` meets its contract. Assumes nothing.
 use native.Mathlib.Omega.{arith}
 use Rattle.quick.specs.Quick.{taken-area}
-use Rattle.runs.specs.OnLaws.{taken-words, taken-late, left-able, left-turn, left-words, left-late}
+use Rattle.window.specs.Going.{taken-words, taken-late, left-able, left-turn, left-words, left-late}
 use borrow.Author.Needs.{needs}
 use Rattle.runs.proofs.take.Statement.{statement}
 use Rattle.runs.proofs.take.Tie as tie

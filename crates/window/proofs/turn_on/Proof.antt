@@ -1,10 +1,10 @@
--- `runs::turn_on` meets its contract. Assumes nothing.
+-- `window::turn_on` meets its contract. Assumes nothing.
 use native.Mathlib.Omega.{arith}
-use Rattle.runs.specs.OnLaws.{counted-is, has-late-is}
+use Rattle.window.specs.Going.{counted-is, has-late-is}
 use Rattle.tally.specs.TallyLaws.{sent-bounded}
 use borrow.Author.Needs.{needs}
-use Rattle.runs.proofs.turn_on.Statement.{statement}
-use Rattle.runs.proofs.turn_on.Tie as tie
+use Rattle.window.proofs.turn_on.Statement.{statement}
+use Rattle.window.proofs.turn_on.Tie as tie
 
 turn-requires : tie.Need-turn-requires
 turn-requires c κs = search needs
