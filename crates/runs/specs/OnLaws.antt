@@ -20,8 +20,7 @@ use Rattle.pair.specs.declared.Events.{Events}
 use Rattle.pair.specs.BitTime.{actIn, turnedIn, turnIn, advancedIn, eventsOf, eventsIn, noEvents, eventsAt, stepArea, eventAt}
 use Rattle.pair.specs.CodeLaws.{turned-none, turned-end, advanced-is}
 use Rattle.pair.specs.Ready.{Readiness, Ready, Able, AllAble, acts-same, turn-next, ready-few, ready-able, step-is, step-events}
-use Rattle.quick.specs.Quick.{Plain, AllPlain, Taken, taken-events, left-area}
-use Rattle.quick.specs.Several.{Begun, Went, Passed}
+use Rattle.quick.specs.Quick.{Plain, AllPlain}
 use Rattle.ready.specs.Stays.{step-clock, step-layout, step-depth, step-record, step-station}
 use Rattle.tally.specs.Tally.{sentCounted, gotCounted, isLate}
 use Rattle.tally.specs.TallyLaws.{Bounded, start-bounded, got-bounded}
@@ -126,46 +125,6 @@ module _ (f : Figures) (d n t i : ℕ) (a x : List ℕ) (v : AllAble n f a) (hi 
   unfolding lates
   lates-turn late has h q e = filled-more false (lateAt (eventsIn f d t a n)) i n late has (late-here has q) hi h e
 
--- ---- stations whose turns were taken quickly, one after the other
-
-module _ (f : Figures) (d n t : ℕ) (a : List ℕ) (i j : ℕ) (y : List ℕ) (w : Went f d n t a i j y) (hj : j ≤ n) (few : n ≤ 16) where
-  ev : List Events
-  ev = eventsIn f d t a n
-
-  event-none : (k : ℕ) → i ≤ k → k < j → eventAt ev k ≡ noEvents
-  unfolding Went ev eventsIn
-  event-none k lo up = filled-at noEvents (λ m. eventsOf (actIn f d t a m)) n k noEvents (omega arith) ∙ w .1 k lo up
-
-  tally-pass : (m : ℕ) (ws : List ℕ) → i + m ≤ j → tallied ev (i + m) ws ≡ tallied ev i ws
-  unfolding tallied turns sentCounted gotCounted
-  tally-pass zero ws h = let e : i + 0 ≡ i = omega arith in rw e
-  tally-pass (suc m) ws h = let e : i + suc m ≡ suc (i + m) = omega arith in rw (e, event-none (i + m) (omega arith) (omega arith)) (tally-pass m ws (omega arith))
-
-  late-none : (k : ℕ) → i ≤ k → k < j → lateAt ev k ≡ false
-  unfolding lateAt
-  late-none k lo up = rw (event-none k lo up)
-
-  any-pass : (m : ℕ) → i + m ≤ j → some (lateAt ev) (i + m) ≡ some (lateAt ev) i
-  unfolding some
-  any-pass zero h = let e : i + 0 ≡ i = omega arith in rw e
-  any-pass (suc m) h =
-      let e : i + suc m ≡ suc (i + m) = omega arith in
-      rw (e, late-none (i + m) (omega arith) (omega arith)) (or-false (some (lateAt ev) (i + m)) ∙ any-pass m (omega arith))
-
-  lates-one : (k : ℕ) → i ≤ k → k < j → lates ev (k + 1) ≡ lates ev k
-  unfolding lates
-  lates-one k lo up =
-      let z : k + 0 ≡ k = omega arith in
-      let l : List Bool = filled false (lateAt ev) k in
-      let g : getD l k false ≡ false = ap (λ (m : ℕ). getD l m false) (sym z) ∙ filled-past false (lateAt ev) k 0 in
-      sym (filled-more false (lateAt ev) k n l false (sym (late-none k lo up)) (omega arith) few refl) ∙ ap (set l k) (sym g) ∙ set-getD l k false
-
-  lates-pass : (m : ℕ) → i + m ≤ j → lates ev (i + m) ≡ lates ev i
-  lates-pass zero h = let e : i + 0 ≡ i = omega arith in rw e
-  lates-pass (suc m) h =
-      let e : i + suc m ≡ i + m + 1 = omega arith in
-      rw e (lates-one (i + m) (omega arith) (omega arith) ∙ lates-pass m (omega arith))
-
 pub turn-bounded : (ws vs : List ℕ) (e : Events) (m i : ℕ) → vs ≡ eventsCounted ws e → Bounded ws (m + 2 * i) → Bounded vs (m + 2 * (i + 1))
 unfolding eventsCounted
 turn-bounded ws vs e m i p h = got-bounded ws (sentCounted ws (e .sent)) vs (e .sent) (e .got) m i p refl h
@@ -175,20 +134,7 @@ abbrev pub Midway : Figures → (d n t : ℕ) → (a ws₀ : List ℕ) → (top 
 Midway f d n t a ws₀ top i x ws any late =
     (x ≡ turnedIn f d n t a i) × (ws ≡ tallied (eventsIn f d t a n) i ws₀) × Bounded ws (top + 2 * i) × (any ≡ some (lateAt (eventsIn f d t a n)) i) × (late ≡ lates (eventsIn f d t a n) i)
 
-pub midway-pass : (f : Figures) (d n t : ℕ) (a ws₀ : List ℕ) (top i j : ℕ) (x y ws : List ℕ) (any : Bool) (late : List Bool) → Passed f d n t i x j y → AllAble n f a → 57344 ≤ length a → n ≤ 16
-    → i ≤ j → j ≤ n → Midway f d n t a ws₀ top i x ws any late → Midway f d n t a ws₀ top j y ws any late
-unfolding Passed Went Bounded ev
-midway-pass f d n t a ws₀ top i j x y ws any late p v room few lo hj h =
-    let w : Went f d n t a i j y = p a v room (h .0) in
-    let e : i + (j - i) ≡ j = omega arith in (
-      w .0,
-      h .1 ∙ sym (tally-pass f d n t a i j y w hj few (j - i) ws₀ (omega arith)) ∙ ap (λ (m : ℕ). tallied (eventsIn f d t a n) m ws₀) e,
-      λ k. omega (arith, h .2 k),
-      h .3 ∙ sym (any-pass f d n t a i j y w hj few (j - i) (omega arith)) ∙ ap (some (lateAt (eventsIn f d t a n))) e,
-      h .4 ∙ sym (lates-pass f d n t a i j y w hj few (j - i) (omega arith)) ∙ ap (lates (eventsIn f d t a n)) e,
-    )
-
--- its turn, quick or not
+-- its turn
 pub midway-turn : (f : Figures) (d n t : ℕ) (a ws₀ : List ℕ) (top i : ℕ) (x ws : List ℕ) (any : Bool) (late : List Bool) → AllAble n f a → i < n → 57344 ≤ length a → n ≤ 16
     → Midway f d n t a ws₀ top i x ws any late → (y vs : List ℕ) (has more : Bool) → y ≡ turnIn f d n t i x → vs ≡ eventsCounted ws (eventsOf (actIn f d t x i))
     → has ≡ hasLate (eventsOf (actIn f d t x i)) → more ≡ (any || has) → Midway f d n t a ws₀ top (i + 1) y vs more (set late i has)
@@ -199,10 +145,6 @@ midway-turn f d n t a ws₀ top i x ws any late v hi room few m y vs has more ey
   any-turn f d n t i a x v hi room (m .0) any more has ea eh (m .3),
   lates-turn f d n t i a x v hi room (m .0) late has few eh (m .4),
 )
-
-pub begun-is : (swift : Bool) (f : Figures) (d n t i : ℕ) (a x : List ℕ) → AllAble n f a → 57344 ≤ length a → AllPlain swift n a → x ≡ turnedIn f d n t a i → Begun swift f d n t i x
-unfolding Begun
-begun-is swift f d n t i a x v room p e = (a, v, room, p, e)
 
 pub midway-start : (f : Figures) (d n t : ℕ) (a ws₀ : List ℕ) (top : ℕ) → Bounded ws₀ top → Midway f d n t a ws₀ top 0 a ws₀ false (replicate 16 false)
 midway-start f d n t a ws₀ top h =

@@ -1,5 +1,5 @@
 -- A window of a run: its turns, made station by station, are the steps that it stands for. Assumes nothing.
-use Prim.Native.Nat.{ℕ, zero, suc, _+_, _-_, _*_, _^_, _≤_, _<_}
+use Prim.Native.Nat.{ℕ, zero, suc, _+_, _-_, _*_, _^_, _≤_, _<_, min}
 use mathlib.Core.Path.{_≡_, refl, sym, _∙_, ap, subst}
 use mathlib.Core.Bool.{Bool, true, false, not, true≢false}
 use mathlib.Core.List.{List, []}
@@ -314,22 +314,34 @@ module _ (k t n d c : ℕ) (f : Figures) (swift : Bool) (a b ws vs : List ℕ) (
 
 -- ---- what a window leaves, or where none was made
 
--- r steps were made of x and ws, m or none, where m are within those left; or all is as it was. Shut, so that a search does not enter it
+-- a window of r steps of x and ws was made
+pub record Made (f : Figures) (d n t m left r : ℕ) (x ws y vs : List ℕ) : Type 0 where
+  pub some : 0 < r
+  pub reach : r ≤ m
+  pub within : r ≤ left
+  pub safe : AllSafe r n f t x
+  pub leaves : record { octets = y; words = vs } ≡ stationwise (windowTurn f d n t) r n (record { octets = withClock x (t + r); words = ws })
+
+-- so it was, or none was and all is as before. Shut, so that a search does not enter it
 unfoldable pub Windowed : Figures → (d n t m left r : ℕ) → (x ws y vs : List ℕ) → Type 0
-Windowed f d n t m left r x ws y vs =
-    (r ≡ 0 → (y ≡ x) × (vs ≡ ws))
-    × ((r ≡ 0 → ⊥) → (r ≡ m) × (m ≤ left) × AllSafe m n f t x × (record { octets = y; words = vs } ≡ stationwise (windowTurn f d n t) m n (record { octets = withClock x (t + m); words = ws })))
+Windowed f d n t m left r x ws y vs = (r ≡ 0 → (y ≡ x) × (vs ≡ ws)) × ((r ≡ 0 → ⊥) → Made f d n t m left r x ws y vs)
 
 pub windowed-none : (f : Figures) (d n t m left : ℕ) (x ws : List ℕ) → Windowed f d n t m left 0 x ws x ws
 unfolding Windowed
 windowed-none f d n t m left x ws = (λ e. (refl, refl), λ ne. absurd (ne refl))
 
-pub windowed-all : (f : Figures) (d n t m left r : ℕ) (x ws z y vs : List ℕ) (b : Bool) → r ≡ m → 0 < m → m ≤ left → AllSafeIf b m n f t x → b ≡ true → z ≡ withClock x (t + r)
-    → record { octets = y; words = vs } ≡ stationwise (windowTurn f d n t) m n (record { octets = z; words = ws }) → Windowed f d n t m left r x ws y vs
+pub windowed-all : (f : Figures) (d n t m left r : ℕ) (x ws z y vs : List ℕ) (b : Bool) → r ≡ min m left → 0 < m → 0 < left → AllSafeIf b r n f t x → b ≡ true → z ≡ withClock x (t + r)
+    → record { octets = y; words = vs } ≡ stationwise (windowTurn f d n t) r n (record { octets = z; words = ws }) → Windowed f d n t m left r x ws y vs
 unfolding Windowed AllSafeIf
-windowed-all f d n t m left r x ws z y vs b er hm le s e ez p =
-    let q : z ≡ withClock x (t + m) = ez ∙ ap (λ (k : ℕ). withClock x (t + k)) er in
-    (λ w. absurd (omega arith), λ w. (er, le, s e, p ∙ ap (λ (l : List ℕ). stationwise (windowTurn f d n t) m n (record { octets = l; words = ws })) q))
+windowed-all f d n t m left r x ws z y vs b er hm hl s e ez p =
+    (
+      λ w. absurd (omega arith),
+      λ w. record { some = omega arith; reach = omega arith; within = omega arith; safe = s e; leaves = p ∙ ap (λ (l : List ℕ). stationwise (windowTurn f d n t) r n (record { octets = l; words = ws })) ez },
+    )
+
+pub reaches-less : (m r n : ℕ) (a : List ℕ) → r ≤ m → Reaches m n a → Reaches r n a
+unfolding Reaches
+reaches-less m r n a le h = (λ i j hi hj ne. omega (arith, h .0 i j hi hj ne), λ i j hi hj ne. omega (arith, h .1 i j hi hj ne))
 
 -- the stations of such an area, the clock written
 pub course-open : (k n d t : ℕ) (f : Figures) (swift : Bool) (a b : List ℕ) (m c : ℕ) → OnCourse k n d t f swift a → swift ≡ true → Reaches m n a → b ≡ withClock a c → Open f d n m t b
@@ -382,13 +394,12 @@ runnable-spread k n a h e = subst (λ (z : ℕ). Spread z a) (sym e) (h .0 .spre
 pub data Advanced (f : Figures) (d n t m left steps : ℕ) (any : Bool) (late : List Bool) (x ws y vs : List ℕ) : Type 0 where
   stepped : steps ≡ 1 → y ≡ advancedIn f d n t x → vs ≡ tallied (eventsIn f d t x n) 16 ws → any ≡ some (lateAt (eventsIn f d t x n)) 16 → late ≡ lates (eventsIn f d t x n) n
       → Advanced f d n t m left steps any late x ws y vs
-  passed : any ≡ false → steps ≡ m → m ≤ left → AllSafe m n f t x
-      → record { octets = y; words = vs } ≡ stationwise (windowTurn f d n t) m n (record { octets = withClock x (t + m); words = ws }) → Advanced f d n t m left steps any late x ws y vs
+  passed : any ≡ false → Made f d n t m left steps x ws y vs → Advanced f d n t m left steps any late x ws y vs
 
 module _ (f : Figures) (d n t m left r : ℕ) (x ws z us : List ℕ) (w : Windowed f d n t m left r x ws z us) where
   pub advanced-window : (late : List Bool) → (r ≡ 0 → ⊥) → Advanced f d n t m left r false late x ws z us
   unfolding Windowed
-  advanced-window late ne = let q = w .1 ne in passed refl (q .0) (q .1) (q .2) (q .3)
+  advanced-window late ne = passed refl (w .1 ne)
 
   module _ (e : r ≡ 0) where
     pub still-area : z ≡ x
@@ -411,39 +422,39 @@ module _ (f : Figures) (d n t m left r : ℕ) (x ws z us : List ℕ) (w : Window
 
 pub advanced-some : (k t n d c : ℕ) (f : Figures) (a b ws vs : List ℕ) (m r : ℕ) (any : Bool) (late : List Bool) → Advanced f d n c m (k - t) r any late a ws b vs → t < k → 0 < m → (0 < r) × (t + r ≤ k)
 advanced-some k t n d c f a b ws vs m r any late (stepped es ey ev ea el) g hm = (omega arith, omega arith)
-advanced-some k t n d c f a b ws vs m r any late (passed ea es le s p) g hm = (omega arith, omega arith)
+advanced-some k t n d c f a b ws vs m r any late (passed ea w) g hm = (omega (arith, w .some), omega (arith, w .within))
 
 module _ (k t n d c : ℕ) (f : Figures) (swift : Bool) (a b ws vs : List ℕ) (m r : ℕ) (any : Bool) (late : List Bool) where
   module _ (h : OnCourse (k - t) n d c f swift a) (re : Reaches m n a) (g : t < k) (hm : 0 < m) (small : m ≤ 64) where
     pub advanced-course : Advanced f d n c m (k - t) r any late a ws b vs → OnCourse (k - (t + r)) n d (c + r) f true b
     advanced-course (stepped es ey ev ea el) = rw es (course-next k t n d c f swift a b h ey g)
-    advanced-course (passed ea es le s p) = rw es (window-course k t n d c f swift a b ws vs m h re hm small le s p)
+    advanced-course (passed ea w) = window-course k t n d c f swift a b ws vs r h (reaches-less m r n a (w .reach) re) (w .some) (omega (arith, w .reach)) (w .within) (w .safe) (w .leaves)
 
     pub advanced-bounded : Bounded ws (32 * t) → Advanced f d n c m (k - t) r any late a ws b vs → Bounded vs (32 * (t + r))
     advanced-bounded q (stepped es ey ev ea el) = rw es (next-bounded (eventsIn f d c a n) ws vs t ev q)
-    advanced-bounded q (passed ea es le s p) = rw es (window-bounded k t n d c f swift a b ws vs m h re hm small le s p q)
+    advanced-bounded q (passed ea w) = window-bounded k t n d c f swift a b ws vs r h (reaches-less m r n a (w .reach) re) (w .some) (omega (arith, w .reach)) (w .within) (w .safe) (w .leaves) q
 
     pub advanced-reaches : Advanced f d n c m (k - t) r any late a ws b vs → Reaches m n b
     unfolding OnCourse Runnable
     advanced-reaches (stepped es ey ev ea el) =
         let few = h .0 .0 .spread .few in
         rw (step-is f d n c a b ey (h .1) (h .3) (h .2) (h .4)) (reaches-by m n (stepArea a) a (omega (arith, h .1)) (step-layout a (h .0 .0)) re)
-    advanced-reaches (passed ea es le s p) =
+    advanced-reaches (passed ea w) =
         let few = h .0 .0 .spread .few in
-        window-reaches k t n d c f swift a b ws vs m h re hm small le s p m (omega (arith, h .1)) re
+        window-reaches k t n d c f swift a b ws vs r h (reaches-less m r n a (w .reach) re) (w .some) (omega (arith, w .reach)) (w .within) (w .safe) (w .leaves) m (omega (arith, h .1)) re
 
     module _ (R : Ran) (q : runOf (k - t) t ws a ≡ R) where
       -- no station was late
       pub advanced-on : Advanced f d n c m (k - t) r any late a ws b vs → not any ≡ true → runOf (k - (t + r)) (t + r) vs b ≡ R
       advanced-on (stepped es ey ev ea el) z = rw es (course-on k t n d c f swift a h g ws vs b R ey ev q any ea z)
-      advanced-on (passed ea es le s p) z = rw es (window-run k t n d c f swift a b ws vs m h re hm small le s p R q)
+      advanced-on (passed ea w) z = window-run k t n d c f swift a b ws vs r h (reaches-less m r n a (w .reach) re) (w .some) (omega (arith, w .reach)) (w .within) (w .safe) (w .leaves) R q
 
       -- one was, and is looked for
       pub advanced-searched : Advanced f d n c m (k - t) r any late a ws b vs → (i : ℕ) → NoneLate late i → i ≤ n → n ≤ i → runOf (k - (t + r)) (t + r) vs b ≡ R
       advanced-searched (stepped es ey ev ea el) i w lo up = rw es (course-searched k t n d c f swift a h g ws vs b R ey ev q late i el w lo up)
-      advanced-searched (passed ea es le s p) i w lo up = rw es (window-run k t n d c f swift a b ws vs m h re hm small le s p R q)
+      advanced-searched (passed ea w) i u lo up = window-run k t n d c f swift a b ws vs r h (reaches-less m r n a (w .reach) re) (w .some) (omega (arith, w .reach)) (w .within) (w .safe) (w .leaves) R q
 
       pub advanced-late : Advanced f d n c m (k - t) r any late a ws b vs → not any ≡ false → (i : ℕ) → getD late i false ≡ true → NoneLate late i → i < n
           → record { answer = accepted []; steps = t + r; words = vs; ended = how.Late (t + r - 1) i; octets = b } ≡ R
       advanced-late (stepped es ey ev ea el) z i l w hi = rw es (course-late k t n d c f swift a h g ws vs b R ey ev q late i el l w hi)
-      advanced-late (passed ea es le s p) z i l w hi = absurd (true≢false (sym (ap not ea) ∙ z))
+      advanced-late (passed ea u) z i l w hi = absurd (true≢false (sym (ap not ea) ∙ z))

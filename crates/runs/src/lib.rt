@@ -8,14 +8,13 @@ ghost use Prim.Native.Nat.{_+_, _<_, _≤_};
 ghost use lib.ListN.{length, replicate};
 ghost use Rattle.octets.specs.Base.{some, refused, doneAnswer};
 ghost use Rattle.octets.specs.NumberLaws.{Octets};
-ghost use Rattle.pair.specs.BitTime.{actIn, turnIn, eventsOf, eventsIn, advancedIn};
-ghost use Rattle.pair.specs.Ready.{Able, AllAble};
-ghost use Rattle.quick.specs.Quick.{PlainIf, AllPlain, Taken};
-ghost use Rattle.quick.specs.Several.{Begun, Passed};
+ghost use Rattle.pair.specs.BitTime.{eventsIn, advancedIn};
+ghost use Rattle.pair.specs.Ready.{AllAble};
+ghost use Rattle.quick.specs.Quick.{AllPlain};
 ghost use Rattle.runs.specs.Run.{tallied, lateAt, courseOf, runOf, runOutcome, ran};
 ghost use Rattle.tally.specs.TallyLaws.{Bounded};
 ghost use Rattle.runs.specs.RunLaws.{Runnable};
-ghost use Rattle.window.specs.Window.{eventsCounted, hasLate, Reaches};
+ghost use Rattle.window.specs.Window.{Reaches};
 ghost use Rattle.runs.specs.OnLaws.{lates, OnCourse};
 ghost use Rattle.runs.specs.Windows.{Windowed, Advanced};
 ghost use Rattle.runs.specs.Still.{Clear, CalmIf, Idle};
@@ -49,65 +48,17 @@ pub struct Lates {
     pub late: [bool; 16],
 }
 
-// The turn of station i where it sends on. `swift` says that the records are plain.
-fn send(area: &mut [u8], swift: bool, n: usize, depth: u32, t: usize, f: Figures, i: usize) -> bool
-    requires { ⌜ (i < 16) × (n ≤ 16) × (t < 4294967296) × (57344 ≤ length (now area)) × Able f (now area) i × PlainIf swift (now area) i ⌝ }
-    ensures { λ r. ⌜ Taken f depth n t i (now (area .entry)) (now (area .exit)) r ⌝ }
-{
-    if swift {
-        return quick::send(area, n, depth, t, f, i);
-    }
-    false
-}
-
-// The turns of stations from i on that change little and send nothing; the first station whose turn is still to be taken.
-fn pass(area: &mut [u8], swift: bool, n: usize, depth: u32, t: usize, f: Figures, i: usize) -> usize
-    requires { ⌜ (i ≤ n) × (n ≤ 16) × (t < 4294967296) × (57344 ≤ length (now area)) × Begun swift f depth n t i (now area) ⌝ }
-    ensures passed { λ r. ⌜ Passed f depth n t i (now (area .entry)) r (now (area .exit)) ⌝ }
-    ensures bounds { λ r. ⌜ (i ≤ r) × (r ≤ n) ⌝ }
-{
-    if swift {
-        return quick::turns(area, n, depth, t, f, i);
-    }
-    i
-}
-
-// The turn of station i where it does not pass: sent on, or the general way.
-fn take(
-    area: &mut [u8],
-    words: &mut [u32],
-    swift: bool,
-    n: usize,
-    depth: u32,
-    t: usize,
-    f: Figures,
-    i: usize,
-    top: u32,
-) -> bool
-    requires { ⌜ (i < 16) × (n ≤ 16) × (t < 4294967296) × (57344 ≤ length (now area)) × Able f (now area) i × PlainIf swift (now area) i ⌝ }
-    requires { ⌜ (length (now words) ≡ 9) × Bounded (now words) top × (top + 1 < 4294967295) ⌝ }
-    ensures area { λ r. ⌜ now (area .exit) ≡ turnIn f depth n t i (now (area .entry)) ⌝ }
-    ensures words { λ r. ⌜ now (words .exit) ≡ eventsCounted (now (words .entry)) (eventsOf (actIn f depth t (now (area .entry)) i)) ⌝ }
-    ensures late { λ r. ⌜ r ≡ hasLate (eventsOf (actIn f depth t (now (area .entry)) i)) ⌝ }
-{
-    if send(area, swift, n, depth, t, f, i) {
-        return false;
-    }
-    window::turn_on(area, words, n, depth, t, f, i, top)
-}
-
 // One step, its events counted into `words`; which stations have a late collision.
 fn step_on(
     area: &mut [u8],
     words: &mut [u32],
-    swift: bool,
     n: usize,
     depth: u32,
     t: u32,
     f: Figures,
     top: u32,
 ) -> Lates
-    requires { ⌜ (n ≤ 16) × (t < 4294967295) × (57344 ≤ length (now area)) × AllAble n f (now area) × AllPlain swift n (now area) ⌝ }
+    requires { ⌜ (n ≤ 16) × (t < 4294967295) × (57344 ≤ length (now area)) × AllAble n f (now area) ⌝ }
     requires { ⌜ (length (now words) ≡ 9) × Bounded (now words) top × (top + 32 < 4294967295) ⌝ }
     ensures steps { λ r. ⌜ r .steps ≡ 1 ⌝ }
     ensures area { λ r. ⌜ now (area .exit) ≡ advancedIn f depth n t (now (area .entry)) ⌝ }
@@ -119,21 +70,8 @@ fn step_on(
     let mut late = [false; 16];
     let mut i: usize = 0;
     while i < n {
-        i = pass(area, swift, n, depth, t as usize, f, i);
-        if n <= i {
-            break;
-        }
-        let has = take(
-            area,
-            words,
-            swift,
-            n,
-            depth,
-            t as usize,
-            f,
-            i,
-            top + 2 * i as u32,
-        );
+        let high = top + 2 * i as u32;
+        let has = window::turn_on(area, words, n, depth, t as usize, f, i, high);
         late[i] = has;
         any = octets::either(any, has);
         i += 1;
@@ -194,8 +132,8 @@ fn is_idle(area: &[u8], swift: bool, n: usize, t: u32) -> bool
     true
 }
 
-// A window of m steps, where so many are left, the records are plain and none of n stations can have a late collision in it; answers how many
-// steps were made, m or none.
+// A window of at most m of the steps left, where the records are plain and none of n stations can have a late collision in it; answers how
+// many steps were made, none where it cannot be.
 fn pass_window(
     area: &mut [u8],
     words: &mut [u32],
@@ -208,24 +146,20 @@ fn pass_window(
     left: u32,
     top: u32,
 ) -> u32
-    requires { ⌜ (0 < m) × (m ≤ 64) × (t + left ≤ 16777216) × (57344 ≤ length (now area)) × OnCourse left n depth t f swift (now area) × Reaches m n (now area) ⌝ }
+    requires { ⌜ (0 < left) × (0 < m) × (m ≤ 64) × (t + left ≤ 16777216) × (57344 ≤ length (now area)) × OnCourse left n depth t f swift (now area) × Reaches m n (now area) ⌝ }
     requires { ⌜ (length (now words) ≡ 9) × Bounded (now words) top × (top + 2048 < 4294967295) ⌝ }
-    ensures went { λ r. ⌜ Windowed f depth n t m left r (now (area .entry)) (now (words .entry)) (now (area .exit)) (now (words .exit)) ⌝ }
-    ensures bound { λ r. ⌜ r ≤ left ⌝ }
+    ensures { λ r. ⌜ Windowed f depth n t m left r (now (area .entry)) (now (words .entry)) (now (area .exit)) (now (words .exit)) ⌝ }
 {
-    let steps = m as u32;
     if !swift {
         return 0;
     }
-    if left < steps {
+    let steps = quick::capped(m, left as usize);
+    if !window::are_safe(area, n, t as usize, f, steps) {
         return 0;
     }
-    if !window::are_safe(area, n, t as usize, f, m) {
-        return 0;
-    }
-    area::write_clock(area, t + steps);
-    window::together(area, words, n, depth, t as usize, f, m, top);
-    steps
+    area::write_clock(area, t + steps as u32);
+    window::together(area, words, n, depth, t as usize, f, steps, top);
+    steps as u32
 }
 
 // A window, or one step where none can be made.
@@ -253,7 +187,7 @@ fn advance(
             late: [false; 16],
         };
     }
-    step_on(area, words, swift, n, depth, t, f, top)
+    step_on(area, words, n, depth, t, f, top)
 }
 
 // At most n steps, on an area that is ready for them, counted into `words`.
