@@ -108,6 +108,10 @@ octetWith x p b = x % 2 ^ p + digit b * 2 ^ p
 unfoldable pub withBit : List ℕ → ℕ → ℕ → Bool → List ℕ
 withBit a i k b = set a (32768 + 1536 * i + k / 8) (octetWith (getD a (32768 + 1536 * i + k / 8) 0) (k % 8) b)
 
+-- octet k of what it collected written alone
+unfoldable pub withOctet : List ℕ → (i k v : ℕ) → List ℕ
+withOctet a i k v = set a (32768 + 1536 * i + k) v
+
 -- ---- delay lines: what reaches station i in step u
 
 -- 0 nothing, 1 and 2 the bits 0 and 1, 3 jam, 4 several

@@ -35,7 +35,7 @@ use Rattle.packet.specs.declared.Emission.{Emission}
 use Rattle.packet.specs.Packet.{symbolOf}
 use Rattle.state.specs.declared.Station.{Station}
 use Rattle.record.specs.Codec.{decoded, encoded}
-use Rattle.area.specs.Area.{clockAt, withClock, depthAt, drawAt, figuresAt, countAt, positionAt, addressAt, tapAt, layoutAt, distance, spaceAt, countersAt, withCounters, recordAt, stationAt, withStation, withWord, octetWith, withBit, heardOf, heardCode, symbolAt, arrivalAt, withArrival, alone, overlaid, joined, withSymbol, withFrame, frameAt, bufferAt, frameBuilt}
+use Rattle.area.specs.Area.{clockAt, withClock, depthAt, drawAt, figuresAt, countAt, positionAt, addressAt, tapAt, layoutAt, distance, spaceAt, countersAt, withCounters, recordAt, stationAt, withStation, withWord, octetWith, withBit, withOctet, heardOf, heardCode, symbolAt, arrivalAt, withArrival, alone, overlaid, joined, withSymbol, withFrame, frameAt, bufferAt, frameBuilt}
 
 -- ---- numbers
 
@@ -233,6 +233,10 @@ pub with-bit-is : (a : List ℕ) (i k x : ℕ) (b : Bool) → x ≡ octetWith (g
 unfolding withBit
 with-bit-is a i k x b p = rw p
 
+pub with-octet-is : (a : List ℕ) (i k v : ℕ) → set a (32768 + 1536 * i + k) v ≡ withOctet a i k v
+unfolding withOctet
+with-octet-is a i k v = refl
+
 -- ---- a frame, built into a lent part of the area
 
 -- the area after k octets of it from b on were lent, and came back so
@@ -279,6 +283,10 @@ built-is a d s v x i r m p es hd hs hi hl =
 pub buffer-is : (a : List ℕ) (i : ℕ) → take ((32768 + 1536 * i + 1518) - (32768 + 1536 * i)) (drop (32768 + 1536 * i) a) ≡ bufferAt a i
 unfolding bufferAt
 buffer-is a i = let z : (32768 + 1536 * i + 1518) - (32768 + 1536 * i) ≡ 1518 = omega arith in rw z
+
+pub frame-is : (a : List ℕ) (i n : ℕ) → take ((8192 + 1536 * i + n) - (8192 + 1536 * i)) (drop (8192 + 1536 * i) a) ≡ frameAt a i n
+unfolding frameAt
+frame-is a i n = let z : (8192 + 1536 * i + n) - (8192 + 1536 * i) ≡ n = omega arith in rw z
 
 pub emitted-is : (a : List ℕ) (r : Symbol) (i n e : ℕ) (m : Emission) → r ≡ symbolOf (take (e - (8192 + 1536 * i)) (drop (8192 + 1536 * i) a)) m → e ≡ 8192 + 1536 * i + n
     → r ≡ symbolOf (frameAt a i n) m

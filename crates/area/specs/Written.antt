@@ -11,7 +11,7 @@ use borrow.Author.Tests.{ltb-true, ltb-false}
 use Rattle.octets.specs.BaseLaws.{by-test, by-eq}
 use Rattle.octets.specs.Number.{spelled, put}
 use Rattle.octets.specs.NumberLaws.{Octets, get-small, length-spelled, get-put-same, get-put-other}
-use Rattle.octets.specs.Region.{Same, put-leaves}
+use Rattle.octets.specs.Region.{Same, put-leaves, words-leave}
 use Rattle.octets.specs.Store.{Apart, octet-same, octet-other}
 use Rattle.octets.specs.Words.{wordsAt, putWords}
 use Rattle.octets.specs.WordsLaws.{length-words, length-put-words, word-at}
@@ -147,3 +147,29 @@ module _ (i : ℕ) (x : List ℕ) (hi : i < 16) (room : 57344 ≤ length x) wher
       (length-put-words 14 x b (encoded s) ∙ sym (length-put-words 14 y b (encoded s) ∙ r .long))
       (λ k h. words-over 14 x y b (encoded s) k (omega arith) (omega (arith, r .long)) (λ o. sym (r .rest k o)))
       ∙ station-back y i s hi (omega (arith, r .long)) (r .octets) (sym (r .words))
+
+-- ---- a record beside other writes
+
+module _ (a : List ℕ) (i : ℕ) (hi : i < 16) (s : Station) where
+  -- any station's line
+  pub station-elsewhere : (j t : ℕ) (h : Heard) → withStation (withArrival a j t h) i s ≡ withArrival (withStation a i s) j t h
+  unfolding withStation withArrival
+  station-elsewhere j t h = words-past 14 a (encoded s) (2048 + 64 * i) (4096 + 256 * j + t % 256) (heardCode h) (λ x y. omega arith)
+
+  pub station-bit : (k : ℕ) (b : Bool) → withStation (withBit a i k b) i s ≡ withBit (withStation a i s) i k b
+  unfolding withStation withBit Same
+  station-bit k b =
+      let at = 32768 + 1536 * i + k / 8 in
+      let e : getD (putWords 14 a (2048 + 64 * i) (encoded s)) at 0 ≡ getD a at 0 = words-leave at 1 14 (2048 + 64 * i) a (encoded s) (λ x y. omega arith) at (omega arith) (omega arith) in
+      rw e (words-past 14 a (encoded s) (2048 + 64 * i) at _ (λ x y. omega arith))
+
+  -- what is written over another state
+  pub station-over : (s′ : Station) → 57344 ≤ length a → withStation (withStation a i s′) i s ≡ withStation a i s
+  unfolding withStation Same
+  station-over s′ room =
+      let b = 2048 + 64 * i in
+      let m : List ℕ = putWords 14 a b (encoded s′) in
+      let n : length m ≡ length a = length-put-words 14 a b (encoded s′) in
+      ext-getD 0 (putWords 14 m b (encoded s)) (putWords 14 a b (encoded s))
+      (length-put-words 14 m b (encoded s) ∙ n ∙ sym (length-put-words 14 a b (encoded s)))
+      (λ k h. words-over 14 m a b (encoded s) k (omega arith) (omega arith) (λ o. words-leave k 1 14 b a (encoded s′) o k (omega arith) (omega arith)))

@@ -26,7 +26,7 @@ ghost use Prim.Native.Nat.{_+_, _*_, _/_, _%_, _^_, _<_, _≤_, min, max};
 ghost use lib.Dec.{eqb};
 ghost use lib.ListN.{length, getD};
 ghost use Rattle.layout.specs.Layout.{placesOf};
-ghost use Rattle.area.specs.Area.{clockAt, withClock, depthAt, drawAt, figuresAt, countAt, positionAt, addressAt, tapAt, layoutAt, distance, countersAt, withCounters, recordAt, stationAt, withStation, withWord, withBit, heardOf, heardCode, symbolAt, arrivalAt, withArrival, alone, withSymbol, octetWith, frameAt, bufferAt, frameBuilt};
+ghost use Rattle.area.specs.Area.{clockAt, withClock, depthAt, drawAt, figuresAt, countAt, positionAt, addressAt, tapAt, layoutAt, distance, countersAt, withCounters, recordAt, stationAt, withStation, withWord, withBit, withOctet, heardOf, heardCode, symbolAt, arrivalAt, withArrival, alone, withSymbol, octetWith, frameAt, bufferAt, frameBuilt};
 ghost use Rattle.octets.specs.Base.{pick, outcome};
 ghost use Rattle.octets.specs.Bits.{digit};
 ghost use Rattle.packet.specs.Packet.{symbolOf};
@@ -310,7 +310,7 @@ pub fn add_symbol(area: &mut [u8], i: usize, u: usize, code: u8)
     area[at] = mixed(area[at], code);
 }
 
-fn power(p: usize) -> u32
+pub fn power(p: usize) -> u32
     requires { ⌜ p < 8 ⌝ }
     ensures value { λ r. ⌜ r ≡ 2 ^ p ⌝ }
     ensures some { λ r. ⌜ (0 < r) × (r ≤ 128) ⌝ }
@@ -320,7 +320,7 @@ fn power(p: usize) -> u32
 }
 
 // The p low bits of x, of which `unit` is 2^p.
-fn low_bits(x: u32, p: usize, unit: u32) -> u32
+pub fn low_bits(x: u32, p: usize, unit: u32) -> u32
     requires { ⌜ (unit ≡ 2 ^ p) × (0 < unit) ⌝ }
     ensures value { λ r. ⌜ r ≡ x % unit ⌝ }
     ensures small { λ r. ⌜ r < unit ⌝ }
@@ -364,6 +364,14 @@ pub fn store_bit(area: &mut [u8], i: usize, k: usize, one: bool)
     area[at] = octet_with(area[at], k % 8, one);
 }
 
+// Writes octet k of what station i collected.
+pub fn write_octet(area: &mut [u8], i: usize, k: usize, v: u8)
+    requires { ⌜ (i < 16) × (k < 1518) × (57344 ≤ length (now area)) ⌝ }
+    ensures { λ r. ⌜ now (area .exit) ≡ withOctet (now (area .entry)) i k v ⌝ }
+{
+    area[32768 + 1536 * i + k] = v;
+}
+
 // What station i collected.
 pub fn buffer(area: &[u8], i: usize) -> &[u8]
     requires { ⌜ (i < 16) × (57344 ≤ length (now area)) ⌝ }
@@ -371,6 +379,16 @@ pub fn buffer(area: &[u8], i: usize) -> &[u8]
 {
     let at = 32768 + 1536 * i;
     let end = at + 1518;
+    &area[at..end]
+}
+
+// The n octets of the frame of station i.
+pub fn frame(area: &[u8], i: usize, n: usize) -> &[u8]
+    requires { ⌜ (i < 16) × (n ≤ 1536) × (57344 ≤ length (now area)) ⌝ }
+    ensures { λ r. ⌜ now r ≡ frameAt (now (area .entry)) i n ⌝ }
+{
+    let at = 8192 + 1536 * i;
+    let end = at + n;
     &area[at..end]
 }
 

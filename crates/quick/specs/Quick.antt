@@ -117,11 +117,11 @@ sentOn n t i k z x = pushed n t i (Bit (packetBit (frameAt x i z) k)) (withWord 
 
 -- ---- tests
 
-both-true : (a b : Bool) → (a && b) ≡ true → (a ≡ true) × (b ≡ true)
+pub both-true : (a b : Bool) → (a && b) ≡ true → (a ≡ true) × (b ≡ true)
 both-true true b h = (refl, h)
 both-true false b h = absurd (true≢false (sym h))
 
-or-false : (b : Bool) → (b || false) ≡ b
+pub or-false : (b : Bool) → (b || false) ≡ b
 or-false true = refl
 or-false false = refl
 
@@ -131,26 +131,26 @@ or-true false = refl
 
 -- ---- a station by value
 
-mk : (address : List ℕ) → Deference → Transmitter → Receiver → (frame attempts draw : ℕ) → (deferred emitted : Bool) → Station
+unfoldable pub mk : (address : List ℕ) → Deference → Transmitter → Receiver → (frame attempts draw : ℕ) → (deferred emitted : Bool) → Station
 mk a d x r z n p df e =
     record { address = a; deference = d; transmitter = x; receiver = r; frame = z; attempts = n; draw = p; deferred = df; emitted = e }
 
 -- a step in which nothing happens
-quietly : Station → Emission → Stored → Stepped
+unfoldable pub quietly : Station → Emission → Stored → Stepped
 quietly s e st = record { station = s; emission = e; start = false; sent = NoTransmit; got = NoReceive; stored = st }
 
-Still : Receiver → Type 0
+unfoldable pub Still : Receiver → Type 0
 Still r = leb (receiverCode r) 1 ≡ true
 
 module _ (f : Figures) (a : List ℕ) (z n p : ℕ) (df : Bool) (d w : ℕ) (buffer : List ℕ) where
-  rest-step : (r : Receiver) → Still r → stepped f (mk a Quiet NoFrame r z n p df false) d w buffer Nothing ≡ quietly (mk a Quiet NoFrame r z n p df false) Rest NoStore
+  pub rest-step : (r : Receiver) → Still r → stepped f (mk a Quiet NoFrame r z n p df false) d w buffer Nothing ≡ quietly (mk a Quiet NoFrame r z n p df false) Rest NoStore
   unfolding stepped nextStation triesAfter drawAfter deferredAfter defer quietRule transmit receive ended mk quietly Still
   rest-step Listening h = rw (or-false df)
   rest-step (Readable k) h = rw (or-false df)
   rest-step (Seeking row sp own) h = absurd (true≢false (sym h))
   rest-step (Collecting k sp own) h = absurd (true≢false (sym h))
 
-  send-step : (r : Receiver) (k : ℕ) → Still r → (k ≡ 64 + 8 * z → ⊥)
+  pub send-step : (r : Receiver) (k : ℕ) → Still r → (k ≡ 64 + 8 * z → ⊥)
       → stepped f (mk a (Busy true) (Sending k) r z n p df true) d w buffer Nothing ≡ quietly (mk a (Busy true) (Sending (k + 1)) r z n p df true) (PacketBit k) NoStore
   unfolding stepped nextStation triesAfter drawAfter deferredAfter defer busyRule transmit sendBit receive ended mk quietly Still
   send-step Listening k h ne = rw (ne-eqb k (64 + 8 * z) ne, or-false df)
@@ -158,7 +158,7 @@ module _ (f : Figures) (a : List ℕ) (z n p : ℕ) (df : Bool) (d w : ℕ) (buf
   send-step (Seeking row sp own) k h ne = absurd (true≢false (sym h))
   send-step (Collecting m sp own) k h ne = absurd (true≢false (sym h))
 
-  back-step : (r : Receiver) (k : ℕ) → Still r → leb k 1 ≡ false
+  pub back-step : (r : Receiver) (k : ℕ) → Still r → leb k 1 ≡ false
       → stepped f (mk a Quiet (BackingOff k) r z n p df false) d w buffer Nothing ≡ quietly (mk a Quiet (BackingOff (k - 1)) r z n p df false) Rest NoStore
   unfolding stepped nextStation triesAfter drawAfter deferredAfter defer quietRule transmit backoffBit receive ended mk quietly Still
   back-step Listening k h g = rw (g, or-false df)
@@ -167,7 +167,7 @@ module _ (f : Figures) (a : List ℕ) (z n p : ℕ) (df : Bool) (d w : ℕ) (buf
   back-step (Collecting m sp own) k h g = absurd (true≢false (sym h))
 
 -- a transmitter that goes on as it is, but for a step of backoff
-later : Transmitter → Transmitter
+unfoldable pub later : Transmitter → Transmitter
 later NoFrame = NoFrame
 later Waiting = Waiting
 later (BackingOff k) = BackingOff (k - 1)
@@ -175,7 +175,7 @@ later (Sending k) = Sending k
 later (Heading k) = Heading k
 later (Jamming k) = Jamming k
 
-Calm : Transmitter → Bool → ℕ → Type 0
+unfoldable pub Calm : Transmitter → Bool → ℕ → Type 0
 Calm NoFrame df n = Unit {0}
 Calm Waiting df n = deferredAfter df true n false ≡ df
 Calm (BackingOff k) df n = leb k 1 ≡ false
@@ -202,12 +202,12 @@ calm-df (Heading k) df n c = absurd c
 calm-df (Jamming k) df n c = absurd c
 
 module _ (f : Figures) (a : List ℕ) (x : Transmitter) (z n p : ℕ) (df : Bool) (d w : ℕ) (buffer : List ℕ) (c : Calm x df n) where
-  heard-step : (own : Bool) (r r′ : Receiver) (st : Stored) (h : Heard) → hearsAny h ≡ true → receive a buffer r h false ≡ hearing r′ st
+  pub heard-step : (own : Bool) (r r′ : Receiver) (st : Stored) (h : Heard) → hearsAny h ≡ true → receive a buffer r h false ≡ hearing r′ st
       → stepped f (mk a (Busy own) x r z n p df false) d w buffer h ≡ quietly (mk a (Busy own) (later x) r′ z n p df false) Rest st
   unfolding stepped nextStation triesAfter drawAfter defer busyRule mk quietly
   heard-step own r r′ st h eh er = rw (eh, calm-tx f x z n w true df c, calm-df x df n c, er) (simp or-false)
 
-  gap-step : (m : ℕ) (own : Bool) (r : Receiver) → leb (gapOf f) m ≡ false → Still r
+  pub gap-step : (m : ℕ) (own : Bool) (r : Receiver) → leb (gapOf f) m ≡ false → Still r
       → stepped f (mk a (Gap m own) x r z n p df false) d w buffer Nothing ≡ quietly (mk a (Gap (m + 1) own) (later x) r z n p df false) Rest NoStore
   unfolding stepped nextStation triesAfter drawAfter defer gapRule goesBack receive ended mk quietly Still
   gap-step m own Listening g h = rw (g, calm-tx f x z n w false df c, calm-df x df n c)
@@ -218,7 +218,7 @@ module _ (f : Figures) (a : List ℕ) (x : Transmitter) (z n p : ℕ) (df : Bool
 -- ---- a symbol of a reception
 
 -- the receiver, by its code r and number k
-within : (r k : ℕ) → (sp ow : Bool) → Receiver
+unfoldable pub within : (r k : ℕ) → (sp ow : Bool) → Receiver
 within r k sp ow = pick (eqb r 2) (Seeking k sp ow) (Collecting k sp ow)
 
 -- and after a symbol of code c, with what is stored of it
@@ -271,7 +271,7 @@ row-small k b = by-test (ltb (2 * k + digit b) 512) (λ e. rw e (omega (arith, l
 -- ---- the words of a record
 
 module _ (w a : List ℕ) where
-  rest-state : restsIn w ≡ true
+  pub rest-state : restsIn w ≡ true
       → (decoded w a ≡ mk a Quiet NoFrame (receiverOf (getD w 5 0) (getD w 6 0) (eqb (getD w 7 0) 1) (eqb (getD w 8 0) 1)) (getD w 9 0) (getD w 10 0) (getD w 11 0) (eqb (getD w 12 0) 1) false)
       × (leb (getD w 5 0) 1 ≡ true)
   unfolding restsIn decoded deferenceOf transmitterOf mk
@@ -282,7 +282,7 @@ module _ (w a : List ℕ) where
       let e : getD w 13 0 ≡ 0 = eqb-true (getD w 13 0) 0 (r .0) in
       (rw (p .0, q .0, e), r .1)
 
-  send-state : sendsIn w ≡ true
+  pub send-state : sendsIn w ≡ true
       → (decoded w a ≡ mk a (Busy true) (Sending (getD w 4 0)) (receiverOf (getD w 5 0) (getD w 6 0) (eqb (getD w 7 0) 1) (eqb (getD w 8 0) 1)) (getD w 9 0) (getD w 10 0) (getD w 11 0) (eqb (getD w 12 0) 1) true)
       × (leb (getD w 5 0) 1 ≡ true)
   unfolding sendsIn decoded deferenceOf transmitterOf mk
@@ -295,7 +295,7 @@ module _ (w a : List ℕ) where
       let e₀ : getD w 0 0 ≡ 1 = eqb-true (getD w 0 0) 1 (q .0) in
       (rw (e₃, e₀, r .0, u .0), u .1)
 
-  hear-state : hearsIn w ≡ true
+  pub hear-state : hearsIn w ≡ true
       → decoded w a ≡ mk a (Busy (eqb (getD w 1 0) 1)) (transmitterOf (getD w 3 0) (getD w 4 0)) (within (getD w 5 0) (getD w 6 0) (eqb (getD w 7 0) 1) (eqb (getD w 8 0) 1)) (getD w 9 0) (getD w 10 0) (getD w 11 0) (eqb (getD w 12 0) 1) false
   unfolding hearsIn decoded deferenceOf receiverOf within mk
   hear-state h =
@@ -306,7 +306,7 @@ module _ (w a : List ℕ) where
       let e₁₃ : getD w 13 0 ≡ 0 = eqb-true (getD w 13 0) 0 (q .1) in
       rw (ne-eqb (getD w 5 0) 0 (λ z. omega arith), ne-eqb (getD w 5 0) 1 (λ z. omega arith), e₀, e₁₃)
 
-  gap-state : gapsIn w ≡ true
+  pub gap-state : gapsIn w ≡ true
       → (decoded w a ≡ mk a (Gap (getD w 2 0) (eqb (getD w 1 0) 1)) (transmitterOf (getD w 3 0) (getD w 4 0)) (receiverOf (getD w 5 0) (getD w 6 0) (eqb (getD w 7 0) 1) (eqb (getD w 8 0) 1)) (getD w 9 0) (getD w 10 0) (getD w 11 0) (eqb (getD w 12 0) 1) false)
       × (leb (getD w 5 0) 1 ≡ true)
   unfolding gapsIn decoded deferenceOf mk
@@ -317,7 +317,7 @@ module _ (w a : List ℕ) where
       let e₁₃ : getD w 13 0 ≡ 0 = eqb-true (getD w 13 0) 0 (q .0) in
       (rw (e₀, e₁₃), q .1)
 
-  back-state : backsIn w ≡ true
+  pub back-state : backsIn w ≡ true
       → (decoded w a ≡ mk a Quiet (BackingOff (getD w 4 0)) (receiverOf (getD w 5 0) (getD w 6 0) (eqb (getD w 7 0) 1) (eqb (getD w 8 0) 1)) (getD w 9 0) (getD w 10 0) (getD w 11 0) (eqb (getD w 12 0) 1) false)
       × (leb (getD w 5 0) 1 ≡ true)
   unfolding backsIn decoded deferenceOf transmitterOf mk
@@ -330,7 +330,7 @@ module _ (w a : List ℕ) where
       (rw (p .0, e₃, e₁₃), r .1)
 
   -- the transmitter of such a record is calm; its words after the step
-  calm-state : calmIn w ≡ true → Calm (transmitterOf (getD w 3 0) (getD w 4 0)) (eqb (getD w 12 0) 1) (getD w 10 0)
+  pub calm-state : calmIn w ≡ true → Calm (transmitterOf (getD w 3 0) (getD w 4 0)) (eqb (getD w 12 0) 1) (getD w 10 0)
   unfolding calmIn transmitterOf Calm deferredAfter
   calm-state h =
       by-test (eqb (getD w 3 0) 0)
@@ -363,7 +363,7 @@ module _ (w a : List ℕ) where
       (λ e. rw (c, e))
       (λ e. absurd (true≢false (sym (rw (c, e, ne-eqb (getD w 3 0) 2 ne) at h)))))
 
-still-code : (c k : ℕ) (sp own : Bool) → leb c 1 ≡ true → Still (receiverOf c k sp own)
+pub still-code : (c k : ℕ) (sp own : Bool) → leb c 1 ≡ true → Still (receiverOf c k sp own)
 unfolding receiverOf Still
 still-code c k sp own h =
     by-test (eqb c 0)
@@ -379,15 +379,15 @@ set-back l k v e =
     (λ z. rw z (getD-set-same l k v 0 (omega (arith, length-set l k v)) ∙ sym e))
     (λ z. getD-set-other l k j v 0 z))
 
-clear-back : (x : List ℕ) (i t : ℕ) → symbolAt x i t ≡ 0 → withArrival x i t Nothing ≡ x
+pub clear-back : (x : List ℕ) (i t : ℕ) → symbolAt x i t ≡ 0 → withArrival x i t Nothing ≡ x
 unfolding symbolAt withArrival
 clear-back x i t e = set-back x (4096 + 256 * i + t % 256) 0 e
 
-hears-nothing : (x : List ℕ) (i t : ℕ) → symbolAt x i t ≡ 0 → arrivalAt x i t ≡ Nothing
+pub hears-nothing : (x : List ℕ) (i t : ℕ) → symbolAt x i t ≡ 0 → arrivalAt x i t ≡ Nothing
 unfolding arrivalAt heardOf
 hears-nothing x i t e = rw e
 
-stored-arrival : (i t : ℕ) (st : Stored) (x : List ℕ) → i < 16 → withStored i st (withArrival x i t Nothing) ≡ withArrival (withStored i st x) i t Nothing
+pub stored-arrival : (i t : ℕ) (st : Stored) (x : List ℕ) → i < 16 → withStored i st (withArrival x i t Nothing) ≡ withArrival (withStored i st x) i t Nothing
 stored-arrival i t NoStore x hi = refl
 stored-arrival i t (Store k b) x hi = bit-arrival x i t Nothing hi k b
 
@@ -395,7 +395,7 @@ heard-code : (x : List ℕ) (i t c : ℕ) → c ≡ symbolAt x i t → arrivalAt
 unfolding arrivalAt
 heard-code x i t c e = rw e
 
-record-arrival : (i t : ℕ) (x : List ℕ) → i < 16 → recordAt (withArrival x i t Nothing) i ≡ recordAt x i
+pub record-arrival : (i t : ℕ) (x : List ℕ) → i < 16 → recordAt (withArrival x i t Nothing) i ≡ recordAt x i
 record-arrival i t x hi = record-by (withArrival x i t Nothing) x i (arrival-keeps (station i) x i t Nothing (λ a b. omega arith))
 
 -- a step of backoff leaves the receiver's number
@@ -422,7 +422,7 @@ module _ (f : Figures) (d n t i : ℕ) (x : List ℕ) where
   unfolding actIn outcomeIn
   act-by O e = rw e
 
-  taken-by : (s : Station) (e : Emission) (st : Stored) (b : List ℕ)
+  pub taken-by : (s : Station) (e : Emission) (st : Stored) (b : List ℕ)
       → stepped f (stationAt x i) d (drawAt x i (stationAt x i .draw)) (bufferAt x i) (arrivalAt x i t) ≡ quietly s e st
       → b ≡ pushed n t i (symbolOf (frameAt x i (octetsHeld (stationAt x i .transmitter) (stationAt x i .frame))) e) (withArrival (withStored i st (withStation x i s)) i t Nothing)
       → Taken f d n t i x b true
@@ -461,10 +461,6 @@ module _ (f : Figures) (d n t i : ℕ) (x : List ℕ) (hi : i < 16) (room : 5734
   back-four : (dp : Deference) (r : Receiver) (j : ℕ) → encoded (such dp (BackingOff (j - 1)) r) ≡ set (encoded (such dp (BackingOff j) r)) 4 (j - 1)
   unfolding encoded such mk
   back-four dp r j = refl
-
-  back-one : (r : Receiver) (j : ℕ) → encoded (such Quiet (BackingOff (j - 1)) r) ≡ set (encoded (such Quiet (BackingOff j) r)) 4 (j - 1)
-  unfolding encoded such mk
-  back-one r j = refl
 
   -- the words of a step of backoff, in an area z with this record
   count-writes : (z : List ℕ) → 57344 ≤ length z → Octets z → recordAt z i ≡ recordAt x i → (dp : Deference) (r : Receiver) → calmIn (recordAt x i) ≡ true → stationAt x i ≡ such dp now r
@@ -553,67 +549,10 @@ module _ (f : Figures) (d n t i : ℕ) (x : List ℕ) (hi : i < 16) (room : 5734
       (within r k sp ow) (onward r k c sp ow) (keeping r k c) (heardOf c) (heard-any c ne) (heard-on (addressAt x i) (bufferAt x i) r k c sp ow ne)))
       (heard-by (such (Busy own) (later now) (onward r k c sp ow)) (keeping r k c) _ y (heard-writes (Busy own) (later now) r k c sp ow v small v₁) eb)
 
-  gap-one : (own : Bool) (q : Transmitter) (r : Receiver) (m : ℕ) → encoded (such (Gap (m + 1) own) q r) ≡ set (encoded (such (Gap m own) q r)) 2 (m + 1)
-  unfolding encoded such mk
-  gap-one own q r m = refl
-
-  pub gap-taken : (e : Bool) (g m u : ℕ) (y v : List ℕ) → y ≡ withWord v i 2 (m + 1) → v ≡ countedDown i u (getD (recordAt x i) 4 0) x → g ≡ f .gap1 + f .gap2 → g < 65536 → m < g → m ≡ getD (recordAt x i) 2 0
-      → u ≡ getD (recordAt x i) 3 0 → symbolAt x i t ≡ 0 → gapsIn (recordAt x i) ≡ true → e ≡ calmIn (recordAt x i) → e ≡ true → Taken f d n t i x y true
-  unfolding stationAt pushed such now mk gapOf
-  gap-taken e g m u y v ey ev eg small lt em eu hs hc ee he =
-      let w = recordAt x i in
-      let own = eqb (getD w 1 0) 1 in
-      let r = receiverOf (getD w 5 0) (getD w 6 0) (eqb (getD w 7 0) 1) (eqb (getD w 8 0) 1) in
-      let calm : calmIn w ≡ true = sym ee ∙ he in
-      let q = gap-state w (addressAt x i) hc in
-      let es : stationAt x i ≡ such (Gap m own) now r = q .0 ∙ rw em in
-      let ev′ : v ≡ countedDown i (getD w 3 0) (getD w 4 0) x = ev ∙ rw eu in
-      let v₁ : Wrote i x v (encoded (such (Gap m own) (later now) r)) = rw ev′ (count-writes x room o refl (Gap m own) r calm es) in
-      let v₂ : Wrote i x y (encoded (such (Gap (m + 1) own) (later now) r)) = rw (ey, gap-one own (later now) r m) (wrote-word i x hi room v _ 2 (m + 1) v₁ (omega arith) (omega arith)) in
-      taken-by f d n t i x (such (Gap (m + 1) own) (later now) r) Rest NoStore y
-      (rw (es, hears-nothing x i t hs)
-      (gap-step f (addressAt x i) now (getD w 9 0) (getD w 10 0) (getD w 11 0) (eqb (getD w 12 0) 1) d (drawAt x i (getD w 11 0)) (bufferAt x i) (calm-state w (addressAt x i) calm) m own r
-      (lt-leb (f .gap1 + f .gap2) m (omega arith)) (still-code (getD w 5 0) (getD w 6 0) (eqb (getD w 7 0) 1) (eqb (getD w 8 0) 1) (q .1))))
-      (silent-by (such (Gap (m + 1) own) (later now) r) y hs v₂)
-
-  pub back-taken : (k : ℕ) (y : List ℕ) → y ≡ withWord x i 4 (k - 1) → k ≡ getD (recordAt x i) 4 0 → 1 < k → symbolAt x i t ≡ 0 → backsIn (recordAt x i) ≡ true → Taken f d n t i x y true
-  unfolding stationAt pushed such mk
-  back-taken k y ey ek lt hs hc =
-      let w = recordAt x i in
-      let r = receiverOf (getD w 5 0) (getD w 6 0) (eqb (getD w 7 0) 1) (eqb (getD w 8 0) 1) in
-      let q = back-state w (addressAt x i) hc in
-      let es : stationAt x i ≡ such Quiet (BackingOff (getD w 4 0)) r = q .0 in
-      let v = getD w 4 0 - 1 in
-      let clear : symbolAt (withWord x i 4 v) i t ≡ 0 = symbol-by (withWord x i 4 v) x i t (word-keeps (place i t) x i 4 v (omega arith) (λ a b. omega arith)) ∙ hs in
-      let wr : withStation x i (such Quiet (BackingOff v) r) ≡ withWord x i 4 v =
-      station-one x i (such Quiet (BackingOff v) r) hi room o 4 v (omega arith) (back-one r (getD w 4 0) ∙ ap (λ (l : List ℕ). set l 4 v) (plain-as (such Quiet (BackingOff (getD w 4 0)) r) es)) in
-      taken-by f d n t i x (such Quiet (BackingOff v) r) Rest NoStore y
-      (rw (es, hears-nothing x i t hs)
-      (back-step f (addressAt x i) (getD w 9 0) (getD w 10 0) (getD w 11 0) (eqb (getD w 12 0) 1) d (drawAt x i (getD w 11 0)) (bufferAt x i) r (getD w 4 0)
-      (still-code (getD w 5 0) (getD w 6 0) (eqb (getD w 7 0) 1) (eqb (getD w 8 0) 1) (q .1)) (lt-leb (getD w 4 0) 1 (omega arith))))
-      (ey ∙ rw (ek, wr, clear-back (withWord x i 4 v) i t clear))
-
-  pub send-taken : (k z : ℕ) (y : List ℕ) → y ≡ sentOn n t i k z x → symbolAt x i t ≡ 0 → k ≡ getD (recordAt x i) 4 0 → z ≡ getD (recordAt x i) 9 0
-      → (k ≡ 64 + 8 * z → ⊥) → sendsIn (recordAt x i) ≡ true → Taken f d n t i x y true
-  unfolding stationAt mk sentOn encoded
-  send-taken k z y ey hs ek ez ne h =
-      let w = recordAt x i in
-      let q = send-state w (addressAt x i) h in
-      let r = receiverOf (getD w 5 0) (getD w 6 0) (eqb (getD w 7 0) 1) (eqb (getD w 8 0) 1) in
-      let df = eqb (getD w 12 0) 1 in
-      let s = mk (addressAt x i) (Busy true) (Sending k) r z (getD w 10 0) (getD w 11 0) df true in
-      let v = mk (addressAt x i) (Busy true) (Sending (k + 1)) r z (getD w 10 0) (getD w 11 0) df true in
-      let es : stationAt x i ≡ s = q .0 ∙ rw (ek, ez) in
-      let ev : encoded v ≡ set (recordAt x i) 4 (k + 1) = ap (λ (l : List ℕ). set l 4 (k + 1)) (plain-as s es) in
-      let clear : symbolAt (withWord x i 4 (k + 1)) i t ≡ 0 = symbol-by (withWord x i 4 (k + 1)) x i t (word-keeps (place i t) x i 4 (k + 1) (omega arith) (λ a b. omega arith)) ∙ hs in
-      taken-by f d n t i x v (PacketBit k) NoStore y
-      (rw (es, hears-nothing x i t hs) (send-step f (addressAt x i) z (getD w 10 0) (getD w 11 0) df d (drawAt x i (getD w 11 0)) (bufferAt x i) r k (still-code (getD w 5 0) (getD w 6 0) (eqb (getD w 7 0) 1) (eqb (getD w 8 0) 1) (q .1)) ne))
-      (ey ∙ rw (es, station-one x i v hi room o 4 (k + 1) (omega arith) ev, clear-back (withWord x i 4 (k + 1)) i t clear))
-
 -- ---- the code
 
 -- the codes and flags of a plain record are their low octets
-plain-codes : (a : List ℕ) (i : ℕ) → Plain a i
+pub plain-codes : (a : List ℕ) (i : ℕ) → Plain a i
     → (getD (recordAt a i) 0 0 < 256) × (getD (recordAt a i) 1 0 < 256) × (getD (recordAt a i) 3 0 < 256) × (getD (recordAt a i) 5 0 < 256) × (getD (recordAt a i) 12 0 < 256) × (getD (recordAt a i) 13 0 < 256)
 unfolding Plain encoded
 plain-codes a i p =
@@ -785,20 +724,6 @@ unfolding sentOn
 sent-is n t i k z s a x y p q r = p ∙ rw (q, r)
 
 module _ (f : Figures) (x : List ℕ) (i : ℕ) (v : Able f x i) where
-  pub sends-room : (k : ℕ) → sendsIn (recordAt x i) ≡ true → k ≡ getD (recordAt x i) 4 0 → k < 4294967295
-  unfolding Able stationAt mk
-  sends-room k h e =
-      let q = send-state (recordAt x i) (addressAt x i) h .0 in
-      let u : CanAct f (mk (addressAt x i) (Busy true) (Sending (getD (recordAt x i) 4 0)) _ (getD (recordAt x i) 9 0) (getD (recordAt x i) 10 0) (getD (recordAt x i) 11 0) _ true) = subst (CanAct f) q v in
-      omega (arith, u .room .number)
-
-  pub sends-size : (z : ℕ) → sendsIn (recordAt x i) ≡ true → z ≡ getD (recordAt x i) 9 0 → z ≤ 1518
-  unfolding Able stationAt mk
-  sends-size z h e =
-      let q = send-state (recordAt x i) (addressAt x i) h .0 in
-      let u : CanAct f (mk (addressAt x i) (Busy true) (Sending (getD (recordAt x i) 4 0)) _ (getD (recordAt x i) 9 0) (getD (recordAt x i) 10 0) (getD (recordAt x i) 11 0) _ true) = subst (CanAct f) q v in
-      omega (arith, u .held)
-
   -- the number of a receiver in a reception: bits, or a row
   module _ (c : Bool) (k : ℕ) (ek : k ≡ getD (recordAt x i) 6 0) (e : c ≡ hearsIn (recordAt x i)) (h : c ≡ true) where
     in-reception : CanAct f (mk (addressAt x i) (Busy (eqb (getD (recordAt x i) 1 0) 1)) (transmitterOf (getD (recordAt x i) 3 0) (getD (recordAt x i) 4 0)) (within (getD (recordAt x i) 5 0) k (eqb (getD (recordAt x i) 7 0) 1) (eqb (getD (recordAt x i) 8 0) 1)) (getD (recordAt x i) 9 0) (getD (recordAt x i) 10 0) (getD (recordAt x i) 11 0) (eqb (getD (recordAt x i) 12 0) 1) false)
@@ -819,10 +744,6 @@ module _ (f : Figures) (x : List ℕ) (i : ℕ) (v : Able f x i) where
         (λ z. omega (arith, hears-row (getD (recordAt x i) 5 0) refl (eqb-true (getD (recordAt x i) 5 0) 2 z)))
         (λ z. let u = in-reception .room .bits in omega (arith, rw z at u))
 
-  pub gap-room : (f .gap1 + f .gap2) < 65536
-  unfolding Able
-  gap-room = v .room .gap
-
 pub found : (b c : Bool) → b ≡ c → b ≡ true → c ≡ true
 found b c p q = sym p ∙ q
 
@@ -831,23 +752,6 @@ found b c p q = sym p ∙ q
 -- shut, so that a search does not enter it
 unfoldable pub AllPlain : Bool → ℕ → List ℕ → Type 0
 AllPlain swift n a = swift ≡ true → (i : ℕ) → i < n → Plain a i
-
-unfoldable pub PlainIf : Bool → List ℕ → ℕ → Type 0
-PlainIf swift a i = swift ≡ true → Plain a i
-
-pub plain-so : (swift : Bool) (a : List ℕ) (i : ℕ) → swift ≡ true → PlainIf swift a i → Plain a i
-unfolding PlainIf
-plain-so swift a i h p = p h
-
-pub turn-plain : (swift : Bool) (f : Figures) (d n t i : ℕ) (a x : List ℕ) → AllPlain swift n a → AllAble n f a → i < n → 57344 ≤ length a → x ≡ turnedIn f d n t a i → PlainIf swift x i
-unfolding AllPlain PlainIf Plain AllAble turnedIn
-turn-plain swift f d n t i a x p v hi room e h =
-    let few = v .0 .few in
-    let v₁ : Ahead t i a x = subst (Ahead t i a) (sym e) (ahead-all n t i (actIn f d t a) a (v .0) (λ k g. kept f d t a k) (omega arith)) in
-    let long : length x ≡ length a = ap length e ∙ length-turned f d n t a i in
-    let s : stationAt x i ≡ stationAt a i = station-by x a i (omega arith) (omega arith) room (v₁ .plan) (v₁ .record-of i (omega arith) (omega arith)) in
-    let r : recordAt x i ≡ recordAt a i = record-by x a i (v₁ .record-of i (omega arith) (omega arith)) in
-    ap encoded s ∙ p h i hi ∙ sym r
 
 module _ (f : Figures) (d n t i : ℕ) (x b : List ℕ) (r : Bool) (h : Taken f d n t i x b r) where
   pub taken-area : r ≡ true → b ≡ turnIn f d n t i x

@@ -1,8 +1,7 @@
-// Turns that change little, in place: a station that rests, one in the middle of its frame, one whose reception goes on, one whose gap or
-// backoff goes on. Each is the general turn (`pair::turn`), made by the few words that it changes.
+// Turns that change little: whether a station rests, sends, hears, is in a gap or in backoff; and the turn of one whose reception goes on, in
+// place. It is the general turn (`pair::turn`), made by the few words that it changes. Other such turns are taken many at once (`stretch`).
 
 use layout::Figures;
-use packet::Emission;
 use packet::Heard;
 ghost use mathlib.Core.Path.{_≡_};
 ghost use mathlib.Core.Bool.{true};
@@ -13,8 +12,7 @@ ghost use Rattle.receiver.specs.Receive.{nextRow, storedBit};
 ghost use Rattle.area.specs.Area.{recordAt, symbolAt};
 ghost use Rattle.pair.specs.BitTime.{withStored};
 ghost use Rattle.pair.specs.Ready.{Able};
-ghost use Rattle.quick.specs.Several.{Begun, Passed};
-ghost use Rattle.quick.specs.Quick.{Plain, Taken, restsIn, sendsIn, hearsIn, gapsIn, backsIn, calmIn, countedDown, spoiledOn, collectedOn, rowOn, soughtOn, receivedOn, sentOn};
+ghost use Rattle.quick.specs.Quick.{Plain, Taken, restsIn, sendsIn, hearsIn, gapsIn, backsIn, calmIn, countedDown, spoiledOn, collectedOn, rowOn, soughtOn, receivedOn};
 
 // Whether station i rests. That the area holds octets is said here, and by the tests after it.
 pub fn rests(area: &[u8], i: usize) -> bool
@@ -30,7 +28,7 @@ pub fn rests(area: &[u8], i: usize) -> bool
 }
 
 // Whether station i is busy by its own frame, which it sends.
-fn sends(area: &[u8], i: usize) -> bool
+pub fn sends(area: &[u8], i: usize) -> bool
     requires { ⌜ (i < 16) × (57344 ≤ length (now area)) × Plain (now area) i ⌝ }
     ensures value { λ r. ⌜ r ≡ sendsIn (recordAt (now (area .entry)) i) ⌝ }
     ensures octets { λ r. ⌜ Octets (now (area .entry)) ⌝ }
@@ -45,7 +43,7 @@ fn sends(area: &[u8], i: usize) -> bool
 }
 
 // Whether station i is busy and in a reception, with nothing of its own on the pair.
-fn hears(area: &[u8], i: usize) -> bool
+pub fn hears(area: &[u8], i: usize) -> bool
     requires { ⌜ (i < 16) × (57344 ≤ length (now area)) × Plain (now area) i ⌝ }
     ensures value { λ r. ⌜ r ≡ hearsIn (recordAt (now (area .entry)) i) ⌝ }
     ensures octets { λ r. ⌜ Octets (now (area .entry)) ⌝ }
@@ -57,7 +55,7 @@ fn hears(area: &[u8], i: usize) -> bool
 }
 
 // Whether station i is in a gap, and receives nothing.
-fn gaps(area: &[u8], i: usize) -> bool
+pub fn gaps(area: &[u8], i: usize) -> bool
     requires { ⌜ (i < 16) × (57344 ≤ length (now area)) × Plain (now area) i ⌝ }
     ensures value { λ r. ⌜ r ≡ gapsIn (recordAt (now (area .entry)) i) ⌝ }
     ensures octets { λ r. ⌜ Octets (now (area .entry)) ⌝ }
@@ -69,7 +67,7 @@ fn gaps(area: &[u8], i: usize) -> bool
 }
 
 // Whether station i is quiet and in backoff, and receives nothing.
-fn backs(area: &[u8], i: usize) -> bool
+pub fn backs(area: &[u8], i: usize) -> bool
     requires { ⌜ (i < 16) × (57344 ≤ length (now area)) × Plain (now area) i ⌝ }
     ensures value { λ r. ⌜ r ≡ backsIn (recordAt (now (area .entry)) i) ⌝ }
     ensures octets { λ r. ⌜ Octets (now (area .entry)) ⌝ }
@@ -82,7 +80,7 @@ fn backs(area: &[u8], i: usize) -> bool
 }
 
 // Whether the transmitter of station i, with this code, goes on as it is, but for a step of backoff.
-fn calm(area: &[u8], i: usize, c: u32) -> bool
+pub fn calm(area: &[u8], i: usize, c: u32) -> bool
     requires { ⌜ (i < 16) × (57344 ≤ length (now area)) × (c ≡ getD (recordAt (now area) i) 3 0) ⌝ }
     ensures { λ r. ⌜ r ≡ calmIn (recordAt (now (area .entry)) i) ⌝ }
 {
@@ -191,81 +189,6 @@ fn receive_on(area: &mut [u8], i: usize, r: u32, code: u8)
     collect_on(area, i, code);
 }
 
-fn send_on(area: &mut [u8], n: usize, t: usize, i: usize, k: u32, size: u32)
-    requires { ⌜ (i < 16) × (n ≤ 16) × (t < 4294967296) × (57344 ≤ length (now area)) × (k < 4294967295) × (size ≤ 1518) ⌝ }
-    ensures { λ r. ⌜ now (area .exit) ≡ sentOn n t i k size (now (area .entry)) ⌝ }
-{
-    let s = area::symbol(area, i, size as usize, Emission::PacketBit(k));
-    area::write_word(area, i, 4, k + 1);
-    medium::push(area, n, t, i, s);
-}
-
-// The turn of a station that sends: not the one of its last bit.
-fn quick_send(area: &mut [u8], n: usize, depth: u32, t: usize, f: Figures, i: usize) -> bool
-    requires { ⌜ (i < 16) × (n ≤ 16) × (t < 4294967296) × (57344 ≤ length (now area)) × Able f (now area) i × Plain (now area) i ⌝ }
-    requires { ⌜ (symbolAt (now area) i t ≡ 0) × (sendsIn (recordAt (now area) i) ≡ true) × Octets (now area) ⌝ }
-    ensures { λ r. ⌜ Taken f depth n t i (now (area .entry)) (now (area .exit)) r ⌝ }
-{
-    let k = area::read_word(area, i, 4);
-    let size = area::read_word(area, i, 9);
-    if k == 64 + 8 * size {
-        return false;
-    }
-    send_on(area, n, t, i, k, size);
-    true
-}
-
-// The turn of a station in a gap: not the one after its last bit.
-fn quick_gap(area: &mut [u8], n: usize, depth: u32, t: usize, f: Figures, i: usize) -> bool
-    requires { ⌜ (i < 16) × (n ≤ 16) × (t < 4294967296) × (57344 ≤ length (now area)) × Able f (now area) i × Plain (now area) i ⌝ }
-    requires { ⌜ (symbolAt (now area) i t ≡ 0) × (gapsIn (recordAt (now area) i) ≡ true) × Octets (now area) ⌝ }
-    ensures { λ r. ⌜ Taken f depth n t i (now (area .entry)) (now (area .exit)) r ⌝ }
-{
-    let c = area::read_code(area, i, 3);
-    if calm(area, i, c) {
-        let m = area::read_word(area, i, 2);
-        let g = f.gap1 + f.gap2;
-        if m < g {
-            count_down(area, i, c);
-            area::write_word(area, i, 2, m + 1);
-            return true;
-        }
-    }
-    false
-}
-
-// The turn of a station in backoff: not its last.
-fn quick_back(area: &mut [u8], n: usize, depth: u32, t: usize, f: Figures, i: usize) -> bool
-    requires { ⌜ (i < 16) × (n ≤ 16) × (t < 4294967296) × (57344 ≤ length (now area)) × Able f (now area) i × Plain (now area) i ⌝ }
-    requires { ⌜ (symbolAt (now area) i t ≡ 0) × (backsIn (recordAt (now area) i) ≡ true) × Octets (now area) ⌝ }
-    ensures { λ r. ⌜ Taken f depth n t i (now (area .entry)) (now (area .exit)) r ⌝ }
-{
-    let k = area::read_word(area, i, 4);
-    if 1 < k {
-        area::write_word(area, i, 4, k - 1);
-        return true;
-    }
-    false
-}
-
-// The turn of a station that hears nothing, and sends nothing.
-fn quick_silent(area: &mut [u8], n: usize, depth: u32, t: usize, f: Figures, i: usize) -> bool
-    requires { ⌜ (i < 16) × (n ≤ 16) × (t < 4294967296) × (57344 ≤ length (now area)) × Able f (now area) i × Plain (now area) i ⌝ }
-    requires { ⌜ symbolAt (now area) i t ≡ 0 ⌝ }
-    ensures { λ r. ⌜ Taken f depth n t i (now (area .entry)) (now (area .exit)) r ⌝ }
-{
-    if rests(area, i) {
-        return true;
-    }
-    if gaps(area, i) {
-        return quick_gap(area, n, depth, t, f, i);
-    }
-    if backs(area, i) {
-        return quick_back(area, n, depth, t, f, i);
-    }
-    false
-}
-
 // The turn of a station that hears a symbol with this code, where its reception goes on.
 fn quick_heard(
     area: &mut [u8],
@@ -293,44 +216,14 @@ fn quick_heard(
     false
 }
 
-// Takes the turn of station i where it sends in the middle of its frame and hears nothing; says whether it did.
-pub fn send(area: &mut [u8], n: usize, depth: u32, t: usize, f: Figures, i: usize) -> bool
-    requires { ⌜ (i < 16) × (n ≤ 16) × (t < 4294967296) × (57344 ≤ length (now area)) × Able f (now area) i × Plain (now area) i ⌝ }
-    ensures { λ r. ⌜ Taken f depth n t i (now (area .entry)) (now (area .exit)) r ⌝ }
-{
-    let code = area::read_symbol(area, i, t);
-    if code == 0 {
-        if sends(area, i) {
-            return quick_send(area, n, depth, t, f, i);
-        }
-    }
-    false
-}
-
-// Takes the turn of station i where it changes little, sends nothing, and nothing happens in it; says whether it did.
+// Takes the turn of station i where it hears a symbol, its reception goes on, and nothing happens; says whether it did.
 pub fn turn(area: &mut [u8], n: usize, depth: u32, t: usize, f: Figures, i: usize) -> bool
     requires { ⌜ (i < 16) × (n ≤ 16) × (t < 4294967296) × (57344 ≤ length (now area)) × Able f (now area) i × Plain (now area) i ⌝ }
     ensures { λ r. ⌜ Taken f depth n t i (now (area .entry)) (now (area .exit)) r ⌝ }
 {
     let code = area::read_symbol(area, i, t);
     if code == 0 {
-        return quick_silent(area, n, depth, t, f, i);
+        return false;
     }
     quick_heard(area, n, depth, t, f, i, code)
-}
-
-// Takes such turns of the stations from i on; answers with the first whose turn is still to be taken.
-pub fn turns(area: &mut [u8], n: usize, depth: u32, t: usize, f: Figures, i: usize) -> usize
-    requires { ⌜ (i ≤ n) × (n ≤ 16) × (t < 4294967296) × (57344 ≤ length (now area)) × Begun true f depth n t i (now area) ⌝ }
-    ensures passed { λ r. ⌜ Passed f depth n t i (now (area .entry)) r (now (area .exit)) ⌝ }
-    ensures bounds { λ r. ⌜ (i ≤ r) × (r ≤ n) ⌝ }
-{
-    let mut j = i;
-    while j < n {
-        if !turn(area, n, depth, t, f, j) {
-            return j;
-        }
-        j += 1;
-    }
-    j
 }

@@ -26,6 +26,7 @@ use Rattle.pair.specs.Range.{Fine, fine-room, held-small}
 use Rattle.pair.specs.InPlace.{Spread}
 use Rattle.pair.specs.Ready.{CanAct, Able}
 use Rattle.quick.specs.Quick.{Plain, Taken, taken-area, taken-events, left-area}
+use Rattle.stretch.specs.Stretch.{wentOn, Silently}
 use Rattle.window.specs.Order.{along, stationwise, cost, cost-small, along-held, stationwise-held}
 use Rattle.window.specs.Window.{eventsCounted, hasLate, Going, played, windowTurn, Reaches, Within, within-less, turn-length, turn-layout, turn-other, next-fine, turn-record, turn-station, turn-within, along-within, stationwise-within}
 
@@ -73,6 +74,10 @@ own-able f d n k t x i early o =
 pub own-plain : (f : Figures) (d n k t : ℕ) (x : List ℕ) (i : ℕ) → Own f d n k t x i → Plain x i
 unfolding Own
 own-plain f d n k t x i o = o .2
+
+pub own-fine : (f : Figures) (d n k t : ℕ) (x : List ℕ) (i : ℕ) → Own f d n k t x i → Fine f d t (stationAt x i) × Figured f × (d ≤ 16)
+unfolding Own
+own-fine f d n k t x i o = (o .1, o .0 .figured, o .0 .deep)
 
 -- after r of its turns
 along-own : (f : Figures) (d n k t : ℕ) (g : Going) (i r : ℕ) → i < n → t + r < 4294967295 → r ≤ k → Own f d n k t (g .octets) i
@@ -164,6 +169,34 @@ left-plain f d n t i x b r h e p = subst (λ (z : List ℕ). Plain z i) (sym (le
 pub one-along : (f : Figures) (d n t i : ℕ) (g h : Going) → h ≡ played f d n t i g → h ≡ along (windowTurn f d n t) i 1 g
 unfolding along turns windowTurn
 one-along f d n t i g h p = let z : t ≡ t + 0 = omega arith in p ∙ ap (λ (u : ℕ). played f d n u i g) z
+
+-- turns in which nothing happens
+still-words : (f : Figures) (d n t i r : ℕ) (x ws : List ℕ) → ((s : ℕ) → s < r → eventsOf (actIn f d (t + s) (wentOn f d n t i s x) i) ≡ noEvents)
+    → record { octets = wentOn f d n t i r x; words = ws } ≡ along (windowTurn f d n t) i r (record { octets = x; words = ws })
+unfolding wentOn along turns windowTurn played eventsCounted sentCounted gotCounted
+still-words f d n t i zero x ws h = refl
+still-words f d n t i (suc r) x ws h =
+    let y = wentOn f d n t i r x in
+    let e : eventsCounted ws (eventsOf (actIn f d (t + r) y i)) ≡ ws = rw (h r (omega arith)) in
+    (λ z. record { octets = turnIn f d n (t + r) i y; words = sym e z })
+    ∙ ap (played f d n (t + r) i) (still-words f d n t i r x ws (λ s l. h s (omega arith)))
+
+pub silently-along : (f : Figures) (d n t i r : ℕ) (x ws y : List ℕ) → Silently f d n t i r x y → record { octets = y; words = ws } ≡ along (windowTurn f d n t) i r (record { octets = x; words = ws })
+unfolding Silently
+silently-along f d n t i r x ws y h = (λ z. record { octets = h .0 z; words = ws }) ∙ still-words f d n t i r x ws (h .1)
+
+-- none of them was taken
+module _ (f : Figures) (d n t i r : ℕ) (x y : List ℕ) (h : Silently f d n t i r x y) (e : r ≡ 0) where
+  none-taken : y ≡ x
+  unfolding Silently wentOn turns
+  none-taken = h .0 ∙ rw e
+
+  pub still-own : (k : ℕ) → Own f d n k t x i → Own f d n k t y i
+  still-own k o = rw none-taken o
+
+  pub still-along : (ws z vs : List ℕ) → record { octets = z; words = vs } ≡ played f d n t i (record { octets = y; words = ws })
+      → record { octets = z; words = vs } ≡ along (windowTurn f d n t) i 1 (record { octets = x; words = ws })
+  still-along ws z vs p = one-along f d n t i (record { octets = x; words = ws }) (record { octets = z; words = vs }) (rw none-taken at p)
 
 -- r turns after s of them
 along-both : (f : Figures) (d n t i s r : ℕ) (g : Going) → along (windowTurn f d n (t + s)) i r (along (windowTurn f d n t) i s g) ≡ along (windowTurn f d n t) i (s + r) g

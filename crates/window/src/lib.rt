@@ -44,17 +44,6 @@ pub fn turn_on(
     tally::is_late(sent)
 }
 
-// The turn of station i where it changes little; says whether it was taken.
-fn quick_turn(area: &mut [u8], n: usize, depth: u32, t: usize, f: Figures, i: usize) -> bool
-    requires { ⌜ (i < 16) × (n ≤ 16) × (t < 4294967296) × (57344 ≤ length (now area)) × Able f (now area) i × Plain (now area) i ⌝ }
-    ensures { λ r. ⌜ Taken f depth n t i (now (area .entry)) (now (area .exit)) r ⌝ }
-{
-    if quick::turn(area, n, depth, t, f, i) {
-        return true;
-    }
-    quick::send(area, n, depth, t, f, i)
-}
-
 // The turn of station i, quick or not.
 fn take(
     area: &mut [u8],
@@ -71,7 +60,7 @@ fn take(
     ensures played { λ r. ⌜ record { octets = now (area .exit); words = now (words .exit) } ≡ played f depth n t i (record { octets = now (area .entry); words = now (words .entry) }) ⌝ }
     ensures bounded { λ r. ⌜ Bounded (now (words .exit)) (top + 2) ⌝ }
 {
-    if quick_turn(area, n, depth, t, f, i) {
+    if quick::turn(area, n, depth, t, f, i) {
         return;
     }
     turn_on(area, words, n, depth, t, f, i, top);
@@ -94,6 +83,10 @@ fn pace(
     ensures along { λ r. ⌜ record { octets = now (area .exit); words = now (words .exit) } ≡ along (windowTurn f depth n t) i r (record { octets = now (area .entry); words = now (words .entry) }) ⌝ }
     ensures bounds { λ r. ⌜ (0 < r) × (r ≤ m) × Bounded (now (words .exit)) (top + 2 * r) ⌝ }
 {
+    let r = stretch::stretch(area, n, depth, t, f, i, m);
+    if r != 0 {
+        return r;
+    }
     take(area, words, n, depth, t, f, i, top);
     1
 }

@@ -6,12 +6,12 @@ use Rattle.window.proofs.take.Statement.{statement}
 use Rattle.window.proofs.take.Tie as tie
 use Rattle.window.proofs.take.Reads as reads
 use Rattle.window.proofs.take.Lts as lts
-use Rattle.window.proofs.quick_turn.Reads as quick-turn-reads
+use Rattle.quick.proofs.turn.Reads as turn-reads
 use Rattle.window.proofs.turn_on.Reads as turn-on-reads
 
 -- src/lib.rt:73:8
-quick-turn-requires : tie.Need-quick-turn-requires
-quick-turn-requires c κs = search needs
+turn-requires : tie.Need-turn-requires
+turn-requires c κs = search needs
 
 -- src/lib.rt:74:9
 same-length : tie.Need-same-length
@@ -41,7 +41,7 @@ pub take-spec : {M : Type 1} → statement M
 take-spec =
     tie.close
     (tie.spec
-    quick-turn-requires
+    turn-requires
     same-length
     returns
     turn-on-requires
