@@ -333,11 +333,10 @@ windowed-none f d n t m left x ws = (λ e. (refl, refl), λ ne. absurd (ne refl)
 pub windowed-all : (f : Figures) (d n t m left r : ℕ) (x ws z y vs : List ℕ) (b : Bool) → r ≡ min m left → 0 < m → 0 < left → AllSafeIf b r n f t x → b ≡ true → z ≡ withClock x (t + r)
     → record { octets = y; words = vs } ≡ stationwise (windowTurn f d n t) r n (record { octets = z; words = ws }) → Windowed f d n t m left r x ws y vs
 unfolding Windowed AllSafeIf
-windowed-all f d n t m left r x ws z y vs b er hm hl s e ez p =
-    (
-      λ w. absurd (omega arith),
-      λ w. record { some = omega arith; reach = omega arith; within = omega arith; safe = s e; leaves = p ∙ ap (λ (l : List ℕ). stationwise (windowTurn f d n t) r n (record { octets = l; words = ws })) ez },
-    )
+windowed-all f d n t m left r x ws z y vs b er hm hl s e ez p = (
+  λ w. absurd (omega arith),
+  λ w. record { some = omega arith; reach = omega arith; within = omega arith; safe = s e; leaves = p ∙ ap (λ (l : List ℕ). stationwise (windowTurn f d n t) r n (record { octets = l; words = ws })) ez },
+)
 
 pub reaches-less : (m r n : ℕ) (a : List ℕ) → r ≤ m → Reaches m n a → Reaches r n a
 unfolding Reaches

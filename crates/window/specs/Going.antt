@@ -52,8 +52,7 @@ pub own-turn : (f : Figures) (d n k t : ℕ) (x : List ℕ) (i : ℕ) → i < n 
 unfolding Own Plain
 own-turn f d n k t x i hi early o =
     let v = o .0 in
-    let e = turn-station f d n 0 (suc k) x v t i hi t early (o .1) in
-    (
+    let e = turn-station f d n 0 (suc k) x v t i hi t early (o .1) in (
       turn-within f d n 0 k x t i hi v,
       rw e (next-fine f d n 0 (suc k) x v t i hi t (o .1)),
       ap encoded e ∙ sym (turn-record f d n 0 (suc k) x v t i hi t early (o .1)),
@@ -237,8 +236,7 @@ module _ (f : Figures) (d n m t : ℕ) where
       let x = along (windowTurn f d n t) i r g .octets in
       let w : Within f d n m 1 x = along-within f d n m t i r 1 (suc r) g hi (omega arith) (omega arith) v in
       let h = along-other g i r j hi (omega arith) (within-less f d n m r (g .octets) v) hj ne in
-      let y = turnIn f d n (t + r) i x in
-      (
+      let y = turnIn f d n (t + r) i x in (
         keeps-trans layout y x (g .octets) (turn-layout f d n m 1 x w (t + r) i hi) (h .0),
         keeps-trans (station j) y x (g .octets) (turn-other f d n m 1 x w (t + r) i hi j hj ne) (h .1),
       )

@@ -220,12 +220,11 @@ module _ (f : Figures) (d n m k : ℕ) (x : List ℕ) (v : Within f d n m k x) (
       let same : actIn f d (t + s) y i ≡ actIn f d (t + s) x i =
       act-by f d (t + s) i x y (omega arith) (v .long) (omega (arith, length-clock x c, v .long)) (can-draw f d n m k x v i hi) (omega (arith, held-small (stationAt x i .frame) (stationAt x i .transmitter) (w .2 .frame)))
       (clock-keeps layout x c (λ p q. omega arith)) (clock-keeps draws x c (λ p q. omega arith)) (clock-keeps (frame i) x c (λ p q. omega arith)) (clock-keeps (station i) x c (λ p q. omega arith))
-      (clock-keeps (buffer i) x c (λ p q. omega arith)) (clock-keeps (place i (t + s)) x c (λ p q. omega arith)) in
-      (
+      (clock-keeps (buffer i) x c (λ p q. omega arith)) (clock-keeps (place i (t + s)) x c (λ p q. omega arith)) in (
         turn-by f d n m k x v (t + s) i hi y (length-clock x c) (λ j h. space-by y x i j (omega arith) (omega arith) (clock-keeps layout x c (λ p q. omega arith))) same
-        ∙ settled-swap n (t + s) i (spaceAt x i) (actIn f d (t + s) x i) 0 4 (λ z. withClock z c) (number-local 4 0 c (omega arith)) (omega arith) (v .few) (kept f d (t + s) x i)
-        (record { station = λ p q. omega arith; counters = λ p q. omega arith; buffer = λ p q. omega arith; place = λ p q. omega arith }) (λ j h ne p q. omega arith) x (v .long)
-        ∙ ap (λ (z : List ℕ). withClock z c) (sym (turn-settles f d n m k x v (t + s) i hi)),
+            ∙ settled-swap n (t + s) i (spaceAt x i) (actIn f d (t + s) x i) 0 4 (λ z. withClock z c) (number-local 4 0 c (omega arith)) (omega arith) (v .few) (kept f d (t + s) x i)
+            (record { station = λ p q. omega arith; counters = λ p q. omega arith; buffer = λ p q. omega arith; place = λ p q. omega arith }) (λ j h ne p q. omega arith) x (v .long)
+            ∙ ap (λ (z : List ℕ). withClock z c) (sym (turn-settles f d n m k x v (t + s) i hi)),
         same,
       )
 

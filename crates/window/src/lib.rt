@@ -110,7 +110,17 @@ fn go_on(
 {
     let mut s: usize = 0;
     while s < m {
-        let r = pace(area, words, n, depth, t + s, f, i, m - s, top + 2 * s as u32);
+        let r = pace(
+            area,
+            words,
+            n,
+            depth,
+            t + s,
+            f,
+            i,
+            m - s,
+            top + 2 * s as u32,
+        );
         s += r;
     }
 }

@@ -1,43 +1,32 @@
+-- `runs::advance` meets its contract. Assumes nothing.
 use native.Mathlib.Omega.{arith}
 use Rattle.runs.specs.OnLaws.{course-few, course-able}
 use Rattle.runs.specs.Windows.{advanced-window, advanced-step, still-course, still-bounded}
 use borrow.Author.Needs.{needs}
 use Rattle.runs.proofs.advance.Statement.{statement}
 use Rattle.runs.proofs.advance.Tie as tie
-use Rattle.runs.proofs.advance.Reads as reads
-use Rattle.runs.proofs.advance.Lts as lts
-use Rattle.runs.proofs.pass_window.Reads as pass-window-reads
-use Rattle.runs.proofs.step_on.Reads as step-on-reads
 
--- src/lib.rt:248:9
 pass-window-requires : tie.Need-pass-window-requires
 pass-window-requires c κs = search needs
 
--- src/lib.rt:250:9
 same-length : tie.Need-same-length
 same-length c = search needs
 
--- src/lib.rt:250:9
 same-length-2 : tie.Need-same-length-2
 same-length-2 c = search needs
 
--- src/lib.rt:250:9
 returns : tie.Need-returns
 returns c = advanced-window _ _ _ _ _ _ _ _ _ _ _ (c .before .before .before .before .before .pass-window .ensures) _ (c .if1 .taken)
 
--- src/lib.rt:256:5
 step-on-requires : tie.Need-step-on-requires
 step-on-requires c κs = ((course-few _ _ _ _ _ _ _ (still-course _ _ _ _ _ _ _ _ _ _ _ (c .before .before .before .before .before .before .before .pass-window .ensures) (c .before .before .if1 .left) _ (c .before .before .before .before .before .before .before .before .before .before .before .before .pre .0 .5)), omega arith, omega arith, course-able _ _ _ _ _ _ _ (still-course _ _ _ _ _ _ _ _ _ _ _ (c .before .before .before .before .before .before .before .pass-window .ensures) (c .before .before .if1 .left) _ (c .before .before .before .before .before .before .before .before .before .before .before .before .pre .0 .5))), (omega arith, still-bounded _ _ _ _ _ _ _ _ _ _ _ (c .before .before .before .before .before .before .before .pass-window .ensures) (c .before .before .if1 .left) _ (c .before .before .before .before .before .before .before .before .before .before .before .before .pre .1 .1), omega arith))
 
--- src/lib.rt:232:1
 same-length-3 : tie.Need-same-length-3
 same-length-3 c = search needs
 
--- src/lib.rt:232:1
 same-length-4 : tie.Need-same-length-4
 same-length-4 c = search needs
 
--- src/lib.rt:232:1
 returns-2 : tie.Need-returns-2
 returns-2 c = let e = c .before .before .before .before .step-on .ensures in advanced-step _ _ _ _ _ _ _ _ _ _ _ (c .before .before .before .before .before .before .before .before .before .before .before .before .pass-window .ensures) (c .before .before .before .before .before .before .before .if1 .left) _ _ _ _ _ (e .0) (e .1 .0) (e .1 .1 .0) (e .1 .1 .1 .0) (e .1 .1 .1 .1)
 

@@ -1,66 +1,48 @@
+-- `runs::pass_window` meets its contract. Assumes nothing.
 use native.Mathlib.Omega.{arith}
-use borrow.Author.Tests.{not-true, not-false}
+use borrow.Author.Tests.{not-false}
 use Rattle.runs.specs.OnLaws.{course-few}
 use Rattle.runs.specs.Windows.{windowed-none, windowed-all, reaches-less, course-open, course-figured}
 use borrow.Author.Needs.{needs}
 use Rattle.runs.proofs.pass_window.Statement.{statement}
 use Rattle.runs.proofs.pass_window.Tie as tie
-use Rattle.runs.proofs.pass_window.Reads as reads
-use Rattle.runs.proofs.pass_window.Lts as lts
-use Rattle.area.proofs.write_clock.Reads as write-clock-reads
-use Rattle.quick.proofs.capped.Reads as capped-reads
-use Rattle.window.proofs.are_safe.Reads as are-safe-reads
-use Rattle.window.proofs.together.Reads as together-reads
 
--- src/lib.rt:154:9
 returns : tie.Need-returns
 returns c = search windowed-none
 
--- src/lib.rt:156:9
 capped-requires : tie.Need-capped-requires
 capped-requires c κs = search needs
 
--- src/lib.rt:157:9
 are-safe-requires : tie.Need-are-safe-requires
 are-safe-requires c κs = (course-few _ _ _ _ _ _ _ (c .before .before .before .before .before .pre .0 .5), omega arith, omega arith, omega arith, course-figured _ _ _ _ _ _ _ (c .before .before .before .before .before .pre .0 .5))
 
--- src/lib.rt:158:9
 same-length : tie.Need-same-length
 same-length c = search needs
 
--- src/lib.rt:158:9
 returns-2 : tie.Need-returns-2
 returns-2 c = search windowed-none
 
--- src/lib.rt:160:33
 cast-write-clock : tie.Need-cast-write-clock
 cast-write-clock c = search needs
 
--- src/lib.rt:160:29
 add-write-clock : tie.Need-add-write-clock
 add-write-clock c = search needs
 
--- src/lib.rt:160:5
 write-clock-requires : tie.Need-write-clock-requires
 write-clock-requires c κs = search needs
 
--- src/lib.rt:161:5
 together-requires : tie.Need-together-requires
 together-requires c κs = ((course-few _ _ _ _ _ _ _ (c .before .before .before .before .before .before .before .before .before .before .before .before .before .pre .0 .5), omega arith, omega arith, omega arith, course-open _ _ _ _ _ _ _ _ _ _ (c .before .before .before .before .before .before .before .before .before .before .before .before .before .pre .0 .5) (not-false _ (c .before .before .before .before .before .before .before .before .before .before .if1 .left)) (reaches-less _ _ _ _ (omega arith) (c .before .before .before .before .before .before .before .before .before .before .before .before .before .pre .0 .6)) (c .before .before .before .before .write-clock .ensures)), (omega arith, search needs, omega arith))
 
--- src/lib.rt:162:5
 cast-result : tie.Need-cast-result
 cast-result c = search needs
 
--- src/lib.rt:137:1
 same-length-2 : tie.Need-same-length-2
 same-length-2 c = search needs
 
--- src/lib.rt:137:1
 same-length-3 : tie.Need-same-length-3
 same-length-3 c = search needs
 
--- src/lib.rt:137:1
 returns-3 : tie.Need-returns-3
 returns-3 c = windowed-all _ _ _ _ _ _ _ _ _ _ _ _ _ (c .before .before .before .before .before .before .before .before .before .before .before .before .before .before .capped .ensures) (omega arith) (omega arith) (c .before .before .before .before .before .before .before .before .before .before .before .before .are-safe .ensures) (not-false _ (c .before .before .before .before .before .before .before .before .before .before .before .if2 .left)) (c .before .before .before .before .before .before .before .before .before .write-clock .ensures) (c .before .before .before .before .together .ensures)
 

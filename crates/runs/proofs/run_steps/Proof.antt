@@ -1,3 +1,4 @@
+-- `runs::run_steps` meets its contract. Assumes nothing.
 use borrow.Author.Needs.{needs}
 use native.Mathlib.Omega.{arith}
 use Prim.Native.Nat.{_≤_, _-_, _*_}
@@ -6,23 +7,13 @@ use lib.ListN.{length}
 use Rattle.runs.specs.declared.Ended.the-variants.{All}
 use Rattle.runs.specs.Run.{runOf}
 use Rattle.tally.specs.TallyLaws.{Bounded, zero-bounded}
-use Rattle.runs.specs.RunLaws.{run-zero, next-bounded, run-end}
-use Rattle.runs.specs.OnLaws.{OnCourse, course-first, course-few, course-able, course-plain, course-clock, course-next, NoneLate, none-late-first, none-late-more, course-on, course-searched, course-late}
+use Rattle.runs.specs.RunLaws.{run-zero, run-end}
+use Rattle.runs.specs.OnLaws.{OnCourse, course-first, course-few, course-plain, NoneLate, none-late-first, none-late-more}
 use Rattle.runs.specs.Still.{idle-run}
 use Rattle.window.specs.Window.{Reaches}
 use Rattle.runs.specs.Windows.{advanced-some, advanced-course, advanced-bounded, advanced-reaches, advanced-on, advanced-searched, advanced-late, course-room, runnable-few, runnable-spread}
 use Rattle.runs.proofs.run_steps.Statement.{statement}
 use Rattle.runs.proofs.run_steps.Tie as tie
-use Rattle.runs.proofs.run_steps.Reads as reads
-use Rattle.runs.proofs.run_steps.Lts as lts
-use Rattle.area.proofs.read_clock.Reads as read-clock-reads
-use Rattle.area.proofs.read_count.Reads as read-count-reads
-use Rattle.area.proofs.read_depth.Reads as read-depth-reads
-use Rattle.area.proofs.read_figures.Reads as read-figures-reads
-use Rattle.area.proofs.write_clock.Reads as write-clock-reads
-use Rattle.runs.proofs.advance.Reads as advance-reads
-use Rattle.runs.proofs.is_idle.Reads as is-idle-reads
-use Rattle.window.proofs.reach.Reads as reach-reads
 
 abbrev Inv-loop : tie.InvT-loop
 Inv-loop area words n count depth f reach clock ended₀ swift t late i₀ ended i = (i ≤ count) × (ended ≡ All) × NoneLate late i
@@ -36,147 +27,111 @@ Inv-steps area₀ words₀ n count depth f reach clock₀ ended₀ swift₀ t₀
 abbrev μ-steps : tie.MeasureT-steps
 μ-steps area₀ words₀ n count depth f reach clock₀ ended₀ swift₀ t₀ area words clock ended swift t = n - t
 
--- src/lib.rt:265:17
 read-count-requires : tie.Need-read-count-requires Inv-loop μ-loop Inv-steps μ-steps
 read-count-requires c κs = omega arith
 
--- src/lib.rt:265:17
 cast-count : tie.Need-cast-count Inv-loop μ-loop Inv-steps μ-steps
 cast-count c = search needs
 
--- src/lib.rt:266:9
 read-depth-requires : tie.Need-read-depth-requires Inv-loop μ-loop Inv-steps μ-steps
 read-depth-requires c κs = omega arith
 
--- src/lib.rt:267:9
 read-figures-requires : tie.Need-read-figures-requires Inv-loop μ-loop Inv-steps μ-steps
 read-figures-requires c κs = omega arith
 
--- src/lib.rt:268:9
 reach-requires : tie.Need-reach-requires Inv-loop μ-loop Inv-steps μ-steps
 reach-requires c κs = (search runnable-few, omega arith, search runnable-spread)
 
--- src/lib.rt:269:9
 read-clock-requires : tie.Need-read-clock-requires Inv-loop μ-loop Inv-steps μ-steps
 read-clock-requires c κs = omega arith
 
--- src/lib.rt:273:5
 steps-holds : tie.Need-steps-holds Inv-loop μ-loop Inv-steps μ-steps
 steps-holds c = (omega arith, refl, refl, refl, search zero-bounded, search course-first, search run-zero, search needs)
 
--- src/lib.rt:274:12
 is-idle-requires : tie.Need-is-idle-requires Inv-loop μ-loop Inv-steps μ-steps
 is-idle-requires c κs = (search course-few, omega arith, search course-plain)
 
--- src/lib.rt:275:46
 sub-write-clock : tie.Need-sub-write-clock Inv-loop μ-loop Inv-steps μ-steps
 sub-write-clock c = omega arith
 
--- src/lib.rt:275:37
 add-write-clock : tie.Need-add-write-clock Inv-loop μ-loop Inv-steps μ-steps
 add-write-clock c = let h = c .before .before .before .before .before .steps .inv .5 in let g = c .before .before .before .before .steps-test .taken in let m = c .before .before .before .before .before .before .before .before .reach .ensures .1 in let room = course-room _ _ _ _ _ _ _ h in omega arith
 
--- src/lib.rt:275:13
 write-clock-requires : tie.Need-write-clock-requires Inv-loop μ-loop Inv-steps μ-steps
 write-clock-requires c κs = omega arith
 
--- src/lib.rt:276:13
 same-length : tie.Need-same-length Inv-loop μ-loop Inv-steps μ-steps
 same-length c = omega arith
 
--- src/lib.rt:276:13
 same-length-2 : tie.Need-same-length-2 Inv-loop μ-loop Inv-steps μ-steps
 same-length-2 c = omega arith
 
--- src/lib.rt:276:13
 returns : tie.Need-returns Inv-loop μ-loop Inv-steps μ-steps
 returns c = idle-run _ _ _ _ _ _ _ _ _ _ _ _ (c .before .before .before .before .before .before .before .before .steps .inv .5) (c .before .before .before .before .before .is-idle .ensures) (c .before .before .before .before .if1 .taken) (c .before .before .before .before .before .before .before .steps-test .taken) (omega arith) (c .before .before .write-clock .ensures) (c .before .before .before .before .before .before .before .before .steps .inv .6)
 
--- src/lib.rt:290:13
 sub-advance : tie.Need-sub-advance Inv-loop μ-loop Inv-steps μ-steps
 sub-advance c = omega arith
 
--- src/lib.rt:291:13
 mul-advance : tie.Need-mul-advance Inv-loop μ-loop Inv-steps μ-steps
 mul-advance c = omega arith
 
--- src/lib.rt:281:13
 advance-requires : tie.Need-advance-requires Inv-loop μ-loop Inv-steps μ-steps
 advance-requires c κs = let h = c .before .before .before .before .before .before .steps .inv .5 in let g = c .before .before .before .before .before .steps-test .taken in let m = c .before .before .before .before .before .before .before .before .before .reach .ensures .1 in let room = course-room _ _ _ _ _ _ _ h in ((omega arith, omega arith, omega arith, omega arith, omega arith, h, c .before .before .before .before .before .before .steps .inv .7), (omega arith, c .before .before .before .before .before .before .steps .inv .4, omega arith))
 
--- src/lib.rt:293:9
 add-t : tie.Need-add-t Inv-loop μ-loop Inv-steps μ-steps
 add-t c = let h = c .before .before .before .before .before .before .before .before .before .before .before .before .steps .inv .5 in let g = c .before .before .before .before .before .before .before .before .before .before .before .steps-test .taken in let m = c .before .before .before .before .before .before .before .before .before .before .before .before .before .before .before .reach .ensures .1 in let room = course-room _ _ _ _ _ _ _ h in let v = c .before .before .before .before .before .advance .ensures in let some = advanced-some _ _ _ _ _ _ _ _ _ _ _ _ _ _ v (omega arith) (omega arith) in omega (arith, c .before .before .before .before .before .before .before .before .before .before .before .before .before .before .before .before .before .before .before .before .before .before .before .before .before .pre .0 .2)
 
--- src/lib.rt:294:9
 add-clock : tie.Need-add-clock Inv-loop μ-loop Inv-steps μ-steps
 add-clock c = let h = c .before .before .before .before .before .before .before .before .before .before .before .before .before .steps .inv .5 in let g = c .before .before .before .before .before .before .before .before .before .before .before .before .steps-test .taken in let m = c .before .before .before .before .before .before .before .before .before .before .before .before .before .before .before .before .reach .ensures .1 in let room = course-room _ _ _ _ _ _ _ h in let v = c .before .before .before .before .before .before .advance .ensures in let some = advanced-some _ _ _ _ _ _ _ _ _ _ _ _ _ _ v (omega arith) (omega arith) in omega (arith, some .1)
 
--- src/lib.rt:273:5
 steps-less : tie.Need-steps-less Inv-loop μ-loop Inv-steps μ-steps
 steps-less c = let h = c .before .before .before .before .before .before .before .before .before .before .before .before .before .before .before .steps .inv .5 in let g = c .before .before .before .before .before .before .before .before .before .before .before .before .before .before .steps-test .taken in let m = c .before .before .before .before .before .before .before .before .before .before .before .before .before .before .before .before .before .before .reach .ensures .1 in let room = course-room _ _ _ _ _ _ _ h in let v = c .before .before .before .before .before .before .before .before .advance .ensures in let some = advanced-some _ _ _ _ _ _ _ _ _ _ _ _ _ _ v (omega arith) (omega arith) in omega (arith, some)
 
--- src/lib.rt:273:5
 steps-again : tie.Need-steps-again Inv-loop μ-loop Inv-steps μ-steps
 steps-again c = let h = c .before .before .before .before .before .before .before .before .before .before .before .before .before .before .before .steps .inv .5 in let g = c .before .before .before .before .before .before .before .before .before .before .before .before .before .before .steps-test .taken in let m = c .before .before .before .before .before .before .before .before .before .before .before .before .before .before .before .before .before .before .reach .ensures .1 in let room = course-room _ _ _ _ _ _ _ h in let v = c .before .before .before .before .before .before .before .before .advance .ensures in let some = advanced-some _ _ _ _ _ _ _ _ _ _ _ _ _ _ v (omega arith) (omega arith) in (omega (arith, some), omega arith, omega arith, search needs, advanced-bounded _ _ _ _ _ _ _ _ _ _ _ _ _ _ _ h (c .before .before .before .before .before .before .before .before .before .before .before .before .before .before .before .steps .inv .7) (omega arith) (omega arith) (omega arith) (c .before .before .before .before .before .before .before .before .before .before .before .before .before .before .before .steps .inv .4) v, advanced-course _ _ _ _ _ _ _ _ _ _ _ _ _ _ _ h (c .before .before .before .before .before .before .before .before .before .before .before .before .before .before .before .steps .inv .7) (omega arith) (omega arith) (omega arith) v, advanced-on _ _ _ _ _ _ _ _ _ _ _ _ _ _ _ h (c .before .before .before .before .before .before .before .before .before .before .before .before .before .before .before .steps .inv .7) (omega arith) (omega arith) (omega arith) _ (c .before .before .before .before .before .before .before .before .before .before .before .before .before .before .before .steps .inv .6) v (c .if2 .taken), advanced-reaches _ _ _ _ _ _ _ _ _ _ _ _ _ _ _ h (c .before .before .before .before .before .before .before .before .before .before .before .before .before .before .before .steps .inv .7) (omega arith) (omega arith) (omega arith) v)
 
--- src/lib.rt:301:9
 loop-holds : tie.Need-loop-holds Inv-loop μ-loop Inv-steps μ-steps
 loop-holds c = (omega arith, search needs, search none-late-first)
 
--- src/lib.rt:273:5
 steps-less-2 : tie.Need-steps-less-2 Inv-loop μ-loop Inv-steps μ-steps
 steps-less-2 c = let h = c .before .before .before .before .before .before .before .before .before .before .before .before .before .before .before .before .before .before .steps .inv .5 in let g = c .before .before .before .before .before .before .before .before .before .before .before .before .before .before .before .before .before .steps-test .taken in let m = c .before .before .before .before .before .before .before .before .before .before .before .before .before .before .before .before .before .before .before .before .before .reach .ensures .1 in let room = course-room _ _ _ _ _ _ _ h in let v = c .before .before .before .before .before .before .before .before .before .before .before .advance .ensures in let some = advanced-some _ _ _ _ _ _ _ _ _ _ _ _ _ _ v (omega arith) (omega arith) in omega (arith, some)
 
--- src/lib.rt:273:5
 steps-again-2 : tie.Need-steps-again-2 Inv-loop μ-loop Inv-steps μ-steps
 steps-again-2 c = let h = c .before .before .before .before .before .before .before .before .before .before .before .before .before .before .before .before .before .before .steps .inv .5 in let g = c .before .before .before .before .before .before .before .before .before .before .before .before .before .before .before .before .before .steps-test .taken in let m = c .before .before .before .before .before .before .before .before .before .before .before .before .before .before .before .before .before .before .before .before .before .reach .ensures .1 in let room = course-room _ _ _ _ _ _ _ h in let v = c .before .before .before .before .before .before .before .before .before .before .before .advance .ensures in let some = advanced-some _ _ _ _ _ _ _ _ _ _ _ _ _ _ v (omega arith) (omega arith) in (omega (arith, some), omega arith, omega arith, search needs, advanced-bounded _ _ _ _ _ _ _ _ _ _ _ _ _ _ _ h (c .before .before .before .before .before .before .before .before .before .before .before .before .before .before .before .before .before .before .steps .inv .7) (omega arith) (omega arith) (omega arith) (c .before .before .before .before .before .before .before .before .before .before .before .before .before .before .before .before .before .before .steps .inv .4) v, advanced-course _ _ _ _ _ _ _ _ _ _ _ _ _ _ _ h (c .before .before .before .before .before .before .before .before .before .before .before .before .before .before .before .before .before .before .steps .inv .7) (omega arith) (omega arith) (omega arith) v, advanced-searched _ _ _ _ _ _ _ _ _ _ _ _ _ _ _ h (c .before .before .before .before .before .before .before .before .before .before .before .before .before .before .before .before .before .before .steps .inv .7) (omega arith) (omega arith) (omega arith) _ (c .before .before .before .before .before .before .before .before .before .before .before .before .before .before .before .before .before .before .steps .inv .6) v _ (c .before .loop .inv .2) (c .before .loop .inv .0) (c .loop-test .left), advanced-reaches _ _ _ _ _ _ _ _ _ _ _ _ _ _ _ h (c .before .before .before .before .before .before .before .before .before .before .before .before .before .before .before .before .before .before .steps .inv .7) (omega arith) (omega arith) (omega arith) v)
 
--- src/lib.rt:302:16
 array-read-if3 : tie.Need-array-read-if3 Inv-loop μ-loop Inv-steps μ-steps
 array-read-if3 c = omega (arith, course-few _ _ _ _ _ _ _ (c .before .before .before .before .before .before .before .before .before .before .before .before .before .before .before .before .before .before .steps .inv .5))
 
--- src/lib.rt:304:27
 sub-t46 : tie.Need-sub-t46 Inv-loop μ-loop Inv-steps μ-steps
 sub-t46 c = let h = c .before .before .before .before .before .before .before .before .before .before .before .before .before .before .before .before .before .before .before .steps .inv .5 in let g = c .before .before .before .before .before .before .before .before .before .before .before .before .before .before .before .before .before .before .steps-test .taken in let m = c .before .before .before .before .before .before .before .before .before .before .before .before .before .before .before .before .before .before .before .before .before .before .reach .ensures .1 in let room = course-room _ _ _ _ _ _ _ h in let v = c .before .before .before .before .before .before .before .before .before .before .before .before .advance .ensures in let some = advanced-some _ _ _ _ _ _ _ _ _ _ _ _ _ _ v (omega arith) (omega arith) in omega (arith, some)
 
--- src/lib.rt:305:30
 cast-t47 : tie.Need-cast-t47 Inv-loop μ-loop Inv-steps μ-steps
 cast-t47 c = omega (arith, course-few _ _ _ _ _ _ _ (c .before .before .before .before .before .before .before .before .before .before .before .before .before .before .before .before .before .before .before .steps .inv .5))
 
--- src/lib.rt:309:13
 add-i : tie.Need-add-i Inv-loop μ-loop Inv-steps μ-steps
 add-i c = omega (arith, course-few _ _ _ _ _ _ _ (c .before .before .before .before .before .before .before .before .before .before .before .before .before .before .before .before .before .before .before .steps .inv .5))
 
--- src/lib.rt:301:9
 loop-less : tie.Need-loop-less Inv-loop μ-loop Inv-steps μ-steps
 loop-less c = omega arith
 
--- src/lib.rt:301:9
 loop-again : tie.Need-loop-again Inv-loop μ-loop Inv-steps μ-steps
 loop-again c = (omega arith, search needs, search none-late-more)
 
--- src/lib.rt:260:1
 same-length-3 : tie.Need-same-length-3 Inv-loop μ-loop Inv-steps μ-steps
 same-length-3 c = omega arith
 
--- src/lib.rt:260:1
 same-length-4 : tie.Need-same-length-4 Inv-loop μ-loop Inv-steps μ-steps
 same-length-4 c = omega arith
 
--- src/lib.rt:260:1
 returns-2 : tie.Need-returns-2 Inv-loop μ-loop Inv-steps μ-steps
 returns-2 c = search run-end
 
--- src/lib.rt:260:1
 same-length-5 : tie.Need-same-length-5 Inv-loop μ-loop Inv-steps μ-steps
 same-length-5 c = omega arith
 
--- src/lib.rt:260:1
 same-length-6 : tie.Need-same-length-6 Inv-loop μ-loop Inv-steps μ-steps
 same-length-6 c = omega arith
 
--- src/lib.rt:260:1
 returns-3 : tie.Need-returns-3 Inv-loop μ-loop Inv-steps μ-steps
 returns-3 c = let h = c .before .before .before .before .before .before .before .before .before .before .before .before .before .before .before .before .before .before .before .steps .inv .5 in let g = c .before .before .before .before .before .before .before .before .before .before .before .before .before .before .before .before .before .before .steps-test .taken in let m = c .before .before .before .before .before .before .before .before .before .before .before .before .before .before .before .before .before .before .before .before .before .before .reach .ensures .1 in let room = course-room _ _ _ _ _ _ _ h in let v = c .before .before .before .before .before .before .before .before .before .before .before .before .advance .ensures in let some = advanced-some _ _ _ _ _ _ _ _ _ _ _ _ _ _ v (omega arith) (omega arith) in advanced-late _ _ _ _ _ _ _ _ _ _ _ _ _ _ _ h (c .before .before .before .before .before .before .before .before .before .before .before .before .before .before .before .before .before .before .before .steps .inv .7) (omega arith) (omega arith) (omega arith) _ (c .before .before .before .before .before .before .before .before .before .before .before .before .before .before .before .before .before .before .before .steps .inv .6) v (c .before .before .before .before .if2 .left) _ (c .if3 .taken) (c .before .before .loop .inv .2) (c .before .loop-test .taken)
 

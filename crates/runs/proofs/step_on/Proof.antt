@@ -1,3 +1,4 @@
+-- `runs::step_on` meets its contract. Assumes nothing.
 use borrow.Author.Needs.{needs}
 use native.Mathlib.Omega.{arith}
 use Prim.Native.Nat.{_≤_, _-_}
@@ -7,11 +8,6 @@ use Rattle.pair.specs.Ready.{turn-able}
 use Rattle.runs.specs.OnLaws.{Midway, midway-start, midway-turn, midway-end}
 use Rattle.runs.proofs.step_on.Statement.{statement}
 use Rattle.runs.proofs.step_on.Tie as tie
-use Rattle.runs.proofs.step_on.Reads as reads
-use Rattle.runs.proofs.step_on.Lts as lts
-use Rattle.area.proofs.write_clock.Reads as write-clock-reads
-use Rattle.octets.proofs.either.Reads as either-reads
-use Rattle.window.proofs.turn_on.Reads as turn-on-reads
 
 abbrev Inv-loop : tie.InvT-loop
 Inv-loop area₀ words₀ n depth t f top any₀ late₀ i₀ area words any late i = (i ≤ n) × (length area ≡ length area₀) × (length words ≡ length words₀) × Midway f depth n t area₀ words₀ top i area words any late
@@ -19,63 +15,48 @@ Inv-loop area₀ words₀ n depth t f top any₀ late₀ i₀ area words any lat
 abbrev μ-loop : tie.MeasureT-loop
 μ-loop area₀ words₀ n depth t f top any₀ late₀ i₀ area words any late i = n - i
 
--- src/lib.rt:72:5
 loop-holds : tie.Need-loop-holds Inv-loop μ-loop
 loop-holds c = (omega arith, refl, refl, midway-start _ _ _ _ _ _ _ (c .before .before .pre .1 .1))
 
--- src/lib.rt:73:30
 cast-high : tie.Need-cast-high Inv-loop μ-loop
 cast-high c = omega arith
 
--- src/lib.rt:73:26
 mul-high : tie.Need-mul-high Inv-loop μ-loop
 mul-high c = omega arith
 
--- src/lib.rt:73:20
 add-high : tie.Need-add-high Inv-loop μ-loop
 add-high c = omega arith
 
--- src/lib.rt:74:13
 turn-on-requires : tie.Need-turn-on-requires Inv-loop μ-loop
 turn-on-requires c κs = ((omega arith, omega arith, omega arith, omega arith, turn-able _ _ _ _ _ _ _ (c .before .before .before .before .before .before .pre .0 .3) (omega arith) (omega arith) (c .before .before .before .loop .inv .3 .0)), (omega arith, c .before .before .before .loop .inv .3 .2, omega arith))
 
--- src/lib.rt:75:9
 array-write-late : tie.Need-array-write-late Inv-loop μ-loop
 array-write-late c = omega arith
 
--- src/lib.rt:76:9
 either-requires : tie.Need-either-requires Inv-loop μ-loop
 either-requires c κs = search needs
 
--- src/lib.rt:77:9
 add-i : tie.Need-add-i Inv-loop μ-loop
 add-i c = omega arith
 
--- src/lib.rt:72:5
 loop-less : tie.Need-loop-less Inv-loop μ-loop
 loop-less c = omega arith
 
--- src/lib.rt:72:5
 loop-again : tie.Need-loop-again Inv-loop μ-loop
 loop-again c = (omega arith, omega arith, omega arith, midway-turn _ _ _ _ _ _ _ _ _ _ _ _ (c .before .before .before .before .before .before .before .before .before .before .before .before .pre .0 .3) (omega arith) (omega arith) (omega arith) (c .before .before .before .before .before .before .before .before .before .loop .inv .3) _ _ _ _ (c .before .before .before .before .before .turn-on .ensures .0) (c .before .before .before .before .before .turn-on .ensures .1 .0) (c .before .before .before .before .before .turn-on .ensures .1 .1) (c .either .ensures))
 
--- src/lib.rt:79:29
 add-write-clock : tie.Need-add-write-clock Inv-loop μ-loop
 add-write-clock c = omega arith
 
--- src/lib.rt:79:5
 write-clock-requires : tie.Need-write-clock-requires Inv-loop μ-loop
 write-clock-requires c κs = omega arith
 
--- src/lib.rt:52:1
 same-length : tie.Need-same-length Inv-loop μ-loop
 same-length c = omega arith
 
--- src/lib.rt:52:1
 same-length-2 : tie.Need-same-length-2 Inv-loop μ-loop
 same-length-2 c = omega arith
 
--- src/lib.rt:52:1
 returns : tie.Need-returns Inv-loop μ-loop
 returns c = (refl, midway-end _ _ _ _ _ _ _ _ _ _ _ _ (c .before .before .before .before .before .loop .inv .3) (omega arith) (omega arith) (omega arith) _ _ refl (c .before .before .write-clock .ensures))
 

@@ -1,37 +1,23 @@
+-- `window::allowed` meets its contract. Assumes nothing.
 use native.Mathlib.Omega.{arith}
-use Prim.Native.Nat.{_≤_, _<_, _+_, _*_, _-_}
-use mathlib.Core.Path.{_≡_, refl}
-use lib.ListN.{length}
-use Rattle.tally.specs.TallyLaws.{Bounded}
-use Rattle.window.specs.Order.{along, stationwise}
-use Rattle.window.specs.Window.{Going, windowTurn}
+use Prim.Native.Nat.{_-_}
 use Rattle.window.specs.Reach.{allows-own, allows-apart, space-room}
 use borrow.Author.Needs.{needs}
 use Rattle.window.proofs.allowed.Statement.{statement}
 use Rattle.window.proofs.allowed.Tie as tie
-use Rattle.window.proofs.allowed.Reads as reads
-use Rattle.window.proofs.allowed.Lts as lts
-use Rattle.area.proofs.apart.Reads as apart-reads
-use Rattle.area.proofs.read_position.Reads as read-position-reads
-use Rattle.window.proofs.narrowed.Reads as narrowed-reads
 
--- src/lib.rt:163:9
 returns : tie.Need-returns
 returns c = (search allows-own, (omega arith, omega arith))
 
--- src/lib.rt:165:32
 read-position-requires : tie.Need-read-position-requires
 read-position-requires c κs = search needs
 
--- src/lib.rt:165:17
 apart-requires : tie.Need-apart-requires
 apart-requires c κs = search needs
 
--- src/lib.rt:165:5
 narrowed-requires : tie.Need-narrowed-requires
 narrowed-requires c κs = let z = space-room _ _ _ _ _ _ _ (c .before .before .before .before .pre .5) (omega arith) (omega arith) (c .before .before .if1 .left) (c .apart .ensures) (c .before .read-position .ensures) (c .before .before .before .before .pre .6) in (omega arith, z .0, z .1)
 
--- src/lib.rt:157:1
 returns-2 : tie.Need-returns-2
 returns-2 c = (search allows-apart, (omega arith, omega arith))
 

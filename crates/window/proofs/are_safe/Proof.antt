@@ -1,19 +1,12 @@
+-- `window::are_safe` meets its contract. Assumes nothing.
 use native.Mathlib.Omega.{arith}
 use borrow.Author.Needs.{needs}
-use Prim.Native.Nat.{_≤_, _<_, _+_, _*_, _-_}
-use mathlib.Core.Path.{_≡_, refl}
-use lib.ListN.{length}
-use Rattle.tally.specs.TallyLaws.{Bounded}
-use Rattle.window.specs.Order.{along, stationwise}
-use Rattle.window.specs.Window.{Going, windowTurn}
-use borrow.Author.Tests.{not-true, not-false}
+use Prim.Native.Nat.{_≤_, _-_}
+use borrow.Author.Tests.{not-false}
 use Rattle.window.specs.Late.{AllSafe}
 use Rattle.window.specs.Reach.{all-safe-none, all-safe-more, all-safe-all, not-all-safe}
 use Rattle.window.proofs.are_safe.Statement.{statement}
 use Rattle.window.proofs.are_safe.Tie as tie
-use Rattle.window.proofs.are_safe.Reads as reads
-use Rattle.window.proofs.are_safe.Lts as lts
-use Rattle.window.proofs.is_safe.Reads as is-safe-reads
 
 abbrev Inv-loop : tie.InvT-loop
 Inv-loop area n t f m i₀ i = (i ≤ n) × AllSafe m i f t area
@@ -21,31 +14,24 @@ Inv-loop area n t f m i₀ i = (i ≤ n) × AllSafe m i f t area
 abbrev μ-loop : tie.MeasureT-loop
 μ-loop area n t f m i₀ i = n - i
 
--- src/lib.rt:237:5
 loop-holds : tie.Need-loop-holds Inv-loop μ-loop
 loop-holds c = (omega arith, search all-safe-none)
 
--- src/lib.rt:238:13
 is-safe-requires : tie.Need-is-safe-requires Inv-loop μ-loop
 is-safe-requires c κs = (omega arith, omega arith, omega arith, omega arith, search needs)
 
--- src/lib.rt:239:13
 returns : tie.Need-returns Inv-loop μ-loop
 returns c = search not-all-safe
 
--- src/lib.rt:241:9
 add-i : tie.Need-add-i Inv-loop μ-loop
 add-i c = omega arith
 
--- src/lib.rt:237:5
 loop-less : tie.Need-loop-less Inv-loop μ-loop
 loop-less c = omega arith
 
--- src/lib.rt:237:5
 loop-again : tie.Need-loop-again Inv-loop μ-loop
 loop-again c = (omega arith, all-safe-more _ _ _ _ _ _ (c .before .before .before .loop .inv .1) (c .before .is-safe .ensures) (not-false _ (c .if1 .left)))
 
--- src/lib.rt:232:1
 returns-2 : tie.Need-returns-2 Inv-loop μ-loop
 returns-2 c = search all-safe-all
 

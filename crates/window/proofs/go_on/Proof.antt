@@ -1,17 +1,15 @@
+-- `window::go_on` meets its contract. Assumes nothing.
 use native.Mathlib.Omega.{arith}
 use borrow.Author.Needs.{needs}
-use Prim.Native.Nat.{_≤_, _<_, _+_, _*_, _-_}
+use Prim.Native.Nat.{_≤_, _+_, _*_, _-_}
 use mathlib.Core.Path.{_≡_, refl}
 use lib.ListN.{length}
 use Rattle.tally.specs.TallyLaws.{Bounded}
-use Rattle.window.specs.Order.{along, stationwise}
-use Rattle.window.specs.Window.{Going, windowTurn}
-use Rattle.window.specs.Going.{Own, own-along, along-none, along-more, along-end, bounded-more}
+use Rattle.window.specs.Order.{along}
+use Rattle.window.specs.Window.{windowTurn}
+use Rattle.window.specs.Going.{own-along, along-none, along-more, along-end, bounded-more}
 use Rattle.window.proofs.go_on.Statement.{statement}
 use Rattle.window.proofs.go_on.Tie as tie
-use Rattle.window.proofs.go_on.Reads as reads
-use Rattle.window.proofs.go_on.Lts as lts
-use Rattle.window.proofs.pace.Reads as pace-reads
 
 abbrev Inv-loop : tie.InvT-loop
 Inv-loop area₀ words₀ n depth t f i m top s₀ area words s = (s ≤ m) × (length area ≡ length area₀) × (length words ≡ length words₀) × Bounded words (top + 2 * s) × (record { octets = area; words = words } ≡ along (windowTurn f depth n t) i s (record { octets = area₀; words = words₀ }))
@@ -19,55 +17,42 @@ Inv-loop area₀ words₀ n depth t f i m top s₀ area words s = (s ≤ m) × (
 abbrev μ-loop : tie.MeasureT-loop
 μ-loop area₀ words₀ n depth t f i m top s₀ area words s = m - s
 
--- src/lib.rt:118:5
 loop-holds : tie.Need-loop-holds Inv-loop μ-loop
 loop-holds c = (omega arith, refl, refl, bounded-more _ _ _ (c .before .before .pre .1 .1) (omega arith), search along-none)
 
--- src/lib.rt:119:45
 add-pace : tie.Need-add-pace Inv-loop μ-loop
 add-pace c = omega arith
 
--- src/lib.rt:119:58
 sub-pace : tie.Need-sub-pace Inv-loop μ-loop
 sub-pace c = omega arith
 
--- src/lib.rt:119:75
 cast-pace : tie.Need-cast-pace Inv-loop μ-loop
 cast-pace c = omega arith
 
--- src/lib.rt:119:71
 mul-pace : tie.Need-mul-pace Inv-loop μ-loop
 mul-pace c = omega arith
 
--- src/lib.rt:119:65
 add-pace-2 : tie.Need-add-pace-2 Inv-loop μ-loop
 add-pace-2 c = omega arith
 
--- src/lib.rt:119:13
 pace-requires : tie.Need-pace-requires Inv-loop μ-loop
 pace-requires c κs = ((omega arith, omega arith, omega arith, omega arith, omega arith, omega arith, own-along _ _ _ _ _ _ _ _ _ _ _ (omega arith) (omega arith) (omega arith) (c .before .before .before .before .before .before .pre .0 .5) (c .before .before .before .loop .inv .4)), (omega arith, search needs, omega arith))
 
--- src/lib.rt:120:9
 add-s : tie.Need-add-s Inv-loop μ-loop
 add-s c = omega arith
 
--- src/lib.rt:118:5
 loop-less : tie.Need-loop-less Inv-loop μ-loop
 loop-less c = omega arith
 
--- src/lib.rt:118:5
 loop-again : tie.Need-loop-again Inv-loop μ-loop
 loop-again c = (omega arith, omega arith, omega arith, bounded-more _ _ _ (c .before .before .before .before .pace .ensures .1 .2) (omega arith), search along-more)
 
--- src/lib.rt:101:1
 same-length : tie.Need-same-length Inv-loop μ-loop
 same-length c = omega arith
 
--- src/lib.rt:101:1
 same-length-2 : tie.Need-same-length-2 Inv-loop μ-loop
 same-length-2 c = omega arith
 
--- src/lib.rt:101:1
 returns : tie.Need-returns Inv-loop μ-loop
 returns c = (search along-end, bounded-more _ _ _ (c .before .loop .inv .3) (omega arith))
 

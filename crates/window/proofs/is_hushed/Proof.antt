@@ -1,12 +1,9 @@
+-- `window::is_hushed` meets its contract. Assumes nothing.
 use native.Mathlib.Omega.{arith}
-use borrow.Author.Needs.{needs}
 use Prim.Native.Nat.{_≤_, _-_}
 use Rattle.window.specs.Reach.{HushedTo, hushed-none, hushed-more, hushed-all, not-hushed}
 use Rattle.window.proofs.is_hushed.Statement.{statement}
 use Rattle.window.proofs.is_hushed.Tie as tie
-use Rattle.window.proofs.is_hushed.Reads as reads
-use Rattle.window.proofs.is_hushed.Lts as lts
-use Rattle.area.proofs.read_symbol.Reads as read-symbol-reads
 
 abbrev Inv-loop : tie.InvT-loop
 Inv-loop area i t m s₀ s = (s ≤ m) × HushedTo area i t s
@@ -14,35 +11,27 @@ Inv-loop area i t m s₀ s = (s ≤ m) × HushedTo area i t s
 abbrev μ-loop : tie.MeasureT-loop
 μ-loop area i t m s₀ s = m - s
 
--- src/lib.rt:197:5
 loop-holds : tie.Need-loop-holds Inv-loop μ-loop
 loop-holds c = (omega arith, search hushed-none)
 
--- src/lib.rt:198:39
 add-read-symbol : tie.Need-add-read-symbol Inv-loop μ-loop
 add-read-symbol c = omega arith
 
--- src/lib.rt:198:12
 read-symbol-requires : tie.Need-read-symbol-requires Inv-loop μ-loop
 read-symbol-requires c κs = omega arith
 
--- src/lib.rt:199:13
 returns : tie.Need-returns Inv-loop μ-loop
 returns c = search not-hushed
 
--- src/lib.rt:201:9
 add-s : tie.Need-add-s Inv-loop μ-loop
 add-s c = omega arith
 
--- src/lib.rt:197:5
 loop-less : tie.Need-loop-less Inv-loop μ-loop
 loop-less c = omega arith
 
--- src/lib.rt:197:5
 loop-again : tie.Need-loop-again Inv-loop μ-loop
 loop-again c = (omega arith, search hushed-more)
 
--- src/lib.rt:192:1
 returns-2 : tie.Need-returns-2 Inv-loop μ-loop
 returns-2 c = search hushed-all
 

@@ -1,38 +1,28 @@
+-- `window::pace` meets its contract. Assumes nothing.
 use native.Mathlib.Omega.{arith}
 use borrow.Author.Needs.{needs}
 use Rattle.window.specs.Going.{own-fine, own-able, own-plain, still-own, still-along, silently-along, bounded-more}
 use Rattle.window.proofs.pace.Statement.{statement}
 use Rattle.window.proofs.pace.Tie as tie
-use Rattle.window.proofs.pace.Reads as reads
-use Rattle.window.proofs.pace.Lts as lts
-use Rattle.stretch.proofs.stretch.Reads as stretch-reads
-use Rattle.window.proofs.take.Reads as take-reads
 
--- src/lib.rt:86:9
 stretch-requires : tie.Need-stretch-requires
 stretch-requires c κs = let o = c .before .before .before .pre .0 .6 in let v = own-fine _ _ _ _ _ _ _ o in (omega arith, omega arith, omega arith, omega arith, omega arith, v .0, v .1, v .2, own-plain _ _ _ _ _ _ _ o)
 
--- src/lib.rt:88:9
 same-length : tie.Need-same-length
 same-length c = search needs
 
--- src/lib.rt:88:9
 returns : tie.Need-returns
 returns c = (silently-along _ _ _ _ _ _ _ _ _ (c .before .before .before .stretch .ensures .0), (omega arith, omega arith, bounded-more _ _ _ (c .before .before .before .before .before .before .before .pre .1 .1) (omega arith)))
 
--- src/lib.rt:90:5
 take-requires : tie.Need-take-requires
 take-requires c κs = let o = still-own _ _ _ _ _ _ _ _ (c .before .before .before .before .before .stretch .ensures .0) (c .before .before .if1 .left) _ (c .before .before .before .before .before .before .before .before .before .pre .0 .6) in ((omega arith, omega arith, omega arith, omega arith, own-able _ _ _ _ _ _ _ (omega arith) o, own-plain _ _ _ _ _ _ _ o), (omega arith, c .before .before .before .before .before .before .before .before .before .pre .1 .1, omega arith))
 
--- src/lib.rt:70:1
 same-length-2 : tie.Need-same-length-2
 same-length-2 c = search needs
 
--- src/lib.rt:70:1
 same-length-3 : tie.Need-same-length-3
 same-length-3 c = search needs
 
--- src/lib.rt:70:1
 returns-2 : tie.Need-returns-2
 returns-2 c = (still-along _ _ _ _ _ _ _ _ (c .before .before .before .before .before .before .before .before .before .before .stretch .ensures .0) (c .before .before .before .before .before .before .before .if1 .left) _ _ _ (c .before .before .before .before .take .ensures .0), (omega arith, omega arith, c .before .before .before .before .take .ensures .1))
 
