@@ -39,16 +39,14 @@ use Rattle.state.specs.declared.Station.{Station}
 use Rattle.station.specs.declared.step.Stepped.{Stepped}
 use Rattle.station.specs.Step.{stepped, nextStation, triesAfter, drawAfter, deferredAfter}
 use Rattle.record.specs.Codec.{flag, deferenceOf, deferenceCode, deferenceOwn, transmitterOf, transmitterCode, receiverOf, receiverCode, decoded, encoded}
-use Rattle.area.specs.Places.{place, station, Off}
+use Rattle.area.specs.Places.{station}
 use Rattle.area.specs.Area.{drawAt, addressAt, recordAt, stationAt, withStation, withWord, frameAt, bufferAt, withBit, heardOf, symbolAt, arrivalAt, withArrival}
-use Rattle.area.specs.AreaLaws.{record-by, station-by, symbol-by, arrival-keeps, length-arrival}
+use Rattle.area.specs.AreaLaws.{record-by, arrival-keeps, length-arrival}
 use Rattle.area.specs.Written.{Wrote, wrote-none, wrote-word, wrote-station, station-arrival, bit-arrival, octets-arrival, word-small}
-use Rattle.area.specs.OneWord.{station-back, station-one, word-keeps}
-use Rattle.pair.specs.declared.Act.{Act}
-use Rattle.pair.specs.BitTime.{outcomeIn, actIn, withStored, happened, withCounted, placed, settled, turnedIn, turnIn, eventsOf, noEvents}
+use Rattle.area.specs.OneWord.{station-back}
+use Rattle.pair.specs.BitTime.{outcomeIn, actIn, withStored, happened, withCounted, placed, settled, turnIn, eventsOf, noEvents}
 use Rattle.medium.specs.Medium.{pushed}
-use Rattle.pair.specs.InPlace.{Ahead, ahead-all, length-turned}
-use Rattle.pair.specs.Ready.{CanAct, Able, AllAble, kept}
+use Rattle.pair.specs.Ready.{CanAct, Able}
 
 -- ---- what the code tests, and what it then does
 

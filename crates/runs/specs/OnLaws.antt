@@ -7,7 +7,7 @@ use native.Mathlib.Numerals.{add-one}
 use native.Mathlib.Omega.{arith}
 use borrow.Author.Tests.{not-true}
 use lib.ListN.{length, getD, set, replicate, length-append}
-use lib.Seq.{getD-append-add, set-getD}
+use lib.Seq.{getD-append-add}
 use Rattle.octets.specs.Base.{some, accepted}
 use Rattle.octets.specs.BaseLaws.{some-none, some-more, some-same}
 use Rattle.octets.specs.Filled.{listed, filled, filled-at, filled-none, filled-more}
@@ -19,7 +19,7 @@ use Rattle.area.specs.AreaLaws.{depth-by, figures-by, count-by}
 use Rattle.pair.specs.declared.Events.{Events}
 use Rattle.pair.specs.BitTime.{actIn, turnedIn, turnIn, advancedIn, eventsOf, eventsIn, noEvents, eventsAt, stepArea, eventAt}
 use Rattle.pair.specs.CodeLaws.{turned-none, turned-end, advanced-is}
-use Rattle.pair.specs.Ready.{Readiness, Ready, Able, AllAble, acts-same, turn-next, ready-few, ready-able, step-is, step-events}
+use Rattle.pair.specs.Ready.{Readiness, Ready, AllAble, acts-same, turn-next, ready-few, ready-able, step-is, step-events}
 use Rattle.quick.specs.Quick.{Plain, AllPlain}
 use Rattle.ready.specs.Stays.{step-clock, step-layout, step-depth, step-record, step-station}
 use Rattle.tally.specs.Tally.{sentCounted, gotCounted, isLate}

@@ -1,5 +1,5 @@
 -- A window of a run: its turns, made station by station, are the steps that it stands for. Assumes nothing.
-use Prim.Native.Nat.{ℕ, zero, suc, _+_, _-_, _*_, _^_, _≤_, _<_, min}
+use Prim.Native.Nat.{ℕ, zero, suc, _+_, _-_, _*_, _≤_, _<_, min}
 use mathlib.Core.Path.{_≡_, refl, sym, _∙_, ap, subst}
 use mathlib.Core.Bool.{Bool, true, false, not, true≢false}
 use mathlib.Core.List.{List, []}
@@ -16,14 +16,14 @@ use Rattle.layout.specs.declared.Figures.{Figures}
 use Rattle.layout.specs.CheckLaws.{Figured}
 use Rattle.record.specs.Codec.{encoded}
 use Rattle.area.specs.Places.{layout, depth, station, Keeps}
-use Rattle.area.specs.Area.{clockAt, withClock, depthAt, figuresAt, countAt, spaceAt, stationAt}
+use Rattle.area.specs.Area.{clockAt, withClock, depthAt, figuresAt, countAt, stationAt}
 use Rattle.area.specs.AreaLaws.{keeps-refl, keeps-trans, depth-by, figures-by, count-by, space-by, record-by, station-by, clock-keeps, length-clock}
 use Rattle.pair.specs.declared.Events.{Events}
 use Rattle.pair.specs.InPlace.{Spread, length-turned}
-use Rattle.pair.specs.BitTime.{actIn, actAt, turnedIn, turnIn, advancedIn, eventsOf, eventsIn, noEvents, eventsAt, settled, stepArea, eventAt}
+use Rattle.pair.specs.BitTime.{actIn, actAt, turnedIn, turnIn, advancedIn, eventsOf, eventsIn, noEvents, eventsAt, settled, stepArea}
 use Rattle.pair.specs.CodeLaws.{turned-none}
 use Rattle.pair.specs.Range.{Fine}
-use Rattle.pair.specs.Ready.{Readiness, Ready, AllAble, acts-same, turn-next, ready-able, step-is, step-events}
+use Rattle.pair.specs.Ready.{Readiness, Ready, AllAble, turn-next, ready-able, step-is, step-events}
 use Rattle.ready.specs.Stays.{step-length, step-layout, step-depth, step-clock, step-ready}
 use Rattle.quick.specs.Quick.{Plain, AllPlain}
 use Rattle.tally.specs.TallyLaws.{Bounded}

@@ -319,7 +319,7 @@ fn send(area: &mut [u8], n: usize, t: usize, i: usize, m: usize) -> usize
 }
 
 // The steps from t on, at most m, in which nothing reaches station i.
-fn hushed(area: &[u8], t: usize, i: usize, m: usize) -> usize
+pub fn hushed(area: &[u8], t: usize, i: usize, m: usize) -> usize
     requires { ⌜ (i < 16) × (57344 ≤ length (now area)) × (t + m ≤ 16777216) ⌝ }
     ensures hushed { λ r. ⌜ Hushed t i r (now (area .entry)) ⌝ }
     ensures bound { λ r. ⌜ r ≤ m ⌝ }

@@ -1,16 +1,15 @@
 -- What two stations leave may be left in either order, where neither's symbols go to what the other takes from its line. Assumes nothing.
 use Prim.Native.Nat.{ℕ, zero, suc, _+_, _*_, _/_, _%_, _≤_, _<_}
 use mathlib.Core.Path.{_≡_, refl, sym, _∙_, ap}
-use mathlib.Core.Bool.{Bool, true, false}
+use mathlib.Core.Bool.{Bool, true}
 use mathlib.Core.List.{List}
 use native.Mathlib.Omega.{arith}
-use borrow.Author.Tests.{eqb-true, eqb-false}
+use borrow.Author.Tests.{eqb-false}
 use lib.Dec.{eqb}
-use lib.ListN.{length, getD, set, length-set}
+use lib.ListN.{length, getD, set}
 use lib.Seq.{getD-set-same, set-set}
 use Rattle.octets.specs.Base.{pick}
 use Rattle.octets.specs.BaseLaws.{by-test, by-eq}
-use Rattle.octets.specs.Region.{Same}
 use Rattle.octets.specs.Store.{Apart}
 use Rattle.octets.specs.Turns.{turns, length-turns}
 use Rattle.packet.specs.declared.Heard.{Heard}
@@ -23,7 +22,7 @@ use Rattle.state.specs.declared.Station.{Station}
 use Rattle.station.specs.declared.step.Stepped.{Stepped}
 use Rattle.station.specs.Count.{counted}
 use Rattle.record.specs.Codec.{encoded}
-use Rattle.area.specs.Places.{Part, layout, station, counters, buffer, place, at, size, Keeps}
+use Rattle.area.specs.Places.{station, counters, buffer, place, Keeps}
 use Rattle.area.specs.Area.{spaceAt, countersAt, withCounters, withStation, octetWith, withBit, heardOf, heardCode, symbolAt, arrivalAt, withArrival, joined}
 use Rattle.area.specs.AreaLaws.{space-by, counters-by, heard-back, length-station, length-arrival}
 use Rattle.medium.specs.Medium.{sendTo, isSilence, pushed}

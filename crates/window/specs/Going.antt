@@ -1,34 +1,27 @@
 -- Laws for the code of a window: what a station is after some of its turns, and what the others still are. Assumes nothing.
-use Prim.Native.Nat.{ℕ, zero, suc, _+_, _-_, _*_, _≤_, _<_}
+use Prim.Native.Nat.{ℕ, zero, suc, _+_, _-_, _≤_, _<_}
 use mathlib.Core.Path.{_≡_, refl, sym, _∙_, ap, subst}
-use mathlib.Core.Bool.{Bool, true, false, true≢false}
+use mathlib.Core.Bool.{Bool, true, false}
 use mathlib.Core.List.{List}
 use native.Mathlib.Numerals.{add-one}
 use native.Mathlib.Omega.{arith}
-use borrow.Author.Tests.{ltb-true, ltb-false}
-use lib.Dec.{ltb}
-use lib.ListN.{length, getD}
-use Rattle.octets.specs.BaseLaws.{by-test, by-eq}
 use Rattle.octets.specs.Turns.{turns}
 use Rattle.layout.specs.declared.Figures.{Figures}
 use Rattle.layout.specs.CheckLaws.{Figured}
 use Rattle.tally.specs.Tally.{sentCounted, gotCounted, isLate}
 use Rattle.tally.specs.TallyLaws.{Bounded, sent-is-bounded, got-is-bounded}
-use Rattle.state.specs.declared.Station.{Station}
-use Rattle.state.specs.declared.Transmitter.the-variants.{NoFrame, Waiting, BackingOff, Sending, Heading, Jamming}
-use Rattle.record.specs.Codec.{encoded, decoded, transmitterOf}
+use Rattle.record.specs.Codec.{encoded}
 use Rattle.area.specs.Places.{layout, station, Keeps}
-use Rattle.area.specs.Area.{spaceAt, positionAt, distance, recordAt, stationAt, symbolAt}
+use Rattle.area.specs.Area.{stationAt}
 use Rattle.area.specs.AreaLaws.{keeps-refl, keeps-trans, record-by, station-by}
 use Rattle.pair.specs.declared.Events.{Events}
 use Rattle.pair.specs.BitTime.{actIn, turnIn, eventsOf, noEvents}
 use Rattle.pair.specs.Range.{Fine, fine-room, held-small}
-use Rattle.pair.specs.InPlace.{Spread}
-use Rattle.pair.specs.Ready.{CanAct, Able}
+use Rattle.pair.specs.Ready.{Able}
 use Rattle.quick.specs.Quick.{Plain, Taken, taken-area, taken-events, left-area}
 use Rattle.stretch.specs.Stretch.{wentOn, Silently}
-use Rattle.window.specs.Order.{along, stationwise, cost, cost-small, along-held, stationwise-held}
-use Rattle.window.specs.Window.{eventsCounted, hasLate, Going, played, windowTurn, Reaches, Within, within-less, turn-length, turn-layout, turn-other, next-fine, turn-record, turn-station, turn-within, along-within, stationwise-within}
+use Rattle.window.specs.Order.{along, stationwise, cost, cost-small}
+use Rattle.window.specs.Window.{eventsCounted, hasLate, Going, played, windowTurn, Within, within-less, turn-layout, turn-other, next-fine, turn-record, turn-station, turn-within, along-within, stationwise-within}
 
 -- ---- a station in its turn
 

@@ -1,25 +1,22 @@
 -- No late collision in a window: a station that hears nothing in it has none, nor one that sends no bit past the slot in it. Assumes
 -- nothing.
 use Prim.Native.Nat.{ℕ, zero, suc, _+_, _-_, _*_, _%_, _≤_, _<_}
-use mathlib.Core.Path.{_≡_, refl, sym, _∙_, ap, subst}
+use mathlib.Core.Path.{_≡_, refl, sym, _∙_, ap}
 use mathlib.Core.Bool.{Bool, true, false}
 use mathlib.Core.List.{List}
 use native.Mathlib.Omega.{arith}
 use borrow.Author.Tests.{le-ltb}
 use lib.Dec.{eqb, leb, ltb}
-use lib.ListN.{length}
-use Rattle.octets.specs.Base.{pick}
-use Rattle.octets.specs.BaseLaws.{by-test, by-eq}
+use Rattle.octets.specs.BaseLaws.{by-test}
 use Rattle.octets.specs.Turns.{turns}
 use Rattle.layout.specs.declared.Figures.{Figures}
 use Rattle.packet.specs.declared.Heard.the-variants.{Nothing}
-use Rattle.packet.specs.Packet.{hearsAny}
 use Rattle.state.specs.declared.Transmitter.{Transmitter}
 use Rattle.state.specs.declared.Transmitter.the-variants.{NoFrame, Waiting, BackingOff, Sending, Heading, Jamming}
 use Rattle.transmitter.specs.Transmit.{packetLength, afterBit, collision, sendBit, headBit, backoffRange, backOff, lastJam, jamBit, backoffBit, waitBit, transmit}
 use Rattle.tally.specs.Tally.{isLate}
 use Rattle.station.specs.Step.{stepped, nextStation}
-use Rattle.area.specs.Places.{layout, clock, place, Off, Keeps}
+use Rattle.area.specs.Places.{place, Off, Keeps}
 use Rattle.area.specs.Area.{clockAt, depthAt, figuresAt, countAt, withClock, spaceAt, stationAt, heardOf, symbolAt, arrivalAt}
 use Rattle.area.specs.AreaLaws.{keeps-refl, keeps-trans, space-by, symbol-by, clock-keeps}
 use Rattle.pair.specs.declared.Act.{Act}

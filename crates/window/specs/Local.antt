@@ -6,10 +6,10 @@ use native.Mathlib.Omega.{arith}
 use borrow.Author.Tests.{ltb-true, ltb-false}
 use lib.Dec.{ltb}
 use lib.ListN.{length, getD, set, length-set}
-use lib.Seq.{sets, length-sets, ext-getD, getD-set-same, getD-set-other}
-use Rattle.octets.specs.BaseLaws.{by-test, by-eq}
+use lib.Seq.{length-sets, ext-getD, getD-set-same, getD-set-other}
+use Rattle.octets.specs.BaseLaws.{by-test}
 use Rattle.octets.specs.Number.{spelled, put}
-use Rattle.octets.specs.NumberLaws.{length-spelled, length-put}
+use Rattle.octets.specs.NumberLaws.{length-spelled}
 use Rattle.octets.specs.Region.{Same, words-leave, put-leaves}
 use Rattle.octets.specs.Store.{Apart, octet-same}
 use Rattle.octets.specs.Turns.{turns, length-turns}

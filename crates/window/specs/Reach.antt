@@ -1,23 +1,21 @@
 -- Laws for the code that finds a window: how far the stations are from each other, and that none can have a late collision. Assumes nothing.
-use Prim.Native.Nat.{ℕ, zero, suc, _+_, _-_, _*_, _≤_, _<_}
-use mathlib.Core.Path.{_≡_, refl, sym, _∙_, ap, subst}
+use Prim.Native.Nat.{ℕ, _+_, _-_, _≤_, _<_}
+use mathlib.Core.Path.{_≡_, sym, _∙_, subst}
 use mathlib.Core.Bool.{Bool, true, false, true≢false}
 use mathlib.Core.List.{List}
 use native.Mathlib.Omega.{arith}
-use borrow.Author.Tests.{ltb-true, ltb-false, eq-eqb, ne-eqb}
-use lib.Dec.{ltb, eqb}
-use lib.ListN.{length, getD}
-use Rattle.octets.specs.Base.{pick}
+use borrow.Author.Tests.{eqb-true, ne-eqb}
+use lib.Dec.{eqb}
+use lib.ListN.{getD}
 use Rattle.octets.specs.BaseLaws.{by-test, by-eq}
 use Rattle.layout.specs.declared.Figures.{Figures}
-use Rattle.state.specs.declared.Transmitter.{Transmitter}
-use Rattle.state.specs.declared.Transmitter.the-variants.{NoFrame, Waiting, BackingOff, Sending, Heading, Jamming}
 use Rattle.record.specs.Codec.{decoded, transmitterOf}
-use Rattle.area.specs.Area.{spaceAt, positionAt, distance, recordAt, stationAt, symbolAt}
+use Rattle.area.specs.Area.{spaceAt, positionAt, distance, recordAt, stationAt}
 use Rattle.area.specs.CodeLaws.{space-is}
 use Rattle.pair.specs.InPlace.{Spread}
+use Rattle.stretch.specs.Stretch.{Hushed}
 use Rattle.window.specs.Window.{Reaches}
-use Rattle.window.specs.Late.{Timely, Safe, AllSafe}
+use Rattle.window.specs.Late.{Safe, AllSafe}
 
 -- ---- how far
 
@@ -82,34 +80,11 @@ module _ (a : List ℕ) where
 
 -- ---- no late collision
 
-unfoldable pub HushedIf : Bool → List ℕ → (i t m : ℕ) → Type 0
-HushedIf b a i t m = b ≡ true → (s : ℕ) → s < m → symbolAt a i (t + s) ≡ 0
-
-unfoldable pub HushedTo : List ℕ → (i t k : ℕ) → Type 0
-HushedTo a i t k = (s : ℕ) → s < k → symbolAt a i (t + s) ≡ 0
-
 unfoldable pub SafeIf : Bool → Figures → (m t : ℕ) → List ℕ → ℕ → Type 0
 SafeIf b f m t a i = b ≡ true → Safe f m t a i
 
 unfoldable pub AllSafeIf : Bool → (m n : ℕ) → Figures → ℕ → List ℕ → Type 0
 AllSafeIf b m n f t a = b ≡ true → AllSafe m n f t a
-
-module _ (a : List ℕ) (i t : ℕ) where
-  pub hushed-none : HushedTo a i t 0
-  unfolding HushedTo
-  hushed-none s h = absurd (omega arith)
-
-  pub hushed-more : (k c : ℕ) → c ≡ symbolAt a i (t + k) → c ≡ 0 → HushedTo a i t k → HushedTo a i t (k + 1)
-  unfolding HushedTo
-  hushed-more k c p q h s g = by-eq s k (λ e. rw e (sym p ∙ q)) (λ e. h s (omega (arith, e)))
-
-  pub hushed-all : (k m : ℕ) → m ≤ k → HushedTo a i t k → HushedIf true a i t m
-  unfolding HushedTo HushedIf
-  hushed-all k m le h e s g = h s (omega arith)
-
-  pub not-hushed : (m : ℕ) → HushedIf false a i t m
-  unfolding HushedIf
-  not-hushed m e = absurd (true≢false (sym e))
 
 module _ (f : Figures) (m t : ℕ) (a : List ℕ) (i : ℕ) where
   pub safe-other : (x : ℕ) → x ≡ getD (recordAt a i) 3 0 → (x ≡ 3 → ⊥) → SafeIf true f m t a i
@@ -129,9 +104,9 @@ module _ (f : Figures) (m t : ℕ) (a : List ℕ) (i : ℕ) where
   unfolding SafeIf stationAt decoded transmitterOf
   safe-early x k e q ek le room h = let z : getD (recordAt a i) 3 0 ≡ 3 = sym e ∙ q in Safe.timely (rw z (omega arith))
 
-  pub safe-hushed : (b : Bool) → HushedIf b a i t m → SafeIf b f m t a i
-  unfolding SafeIf HushedIf
-  safe-hushed b h e = Safe.hushed (h e)
+  pub safe-hushed : (r : ℕ) → Hushed t i r a → SafeIf (eqb r m) f m t a i
+  unfolding SafeIf Hushed
+  safe-hushed r h e = let z = eqb-true r m e in Safe.hushed (λ s g. h s (omega arith))
 
 module _ (m : ℕ) (f : Figures) (t : ℕ) (a : List ℕ) where
   pub all-safe-none : AllSafe m 0 f t a

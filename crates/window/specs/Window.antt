@@ -1,13 +1,13 @@
 -- A window of steps: so few that nothing which a station emits in them reaches another in them. Stations may then take their turns of the
 -- window one station after the other. Assumes nothing.
-use Prim.Native.Nat.{ℕ, zero, suc, _+_, _*_, _%_, _≤_, _<_}
+use Prim.Native.Nat.{ℕ, zero, suc, _+_, _≤_, _<_}
 use mathlib.Core.Path.{_≡_, refl, sym, _∙_, ap, ap₂, subst}
 use mathlib.Core.Bool.{Bool, true, false}
 use mathlib.Core.List.{List, [], _∷_}
 use native.Mathlib.Omega.{arith}
-use lib.ListN.{length, getD, set}
+use lib.ListN.{length}
 use Rattle.octets.specs.Base.{pick}
-use Rattle.octets.specs.BaseLaws.{by-test, by-eq}
+use Rattle.octets.specs.BaseLaws.{by-eq}
 use Rattle.layout.specs.declared.Figures.{Figures}
 use Rattle.layout.specs.CheckLaws.{Figured}
 use Rattle.receiver.specs.declared.ReceiveEvent.{ReceiveEvent}
@@ -21,16 +21,16 @@ use Rattle.record.specs.Codec.{decoded, encoded}
 use Rattle.record.specs.CodecLaws.{Fit, decoded-encoded}
 use Rattle.area.specs.Places.{Part, layout, draws, frame, station, counters, buffer, place, Off, Keeps}
 use Rattle.area.specs.Area.{withClock, spaceAt, addressAt, recordAt, stationAt}
-use Rattle.area.specs.AreaLaws.{keeps-refl, space-by, address-by, record-by, station-by, clock-keeps, length-clock}
+use Rattle.area.specs.AreaLaws.{space-by, address-by, record-by, station-by, clock-keeps, length-clock}
 use Rattle.medium.specs.MediumLaws.{push-keeps}
 use Rattle.pair.specs.declared.Act.{Act}
 use Rattle.pair.specs.declared.Events.{Events}
 use Rattle.pair.specs.BitTime.{outcomeIn, actIn, placed, settled, turnIn, eventsOf}
 use Rattle.pair.specs.Range.{Fine, fine-stepped, fine-fit, held-small}
-use Rattle.pair.specs.InPlace.{Kept, Foreign, length-placed, length-settled, settle-keeps, act-by}
+use Rattle.pair.specs.InPlace.{Foreign, length-settled, settle-keeps, act-by}
 use Rattle.pair.specs.Ready.{kept}
 use Rattle.ready.specs.After.{placed-record}
-use Rattle.window.specs.Local.{Local, number-local}
+use Rattle.window.specs.Local.{number-local}
 use Rattle.window.specs.Exchange.{settledBy, settled-by, settled-swap, settled-both}
 use Rattle.octets.specs.Turns.{turns}
 use Rattle.window.specs.Order.{along, across, stationwise, stepwise, cost, cost-small, along-held, across-held, same-order, stationwise-held}

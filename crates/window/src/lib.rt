@@ -17,7 +17,7 @@ ghost use Rattle.window.specs.Window.{eventsCounted, hasLate, Reaches, p
 ghost use Rattle.window.specs.Late.{AllSafe};
 ghost use Rattle.window.specs.Going.{Own, Open};
 ghost use Rattle.area.specs.Area.{positionAt};
-ghost use Rattle.window.specs.Reach.{Allows, Nearest, HushedIf, SafeIf, AllSafeIf};
+ghost use Rattle.window.specs.Reach.{Allows, Nearest, SafeIf, AllSafeIf};
 
 // The turn of station i, its events counted into `words`; whether it has a late collision. No word is past `top` yet.
 pub fn turn_on(
@@ -199,21 +199,6 @@ pub fn reach(area: &[u8], n: usize) -> usize
     least
 }
 
-// Whether station i hears nothing in the m steps from t on.
-fn is_hushed(area: &[u8], i: usize, t: usize, m: usize) -> bool
-    requires { ⌜ (i < 16) × (m ≤ 64) × (t + m ≤ 16777216) × (57344 ≤ length (now area)) ⌝ }
-    ensures { λ r. ⌜ HushedIf r (now (area .entry)) i t m ⌝ }
-{
-    let mut s: usize = 0;
-    while s < m {
-        if area::read_symbol(area, i, t + s) != 0 {
-            return false;
-        }
-        s += 1;
-    }
-    true
-}
-
 // Whether station i cannot have a late collision in the m steps from t on: it hears nothing in them, or sends no bit past the slot.
 fn is_safe(area: &[u8], t: usize, f: Figures, i: usize, m: usize) -> bool
     requires { ⌜ (i < 16) × (m ≤ 64) × (t + m ≤ 16777216) × (57344 ≤ length (now area)) × Figured f ⌝ }
@@ -228,7 +213,7 @@ fn is_safe(area: &[u8], t: usize, f: Figures, i: usize, m: usize) -> bool
     if k <= last {
         return true;
     }
-    is_hushed(area, i, t, m)
+    stretch::hushed(area, t, i, m) == m
 }
 
 // Whether none of n stations can have a late collision in the m steps from t on.

@@ -27,8 +27,8 @@ sub-last c = search needs
 returns-2 : tie.Need-returns-2
 returns-2 c = safe-early _ _ _ _ _ _ _ (c .before .before .before .before .read-word .ensures) (c .before .before .before .if1 .left) (c .before .before .read-word2 .ensures) (c .if2 .taken) (omega (arith, c .before .before .before .before .before .before .pre .4 .slot))
 
-is-hushed-requires : tie.Need-is-hushed-requires
-is-hushed-requires c κs = search needs
+hushed-requires : tie.Need-hushed-requires
+hushed-requires c κs = search needs
 
 returns-3 : tie.Need-returns-3
 returns-3 c = search safe-hushed
@@ -44,5 +44,5 @@ is-safe-spec =
     cast-last
     sub-last
     returns-2
-    is-hushed-requires
+    hushed-requires
     returns-3)
