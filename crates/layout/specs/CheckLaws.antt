@@ -1,10 +1,9 @@
 -- Laws of the checks 5 to 8, one for each way through the code, and what a layout that passes is known to be.
 -- Assumes nothing.
-use Prim.Native.Nat.{ℕ, zero, suc, _+_, _-_, _*_, _%_, _≤_, _<_, min}
+use Prim.Native.Nat.{ℕ, suc, _+_, _-_, _*_, _≤_, _<_, min}
 use mathlib.Core.Path.{_≡_, refl, sym, _∙_, ap, ap₂}
 use mathlib.Core.Bool.{Bool, true, false, _||_, _&&_, true≢false}
 use mathlib.Core.List.{List, [], _∷_}
-use native.Mathlib.Numerals.{add-one}
 use native.Mathlib.Omega.{arith}
 use borrow.Author.Tests.{ltb-false, leb-false, ne-eqb}
 use lib.Dec.{ltb, leb, eqb}
@@ -22,10 +21,6 @@ use Rattle.layout.specs.Check.{gap1Out, figuresOut, positionOut, falls, 
 
 -- ---- the code's tests
 
-pub tap-is : (y : Layout) (i : ℕ) → getD (y .stations) i (record { position = 0; address = [] }) ≡ tapAt y i
-unfolding tapAt
-tap-is y i = refl
-
 pub gap1-is : (f : Figures) (b r : Bool) → r ≡ (b || ltb (2 * f .gap2) (f .gap1)) → b ≡ outside (f .gap1) 0 255 → r ≡ gap1Out f
 unfolding gap1Out
 gap1-is f b r p q = rw q at p
@@ -35,59 +30,6 @@ pub figures-is : (f : Figures) (s g h j l b lb r₃ r₂ r₁ r : Bool) → r �
     → s ≡ outside (f .slot) 64 512 → r ≡ figuresOut f
 unfolding figuresOut
 figures-is f s g h j l b lb r₃ r₂ r₁ r p p₁ p₂ p₃ q eb el ej eh eg es = p ∙ rw (p₁, p₂, p₃, q, eb, el, ej, eh, eg, es)
-
-module _ (y : Layout) (i : ℕ) where
-  pub position-is : (t : Tap) → t ≡ tapAt y i → ltb 255 (t .position) ≡ positionOut y i
-  position-is t p = ap (λ (u : Tap). ltb 255 (u .position)) p
-
-  pub falls-is : (t u : Tap) → u ≡ tapAt y (i + 1) → t ≡ tapAt y i → leb (u .position) (t .position) ≡ falls y i
-  falls-is t u p q = ap₂ (λ (a b : Tap). leb (a .position) (b .position)) (p ∙ ap (tapAt y) (add-one i)) q
-
-  pub same-is : (j : ℕ) (t u : Tap) (b : Bool) → b ≡ equal (u .address) (t .address) → u ≡ tapAt y j → t ≡ tapAt y i → b ≡ sameAddress y i j
-  same-is j t u b p q r = p ∙ ap₂ (λ (a c : Tap). equal (a .address) (c .address)) q r
-
-  pub wrong-is : (t : Tap) (g q r : Bool) → r ≡ (g || q) → q ≡ some (sameAddress y i) i → g ≡ isGroup (t .address) → t ≡ tapAt y i → r ≡ addressWrong y i
-  unfolding addressWrong
-  wrong-is t g q r p e f h = p ∙ ap₂ (λ (a b : Bool). a || b) (f ∙ ap (λ (u : Tap). isGroup (u .address)) h) e
-
--- ---- the order of the checks
-
-module _ (y : Layout) (n : ℕ) (b₁ b₂ b₃ b₄ b₅ : Bool) where
-  pub refusal-figures : b₁ ≡ figuresOut (y .figures) → b₁ ≡ true → 5 ≡ refusalOf y
-  unfolding refusalOf
-  refusal-figures p q = rw (← p, q)
-
-  pub refusal-position : b₁ ≡ figuresOut (y .figures) → b₁ ≡ false → n ≡ min (y .count) 16 → b₂ ≡ some (positionOut y) n → b₂ ≡ true → 5 ≡ refusalOf y
-  unfolding refusalOf
-  refusal-position p q e r s = rw (← p, q, ← e, ← r, s)
-
-  pub refusal-count : b₁ ≡ figuresOut (y .figures) → b₁ ≡ false → n ≡ min (y .count) 16 → b₂ ≡ some (positionOut y) n → b₂ ≡ false
-      → b₃ ≡ outside (y .count) 2 16 → b₃ ≡ true → 6 ≡ refusalOf y
-  unfolding refusalOf
-  refusal-count p q e r s t u = rw (← p, q, ← e, ← r, s, ← t, u)
-
-  pub refusal-order : b₁ ≡ figuresOut (y .figures) → b₁ ≡ false → n ≡ min (y .count) 16 → b₂ ≡ some (positionOut y) n → b₂ ≡ false
-      → b₃ ≡ outside (y .count) 2 16 → b₃ ≡ false → b₄ ≡ some (falls y) (y .count - 1) → b₄ ≡ true → 7 ≡ refusalOf y
-  unfolding refusalOf
-  refusal-order p q e r s t u v w = rw (← p, q, ← e, ← r, s, ← t, u, ← v, w)
-
-  pub refusal-address : b₁ ≡ figuresOut (y .figures) → b₁ ≡ false → n ≡ min (y .count) 16 → b₂ ≡ some (positionOut y) n → b₂ ≡ false
-      → b₃ ≡ outside (y .count) 2 16 → b₃ ≡ false → b₄ ≡ some (falls y) (y .count - 1) → b₄ ≡ false
-      → b₅ ≡ some (addressWrong y) (y .count) → b₅ ≡ true → 8 ≡ refusalOf y
-  unfolding refusalOf
-  refusal-address p q e r s t u v w a z = rw (← p, q, ← e, ← r, s, ← t, u, ← v, w, ← a, z)
-
-  pub refusal-none : b₁ ≡ figuresOut (y .figures) → b₁ ≡ false → n ≡ min (y .count) 16 → b₂ ≡ some (positionOut y) n → b₂ ≡ false
-      → b₃ ≡ outside (y .count) 2 16 → b₃ ≡ false → b₄ ≡ some (falls y) (y .count - 1) → b₄ ≡ false
-      → b₅ ≡ some (addressWrong y) (y .count) → b₅ ≡ false → 0 ≡ refusalOf y
-  unfolding refusalOf
-  refusal-none p q e r s t u v w a z = rw (← p, q, ← e, ← r, s, ← t, u, ← v, w, ← a, z)
-
-pub count-above : (y : Layout) (b : Bool) → b ≡ outside (y .count) 2 16 → b ≡ false → 1 ≤ y .count
-count-above y b p q = let w = within (y .count) 2 16 (sym p ∙ q) in omega arith
-
-pub count-below : (y : Layout) (b : Bool) → b ≡ outside (y .count) 2 16 → b ≡ false → y .count - 1 < 16
-count-below y b p q = let w = within (y .count) 2 16 (sym p ∙ q) in omega arith
 
 -- ---- what a layout that passes is known to be
 
@@ -193,12 +135,14 @@ pub gap-is : (f : Figures) → f .gap1 + f .gap2 ≡ gapOf f
 unfolding gapOf
 gap-is f = refl
 
-pub span-apart : (y : Layout) (t u : Tap) → u ≡ tapAt y (y .count - 1) → t ≡ tapAt y 0 → u .position - t .position ≡ spanOf y
-unfolding spanOf
-span-apart y t u p q = ap₂ (λ (a b : Tap). a .position - b .position) p q
+module _ (y : Layout) where
+  pub span-apart : getD (y .stations) (y .count - 1) (record { position = 0; address = [] }) .position - getD (y .stations) 0 (record { position = 0; address = [] }) .position ≡ spanOf y
+  unfolding spanOf tapAt
+  span-apart = refl
 
-pub span-none : (y : Layout) (t u : Tap) → u ≡ tapAt y (y .count - 1) → t ≡ tapAt y 0 → u .position ≤ t .position → 0 ≡ spanOf y
-span-none y t u p q h = let e : 0 ≡ u .position - t .position = omega arith in e ∙ span-apart y t u p q
+  pub span-none : getD (y .stations) (y .count - 1) (record { position = 0; address = [] }) .position ≤ getD (y .stations) 0 (record { position = 0; address = [] }) .position → 0 ≡ spanOf y
+  unfolding spanOf tapAt
+  span-none h = omega arith
 
 pub fits-is : (y : Layout) (g s : ℕ) (r : Bool) → r ≡ (leb (2 * s + g) (y .figures .slot) && leb g (64 + y .figures .jam))
     → s ≡ spanOf y → g ≡ gapOf (y .figures) → r ≡ fitsWell y

@@ -1,12 +1,14 @@
 // The layout that a sheet describes: figures and stations. Its checks, refusals 5 to 8, and whether it fits.
 
 ghost use mathlib.Core.Path.{_≡_};
-ghost use mathlib.Core.Bool.{_||_};
-ghost use Prim.Native.Nat.{_+_, _-_, _<_, _≤_, suc, min};
-ghost use lib.Dec.{ltb, leb};
+ghost use Prim.Native.Nat.{_<_, _≤_, min};
+ghost use lib.ListN.{length};
 ghost use Rattle.octets.specs.Base.{some};
-ghost use Rattle.layout.specs.Layout.{tapAt, addressAt, gapOf, spanOf, fitsWell};
-ghost use Rattle.layout.specs.Check.{gap1Out, figuresOut, positionOut, falls, isGroup, sameAddress, addressWrong, refusalOf};
+ghost use Rattle.octets.specs.Number.{get};
+ghost use Rattle.octets.specs.NumberLaws.{Octets};
+ghost use Rattle.layout.specs.Layout.{gapOf, spanOf, fitsWell};
+ghost use Rattle.layout.specs.Check.{gap1Out, figuresOut, refusalOf};
+ghost use Rattle.layout.specs.Plain.{Laid, highAt, dropsAt, sameAt, wrongAt, plainRefusal};
 ghost use Rattle.layout.specs.Fit.{fitAnswer, fitOf};
 
 // The figures burned into the stations: slot, gap1, gap2 and jam in bit times, the attempt limit and the backoff limit.
@@ -39,14 +41,6 @@ pub enum Fit {
     Yes,
 }
 
-// Station i.
-fn tap_at(y: Layout, i: usize) -> Tap
-    requires { ⌜ i < 16 ⌝ }
-    ensures { λ r. ⌜ r ≡ tapAt y i ⌝ }
-{
-    y.stations[i]
-}
-
 fn gap1_out(f: Figures) -> bool
     ensures { λ r. ⌜ r ≡ gap1Out f ⌝ }
 {
@@ -71,46 +65,53 @@ fn figures_out(f: Figures) -> bool
     )
 }
 
-fn position_out(y: Layout, i: usize) -> bool
-    requires { ⌜ i < 16 ⌝ }
-    ensures { λ r. ⌜ r ≡ positionOut y i ⌝ }
+// The number that the six octets of an address spell, high octet first.
+fn number(a: [u8; 6]) -> u64
+    ensures value { λ r. ⌜ r ≡ get 6 a 0 ⌝ }
+    ensures octets { λ r. ⌜ Octets a ⌝ }
+    ensures six { λ r. ⌜ length a ≡ 6 ⌝ }
 {
-    let t = tap_at(y, i);
-    255 < t.position
+    octets::get16(&a, 0) as u64 * 4294967296 + octets::get32(&a, 2) as u64
+}
+
+// Lays out the positions and the addresses of the first n stations as plain numbers: an index into those copies nothing.
+fn lay_out(y: Layout, n: usize, positions: &mut [u32], addresses: &mut [u64])
+    requires { ⌜ (n ≤ 16) × (length (now positions) ≡ 16) × (length (now addresses) ≡ 16) ⌝ }
+    ensures { λ r. ⌜ Laid y n (now (positions .exit)) (now (addresses .exit)) ⌝ }
+{
+    let mut i: usize = 0;
+    while i < n {
+        let t = y.stations[i];
+        let a = t.address;
+        positions[i] = t.position;
+        addresses[i] = number(a);
+        i += 1;
+    }
 }
 
 // Whether one of the first n positions is outside its range.
-fn positions_out(y: Layout, n: usize) -> bool
-    requires { ⌜ n ≤ 16 ⌝ }
-    ensures { λ r. ⌜ r ≡ some (positionOut y) n ⌝ }
+fn positions_out(positions: &[u32], n: usize) -> bool
+    requires { ⌜ n ≤ length (now positions) ⌝ }
+    ensures { λ r. ⌜ r ≡ some (highAt (now (positions .entry))) n ⌝ }
 {
     let mut i: usize = 0;
     while i < n {
-        if position_out(y, i) {
+        if 255 < positions[i] {
             return true;
         }
         i += 1;
     }
     false
-}
-
-fn falls_at(y: Layout, i: usize) -> bool
-    requires { ⌜ i + 1 < 16 ⌝ }
-    ensures { λ r. ⌜ r ≡ falls y i ⌝ }
-{
-    let t = tap_at(y, i);
-    let next = tap_at(y, i + 1);
-    next.position <= t.position
 }
 
 // Whether one of the first n positions is not below the one after it.
-fn unordered(y: Layout, n: usize) -> bool
-    requires { ⌜ n < 16 ⌝ }
-    ensures { λ r. ⌜ r ≡ some (falls y) n ⌝ }
+fn unordered(positions: &[u32], n: usize) -> bool
+    requires { ⌜ n < length (now positions) ⌝ }
+    ensures { λ r. ⌜ r ≡ some (dropsAt (now (positions .entry))) n ⌝ }
 {
     let mut i: usize = 0;
     while i < n {
-        if falls_at(y, i) {
+        if positions[i + 1] <= positions[i] {
             return true;
         }
         i += 1;
@@ -118,31 +119,14 @@ fn unordered(y: Layout, n: usize) -> bool
     false
 }
 
-fn is_group(address: [u8; 6]) -> bool
-    ensures { λ r. ⌜ r ≡ isGroup address ⌝ }
-{
-    address[0] % 2 == 1
-}
-
-fn same_address(y: Layout, i: usize, j: usize) -> bool
-    requires { ⌜ (i < 16) × (j < 16) ⌝ }
-    ensures { λ r. ⌜ r ≡ sameAddress y i j ⌝ }
-{
-    let t = tap_at(y, i);
-    let u = tap_at(y, j);
-    let a = t.address;
-    let b = u.address;
-    octets::same(&b, &a)
-}
-
 // Whether the address of station i stands at a station before it.
-fn repeats(y: Layout, i: usize) -> bool
-    requires { ⌜ i < 16 ⌝ }
-    ensures { λ r. ⌜ r ≡ some (sameAddress y i) i ⌝ }
+fn repeats(addresses: &[u64], i: usize) -> bool
+    requires { ⌜ i < length (now addresses) ⌝ }
+    ensures { λ r. ⌜ r ≡ some (sameAt (now (addresses .entry)) i) i ⌝ }
 {
     let mut j: usize = 0;
     while j < i {
-        if same_address(y, i, j) {
+        if addresses[j] == addresses[i] {
             return true;
         }
         j += 1;
@@ -150,23 +134,23 @@ fn repeats(y: Layout, i: usize) -> bool
     false
 }
 
-fn address_wrong(y: Layout, i: usize) -> bool
-    requires { ⌜ i < 16 ⌝ }
-    ensures { λ r. ⌜ r ≡ addressWrong y i ⌝ }
+// Whether address i has the low bit of its first octet set, or repeats.
+fn address_wrong(addresses: &[u64], i: usize) -> bool
+    requires { ⌜ i < length (now addresses) ⌝ }
+    ensures { λ r. ⌜ r ≡ wrongAt (now (addresses .entry)) i ⌝ }
 {
-    let t = tap_at(y, i);
-    let a = t.address;
-    octets::either(is_group(a), repeats(y, i))
+    let group = addresses[i] / 1099511627776 % 2 == 1;
+    octets::either(group, repeats(addresses, i))
 }
 
 // Whether one of the first n addresses is wrong.
-fn addresses_wrong(y: Layout, n: usize) -> bool
-    requires { ⌜ n ≤ 16 ⌝ }
-    ensures { λ r. ⌜ r ≡ some (addressWrong y) n ⌝ }
+fn addresses_wrong(addresses: &[u64], n: usize) -> bool
+    requires { ⌜ n ≤ length (now addresses) ⌝ }
+    ensures { λ r. ⌜ r ≡ some (wrongAt (now (addresses .entry))) n ⌝ }
 {
     let mut i: usize = 0;
     while i < n {
-        if address_wrong(y, i) {
+        if address_wrong(addresses, i) {
             return true;
         }
         i += 1;
@@ -182,6 +166,27 @@ pub fn places(count: u32) -> usize
     if count < 16 { count as usize } else { 16 }
 }
 
+// The number of the check that refuses so many stations with these positions and addresses, or 0.
+fn stations_refusal(count: u32, positions: &[u32], addresses: &[u64]) -> u32
+    requires { ⌜ (length (now positions) ≡ 16) × (length (now addresses) ≡ 16) ⌝ }
+    ensures { λ r. ⌜ r ≡ plainRefusal count (now (positions .entry)) (now (addresses .entry)) ⌝ }
+{
+    if positions_out(positions, places(count)) {
+        return 5;
+    }
+    if octets::out_of(count, 2, 16) {
+        return 6;
+    }
+    let n = count as usize;
+    if unordered(positions, n - 1) {
+        return 7;
+    }
+    if addresses_wrong(addresses, n) {
+        return 8;
+    }
+    0
+}
+
 // The number of the check, 5 to 8, that refuses a layout, or 0.
 pub fn refusal(y: Layout) -> u32
     ensures { λ r. ⌜ r ≡ refusalOf y ⌝ }
@@ -190,20 +195,10 @@ pub fn refusal(y: Layout) -> u32
     if figures_out(f) {
         return 5;
     }
-    if positions_out(y, places(y.count)) {
-        return 5;
-    }
-    if octets::out_of(y.count, 2, 16) {
-        return 6;
-    }
-    let n = y.count as usize;
-    if unordered(y, n - 1) {
-        return 7;
-    }
-    if addresses_wrong(y, n) {
-        return 8;
-    }
-    0
+    let mut positions: [u32; 16] = [0; 16];
+    let mut addresses: [u64; 16] = [0; 16];
+    lay_out(y, places(y.count), &mut positions, &mut addresses);
+    stations_refusal(y.count, &positions, &addresses)
 }
 
 // Last position less first.
@@ -212,8 +207,8 @@ fn span(y: Layout) -> u32
     ensures { λ r. ⌜ r ≡ spanOf y ⌝ }
 {
     let n = y.count as usize;
-    let first = tap_at(y, 0);
-    let last = tap_at(y, n - 1);
+    let first = y.stations[0];
+    let last = y.stations[n - 1];
     if first.position < last.position {
         last.position - first.position
     } else {

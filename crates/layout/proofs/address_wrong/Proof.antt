@@ -1,14 +1,15 @@
 -- `layout::address_wrong` meets its contract. Assumes nothing.
-use Rattle.layout.specs.CheckLaws.{wrong-is}
+use Prim.Native.Nat.{_-_}
+use Rattle.layout.specs.PlainLaws.{wrong-is}
 use borrow.Author.Needs.{needs}
 use Rattle.layout.proofs.address_wrong.Statement.{statement}
 use Rattle.layout.proofs.address_wrong.Tie as tie
 
-tap-at-requires : tie.Need-tap-at-requires
-tap-at-requires c κs = search needs
+mul-group : tie.Need-mul-group
+mul-group c = search needs
 
-is-group-requires : tie.Need-is-group-requires
-is-group-requires c κs = search needs
+shared-slice-read-group : tie.Need-shared-slice-read-group
+shared-slice-read-group c = search needs
 
 repeats-requires : tie.Need-repeats-requires
 repeats-requires c κs = search needs
@@ -21,4 +22,4 @@ returns c = search wrong-is
 
 pub address-wrong-spec : {M : Type 1} → statement M
 address-wrong-spec =
-    tie.close (tie.spec tap-at-requires is-group-requires repeats-requires either-requires returns)
+    tie.close (tie.spec mul-group shared-slice-read-group repeats-requires either-requires returns)

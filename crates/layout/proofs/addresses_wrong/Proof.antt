@@ -5,15 +5,15 @@ use mathlib.Core.Path.{_≡_}
 use mathlib.Core.Bool.{false}
 use Rattle.octets.specs.Base.{some}
 use Rattle.octets.specs.BaseLaws.{some-none, some-more, some-hit, some-end}
-use Rattle.layout.specs.Check.{addressWrong}
+use Rattle.layout.specs.Plain.{wrongAt}
 use Rattle.layout.proofs.addresses_wrong.Statement.{statement}
 use Rattle.layout.proofs.addresses_wrong.Tie as tie
 
 abbrev Inv-loop : tie.InvT-loop
-Inv-loop y n i₀ i = (i ≤ n) × (some (addressWrong y) i ≡ false)
+Inv-loop addresses n i₀ i = (i ≤ n) × (some (wrongAt addresses) i ≡ false)
 
 abbrev μ-loop : tie.MeasureT-loop
-μ-loop y n i₀ i = n - i
+μ-loop addresses n i₀ i = n - i
 
 loop-holds : tie.Need-loop-holds Inv-loop μ-loop
 loop-holds c = (omega arith, search some-none)

@@ -4,25 +4,29 @@ use Prim.Native.Nat.{_≤_, _-_}
 use mathlib.Core.Path.{_≡_}
 use mathlib.Core.Bool.{false}
 use Rattle.octets.specs.Base.{some}
-use Rattle.octets.specs.BaseLaws.{some-none, some-more, some-hit, some-end}
-use Rattle.layout.specs.Check.{positionOut}
+use Rattle.octets.specs.BaseLaws.{some-none, some-end}
+use Rattle.layout.specs.Plain.{highAt}
+use Rattle.layout.specs.PlainLaws.{high-more, high-hit}
 use Rattle.layout.proofs.positions_out.Statement.{statement}
 use Rattle.layout.proofs.positions_out.Tie as tie
 
 abbrev Inv-loop : tie.InvT-loop
-Inv-loop y n i₀ i = (i ≤ n) × (some (positionOut y) i ≡ false)
+Inv-loop positions n i₀ i = (i ≤ n) × (some (highAt positions) i ≡ false)
 
 abbrev μ-loop : tie.MeasureT-loop
-μ-loop y n i₀ i = n - i
+μ-loop positions n i₀ i = n - i
 
 loop-holds : tie.Need-loop-holds Inv-loop μ-loop
 loop-holds c = (omega arith, search some-none)
 
-position-out-requires : tie.Need-position-out-requires Inv-loop μ-loop
-position-out-requires c κs = omega arith
+mul-if1 : tie.Need-mul-if1 Inv-loop μ-loop
+mul-if1 c = omega arith
+
+shared-slice-read-if1 : tie.Need-shared-slice-read-if1 Inv-loop μ-loop
+shared-slice-read-if1 c = omega arith
 
 returns : tie.Need-returns Inv-loop μ-loop
-returns c = search some-hit
+returns c = search high-hit
 
 add-i : tie.Need-add-i Inv-loop μ-loop
 add-i c = omega arith
@@ -31,7 +35,7 @@ loop-less : tie.Need-loop-less Inv-loop μ-loop
 loop-less c = omega arith
 
 loop-again : tie.Need-loop-again Inv-loop μ-loop
-loop-again c = (omega arith, search some-more)
+loop-again c = (omega arith, search high-more)
 
 returns-2 : tie.Need-returns-2 Inv-loop μ-loop
 returns-2 c = search some-end
@@ -43,7 +47,8 @@ positions-out-spec =
     Inv-loop
     μ-loop
     loop-holds
-    position-out-requires
+    mul-if1
+    shared-slice-read-if1
     returns
     add-i
     loop-less

@@ -1,6 +1,6 @@
 -- `layout::refusal` meets its contract. Assumes nothing.
-use Rattle.layout.specs.CheckLaws.{refusal-figures, refusal-position, refusal-count, refusal-order, refusal-address, refusal-none, count-above, count-below}
-use Rattle.octets.specs.BaseLaws.{within-high}
+use Prim.Native.Nat.{_-_}
+use Rattle.layout.specs.PlainLaws.{refusal-figures, refusal-plain}
 use borrow.Author.Needs.{needs}
 use Rattle.layout.proofs.refusal.Statement.{statement}
 use Rattle.layout.proofs.refusal.Tie as tie
@@ -14,38 +14,26 @@ returns c = search refusal-figures
 places-requires : tie.Need-places-requires
 places-requires c κs = search needs
 
-positions-out-requires : tie.Need-positions-out-requires
-positions-out-requires c κs = search needs
+slice-aggregate-lay-out : tie.Need-slice-aggregate-lay-out
+slice-aggregate-lay-out c = search needs
+
+slice-aggregate-lay-out-2 : tie.Need-slice-aggregate-lay-out-2
+slice-aggregate-lay-out-2 c = search needs
+
+lay-out-requires : tie.Need-lay-out-requires
+lay-out-requires c κs = search needs
+
+slice-aggregate-stations-refusal : tie.Need-slice-aggregate-stations-refusal
+slice-aggregate-stations-refusal c = search needs
+
+slice-aggregate-stations-refusal-2 : tie.Need-slice-aggregate-stations-refusal-2
+slice-aggregate-stations-refusal-2 c = search needs
+
+stations-refusal-requires : tie.Need-stations-refusal-requires
+stations-refusal-requires c κs = search needs
 
 returns-2 : tie.Need-returns-2
-returns-2 c = search refusal-position
-
-out-of-requires : tie.Need-out-of-requires
-out-of-requires c κs = search needs
-
-returns-3 : tie.Need-returns-3
-returns-3 c = search refusal-count
-
-cast-n : tie.Need-cast-n
-cast-n c = search needs
-
-sub-unordered : tie.Need-sub-unordered
-sub-unordered c = search count-above
-
-unordered-requires : tie.Need-unordered-requires
-unordered-requires c κs = search count-below
-
-returns-4 : tie.Need-returns-4
-returns-4 c = search refusal-order
-
-addresses-wrong-requires : tie.Need-addresses-wrong-requires
-addresses-wrong-requires c κs = search within-high
-
-returns-5 : tie.Need-returns-5
-returns-5 c = search refusal-address
-
-returns-6 : tie.Need-returns-6
-returns-6 c = search refusal-none
+returns-2 c = search refusal-plain
 
 pub refusal-spec : {M : Type 1} → statement M
 refusal-spec =
@@ -54,14 +42,10 @@ refusal-spec =
     figures-out-requires
     returns
     places-requires
-    positions-out-requires
-    returns-2
-    out-of-requires
-    returns-3
-    cast-n
-    sub-unordered
-    unordered-requires
-    returns-4
-    addresses-wrong-requires
-    returns-5
-    returns-6)
+    slice-aggregate-lay-out
+    slice-aggregate-lay-out-2
+    lay-out-requires
+    slice-aggregate-stations-refusal
+    slice-aggregate-stations-refusal-2
+    stations-refusal-requires
+    returns-2)

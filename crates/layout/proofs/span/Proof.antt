@@ -7,14 +7,17 @@ use Rattle.layout.proofs.span.Tie as tie
 cast-n : tie.Need-cast-n
 cast-n c = search needs
 
-tap-at-requires : tie.Need-tap-at-requires
-tap-at-requires c κs = search needs
+element-copy-out-first : tie.Need-element-copy-out-first
+element-copy-out-first c = search needs
 
-sub-tap-at : tie.Need-sub-tap-at
-sub-tap-at c = search needs
+sub-last : tie.Need-sub-last
+sub-last c = search needs
 
-tap-at-requires-2 : tie.Need-tap-at-requires-2
-tap-at-requires-2 c κs = search needs
+mul-last : tie.Need-mul-last
+mul-last c = search needs
+
+element-copy-out-last : tie.Need-element-copy-out-last
+element-copy-out-last c = search needs
 
 sub-result : tie.Need-sub-result
 sub-result c = search needs
@@ -28,4 +31,12 @@ returns-2 c = search span-none
 pub span-spec : {M : Type 1} → statement M
 span-spec =
     tie.close
-    (tie.spec cast-n tap-at-requires sub-tap-at tap-at-requires-2 sub-result returns returns-2)
+    (tie.spec
+    cast-n
+    element-copy-out-first
+    sub-last
+    mul-last
+    element-copy-out-last
+    sub-result
+    returns
+    returns-2)
