@@ -20,7 +20,7 @@ use Rattle.pair.specs.declared.Events.{Events}
 use Rattle.pair.specs.BitTime.{actIn, turnedIn, turnIn, advancedIn, eventsOf, eventsIn, noEvents, eventsAt, stepArea, eventAt}
 use Rattle.pair.specs.CodeLaws.{turned-none, turned-end, advanced-is}
 use Rattle.pair.specs.Ready.{Readiness, Ready, AllAble, acts-same, turn-next, ready-few, ready-able, step-is, step-events}
-use Rattle.quick.specs.Quick.{Plain, AllPlain}
+use Rattle.quick.specs.Quick.{or-false, Plain, AllPlain}
 use Rattle.ready.specs.Stays.{step-clock, step-layout, step-depth, step-record, step-station}
 use Rattle.tally.specs.Tally.{sentCounted, gotCounted, isLate}
 use Rattle.tally.specs.TallyLaws.{Bounded, start-bounded, got-bounded}
@@ -34,10 +34,6 @@ use Rattle.runs.specs.RunLaws.{Runnable, tally-none, run-next, run-on, r
 -- of the first n
 unfoldable pub lates : List Events → ℕ → List Bool
 lates es n = filled false (lateAt es) n
-
-or-false : (b : Bool) → (b || false) ≡ b
-or-false true = refl
-or-false false = refl
 
 module _ (es : List Events) where
   pub any-none : false ≡ some (lateAt es) 0

@@ -17,13 +17,14 @@ use Rattle.transmitter.specs.Transmit.{packetLength, afterBit, collision, sendB
 use Rattle.tally.specs.Tally.{isLate}
 use Rattle.station.specs.Step.{stepped, nextStation}
 use Rattle.area.specs.Places.{place, Off, Keeps}
-use Rattle.area.specs.Area.{clockAt, depthAt, figuresAt, countAt, withClock, spaceAt, stationAt, heardOf, symbolAt, arrivalAt}
+use Rattle.area.specs.Area.{clockAt, depthAt, figuresAt, countAt, withClock, spaceAt, stationAt, symbolAt, arrivalAt}
 use Rattle.area.specs.AreaLaws.{keeps-refl, keeps-trans, space-by, symbol-by, clock-keeps}
 use Rattle.pair.specs.declared.Act.{Act}
 use Rattle.pair.specs.BitTime.{outcomeIn, actIn, actAt, settled, stepArea, eventsOf}
 use Rattle.pair.specs.InPlace.{Kept, Spread, ahead-all, settle-keeps}
 use Rattle.pair.specs.Ready.{Readiness, kept}
 use Rattle.ready.specs.Stays.{step-station}
+use Rattle.quick.specs.Quick.{hears-nothing}
 use Rattle.window.specs.Window.{hasLate}
 
 -- ---- the transmitter
@@ -78,10 +79,6 @@ pub data Safe (f : Figures) (e t : ℕ) (x : List ℕ) (i : ℕ) : Type 0 where
   hushed : ((s : ℕ) → s < e → symbolAt x i (t + s) ≡ 0) → Safe f e t x i
   timely : Timely (f .slot) e (stationAt x i .transmitter) → Safe f e t x i
 
-silence : (x : List ℕ) (i t : ℕ) → symbolAt x i t ≡ 0 → arrivalAt x i t ≡ Nothing
-unfolding arrivalAt heardOf
-silence x i t z = rw z
-
 -- shut, so that a search does not enter it
 unfoldable pub AllSafe : (m n : ℕ) → Figures → ℕ → List ℕ → Type 0
 AllSafe m n f t a = (i : ℕ) → i < n → Safe f m t a i
@@ -90,7 +87,7 @@ pub act-safe : (f : Figures) (d e t : ℕ) (x : List ℕ) (i : ℕ) → suc e �
 unfolding hasLate actIn outcomeIn stepped
 act-safe f d e t x i le (hushed h) =
     let z : symbolAt x i t ≡ 0 = ap (symbolAt x i) (omega arith) ∙ h 0 (omega arith) in
-    let q : arrivalAt x i t ≡ Nothing = silence x i t z in
+    let q : arrivalAt x i t ≡ Nothing = hears-nothing x i t z in
     rw q (transmit-silent f (stationAt x i .transmitter) (stationAt x i .frame) _ _ _)
 act-safe f d e t x i le (timely h) = transmit-timely f e (stationAt x i .transmitter) (stationAt x i .frame) _ _ _ _ le h .0
 
