@@ -213,7 +213,7 @@ fn got_number(e: ReceiveEvent) -> u32
 }
 
 // A station's events as four words: transmit event and its number, receive event and its number.
-pub(crate) fn event_words(e: Events) -> [u32; 4]
+pub fn event_words(e: Events) -> [u32; 4]
     ensures { λ r. ⌜ r ≡ eventWords e ⌝ }
 {
     let sent = e.sent;

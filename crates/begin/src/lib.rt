@@ -22,7 +22,7 @@ fn put_heading(out: &mut [u8], y: Layout) -> usize
     requires { ⌜ (0 < y .count) × (y .count ≤ 16) × (2048 ≤ length (now out)) ⌝ }
     ensures { λ r. ⌜ written r (now (out .exit)) ≡ puts (now (out .entry)) 0 (firstText y) ⌝ }
 {
-    if layout::fits_well(y) {
+    if fit::fits_well(y) {
         return text::put_first(out, y.count, b"fit yes\n");
     }
     text::put_first(out, y.count, b"fit no\n")

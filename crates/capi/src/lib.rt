@@ -2,36 +2,19 @@
 // refusal n, anything below is the answer (crc32: all 32 bits). With a refusal every lent slice keeps what it held. What is written into
 // `out` is said at each function of wisavulome.h, in words of four octets, high octet first; octets past what is written stay.
 
-use layout::Layout;
-use reading::Reading;
-use runs::Ended;
+use course::Ended;
 ghost use mathlib.Core.Path.{_≡_};
-ghost use Prim.Native.Nat.{_*_, _<_, _≤_};
-ghost use lib.Dec.{eqb};
+ghost use Prim.Native.Nat.{_<_, _≤_};
 ghost use lib.ListN.{length};
-ghost use Rattle.octets.specs.Base.{pick};
 ghost use Rattle.crc32.specs.Crc.{crcOf};
-ghost use Rattle.answers.specs.Answers.{replied, valueOf};
-ghost use Rattle.reading.specs.Read.{readAnswer};
-ghost use Rattle.capi.specs.Capi.{given, left, sheetGiven, fitsGiven, buildGiven, statusGiven, clientGiven, drawnGiven, startGiven, offerGiven, stepLeft, runLeft, endedWords, runPut, timeRefusal, frameGiven, countersGiven};
+ghost use Rattle.calls.specs.Calls.{given, left, sheetGiven, fitsGiven, buildGiven, statusGiven, clientGiven, startGiven, offerGiven, stepLeft, runLeft, endedWords, runPut, frameGiven, countersGiven};
 
 // Reads a sheet: the octets used. Refusals 3 to 8, 15.
 #[no_mangle]
 pub extern "C" fn wisavulome_read_sheet(sheet: &[u8], out: &mut [u8]) -> u32
     ensures { λ r. ⌜ given r (now (out .exit)) ≡ sheetGiven (now (sheet .entry)) (now (out .entry)) ⌝ }
 {
-    let front = sheet::read_sheet(sheet);
-    let read = front.read;
-    let number = answers::numbers::sheet_number(read);
-    if number != 0 {
-        return answers::numbers::reply(number, 0);
-    }
-    if out.len() < 192 {
-        return answers::numbers::reply(15, 0);
-    }
-    let y = front.layout;
-    answers::tables::write_layout(out, y);
-    answers::numbers::sheet_size(read)
+    calls::read_sheet(sheet, out)
 }
 
 // Whether the layout of a sheet fits: 1 or 0. Refusals 3 to 8.
@@ -39,18 +22,7 @@ pub extern "C" fn wisavulome_read_sheet(sheet: &[u8], out: &mut [u8]) -> u32
 pub extern "C" fn wisavulome_fits(sheet: &[u8]) -> u32
     ensures { λ r. ⌜ r ≡ fitsGiven (now (sheet .entry)) ⌝ }
 {
-    let front = sheet::read_sheet(sheet);
-    let read = front.read;
-    let number = answers::numbers::sheet_number(read);
-    if number != 0 {
-        return answers::numbers::reply(number, 0);
-    }
-    let y = front.layout;
-    let fit = layout::fits(y);
-    answers::numbers::reply(
-        answers::numbers::fit_number(fit),
-        answers::numbers::fit_value(fit),
-    )
+    calls::fits(sheet)
 }
 
 // Builds a frame: its octets. Refusals 11, 15.
@@ -64,13 +36,7 @@ pub extern "C" fn wisavulome_build(
 ) -> u32
     ensures { λ r. ⌜ given r (now (out .exit)) ≡ buildGiven destination source value (now (payload .entry)) (now (out .entry)) ⌝ }
 {
-    let d = answers::numbers::address(destination);
-    let s = answers::numbers::address(source);
-    let b = frame::builder::build(out, d, s, value, payload);
-    answers::numbers::reply(
-        answers::numbers::built_number(b),
-        answers::numbers::built_size(b),
-    )
+    calls::build(destination, source, value, payload, out)
 }
 
 // The status of a frame's octets and excess bits: 0 to 5. Refusal 5.
@@ -78,11 +44,7 @@ pub extern "C" fn wisavulome_build(
 pub extern "C" fn wisavulome_status(frame: &[u8], excess: u32) -> u32
     ensures { λ r. ⌜ r ≡ statusGiven (now (frame .entry)) excess ⌝ }
 {
-    let s = opener::status(frame, excess);
-    answers::numbers::reply(
-        answers::numbers::status_number(s),
-        answers::numbers::status_value(s),
-    )
+    calls::status(frame, excess)
 }
 
 // The status, and where the client data lie. Refusals 5, 15.
@@ -90,35 +52,7 @@ pub extern "C" fn wisavulome_status(frame: &[u8], excess: u32) -> u32
 pub extern "C" fn wisavulome_client_data(frame: &[u8], excess: u32, out: &mut [u8]) -> u32
     ensures { λ r. ⌜ given r (now (out .exit)) ≡ clientGiven (now (frame .entry)) excess (now (out .entry)) ⌝ }
 {
-    let s = opener::status(frame, excess);
-    let number = answers::numbers::status_number(s);
-    if number != 0 {
-        return answers::numbers::reply(number, 0);
-    }
-    if out.len() < 8 {
-        return answers::numbers::reply(15, 0);
-    }
-    let words = answers::numbers::status_words(s);
-    octets::store_words(out, 0, &words);
-    answers::numbers::status_value(s)
-}
-
-// A fresh start on a layout, with the octets of its draws.
-fn start_drawn(area: &mut [u8], y: Layout, depth: u32, draws: &[u8]) -> u32
-    requires { ⌜ y .count ≤ 16 ⌝ }
-    ensures { λ r. ⌜ given r (now (area .exit)) ≡ drawnGiven (now (area .entry)) y depth (now (draws .entry)) ⌝ }
-{
-    if octets::out_of(depth, 1, 16) {
-        return answers::numbers::reply(9, 0);
-    }
-    let n = y.count as usize;
-    let d = depth as usize;
-    if draws.len() != 2 * (n * d) {
-        return answers::numbers::reply(9, 0);
-    }
-    let rows = input::read_draws(draws, 0, n, d);
-    let done = start::start(area, y, depth, rows);
-    answers::numbers::reply(answers::numbers::done_number(done), 0)
+    calls::client_data(frame, excess, out)
 }
 
 // A fresh start: 0. Refusals 1, 3 to 8, 9.
@@ -126,17 +60,7 @@ fn start_drawn(area: &mut [u8], y: Layout, depth: u32, draws: &[u8]) -> u32
 pub extern "C" fn wisavulome_start(area: &mut [u8], sheet: &[u8], depth: u32, draws: &[u8]) -> u32
     ensures { λ r. ⌜ given r (now (area .exit)) ≡ startGiven (now (area .entry)) (now (sheet .entry)) depth (now (draws .entry)) ⌝ }
 {
-    if area.len() < area::AREA {
-        return answers::numbers::reply(1, 0);
-    }
-    let front = sheet::read_sheet(sheet);
-    let read = front.read;
-    let number = answers::numbers::sheet_number(read);
-    if number != 0 {
-        return answers::numbers::reply(number, 0);
-    }
-    let y = front.layout;
-    start_drawn(area, y, depth, draws)
+    calls::start(area, sheet, depth, draws)
 }
 
 // Offers a frame to a station: 0. Refusals 1, 2, 10, 11, 12.
@@ -150,35 +74,7 @@ pub extern "C" fn wisavulome_offer(
 ) -> u32
     ensures { λ r. ⌜ given r (now (area .exit)) ≡ offerGiven (now (area .entry)) station destination value (now (payload .entry)) ⌝ }
 {
-    let d = answers::numbers::address(destination);
-    let done = offer::offer(area, station as usize, d, value, payload);
-    answers::numbers::reply(answers::numbers::done_number(done), 0)
-}
-
-// The refusal of n bit times, 1, 2 or 13, or 0.
-fn time_refusal(area: &[u8], n: u32) -> u32
-    ensures { λ r. ⌜ r ≡ timeRefusal (now (area .entry)) n ⌝ }
-{
-    let number = ready::refusal(area);
-    if number != 0 {
-        return number;
-    }
-    let t = area::read_clock(area);
-    if 16777216 - t < n {
-        return 13;
-    }
-    0
-}
-
-// What n bit times answer where the output is too short: their own refusal first, then 15.
-fn refuse_short(area: &[u8], n: u32) -> u32
-    ensures { λ r. ⌜ r ≡ replied (pick (eqb (timeRefusal (now (area .entry)) n) 0) 15 (timeRefusal (now (area .entry)) n)) 0 ⌝ }
-{
-    let number = time_refusal(area, n);
-    if number != 0 {
-        return answers::numbers::reply(number, 0);
-    }
-    answers::numbers::reply(15, 0)
+    calls::offer(area, station, destination, value, payload)
 }
 
 // One bit time: 0, and the events of each station. Refusals 1, 2, 13, 15.
@@ -186,18 +82,7 @@ fn refuse_short(area: &[u8], n: u32) -> u32
 pub extern "C" fn wisavulome_step(area: &mut [u8], out: &mut [u8]) -> u32
     ensures { λ r. ⌜ left r (now (area .exit)) (now (out .exit)) ≡ stepLeft (now (area .entry)) (now (out .entry)) ⌝ }
 {
-    if out.len() < 256 {
-        return refuse_short(area, 1);
-    }
-    let b = bus::step(area);
-    let done = b.done;
-    let number = answers::numbers::done_number(done);
-    if number != 0 {
-        return answers::numbers::reply(number, 0);
-    }
-    let events = b.events;
-    answers::tables::write_events(out, events);
-    0
+    calls::step(area, out)
 }
 
 // How a run ended as three words: whether early, and the step and station of the late collision.
@@ -216,8 +101,8 @@ fn write_run(out: &mut [u8], words: [u32; 9], ended: Ended)
     ensures { λ r. ⌜ now (out .exit) ≡ runPut words ended (now (out .entry)) ⌝ }
 {
     let last = ended_words(ended);
-    octets::store_words(out, 0, &words);
-    octets::store_words(out, 36, &last);
+    words::store_words(out, 0, &words);
+    words::store_words(out, 36, &last);
 }
 
 // A run of n bit times: the steps made, and how many events of each word came. Refusals 1, 2, 13, 15.
@@ -226,7 +111,7 @@ pub extern "C" fn wisavulome_run(area: &mut [u8], n: u32, out: &mut [u8]) -> u32
     ensures { λ r. ⌜ left r (now (area .exit)) (now (out .exit)) ≡ runLeft (now (area .entry)) n (now (out .entry)) ⌝ }
 {
     if out.len() < 48 {
-        return refuse_short(area, n);
+        return calls::refuse_short(area, n);
     }
     let a = runs::run(area, n);
     let done = a.done;
@@ -240,32 +125,12 @@ pub extern "C" fn wisavulome_run(area: &mut [u8], n: u32, out: &mut [u8]) -> u32
     a.steps
 }
 
-fn read_number(g: Reading) -> u32
-    ensures { λ r. ⌜ r ≡ readAnswer g .number ⌝ }
-{
-    match g {
-        Reading::Refused(n) => n,
-        Reading::Frame(_) => 0,
-    }
-}
-
-// The octets of the frame.
-fn read_size(g: Reading) -> u32
-    ensures { λ r. ⌜ r ≡ valueOf (readAnswer g) ⌝ }
-{
-    match g {
-        Reading::Refused(_) => 0,
-        Reading::Frame(n) => n,
-    }
-}
-
 // Reads the frame that a station received: its octets. Refusals 1, 2, 10, 14, 15.
 #[no_mangle]
 pub extern "C" fn wisavulome_read_frame(area: &[u8], station: u32, out: &mut [u8]) -> u32
     ensures { λ r. ⌜ given r (now (out .exit)) ≡ frameGiven (now (area .entry)) station (now (out .entry)) ⌝ }
 {
-    let g = reading::read_frame(area, station as usize, out);
-    answers::numbers::reply(read_number(g), read_size(g))
+    calls::read_frame(area, station, out)
 }
 
 // The sixteen counters of a station: 0. Refusals 1, 2, 10, 15.
@@ -273,18 +138,7 @@ pub extern "C" fn wisavulome_read_frame(area: &[u8], station: u32, out: &mut [u8
 pub extern "C" fn wisavulome_counters(area: &[u8], station: u32, out: &mut [u8]) -> u32
     ensures { λ r. ⌜ given r (now (out .exit)) ≡ countersGiven (now (area .entry)) station (now (out .entry)) ⌝ }
 {
-    let c = bus::read_counters(area, station as usize);
-    let done = c.done;
-    let number = answers::numbers::done_number(done);
-    if number != 0 {
-        return answers::numbers::reply(number, 0);
-    }
-    if out.len() < 64 {
-        return answers::numbers::reply(15, 0);
-    }
-    let words = c.words;
-    answers::tables::write_counters(out, words);
-    0
+    calls::counters(area, station, out)
 }
 
 // The CRC-32 of the octets.

@@ -28,7 +28,7 @@ use Rattle.transmitter.specs.Transmit.{afterBit, collision, sendBit, headBit, b
 use Rattle.receiver.specs.declared.ReceiveEvent.{ReceiveEvent}
 use Rattle.receiver.specs.declared.ReceiveEvent.the-variants.{NoReceive, GotOk, GotTooLong, GotAlignment, GotCheck, GotLength}
 use Rattle.state.specs.declared.Station.{Station}
-use Rattle.station.specs.declared.step.Stepped.{Stepped}
+use Rattle.station.specs.declared.Stepped.{Stepped}
 use Rattle.station.specs.Step.{stepped, nextStation}
 use Rattle.station.specs.Count.{offered, sent, excessive, added, addedIf, countSent, countTransmit, countReceive, counted}
 use Rattle.area.specs.Area.{clockAt, countAt, addressAt, countersAt, stationAt, figuresAt}

@@ -17,7 +17,7 @@ use Rattle.area.specs.Area.{clockAt, addressAt, arrivalAt}
 use Rattle.pair.specs.BitTime.{actAt, eventsAt, stepArea, eventAt}
 use Rattle.offer.specs.Offer.{offered}
 use Rattle.bus.specs.Step.{steppedOnce}
-use Rattle.runs.specs.Run.{lateAt, ran}
+use Rattle.course.specs.Run.{lateAt, ran}
 
 -- offer: station, destination, length/type value, data. read: station, and what the lent output holds
 pub data Call : Type 0 where

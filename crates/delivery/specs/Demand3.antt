@@ -19,7 +19,7 @@ use Rattle.valid.specs.Valid.{areaRefusal}
 use Rattle.pair.specs.BitTime.{actAt, eventsAt}
 use Rattle.offer.specs.Offer.{offered}
 use Rattle.bus.specs.Step.{steppedOnce}
-use Rattle.runs.specs.Run.{tallied, ran}
+use Rattle.course.specs.Run.{tallied, ran}
 use Rattle.reading.specs.Read.{frameRead}
 use Rattle.delivery.specs.Calls.{Call, offer, step, run, read, Moment, made, leaves, log, end, begin, momentAt, sentAt, gotAt, hearsAt}
 use Rattle.delivery.specs.Balance.{AllBalanced}

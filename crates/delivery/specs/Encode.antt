@@ -23,7 +23,7 @@ use Rattle.state.specs.declared.Transmitter.the-variants.{NoFrame, Waiting, Bac
 use Rattle.transmitter.specs.Transmit.{octetsHeld, transmit}
 use Rattle.receiver.specs.declared.Stored.{Stored}
 use Rattle.state.specs.declared.Station.{Station}
-use Rattle.station.specs.declared.step.Stepped.{Stepped}
+use Rattle.station.specs.declared.Stepped.{Stepped}
 use Rattle.station.specs.Step.{triesAfter, deferring, stepped, nextStation}
 use Rattle.area.specs.Places.{Part, clock, depth, layout, draws, station, frame, buffer, place, Off, Keeps}
 use Rattle.area.specs.Area.{clockAt, depthAt, drawAt, figuresAt, countAt, addressAt, spaceAt, stationAt, frameAt, bufferAt, arrivalAt}

@@ -18,7 +18,7 @@ use Rattle.packet.specs.declared.Symbol.the-variants.{Silence, Bit, Jam}
 use Rattle.area.specs.Places.{Part, counters, station, buffer, place, Off, Keeps}
 use Rattle.area.specs.Area.{spaceAt, arrivalAt, alone, joined}
 use Rattle.area.specs.AreaLaws.{space-by, arrival-by, arrival-keeps, arrival-same, arrival-turn}
-use Rattle.station.specs.declared.step.Stepped.{Stepped}
+use Rattle.station.specs.declared.Stepped.{Stepped}
 use Rattle.pair.specs.declared.Act.{Act}
 use Rattle.medium.specs.Medium.{sendTo, isSilence, pushed}
 use Rattle.pair.specs.BitTime.{placed, settled}

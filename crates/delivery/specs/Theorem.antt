@@ -29,7 +29,7 @@ use Rattle.receiver.specs.declared.ReceiveEvent.{ReceiveEvent}
 use Rattle.receiver.specs.declared.ReceiveEvent.the-variants.{GotOk}
 use Rattle.receiver.specs.Receive.{addressed}
 use Rattle.state.specs.declared.Station.{Station}
-use Rattle.station.specs.declared.step.Stepped.{Stepped}
+use Rattle.station.specs.declared.Stepped.{Stepped}
 use Rattle.area.specs.Area.{clockAt, figuresAt, countAt, addressAt, spaceAt, stationAt, bufferAt, arrivalAt}
 use Rattle.start.specs.Fresh.{fresh}
 use Rattle.start.specs.FreshLaws.{fresh-figures}
@@ -41,7 +41,7 @@ use Rattle.ready.specs.Passes.{Passing, ready-passes}
 use Rattle.offer.specs.Offer.{holds, offered}
 use Rattle.start.specs.Start.{started}
 use Rattle.bus.specs.Step.{steppedOnce}
-use Rattle.runs.specs.Run.{tallied, lateAt, Ran, runOf, ran}
+use Rattle.course.specs.Run.{tallied, lateAt, Ran, runOf, ran}
 use Rattle.reading.specs.Read.{frameRead}
 use Rattle.trace.specs.World as world
 use Rattle.trace.specs.World.{Net, Offer, ready}

@@ -17,7 +17,7 @@ use Rattle.frame.specs.Build.{frameOf}
 use Rattle.packet.specs.declared.Heard.{Heard}
 use Rattle.state.specs.declared.Transmitter.{Transmitter}
 use Rattle.state.specs.declared.Station.{Station}
-use Rattle.station.specs.declared.step.Stepped.{Stepped}
+use Rattle.station.specs.declared.Stepped.{Stepped}
 use Rattle.station.specs.Step.{triesAfter, stepped, nextStation}
 use Rattle.station.specs.StepLaws.{tries-more, tries-same}
 use Rattle.area.specs.Area.{clockAt, countAt, addressAt, stationAt}
@@ -27,7 +27,7 @@ use Rattle.ready.specs.Stays.{step-passing}
 use Rattle.offer.specs.Offer.{holds, offeredStation, withOffer, offered}
 use Rattle.offer.specs.OfferLaws.{address-six}
 use Rattle.bus.specs.Step.{steppedOnce}
-use Rattle.runs.specs.Run.{ran}
+use Rattle.course.specs.Run.{ran}
 use Rattle.trace.specs.World as world
 use Rattle.trace.specs.World.{Net, Offer, frameFor, World, outcome, given, offers, before, ready}
 use Rattle.trace.specs.Run.{before-suc, ready-clock}

@@ -21,9 +21,9 @@ fn write_header(out: &mut [u8], destination: [u8; 6], source: [u8; 6], value: u1
     requires { ⌜ 14 ≤ length (now out) ⌝ }
     ensures { λ r. ⌜ now (out .exit) ≡ sets (now (out .entry)) 0 (header destination source value) ⌝ }
 {
-    octets::store(out, 0, &destination);
-    octets::store(out, 6, &source);
-    octets::put16(out, 12, value);
+    copies::store(out, 0, &destination);
+    copies::store(out, 6, &source);
+    words::put16(out, 12, value);
 }
 
 // Writes the data from the fifteenth octet on, and zeros after them up to 46.
@@ -31,11 +31,11 @@ fn write_data(out: &mut [u8], payload: &[u8])
     requires { ⌜ 14 + (length (now payload) + (46 - length (now payload))) ≤ length (now out) ⌝ }
     ensures { λ r. ⌜ now (out .exit) ≡ sets (now (out .entry)) 14 (padded (now (payload .entry))) ⌝ }
 {
-    octets::store(out, 14, payload);
+    copies::store(out, 14, payload);
     let n = payload.len();
     let pad = limits::pad_size(n);
     let zeros = [0u8; limits::MIN_DATA];
-    octets::store(out, 14 + n, &zeros[0..pad]);
+    copies::store(out, 14 + n, &zeros[0..pad]);
 }
 
 // Writes all that the check sequence covers.
@@ -53,7 +53,7 @@ fn seal(out: &mut [u8], end: usize)
     ensures { λ r. ⌜ now (out .exit) ≡ sealed (now (out .entry)) end ⌝ }
 {
     let check = crc32::check_sequence(&out[0..end]);
-    octets::store(out, end, &check);
+    copies::store(out, end, &check);
 }
 
 // Whether refusal 11 stands against a length/type value and data.

@@ -45,7 +45,7 @@ fn read_row(s: &[u8], at: usize, d: usize) -> [u16; 16]
     let mut row = [0u16; 16];
     let mut k: usize = 0;
     while k < d {
-        let v = octets::get16(s, at + 2 * k);
+        let v = words::get16(s, at + 2 * k);
         row[k] = v as u16;
         k += 1;
     }
@@ -74,11 +74,11 @@ pub fn read_offer(s: &[u8], at: usize) -> Offered
     requires { ⌜ at + 15 ≤ length (now s) ⌝ }
     ensures { λ r. ⌜ r ≡ offerIn (now (s .entry)) at ⌝ }
 {
-    let time = octets::get32(s, at);
+    let time = words::get32(s, at);
     let station = octets::wide(s[at + 4]);
-    let destination = octets::six(s, at + 5);
-    let value = octets::get16(s, at + 11) as u16;
-    let size = octets::get16(s, at + 13) as usize;
+    let destination = copies::six(s, at + 5);
+    let value = words::get16(s, at + 11) as u16;
+    let size = words::get16(s, at + 13) as usize;
     Offered {
         time,
         station,
@@ -111,11 +111,11 @@ fn offers_wrong(s: &[u8], at: usize, count: usize) -> bool
         if n - place < 15 {
             return true;
         }
-        let time = octets::get32(s, place);
+        let time = words::get32(s, place);
         if time < last {
             return true;
         }
-        let size = octets::get16(s, place + 13) as usize;
+        let size = words::get16(s, place + 13) as usize;
         if n - place - 15 < size {
             return true;
         }
@@ -141,7 +141,7 @@ fn plan_wrong(s: &[u8], c: usize) -> bool
     if n - c < 2 {
         return true;
     }
-    let offers = octets::get16(s, c);
+    let offers = words::get16(s, c);
     if 64 < offers {
         return true;
     }
@@ -156,7 +156,7 @@ fn last_refusal(s: &[u8], c: usize) -> u32
     if plan_wrong(s, c) {
         return 16;
     }
-    if 16777216 < octets::get32(s, s.len() - 4) {
+    if 16777216 < words::get32(s, s.len() - 4) {
         return 13;
     }
     0
@@ -202,8 +202,8 @@ fn read_rest(s: &[u8], y: Layout, d: u32, at: usize, c: usize) -> Plan
     if number != 0 {
         return unread_plan(number);
     }
-    let offers = octets::get16(s, c);
-    let times = octets::get32(s, s.len() - 4);
+    let offers = words::get16(s, c);
+    let times = words::get32(s, s.len() - 4);
     Plan {
         read: Verdict::Whole,
         layout: y,

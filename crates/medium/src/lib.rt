@@ -17,7 +17,7 @@ fn send_to(area: &mut [u8], t: usize, i: usize, p: u32, code: u8, j: usize)
     }
     let q = area::read_position(area, j);
     let u = t + area::apart(p, q) as usize;
-    area::add_symbol(area, j, u, code);
+    delay::add_symbol(area, j, u, code);
 }
 
 // The symbol goes to each of n stations but its own.
@@ -25,7 +25,7 @@ pub fn push(area: &mut [u8], n: usize, t: usize, i: usize, s: Symbol)
     requires { ⌜ (i < 16) × (n ≤ 16) × (t < 4294967296) × (57344 ≤ length (now area)) ⌝ }
     ensures { λ r. ⌜ now (area .exit) ≡ pushed n t i s (now (area .entry)) ⌝ }
 {
-    let code = area::symbol_code(s);
+    let code = delay::symbol_code(s);
     if code == 0 {
         return;
     }

@@ -58,7 +58,7 @@ fn count_offer(area: &mut [u8], i: usize)
     ensures { λ r. ⌜ now (area .exit) ≡ withOffered (now (area .entry)) i ⌝ }
 {
     let c = area::read_counters(area, i);
-    let next = station::counters::add(c, station::counters::OFFERED, 1);
+    let next = counters::add(c, counters::OFFERED, 1);
     area::write_counters(area, i, next);
 }
 
@@ -68,7 +68,7 @@ fn accept(area: &mut [u8], i: usize, destination: [u8; 6], value: u16, payload: 
     requires { ⌜ refusesData value (length (now payload)) ≡ false ⌝ }
     ensures { λ r. ⌜ now (area .exit) ≡ withOffer (now (area .entry)) i destination value (now (payload .entry)) ⌝ }
 {
-    area::build_frame(area, i, destination, value, payload);
+    buffers::build_frame(area, i, destination, value, payload);
     hold_frame(area, i, frame::builder::frame_size(payload));
     count_offer(area, i);
 }

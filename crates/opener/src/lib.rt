@@ -29,7 +29,7 @@ fn check_wrong(frame: &[u8], spoiled: bool) -> bool
     }
     let end = frame.len() - 4;
     let check = crc32::check_sequence(&frame[0..end]);
-    !octets::same(&frame[end..], &check)
+    !copies::same(&frame[end..], &check)
 }
 
 fn check_error(excess: u32) -> ReceiveStatus
@@ -80,7 +80,7 @@ pub fn reception_status(frame: &[u8], excess: u32, spoiled: bool) -> ReceiveStat
     if n < limits::MIN_FRAME {
         return ReceiveStatus::Fragment;
     }
-    let value = octets::get16(frame, 12) as usize;
+    let value = words::get16(frame, 12) as usize;
     if limits::max_frame(value) < n {
         return ReceiveStatus::FrameTooLong;
     }

@@ -21,7 +21,7 @@ use Rattle.transmitter.specs.declared.TransmitEvent.{TransmitEvent}
 use Rattle.transmitter.specs.declared.TransmitEvent.the-variants.{NoTransmit, Collision, Late, Sent, GivenUp}
 use Rattle.transmitter.specs.Transmit.{octetsHeld}
 use Rattle.state.specs.declared.Station.{Station}
-use Rattle.station.specs.declared.step.Stepped.{Stepped}
+use Rattle.station.specs.declared.Stepped.{Stepped}
 use Rattle.station.specs.Step.{stepped}
 use Rattle.station.specs.Count.{counted}
 use Rattle.area.specs.Area.{clockAt, withClock, depthAt, drawAt, figuresAt, countAt, countersAt, withCounters, stationAt, withStation, frameAt, bufferAt, withBit, arrivalAt, withArrival}

@@ -14,7 +14,7 @@ use Rattle.receiver.specs.declared.Stored.{Stored}
 use Rattle.receiver.specs.declared.Stored.the-variants.{NoStore, Store}
 use Rattle.transmitter.specs.Transmit.{octetsHeld}
 use Rattle.state.specs.declared.Station.{Station}
-use Rattle.station.specs.declared.step.Stepped.{Stepped}
+use Rattle.station.specs.declared.Stepped.{Stepped}
 use Rattle.area.specs.Places.{Part, clock, depth, layout, draws, counters, station, frame, buffer, place, Off, Keeps}
 use Rattle.area.specs.Area.{drawAt, spaceAt, stationAt, withStation, frameAt, bufferAt, arrivalAt, withArrival}
 use Rattle.area.specs.AreaLaws.{keeps-refl, keeps-trans, draw-by, space-by, station-by, arrival-by, frame-by, buffer-by, station-keeps, counters-keeps, arrival-keeps, bit-keeps, length-station, length-counters, length-arrival, length-bit}

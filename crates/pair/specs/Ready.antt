@@ -23,7 +23,7 @@ use Rattle.receiver.specs.declared.Stored.{Stored}
 use Rattle.receiver.specs.Receive.{storedBit, seek, seekBit, collect, collectBit, hear, addressed, opening, decide, ended, receive}
 use Rattle.transmitter.specs.Transmit.{octetsHeld}
 use Rattle.state.specs.declared.Station.{Station}
-use Rattle.station.specs.declared.step.Stepped.{Stepped}
+use Rattle.station.specs.declared.Stepped.{Stepped}
 use Rattle.station.specs.Step.{Roomy, stepped}
 use Rattle.area.specs.Places.{Part, Keeps}
 use Rattle.area.specs.Area.{clockAt, depthAt, figuresAt, countAt, layoutAt, countersAt, stationAt, bufferAt, symbolAt, arrivalAt}

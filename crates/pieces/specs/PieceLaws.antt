@@ -23,8 +23,8 @@ use Rattle.pair.specs.BitTime.{isTransmit, isReceive, noEvents, eventsAt, stepA
 use Rattle.octets.specs.declared.Done.{Done}
 use Rattle.offer.specs.Offer.{offered}
 use Rattle.tally.specs.Tally.{isLate}
-use Rattle.runs.specs.Run.{lateAt}
-use Rattle.runs.specs.RunLaws.{Runnable, clock-within, run-allowed, run-next}
+use Rattle.course.specs.Run.{lateAt}
+use Rattle.course.specs.RunLaws.{Runnable, clock-within, run-allowed, run-next}
 use Rattle.pair.specs.Ready.{Ready}
 use Rattle.ready.specs.Stays.{step-clock}
 use Rattle.text.specs.Text.{Written, written, puts, counted, line, firstLine, fitYes, fitNo, refusedWord, refusedLine, refusedOffer, endWord, endLine}

@@ -12,7 +12,7 @@ use Rattle.area.specs.Area.{clockAt}
 use Rattle.valid.specs.Valid.{areaRefusal, lastClock}
 use Rattle.pair.specs.declared.Events.{Events}
 use Rattle.pair.specs.BitTime.{isTransmit, isReceive, noEvents, eventsAt, stepArea}
-use Rattle.runs.specs.Run.{lateAt}
+use Rattle.course.specs.Run.{lateAt}
 use Rattle.text.specs.Text.{refusedLine, endLine}
 use Rattle.lines.specs.Events.{stepLines}
 use Rattle.input.specs.Plan.{offerTime, Planned, planRead}

@@ -13,7 +13,7 @@ use Rattle.area.specs.Area.{clockAt}
 use Rattle.start.specs.Fresh.{fresh}
 use Rattle.pair.specs.BitTime.{eventsAt, stepArea}
 use Rattle.offer.specs.Offer.{offered}
-use Rattle.runs.specs.Run.{lateAt}
+use Rattle.course.specs.Run.{lateAt}
 use Rattle.text.specs.Text.{firstLine, fitYes, fitNo, refusedLine, refusedOffer, endLine}
 use Rattle.lines.specs.Events.{stepLines}
 use Rattle.input.specs.Plan.{drawsIn, offerTime, offerStation, offerDestination, offerValue, offerSize, offerData, Planned, planRead}

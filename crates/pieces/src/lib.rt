@@ -8,8 +8,8 @@ ghost use mathlib.Core.Bool.{false};
 ghost use Prim.Native.Nat.{_-_, _≤_};
 ghost use lib.ListN.{length};
 ghost use Rattle.octets.specs.Base.{pick, some, refused};
-ghost use Rattle.runs.specs.Run.{lateAt};
-ghost use Rattle.runs.specs.RunLaws.{Runnable};
+ghost use Rattle.course.specs.Run.{lateAt};
+ghost use Rattle.course.specs.RunLaws.{Runnable};
 ghost use Rattle.pieces.specs.Printed.{lies};
 ghost use Rattle.pieces.specs.Pieces.{hasEvent, eventful, untilEvent, stretchOf, isDue, spanOf, pieceAnswer, offerShort};
 
@@ -48,7 +48,7 @@ fn has_event(e: Events) -> bool
 {
     let sent = e.sent;
     let got = e.got;
-    octets::either(pair::is_transmit(sent), pair::is_receive(got))
+    octets::either(turn::is_transmit(sent), turn::is_receive(got))
 }
 
 // Whether some station has an event.
@@ -89,7 +89,7 @@ pub fn until_event(area: &mut [u8], n: u32) -> Stretch
 {
     let mut t: u32 = 0;
     while t < n {
-        let events = pair::step(area);
+        let events = step::step(area);
         t += 1;
         if is_eventful(events) {
             return Stretch { steps: t, events };
@@ -116,7 +116,7 @@ fn offer_lies(input: &[u8], at: usize) -> bool
     if n - at < 15 {
         return false;
     }
-    let size = octets::get16(input, at + 13) as usize;
+    let size = words::get16(input, at + 13) as usize;
     size <= n - at - 15
 }
 
@@ -138,7 +138,7 @@ pub fn is_due(input: &[u8], area: &[u8], g: Progress) -> bool
     if g.offers == 0 {
         return false;
     }
-    octets::get32(input, g.at) == area::read_clock(area)
+    words::get32(input, g.at) == area::read_clock(area)
 }
 
 // The steps that may be made before the next offer.
@@ -149,7 +149,7 @@ pub fn span(input: &[u8], area: &[u8], g: Progress) -> u32
     if g.offers == 0 {
         return g.times;
     }
-    let time = octets::get32(input, g.at);
+    let time = words::get32(input, g.at);
     let clock = area::read_clock(area);
     if time <= clock {
         return g.times;

@@ -27,7 +27,7 @@ use Rattle.pair.specs.BitTime.{isTransmit, isReceive, noEvents, eventsAt, stepA
 use Rattle.ready.specs.Passes.{Passing, ready-passes}
 use Rattle.ready.specs.Stays.{step-clock, step-length, step-passing}
 use Rattle.delivery.specs.Passing.{start-passing, offered-passes, offered-keeps}
-use Rattle.runs.specs.Run.{lateAt}
+use Rattle.course.specs.Run.{lateAt}
 use Rattle.tally.specs.Tally.{isLate}
 use Rattle.text.specs.Text.{fitYes, fitNo, refusedLine, endLine}
 use Rattle.lines.specs.Sizes.{first-size, refused-size, refused-offer-size, end-size, step-size}

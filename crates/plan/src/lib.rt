@@ -11,7 +11,7 @@ ghost use Prim.Native.Nat.{_<_, _≤_};
 ghost use lib.ListN.{length};
 ghost use Rattle.octets.specs.Base.{outcome, doneAnswer};
 ghost use Rattle.octets.specs.NumberLaws.{Octets};
-ghost use Rattle.runs.specs.RunLaws.{Runnable};
+ghost use Rattle.course.specs.RunLaws.{Runnable};
 ghost use Rattle.text.specs.Text.{written, puts};
 ghost use Rattle.pieces.specs.Printed.{lies, made, offerLine};
 ghost use Rattle.pieces.specs.Pieces.{lastPiece, offerPiece, stepPiece, handing, given, offerShort, moveRefusal, advancedOn, advanced};
@@ -85,7 +85,7 @@ fn put_offer(input: &[u8], at: usize, n: u32, out: &mut [u8]) -> usize
     if n == 0 {
         return 0;
     }
-    let time = octets::get32(input, at);
+    let time = words::get32(input, at);
     let station = octets::wide(input[at + 4]);
     text::put_line(out, 0, time, station, b"refused", n)
 }
@@ -96,7 +96,7 @@ fn offer_piece(input: &[u8], area: &mut [u8], out: &mut [u8], g: Progress) -> Ha
     ensures { λ r. ⌜ handing r (now (area .exit)) (now (out .exit)) ≡ given (now (out .entry)) (offerPiece (now (input .entry)) g (now (area .entry))) ⌝ }
 {
     let at = g.at;
-    let size = octets::get16(input, at + 13) as usize;
+    let size = words::get16(input, at + 13) as usize;
     let done = make_offer(input, area, at);
     let end = put_offer(input, at, number_of(done), out);
     Handed {

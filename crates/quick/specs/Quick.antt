@@ -36,7 +36,7 @@ use Rattle.receiver.specs.declared.Stored.{Stored}
 use Rattle.receiver.specs.declared.Stored.the-variants.{NoStore, Store}
 use Rattle.receiver.specs.Receive.{nextRow, hearing, receive, ended, hear, seek, seekBit, collect, collectBit, storedBit}
 use Rattle.state.specs.declared.Station.{Station}
-use Rattle.station.specs.declared.step.Stepped.{Stepped}
+use Rattle.station.specs.declared.Stepped.{Stepped}
 use Rattle.station.specs.Step.{stepped, nextStation, triesAfter, drawAfter, deferredAfter}
 use Rattle.record.specs.Codec.{flag, deferenceOf, deferenceCode, deferenceOwn, transmitterOf, transmitterCode, receiverOf, receiverCode, decoded, encoded}
 use Rattle.area.specs.Places.{station}

@@ -38,8 +38,8 @@ fn copy_frame(area: &[u8], i: usize, n: usize, out: &mut [u8])
     requires { ⌜ (i < 16) × (57344 ≤ length (now area)) × (n ≤ 1518) × (n ≤ length (now out)) ⌝ }
     ensures { λ r. ⌜ now (out .exit) ≡ sets (now (out .entry)) 0 (take n (bufferAt (now (area .entry)) i)) ⌝ }
 {
-    let b = area::buffer(area, i);
-    octets::store(out, 0, &b[0..n]);
+    let b = buffers::buffer(area, i);
+    copies::store(out, 0, &b[0..n]);
 }
 
 // Reads the frame that station i received, whole with its check sequence. Refusals 1, 2, 10, 14, 15.
@@ -58,7 +58,7 @@ pub fn read_frame(area: &[u8], i: usize, out: &mut [u8]) -> Reading
     if !is_readable(r) {
         return Reading::Refused(14);
     }
-    let n = station::counters::octets_in(r);
+    let n = counters::octets_in(r);
     if out.len() < n as usize {
         return Reading::Refused(15);
     }

@@ -21,7 +21,7 @@ use Rattle.receiver.specs.declared.Stored.the-variants.{NoStore, Store}
 use Rattle.transmitter.specs.declared.TransmitEvent.{TransmitEvent}
 use Rattle.transmitter.specs.declared.TransmitEvent.the-variants.{NoTransmit, Collision, Late, Sent, GivenUp}
 use Rattle.state.specs.declared.Station.{Station}
-use Rattle.station.specs.declared.step.Stepped.{Stepped}
+use Rattle.station.specs.declared.Stepped.{Stepped}
 use Rattle.station.specs.Count.{added, addedIf, countSent, countTransmit, countReceive, counted}
 use Rattle.record.specs.Codec.{encoded}
 use Rattle.record.specs.CodecLaws.{Fit}

@@ -24,10 +24,10 @@ use Rattle.quick.specs.Quick.{or-false, Plain, AllPlain}
 use Rattle.ready.specs.Stays.{step-clock, step-layout, step-depth, step-record, step-station}
 use Rattle.tally.specs.Tally.{sentCounted, gotCounted, isLate}
 use Rattle.tally.specs.TallyLaws.{Bounded, start-bounded, got-bounded}
-use Rattle.window.specs.Window.{eventsCounted, hasLate}
-use Rattle.runs.specs.declared.Ended.the-variants as how
-use Rattle.runs.specs.Run.{tallied, lateAt, Ran, runOf}
-use Rattle.runs.specs.RunLaws.{Runnable, tally-none, run-next, run-on, run-late}
+use Rattle.order.specs.Window.{eventsCounted, hasLate}
+use Rattle.course.specs.declared.Ended.the-variants as how
+use Rattle.course.specs.Run.{tallied, lateAt, Ran, runOf}
+use Rattle.course.specs.RunLaws.{Runnable, tally-none, run-next, run-on, run-late}
 
 -- ---- which stations have a late collision
 

@@ -23,10 +23,10 @@ use Rattle.area.specs.Area.{clockAt, withClock, depthAt, figuresAt, countAt, re
 use Rattle.area.specs.AreaLaws.{count-by, record-by, station-by, symbol-by, symbol-turn, clock-keeps, clock-same, length-clock}
 use Rattle.pair.specs.BitTime.{actIn, actAt, settled, turnIn, eventsOf, noEvents, eventsAt, stepArea, eventAt}
 use Rattle.quick.specs.Quick.{Plain, AllPlain, restsIn, Taken, rest-taken, taken-area, taken-events}
-use Rattle.runs.specs.declared.Ended.the-variants as how
+use Rattle.course.specs.declared.Ended.the-variants as how
 use Rattle.tally.specs.Tally.{sentCounted, gotCounted}
-use Rattle.runs.specs.Run.{tallied, lateAt, Ran, runOf}
-use Rattle.runs.specs.RunLaws.{Runnable}
+use Rattle.course.specs.Run.{tallied, lateAt, Ran, runOf}
+use Rattle.course.specs.RunLaws.{Runnable}
 use Rattle.runs.specs.OnLaws.{filled-past, OnCourse, course-few}
 
 -- ---- the clock written twice, and its octets

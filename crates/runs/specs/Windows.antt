@@ -27,14 +27,14 @@ use Rattle.pair.specs.Ready.{Readiness, Ready, AllAble, turn-next, ready-able, 
 use Rattle.ready.specs.Stays.{step-length, step-layout, step-depth, step-clock, step-ready}
 use Rattle.quick.specs.Quick.{Plain, AllPlain}
 use Rattle.tally.specs.TallyLaws.{Bounded}
-use Rattle.window.specs.Window.{eventsCounted, hasLate, Going, played, windowTurn, clocked, Reaches, Within, within-clock, across-clock, either-order}
-use Rattle.window.specs.Order.{across, stepwise, stationwise}
-use Rattle.window.specs.Late.{Safe, AllSafe, act-safe, safe-step}
-use Rattle.window.specs.Reach.{AllSafeIf}
-use Rattle.window.specs.Going.{Open}
-use Rattle.runs.specs.Run.{tallied, lateAt, Ran, runOf}
-use Rattle.runs.specs.RunLaws.{Runnable, tally-none, next-bounded}
-use Rattle.runs.specs.declared.Ended.the-variants as how
+use Rattle.order.specs.Window.{eventsCounted, hasLate, Going, played, windowTurn, clocked, Reaches, Within, within-clock, across-clock, either-order}
+use Rattle.order.specs.Order.{across, stepwise, stationwise}
+use Rattle.order.specs.Late.{Safe, AllSafe, act-safe, safe-step}
+use Rattle.order.specs.Reach.{AllSafeIf}
+use Rattle.order.specs.Going.{Open}
+use Rattle.course.specs.Run.{tallied, lateAt, Ran, runOf}
+use Rattle.course.specs.RunLaws.{Runnable, tally-none, next-bounded}
+use Rattle.course.specs.declared.Ended.the-variants as how
 use Rattle.runs.specs.OnLaws.{tally-turn, tally-all, filled-past, lates, OnCourse, plain-after, course-next, NoneLate, course-on, course-searched, course-late}
 use Rattle.runs.specs.Still.{clock-twice}
 

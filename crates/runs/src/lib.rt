@@ -1,5 +1,8 @@
 // Runs over many bit times.
 
+use course::Course;
+use course::Ended;
+use course::RunAnswer;
 use layout::Figures;
 use octets::Done;
 ghost use mathlib.Core.Path.{_≡_};
@@ -11,35 +14,14 @@ ghost use Rattle.octets.specs.NumberLaws.{Octets};
 ghost use Rattle.pair.specs.BitTime.{eventsIn, advancedIn};
 ghost use Rattle.pair.specs.Ready.{AllAble};
 ghost use Rattle.quick.specs.Quick.{AllPlain};
-ghost use Rattle.runs.specs.Run.{tallied, lateAt, courseOf, runOf, runOutcome, ran};
+ghost use Rattle.course.specs.Run.{tallied, lateAt, courseOf, runOf, runOutcome, ran};
 ghost use Rattle.tally.specs.TallyLaws.{Bounded};
-ghost use Rattle.runs.specs.RunLaws.{Runnable};
-ghost use Rattle.window.specs.Window.{Reaches};
+ghost use Rattle.course.specs.RunLaws.{Runnable};
+ghost use Rattle.order.specs.Window.{Reaches};
 ghost use Rattle.runs.specs.OnLaws.{lates, OnCourse};
 ghost use Rattle.runs.specs.Windows.{Windowed, Advanced};
 ghost use Rattle.runs.specs.Still.{Clear, CalmIf, Idle};
-ghost use Rattle.runs.specs.declared.Ended.the-variants.{All};
-
-// How a run ended: all its steps were made, or a station had a late collision in the last of them.
-pub enum Ended {
-    All,
-    Late { step: u32, station: u32 },
-}
-
-// What a run answers: the steps made, how many events of each word came (collision, late, sent, given-up, got ok, got too-long, got
-// alignment, got check, got length), and how it ended; zeros where the call is refused.
-pub struct RunAnswer {
-    pub done: Done,
-    pub steps: u32,
-    pub words: [u32; 9],
-    pub ended: Ended,
-}
-
-// How far a run went.
-pub struct Course {
-    pub steps: u32,
-    pub ended: Ended,
-}
+ghost use Rattle.course.specs.declared.Ended.the-variants.{All};
 
 // The steps that were made, which stations had a late collision in the last of them, and whether any had.
 pub struct Lates {
@@ -91,7 +73,7 @@ fn line_clear(area: &[u8], i: usize) -> bool
 {
     let mut u: usize = 0;
     while u < 256 {
-        if area::read_symbol(area, i, u) != 0 {
+        if delay::read_symbol(area, i, u) != 0 {
             return false;
         }
         u += 1;
@@ -154,7 +136,7 @@ fn pass_window(
         return 0;
     }
     let steps = quick::capped(m, left as usize);
-    if !window::are_safe(area, n, t as usize, f, steps) {
+    if !reach::are_safe(area, n, t as usize, f, steps) {
         return 0;
     }
     area::write_clock(area, t + steps as u32);
@@ -199,7 +181,7 @@ fn run_steps(area: &mut [u8], words: &mut [u32], n: u32) -> Course
     let count = area::read_count(area) as usize;
     let depth = area::read_depth(area);
     let f = area::read_figures(area);
-    let reach = window::reach(area, count);
+    let reach = reach::reach(area, count);
     let mut clock = area::read_clock(area);
     let mut ended = Ended::All;
     let mut swift = false;

@@ -77,7 +77,7 @@ fn read_field(s: &[u8], at: usize, size: usize, absent: u32) -> u32
     if size == 1 {
         return octets::wide(s[at]);
     }
-    octets::get16(s, at)
+    words::get16(s, at)
 }
 
 fn read_figures(s: &[u8], z: Sizes) -> Figures
@@ -104,7 +104,7 @@ fn read_tap(s: &[u8], at: usize) -> Tap
     requires { ⌜ at + 7 ≤ length (now s) ⌝ }
     ensures { λ r. ⌜ r ≡ tapIn (now (s .entry)) at ⌝ }
 {
-    let address = octets::six(s, at + 1);
+    let address = copies::six(s, at + 1);
     let position = octets::wide(s[at]);
     Tap { position, address }
 }
@@ -192,7 +192,7 @@ pub fn read_sheet(s: &[u8]) -> Sheet
         return unread_sheet(4);
     }
     let y = read_layout(s, z, end, count);
-    let number = layout::refusal(y);
+    let number = checks::refusal(y);
     if number != 0 {
         return unread_sheet(number);
     }

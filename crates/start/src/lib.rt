@@ -17,15 +17,15 @@ fn write_figures(area: &mut [u8], f: Figures, count: u32)
     ensures { λ r. ⌜ now (area .exit) ≡ withFigures f count (now (area .entry)) ⌝ }
 {
     let words = [f.slot, f.gap1, f.gap2, f.jam, f.limit, f.backoff, count];
-    octets::store_words(area, 8, &words);
+    words::store_words(area, 8, &words);
 }
 
 fn write_tap(area: &mut [u8], i: usize, position: u32, address: [u8; 6])
     requires { ⌜ (i < 16) × (57344 ≤ length (now area)) ⌝ }
     ensures { λ r. ⌜ now (area .exit) ≡ withTap position address i (now (area .entry)) ⌝ }
 {
-    octets::put32(area, 64 + 16 * i, position);
-    octets::store(area, 68 + 16 * i, &address);
+    words::put32(area, 64 + 16 * i, position);
+    copies::store(area, 68 + 16 * i, &address);
 }
 
 // The first n stations.
@@ -46,14 +46,14 @@ fn write_depth(area: &mut [u8], depth: u32)
     requires { ⌜ 57344 ≤ length (now area) ⌝ }
     ensures { λ r. ⌜ now (area .exit) ≡ withDepth depth (now (area .entry)) ⌝ }
 {
-    octets::put32(area, 4, depth);
+    words::put32(area, 4, depth);
 }
 
 fn write_draw(area: &mut [u8], i: usize, k: usize, v: u16)
     requires { ⌜ (i < 16) × (k < 16) × (57344 ≤ length (now area)) ⌝ }
     ensures { λ r. ⌜ now (area .exit) ≡ withDraw i k v (now (area .entry)) ⌝ }
 {
-    octets::put16(area, 320 + 32 * i + 2 * k, v);
+    words::put16(area, 320 + 32 * i + 2 * k, v);
 }
 
 // The first draws of station i, as many as there are.
@@ -98,7 +98,7 @@ pub fn write_fresh(area: &mut [u8], y: Layout, depth: u32, draws: [[u16; 16]; 16
     requires { ⌜ (y .count ≤ 16) × (depth ≤ 16) × (57344 ≤ length (now area)) ⌝ }
     ensures { λ r. ⌜ now (area .exit) ≡ fresh y depth draws (now (area .entry)) ⌝ }
 {
-    octets::blank(area, area::AREA);
+    copies::blank(area, area::AREA);
     write_plan(area, y, depth, draws);
 }
 
@@ -109,7 +109,7 @@ pub fn start(area: &mut [u8], y: Layout, depth: u32, draws: [[u16; 16]; 16]) -> 
     if area.len() < area::AREA {
         return Done::Refused(1);
     }
-    let number = layout::refusal(y);
+    let number = checks::refusal(y);
     if number != 0 {
         return Done::Refused(number);
     }

@@ -12,7 +12,7 @@ use Rattle.deference.specs.declared.Deferred.{Deferred}
 use Rattle.transmitter.specs.declared.Transmitted.{Transmitted}
 use Rattle.receiver.specs.declared.Received.{Received}
 use Rattle.state.specs.declared.Station.{Station}
-use Rattle.station.specs.declared.step.Stepped.{Stepped}
+use Rattle.station.specs.declared.Stepped.{Stepped}
 use Rattle.packet.specs.Packet.{hearsAny, isEmission}
 use Rattle.deference.specs.Defer.{defer}
 use Rattle.transmitter.specs.Transmit.{waits, octetsHeld, transmit}

@@ -1,3 +1,17 @@
-// One station by value, and its bit time (document 01, "One bit time"). Nothing here knows of a work area or of another station.
-pub mod counters;
-pub mod step;
+// One station by value, and what its bit time is (document 01, "One bit time"): the definitions (specs), and the outcome of a step.
+
+use packet::Emission;
+use receiver::ReceiveEvent;
+use receiver::Stored;
+use state::Station;
+use transmitter::TransmitEvent;
+
+// What a step leads to: the next state, what is emitted, whether a frame started, the events, the collected bit to store.
+pub struct Stepped {
+    pub station: Station,
+    pub emission: Emission,
+    pub start: bool,
+    pub sent: TransmitEvent,
+    pub got: ReceiveEvent,
+    pub stored: Stored,
+}

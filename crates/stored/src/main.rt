@@ -36,7 +36,7 @@ fn keep_piece(piece: Piece, out: &[u8], text: &mut [u8], at: usize) -> usize
             if text.len() - at < n {
                 return at;
             }
-            octets::store(text, at, &out[0..n]);
+            copies::store(text, at, &out[0..n]);
             at + n
         }
     }
@@ -86,8 +86,8 @@ fn read_case(name: &[u8], ending: &[u8], buf: &mut [u8]) -> usize
         return 0;
     }
     let end = n + ending.len();
-    octets::store(&mut path, 0, name);
-    octets::store(&mut path, n, ending);
+    copies::store(&mut path, 0, name);
+    copies::store(&mut path, n, ending);
     read_file(&path[0..end], buf)
 }
 
@@ -109,7 +109,7 @@ fn print_case(name: &[u8]) {
     io::write_all(STDOUT_FILENO, name);
     print_number(n);
     print_number(m);
-    if octets::same(&text[0..m], &expected[0..e]) {
+    if copies::same(&text[0..m], &expected[0..e]) {
         io::write_all(STDOUT_FILENO, b" same\n");
     } else {
         io::write_all(STDOUT_FILENO, b" differs\n");

@@ -44,7 +44,7 @@ fn put_decimal(out: &mut [u8], at: usize, n: u32) -> usize
 {
     let d = spell(n);
     let j = leading(d);
-    octets::store(out, at, &d[j..10]);
+    copies::store(out, at, &d[j..10]);
     at + 10 - j
 }
 
@@ -65,7 +65,7 @@ fn put_word(out: &mut [u8], at: usize, word: &[u8]) -> usize
     ensures text { λ r. ⌜ written r (now (out .exit)) ≡ puts (now (out .entry)) at (now (word .entry) ++ (space ∷ [])) ⌝ }
     ensures small { λ r. ⌜ r ≤ at + length (now (word .entry)) + 1 ⌝ }
 {
-    octets::store(out, at, word);
+    copies::store(out, at, word);
     let end = at + word.len();
     out[end] = b' ';
     end + 1
@@ -108,6 +108,6 @@ pub fn put_first(out: &mut [u8], n: u32, fit: &[u8]) -> usize
     ensures small { λ r. ⌜ r ≤ 20 + length (now (fit .entry)) ⌝ }
 {
     let middle = put_counted(out, 0, b"stations", n, b' ');
-    octets::store(out, middle, fit);
+    copies::store(out, middle, fit);
     middle + fit.len()
 }

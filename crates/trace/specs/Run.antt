@@ -26,7 +26,7 @@ use Rattle.state.specs.declared.Transmitter.the-variants.{NoFrame, Waiting, Bac
 use Rattle.transmitter.specs.declared.Transmitted.{Transmitted}
 use Rattle.receiver.specs.declared.Received.{Received}
 use Rattle.state.specs.declared.Station.{Station}
-use Rattle.station.specs.declared.step.Stepped.{Stepped}
+use Rattle.station.specs.declared.Stepped.{Stepped}
 use Rattle.station.specs.Step.{stepped, nextStation, triesAfter, deferring, sending, receiving}
 use Rattle.pair.specs.Range.{Fine, fine-stepped}
 use Rattle.area.specs.Area.{alone}

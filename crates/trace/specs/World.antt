@@ -20,7 +20,7 @@ use Rattle.state.specs.declared.Deference.the-variants.{Quiet}
 use Rattle.state.specs.declared.Transmitter.the-variants.{NoFrame}
 use Rattle.state.specs.declared.Receiver.the-variants.{Listening}
 use Rattle.state.specs.declared.Station.{Station}
-use Rattle.station.specs.declared.step.Stepped.{Stepped}
+use Rattle.station.specs.declared.Stepped.{Stepped}
 use Rattle.station.specs.Step.{stepped}
 use Rattle.area.specs.Area.{joined}
 use Rattle.ready.specs.After.{storedIn}

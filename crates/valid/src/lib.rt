@@ -140,7 +140,7 @@ fn line_wrong(area: &[u8], i: usize) -> bool
     let mut top: u8 = 0;
     let mut u: usize = 0;
     while u < 256 {
-        top = larger(top, area::read_symbol(area, i, u));
+        top = larger(top, delay::read_symbol(area, i, u));
         u += 1;
     }
     4 < top
@@ -178,7 +178,7 @@ fn area_wrong(area: &[u8]) -> bool
     ensures { λ r. ⌜ r ≡ areaWrong (now (area .entry)) ⌝ }
 {
     let y = area::read_layout(area);
-    if layout::refusal(y) != 0 {
+    if checks::refusal(y) != 0 {
         return true;
     }
     let depth = area::read_depth(area);

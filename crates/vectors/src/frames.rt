@@ -116,7 +116,7 @@ fn datagram() -> [u8; 46] {
         0x00,
         0x00,
     ];
-    octets::store(&mut d, 0, &head);
+    copies::store(&mut d, 0, &head);
     d
 }
 

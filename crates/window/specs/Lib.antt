@@ -1,7 +1,1 @@
-pub mod Local
-pub mod Exchange
-pub mod Order
-pub mod Window
-pub mod Late
-pub mod Going
-pub mod Reach
+pub mod EntryLaws

@@ -1,9 +1,9 @@
 // Document 01's whole case by one run, with readings; and a run that a late collision ends, one past the slot of a fitting layout.
 
+use course::Ended;
 use libc::STDOUT_FILENO;
 use octets::Done;
 use reading::Reading;
-use runs::Ended;
 
 fn print_octets(s: &[u8]) {
     let mut i = 0;

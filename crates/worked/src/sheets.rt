@@ -41,7 +41,7 @@ fn print_value(word: &[u8], n: u32) {
 }
 
 fn print_fit(y: Layout) {
-    match layout::fits(y) {
+    match fit::fits(y) {
         Fit::Refused(n) => print_value(b" refused ", n),
         Fit::No => {
             io::write_all(STDOUT_FILENO, b" fit no");

@@ -62,7 +62,7 @@ pub(crate) fn offer_zeros(area: &mut [u8], i: usize, value: u16, last: u8) {
 fn poke(area: &mut [u8], at: usize, v: u32) {
     if at <= 57340 {
         if 57344 <= area.len() {
-            octets::put32(area, at, v);
+            words::put32(area, at, v);
         }
     }
 }
@@ -72,8 +72,8 @@ fn poke_all(area: &mut [u8], words: &[u8]) {
     let n = words.len() / 8;
     let mut k: usize = 0;
     while k < n {
-        let at = octets::get32(words, 8 * k) as usize;
-        poke(area, at, octets::get32(words, 8 * k + 4));
+        let at = words::get32(words, 8 * k) as usize;
+        poke(area, at, words::get32(words, 8 * k + 4));
         k += 1;
     }
 }

@@ -1,5 +1,5 @@
 -- `capi::ended_words` meets its contract. Assumes nothing.
-use Rattle.capi.specs.CallLaws.{ended-late}
+use Rattle.calls.specs.CallLaws.{ended-late}
 use borrow.Author.Needs.{needs}
 use Rattle.capi.proofs.ended_words.Statement.{statement}
 use Rattle.capi.proofs.ended_words.Tie as tie

@@ -1,5 +1,5 @@
 -- `capi::write_run` meets its contract. Assumes nothing.
-use Rattle.capi.specs.CallLaws.{run-put}
+use Rattle.calls.specs.CallLaws.{run-put}
 use borrow.Author.Needs.{needs}
 use Rattle.capi.proofs.write_run.Statement.{statement}
 use Rattle.capi.proofs.write_run.Tie as tie

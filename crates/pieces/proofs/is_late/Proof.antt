@@ -5,7 +5,7 @@ use mathlib.Core.Path.{_≡_}
 use mathlib.Core.Bool.{false}
 use Rattle.octets.specs.Base.{some}
 use Rattle.octets.specs.BaseLaws.{some-none, some-end}
-use Rattle.runs.specs.Run.{lateAt}
+use Rattle.course.specs.Run.{lateAt}
 use Rattle.pieces.specs.PieceLaws.{late-hit, late-more}
 use Rattle.pieces.proofs.is_late.Statement.{statement}
 use Rattle.pieces.proofs.is_late.Tie as tie

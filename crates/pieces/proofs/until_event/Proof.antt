@@ -4,7 +4,7 @@ use borrow.Author.Needs.{needs}
 use Prim.Native.Nat.{_≤_, _-_}
 use mathlib.Core.Path.{_≡_, refl}
 use lib.ListN.{length}
-use Rattle.runs.specs.RunLaws.{Runnable, run-next}
+use Rattle.course.specs.RunLaws.{Runnable, run-next}
 use Rattle.pieces.specs.Pieces.{untilEvent}
 use Rattle.pieces.specs.PieceLaws.{run-first, run-ready, run-clock, plus, stretch-first, stretch-on, stretch-hit, stretch-end}
 use Rattle.pieces.proofs.until_event.Statement.{statement}

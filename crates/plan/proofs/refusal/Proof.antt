@@ -1,5 +1,5 @@
 -- `plan::refusal` meets its contract. Assumes nothing.
-use Rattle.runs.specs.RunLaws.{clock-within}
+use Rattle.course.specs.RunLaws.{clock-within}
 use native.Mathlib.Omega.{arith}
 use Rattle.pieces.specs.PieceLaws.{refusal-area, refusal-clock, refusal-room, refusal-offer, refusal-none}
 use borrow.Author.Needs.{needs}

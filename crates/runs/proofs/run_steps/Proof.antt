@@ -4,13 +4,13 @@ use native.Mathlib.Omega.{arith}
 use Prim.Native.Nat.{_≤_, _-_, _*_}
 use mathlib.Core.Path.{_≡_, refl}
 use lib.ListN.{length}
-use Rattle.runs.specs.declared.Ended.the-variants.{All}
-use Rattle.runs.specs.Run.{runOf}
+use Rattle.course.specs.declared.Ended.the-variants.{All}
+use Rattle.course.specs.Run.{runOf}
 use Rattle.tally.specs.TallyLaws.{Bounded, zero-bounded}
-use Rattle.runs.specs.RunLaws.{run-zero, run-end}
+use Rattle.course.specs.RunLaws.{run-zero, run-end}
 use Rattle.runs.specs.OnLaws.{OnCourse, course-first, course-few, course-plain, NoneLate, none-late-first, none-late-more}
 use Rattle.runs.specs.Still.{idle-run}
-use Rattle.window.specs.Window.{Reaches}
+use Rattle.order.specs.Window.{Reaches}
 use Rattle.runs.specs.Windows.{advanced-some, advanced-course, advanced-bounded, advanced-reaches, advanced-on, advanced-searched, advanced-late, course-room, runnable-few, runnable-spread}
 use Rattle.runs.proofs.run_steps.Statement.{statement}
 use Rattle.runs.proofs.run_steps.Tie as tie

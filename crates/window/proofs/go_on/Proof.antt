@@ -5,9 +5,9 @@ use Prim.Native.Nat.{_≤_, _+_, _*_, _-_}
 use mathlib.Core.Path.{_≡_, refl}
 use lib.ListN.{length}
 use Rattle.tally.specs.TallyLaws.{Bounded}
-use Rattle.window.specs.Order.{along}
-use Rattle.window.specs.Window.{windowTurn}
-use Rattle.window.specs.Going.{own-along, along-none, along-more, along-end, bounded-more}
+use Rattle.order.specs.Order.{along}
+use Rattle.order.specs.Window.{windowTurn}
+use Rattle.order.specs.Going.{own-along, along-none, along-more, along-end, bounded-more}
 use Rattle.window.proofs.go_on.Statement.{statement}
 use Rattle.window.proofs.go_on.Tie as tie
 

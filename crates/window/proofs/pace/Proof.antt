@@ -1,7 +1,7 @@
 -- `window::pace` meets its contract. Assumes nothing.
 use native.Mathlib.Omega.{arith}
 use borrow.Author.Needs.{needs}
-use Rattle.window.specs.Going.{own-fine, own-able, own-plain, still-own, still-along, silently-along, bounded-more}
+use Rattle.order.specs.Going.{own-fine, own-able, own-plain, still-own, still-along, silently-along, bounded-more}
 use Rattle.window.proofs.pace.Statement.{statement}
 use Rattle.window.proofs.pace.Tie as tie
 

@@ -1,7 +1,7 @@
 -- `window::take` meets its contract. Assumes nothing.
-use Rattle.window.specs.Going.{bounded-more, counted-bounded}
+use Rattle.order.specs.Going.{bounded-more, counted-bounded}
 use native.Mathlib.Omega.{arith}
-use Rattle.window.specs.Going.{played-taken, played-left, left-able}
+use Rattle.order.specs.Going.{played-taken, played-left, left-able}
 use borrow.Author.Needs.{needs}
 use Rattle.window.proofs.take.Statement.{statement}
 use Rattle.window.proofs.take.Tie as tie

@@ -5,9 +5,9 @@ use Prim.Native.Nat.{_≤_, _+_, _*_, _-_}
 use mathlib.Core.Path.{_≡_, refl}
 use lib.ListN.{length}
 use Rattle.tally.specs.TallyLaws.{Bounded}
-use Rattle.window.specs.Order.{stationwise}
-use Rattle.window.specs.Window.{windowTurn}
-use Rattle.window.specs.Going.{open-own, stationwise-none, stationwise-more, stationwise-end, bounded-more}
+use Rattle.order.specs.Order.{stationwise}
+use Rattle.order.specs.Window.{windowTurn}
+use Rattle.order.specs.Going.{open-own, stationwise-none, stationwise-more, stationwise-end, bounded-more}
 use Rattle.window.proofs.together.Statement.{statement}
 use Rattle.window.proofs.together.Tie as tie
 

@@ -1,6 +1,6 @@
 -- `window::turn_on` meets its contract. Assumes nothing.
 use native.Mathlib.Omega.{arith}
-use Rattle.window.specs.Going.{counted-is, has-late-is}
+use Rattle.order.specs.Going.{counted-is, has-late-is}
 use Rattle.tally.specs.TallyLaws.{sent-bounded}
 use borrow.Author.Needs.{needs}
 use Rattle.window.proofs.turn_on.Statement.{statement}

@@ -1,0 +1,4 @@
+pub mod Calls
+pub mod Numbers
+pub mod CallLaws
+pub mod CallTheorems

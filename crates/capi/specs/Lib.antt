@@ -1,4 +1,0 @@
-pub mod Capi
-pub mod Numbers
-pub mod CallLaws
-pub mod CapiTheorems

@@ -1,0 +1,127 @@
+// The turn of one station, in place: it acts on what it hears, its symbol goes to every other, its record and counters are written.
+
+use layout::Figures;
+use packet::Heard;
+use pair::Act;
+use pair::Events;
+use receiver::ReceiveEvent;
+use receiver::Stored;
+use station::Stepped;
+use transmitter::TransmitEvent;
+ghost use mathlib.Core.Path.{_≡_};
+ghost use Prim.Native.Nat.{_<_, _≤_};
+ghost use lib.ListN.{length};
+ghost use Rattle.pair.specs.BitTime.{happened, withStored, withCounted, placed, settled, isTransmit, isReceive, actIn, turnIn, eventsOf};
+ghost use Rattle.pair.specs.InPlace.{Kept};
+ghost use Rattle.pair.specs.Ready.{Able};
+
+// A collected bit is kept.
+fn keep_bit(area: &mut [u8], i: usize, stored: Stored)
+    requires { ⌜ (i < 16) × (57344 ≤ length (now area)) × Kept stored ⌝ }
+    ensures { λ r. ⌜ now (area .exit) ≡ withStored i stored (now (area .entry)) ⌝ }
+{
+    match stored {
+        Stored::NoStore => {}
+        Stored::Store { bit, one } => {
+            buffers::store_bit(area, i, bit as usize, one);
+        }
+    }
+}
+
+pub fn is_transmit(e: TransmitEvent) -> bool
+    ensures { λ r. ⌜ r ≡ isTransmit e ⌝ }
+{
+    match e {
+        TransmitEvent::NoTransmit => false,
+        TransmitEvent::Collision(_) => true,
+        TransmitEvent::Late(_) => true,
+        TransmitEvent::Sent(_) => true,
+        TransmitEvent::GivenUp(_) => true,
+    }
+}
+
+pub fn is_receive(e: ReceiveEvent) -> bool
+    ensures { λ r. ⌜ r ≡ isReceive e ⌝ }
+{
+    match e {
+        ReceiveEvent::NoReceive => false,
+        ReceiveEvent::GotOk(_) => true,
+        ReceiveEvent::GotTooLong(_) => true,
+        ReceiveEvent::GotAlignment(_) => true,
+        ReceiveEvent::GotCheck(_) => true,
+        ReceiveEvent::GotLength(_) => true,
+    }
+}
+
+// Whether a step has anything to count.
+fn has_happened(o: Stepped) -> bool
+    ensures { λ r. ⌜ r ≡ happened o ⌝ }
+{
+    let sent = o.sent;
+    let got = o.got;
+    octets::either(o.start, octets::either(is_transmit(sent), is_receive(got)))
+}
+
+fn count_step(area: &mut [u8], i: usize, o: Stepped)
+    requires { ⌜ (i < 16) × (57344 ≤ length (now area)) ⌝ }
+    ensures { λ r. ⌜ now (area .exit) ≡ withCounted i o (now (area .entry)) ⌝ }
+{
+    if has_happened(o) {
+        let c = area::read_counters(area, i);
+        let next = counters::count(c, o);
+        area::write_counters(area, i, next);
+    }
+}
+
+// Station i is what its step t made of it: its record, its counters, the bit it collected; what reached it is taken from its line.
+fn place(area: &mut [u8], t: usize, i: usize, o: Stepped)
+    requires { ⌜ (i < 16) × (57344 ≤ length (now area)) × Kept (o .stored) ⌝ }
+    ensures { λ r. ⌜ now (area .exit) ≡ placed t i o (now (area .entry)) ⌝ }
+{
+    let next = o.station;
+    let stored = o.stored;
+    area::write_station(area, i, next);
+    count_step(area, i, o);
+    keep_bit(area, i, stored);
+    delay::put_arrival(area, i, t, Heard::Nothing);
+}
+
+fn settle(area: &mut [u8], n: usize, t: usize, i: usize, a: Act)
+    requires { ⌜ (i < 16) × (n ≤ 16) × (t < 4294967296) × (57344 ≤ length (now area)) × Kept (a .outcome .stored) ⌝ }
+    ensures { λ r. ⌜ now (area .exit) ≡ settled n t i a (now (area .entry)) ⌝ }
+{
+    let o = a.outcome;
+    let s = a.symbol;
+    place(area, t, i, o);
+    medium::push(area, n, t, i, s);
+}
+
+// What station i does in step t, from the area as it stands.
+fn acts(area: &[u8], depth: u32, t: usize, f: Figures, i: usize) -> Act
+    requires { ⌜ (i < 16) × (57344 ≤ length (now area)) × Able f (now area) i ⌝ }
+    ensures { λ r. ⌜ r ≡ actIn f depth t (now (area .entry)) i ⌝ }
+{
+    let s = area::read_station(area, i);
+    let h = delay::arrival(area, i, t);
+    let draw = area::read_draw(area, i, s.draw as usize);
+    let transmitter = s.transmitter;
+    let size = transmitter::octets_held(transmitter, s.frame) as usize;
+    let outcome = stepping::step(f, s, depth, draw, buffers::buffer(area, i), h);
+    let emission = outcome.emission;
+    let symbol = buffers::symbol(area, i, size, emission);
+    Act { outcome, symbol }
+}
+
+// Station i's turn in step t: it acts from the area as the stations before it have left it.
+pub fn turn(area: &mut [u8], n: usize, depth: u32, t: usize, f: Figures, i: usize) -> Events
+    requires { ⌜ (i < 16) × (n ≤ 16) × (t < 4294967296) × (57344 ≤ length (now area)) × Able f (now area) i ⌝ }
+    ensures area { λ r. ⌜ now (area .exit) ≡ turnIn f depth n t i (now (area .entry)) ⌝ }
+    ensures events { λ r. ⌜ r ≡ eventsOf (actIn f depth t (now (area .entry)) i) ⌝ }
+{
+    let a = acts(area, depth, t, f, i);
+    let o = a.outcome;
+    settle(area, n, t, i, a);
+    let sent = o.sent;
+    let got = o.got;
+    Events { sent, got }
+}
