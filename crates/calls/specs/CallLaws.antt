@@ -33,13 +33,12 @@ use Rattle.start.specs.Start.{started}
 use Rattle.offer.specs.Offer.{offered}
 use Rattle.bus.specs.Step.{Bit, bitTimeOutcome, unstepped, steppedOnce}
 use Rattle.bus.specs.Counters.{Reading as Counted, countersReading, countersRead}
-use Rattle.course.specs.declared.Ended.{Ended}
-use Rattle.course.specs.declared.Ended.the-variants as how
 use Rattle.course.specs.declared.RunAnswer.{RunAnswer}
 use Rattle.course.specs.Run.{lateAt, tallied, Ran, runOf, runOutcome, unrun, ran}
 use Rattle.reading.specs.Read.{frameRead}
 use Rattle.answers.specs.Answers.{replied, valueOf, layoutPut, clientWords, eventsPut}
-use Rattle.calls.specs.Calls.{codeOf, given, left, codeGiven, unless, kept, bothKept, short, sheetGiven, fitsGiven, buildGiven, statusGiven, clientGiven, drawsRefusal, drawnGiven, startGiven, offerGiven, stepLeft, endedWords, runPut, runLeft, timeRefusal, frameGiven, countersGiven}
+use Rattle.tables.specs.RunWords.{runPut}
+use Rattle.calls.specs.Calls.{codeOf, given, left, codeGiven, unless, kept, bothKept, short, sheetGiven, fitsGiven, buildGiven, statusGiven, clientGiven, drawsRefusal, drawnGiven, startGiven, offerGiven, stepLeft, runLeft, timeRefusal, frameGiven, countersGiven}
 use Rattle.calls.specs.Numbers.{sheet-low, sheet-few, fit-low, open-low, open-small, build-low, build-small, start-low, offer-low, time-low, frame-low, counters-low}
 
 -- ---- a refusal that stands, and one that does not
@@ -383,16 +382,3 @@ module _ (a : List ℕ) (i : ℕ) (c : Counters) (n : ℕ) (q : n ≡ doneAnswer
   counters-made out o p h z =
       rw (p, ap (λ (y : Counted). y .words) e)
       (passes-long 64 out (kept out) _ h ∙ passes (countersRead a i .answer .number) 0 0 (kept out) _ (counted-is ∙ z))
-
--- ---- how a run ended
-
-pub ended-late : (e : Ended) (t i : ℕ) → e ≡ how.Late t i → 1 ∷ t ∷ i ∷ [] ≡ endedWords e
-ended-late e t i p = rw p
-
-length-ended : (e : Ended) → length (endedWords e) ≡ 3
-length-ended how.All = refl
-length-ended (how.Late t i) = refl
-
-pub run-put : (a b x ws vs : List ℕ) (e : Ended) → b ≡ putWords (length vs) x 36 vs → x ≡ putWords (length ws) a 0 ws → vs ≡ endedWords e → length ws ≡ 9 → b ≡ runPut ws e a
-unfolding runPut
-run-put a b x ws vs e p q r h = p ∙ rw (q, r, length-ended e, h)

@@ -32,7 +32,8 @@ use Rattle.course.specs.Run.{lateAt, tallied, runOf, ran}
 use Rattle.reading.specs.Read.{isReadable, frameRead}
 use Rattle.reading.specs.ReadLaws.{read-room}
 use Rattle.answers.specs.Answers.{refusalBit, replied, valueOf, layoutPut, clientWords, eventsPut}
-use Rattle.calls.specs.Calls.{Given, given, Left, left, codeGiven, unless, kept, bothKept, short, sheetGiven, buildGiven, clientGiven, drawsRefusal, drawnGiven, startGiven, offerGiven, stepLeft, runPut, runLeft, frameGiven, countersGiven}
+use Rattle.tables.specs.RunWords.{runPut}
+use Rattle.calls.specs.Calls.{Given, given, Left, left, codeGiven, unless, kept, bothKept, short, sheetGiven, buildGiven, clientGiven, drawsRefusal, drawnGiven, startGiven, offerGiven, stepLeft, runLeft, frameGiven, countersGiven}
 use Rattle.calls.specs.Numbers.{sheet-small, build-size}
 
 -- a call that was lent l and gives x: where its reply has bit 31, l is as it was

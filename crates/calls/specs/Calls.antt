@@ -22,11 +22,10 @@ use Rattle.start.specs.Start.{started}
 use Rattle.offer.specs.Offer.{offered}
 use Rattle.bus.specs.Step.{steppedOnce}
 use Rattle.bus.specs.Counters.{countersRead}
-use Rattle.course.specs.declared.Ended.{Ended}
-use Rattle.course.specs.declared.Ended.the-variants as how
 use Rattle.course.specs.Run.{ran}
 use Rattle.reading.specs.Read.{frameRead}
 use Rattle.answers.specs.Answers.{replied, valueOf, layoutPut, clientWords, eventsPut}
+use Rattle.tables.specs.RunWords.{runPut}
 
 -- ---- the number that a call returns
 
@@ -134,15 +133,6 @@ stepLeft a out =
     unless (steppedOnce a .answer .number) (bothKept a out)
     (unless (short 256 out) (bothKept a out)
     (left 0 (steppedOnce a .octets) (eventsPut (steppedOnce a .events) 16 out)))
-
--- 0 where all steps were made; where the run ended early 1, the step and the station of the late collision
-abbrev pub endedWords : Ended → List ℕ
-endedWords how.All = 0 ∷ 0 ∷ 0 ∷ []
-endedWords (how.Late t i) = 1 ∷ t ∷ i ∷ []
-
--- the nine words of a run, and how it ended
-unfoldable pub runPut : List ℕ → Ended → List ℕ → List ℕ
-runPut ws e out = putWords 3 (putWords 9 out 0 ws) 36 (endedWords e)
 
 -- a run of n bit times answers the steps made; refusals 1, 2, 13, and after them 15, with the area as it was
 unfoldable pub runLeft : (area : List ℕ) (n : ℕ) (out : List ℕ) → Left

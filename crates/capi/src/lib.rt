@@ -2,12 +2,10 @@
 // refusal n, anything below is the answer (crc32: all 32 bits). With a refusal every lent slice keeps what it held. What is written into
 // `out` is said at each function of wisavulome.h, in words of four octets, high octet first; octets past what is written stay.
 
-use course::Ended;
 ghost use mathlib.Core.Path.{_≡_};
-ghost use Prim.Native.Nat.{_<_, _≤_};
-ghost use lib.ListN.{length};
+ghost use Prim.Native.Nat.{_<_};
 ghost use Rattle.crc32.specs.Crc.{crcOf};
-ghost use Rattle.calls.specs.Calls.{given, left, sheetGiven, fitsGiven, buildGiven, statusGiven, clientGiven, startGiven, offerGiven, stepLeft, runLeft, endedWords, runPut, frameGiven, countersGiven};
+ghost use Rattle.calls.specs.Calls.{given, left, sheetGiven, fitsGiven, buildGiven, statusGiven, clientGiven, startGiven, offerGiven, stepLeft, runLeft, frameGiven, countersGiven};
 
 // Reads a sheet: the octets used. Refusals 3 to 8, 15.
 #[no_mangle]
@@ -85,26 +83,6 @@ pub extern "C" fn wisavulome_step(area: &mut [u8], out: &mut [u8]) -> u32
     calls::step(area, out)
 }
 
-// How a run ended as three words: whether early, and the step and station of the late collision.
-fn ended_words(e: Ended) -> [u32; 3]
-    ensures { λ r. ⌜ r ≡ endedWords e ⌝ }
-{
-    match e {
-        Ended::All => [0, 0, 0],
-        Ended::Late { step, station } => [1, step, station],
-    }
-}
-
-// The nine words of a run, and how it ended.
-fn write_run(out: &mut [u8], words: [u32; 9], ended: Ended)
-    requires { ⌜ 48 ≤ length (now out) ⌝ }
-    ensures { λ r. ⌜ now (out .exit) ≡ runPut words ended (now (out .entry)) ⌝ }
-{
-    let last = ended_words(ended);
-    words::store_words(out, 0, &words);
-    words::store_words(out, 36, &last);
-}
-
 // A run of n bit times: the steps made, and how many events of each word came. Refusals 1, 2, 13, 15.
 #[no_mangle]
 pub extern "C" fn wisavulome_run(area: &mut [u8], n: u32, out: &mut [u8]) -> u32
@@ -121,7 +99,7 @@ pub extern "C" fn wisavulome_run(area: &mut [u8], n: u32, out: &mut [u8]) -> u32
     }
     let words = a.words;
     let ended = a.ended;
-    write_run(out, words, ended);
+    tables::write_run(out, words, ended);
     a.steps
 }
 

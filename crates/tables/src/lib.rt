@@ -1,6 +1,7 @@
 // What the calls write into the output that is lent to them. All numbers are high octet first.
 
 use answers::numbers;
+use course::Ended;
 use layout::Layout;
 use layout::Tap;
 use pair::Events;
@@ -9,6 +10,7 @@ ghost use Prim.Native.Nat.{_+_, _*_, _<_, _≤_};
 ghost use lib.ListN.{length};
 ghost use Rattle.octets.specs.Words.{putWords};
 ghost use Rattle.answers.specs.Answers.{layoutWords, tapPut, tapsPut, layoutPut, eventsPut};
+ghost use Rattle.tables.specs.RunWords.{endedWords, runPut};
 
 // Slot, gap1, gap2, jam, attempt limit, backoff limit, N, and whether the layout fits.
 fn layout_words(y: Layout) -> [u32; 8]
@@ -80,4 +82,24 @@ pub fn write_counters(out: &mut [u8], words: [u32; 16])
     ensures { λ r. ⌜ now (out .exit) ≡ putWords 16 (now (out .entry)) 0 words ⌝ }
 {
     words::store_words(out, 0, &words);
+}
+
+// How a run ended as three words: whether early, and the step and station of the late collision.
+fn ended_words(e: Ended) -> [u32; 3]
+    ensures { λ r. ⌜ r ≡ endedWords e ⌝ }
+{
+    match e {
+        Ended::All => [0, 0, 0],
+        Ended::Late { step, station } => [1, step, station],
+    }
+}
+
+// The nine words of a run, and how it ended.
+pub fn write_run(out: &mut [u8], words: [u32; 9], ended: Ended)
+    requires { ⌜ 48 ≤ length (now out) ⌝ }
+    ensures { λ r. ⌜ now (out .exit) ≡ runPut words ended (now (out .entry)) ⌝ }
+{
+    let last = ended_words(ended);
+    words::store_words(out, 0, &words);
+    words::store_words(out, 36, &last);
 }

@@ -1,8 +1,8 @@
--- `capi::write_run` meets its contract. Assumes nothing.
-use Rattle.calls.specs.CallLaws.{run-put}
+-- `tables::write_run` meets its contract. Assumes nothing.
+use Rattle.tables.specs.RunWords.{run-put}
 use borrow.Author.Needs.{needs}
-use Rattle.capi.proofs.write_run.Statement.{statement}
-use Rattle.capi.proofs.write_run.Tie as tie
+use Rattle.tables.proofs.write_run.Statement.{statement}
+use Rattle.tables.proofs.write_run.Tie as tie
 
 ended-words-requires : tie.Need-ended-words-requires
 ended-words-requires c κs = search needs

@@ -1,8 +1,8 @@
--- `capi::ended_words` meets its contract. Assumes nothing.
-use Rattle.calls.specs.CallLaws.{ended-late}
+-- `tables::ended_words` meets its contract. Assumes nothing.
+use Rattle.tables.specs.RunWords.{ended-late}
 use borrow.Author.Needs.{needs}
-use Rattle.capi.proofs.ended_words.Statement.{statement}
-use Rattle.capi.proofs.ended_words.Tie as tie
+use Rattle.tables.proofs.ended_words.Statement.{statement}
+use Rattle.tables.proofs.ended_words.Tie as tie
 
 enum-told : tie.Need-enum-told
 enum-told c = search needs
