@@ -1,10 +1,10 @@
--- `worked::sheets::print_lines` meets its contract. Assumes nothing.
+-- `vectors::script::run_lines` meets its contract. Assumes nothing.
 use borrow.Author.Needs.{needs}
 use Prim.Native.Nat.{_≤_, _-_, _+_}
 use mathlib.Core.Path.{_≡_}
 use lib.ListN.{length}
-use Rattle.worked.proofs.sheets.print_lines.Statement.{statement}
-use Rattle.worked.proofs.sheets.print_lines.Tie as tie
+use Rattle.vectors.proofs.script.run_lines.Statement.{statement}
+use Rattle.vectors.proofs.script.run_lines.Tie as tie
 
 abbrev Inv-loop : tie.InvT-loop
 Inv-loop text area₀ at₀ area at = (at ≤ length text + 1) × (length area ≡ 57344)
@@ -18,20 +18,20 @@ loop-holds c = search needs
 find-requires : tie.Need-find-requires Inv-loop μ-loop
 find-requires c κs = search needs
 
-slice-aggregate-print-line : tie.Need-slice-aggregate-print-line Inv-loop μ-loop
-slice-aggregate-print-line c = search needs
+slice-aggregate-run-one : tie.Need-slice-aggregate-run-one Inv-loop μ-loop
+slice-aggregate-run-one c = search needs
 
-sub-print-line : tie.Need-sub-print-line Inv-loop μ-loop
-sub-print-line c = search needs
+sub-run-one : tie.Need-sub-run-one Inv-loop μ-loop
+sub-run-one c = search needs
 
-part-print-line-start : tie.Need-part-print-line-start Inv-loop μ-loop
-part-print-line-start c = search needs
+part-run-one-start : tie.Need-part-run-one-start Inv-loop μ-loop
+part-run-one-start c = search needs
 
-part-print-line-end : tie.Need-part-print-line-end Inv-loop μ-loop
-part-print-line-end c = search needs
+part-run-one-end : tie.Need-part-run-one-end Inv-loop μ-loop
+part-run-one-end c = search needs
 
-print-line-requires : tie.Need-print-line-requires Inv-loop μ-loop
-print-line-requires c κs = search needs
+run-one-requires : tie.Need-run-one-requires Inv-loop μ-loop
+run-one-requires c κs = search needs
 
 add-at : tie.Need-add-at Inv-loop μ-loop
 add-at c = search needs
@@ -45,19 +45,19 @@ loop-again c = search needs
 returns : tie.Need-returns Inv-loop μ-loop
 returns c = search needs
 
-pub print-lines-spec : {M : Type 1} → statement M
-print-lines-spec =
+pub run-lines-spec : {M : Type 1} → statement M
+run-lines-spec =
     tie.close
     (tie.spec
     Inv-loop
     μ-loop
     loop-holds
     find-requires
-    slice-aggregate-print-line
-    sub-print-line
-    part-print-line-start
-    part-print-line-end
-    print-line-requires
+    slice-aggregate-run-one
+    sub-run-one
+    part-run-one-start
+    part-run-one-end
+    run-one-requires
     add-at
     loop-less
     loop-again

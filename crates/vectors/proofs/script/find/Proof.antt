@@ -1,9 +1,9 @@
--- `worked::sheets::find` meets its contract. Assumes nothing.
+-- `vectors::script::find` meets its contract. Assumes nothing.
 use borrow.Author.Needs.{needs}
 use Prim.Native.Nat.{_≤_, _-_}
 use lib.ListN.{length}
-use Rattle.worked.proofs.sheets.find.Statement.{statement}
-use Rattle.worked.proofs.sheets.find.Tie as tie
+use Rattle.vectors.proofs.script.find.Statement.{statement}
+use Rattle.vectors.proofs.script.find.Tie as tie
 
 abbrev Inv-loop : tie.InvT-loop
 Inv-loop s at mark i₀ i = (at ≤ i) × (i ≤ length s)

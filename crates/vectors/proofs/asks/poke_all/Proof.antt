@@ -1,11 +1,11 @@
--- `worked::steps::poke_all` meets its contract. Assumes nothing.
+-- `vectors::asks::poke_all` meets its contract. Assumes nothing.
 use borrow.Author.Needs.{needs}
 use native.Mathlib.Omega.{arith}
 use Prim.Native.Nat.{_≤_, _-_, _/_}
 use mathlib.Core.Path.{_≡_, refl}
 use lib.ListN.{length}
-use Rattle.worked.proofs.steps.poke_all.Statement.{statement}
-use Rattle.worked.proofs.steps.poke_all.Tie as tie
+use Rattle.vectors.proofs.asks.poke_all.Statement.{statement}
+use Rattle.vectors.proofs.asks.poke_all.Tie as tie
 
 abbrev Inv-loop : tie.InvT-loop
 Inv-loop area₀ words n k₀ area k = (k ≤ length words / 8) × (length area ≡ length area₀)

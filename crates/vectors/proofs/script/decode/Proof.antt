@@ -1,11 +1,11 @@
--- `worked::sheets::decode` meets its contract. Assumes nothing.
+-- `vectors::script::decode` meets its contract. Assumes nothing.
 use native.Mathlib.Omega.{arith}
 use borrow.Author.Needs.{needs}
 use Prim.Native.Nat.{_≤_, _-_, _/_}
 use mathlib.Core.Path.{_≡_}
 use lib.ListN.{length, length-set}
-use Rattle.worked.proofs.sheets.decode.Statement.{statement}
-use Rattle.worked.proofs.sheets.decode.Tie as tie
+use Rattle.vectors.proofs.script.decode.Statement.{statement}
+use Rattle.vectors.proofs.script.decode.Tie as tie
 
 abbrev Inv-loop : tie.InvT-loop
 Inv-loop line out₀ n i₀ out i = (i ≤ length line / 2) × (i ≤ length out) × (length out ≡ length out₀)
