@@ -65,7 +65,7 @@ pub record Wrote (i : ℕ) (x y w : List ℕ) : Type 0 where
   pub words : recordAt y i ≡ w
   pub octets : Octets y
 
-spelled-octet : (w v k : ℕ) → k < w → getD (spelled w v) k 0 < 256
+pub spelled-octet : (w v k : ℕ) → k < w → getD (spelled w v) k 0 < 256
 unfolding spelled
 spelled-octet zero v k h = absurd (omega arith)
 spelled-octet (suc w) v k h =

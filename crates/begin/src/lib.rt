@@ -61,7 +61,7 @@ fn start_piece(input: &[u8], area: &mut [u8], out: &mut [u8], p: Plan) -> Handed
     ensures { λ r. ⌜ handing r (now (area .exit)) (now (out .exit)) ≡ given (now (out .entry)) (startPiece (now (input .entry)) (planReading p) (now (area .entry))) ⌝ }
 {
     let y = p.layout;
-    let draws = input::read_draws(input, p.drawn, y.count as usize, p.depth as usize);
+    let draws = draws::read_draws(input, p.drawn, y.count as usize, p.depth as usize);
     start::write_fresh(area, y, p.depth, draws);
     let end = put_heading(out, y);
     Handed {

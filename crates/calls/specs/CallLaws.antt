@@ -17,7 +17,7 @@ use Rattle.layout.specs.declared.Fit.{Fit}
 use Rattle.layout.specs.Fit.{fitAnswer, fitOf}
 use Rattle.sheet.specs.declared.Sheet.{Sheet}
 use Rattle.sheet.specs.Sheet.{Reading, readSheet, sheetAnswer, sheetReading}
-use Rattle.input.specs.Plan.{drawsIn}
+use Rattle.draws.specs.Draws.{drawsIn}
 use Rattle.frame.specs.declared.builder.Built.{Built}
 use Rattle.opener.specs.declared.ReceiveStatus.{ReceiveStatus}
 use Rattle.frame.specs.Build.{built, builtAnswer}

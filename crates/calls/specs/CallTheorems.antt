@@ -16,7 +16,7 @@ use Rattle.octets.specs.Words.{putWords}
 use Rattle.layout.specs.declared.Layout.{Layout}
 use Rattle.layout.specs.Check.{refusalOf}
 use Rattle.sheet.specs.Sheet.{readSheet}
-use Rattle.input.specs.Plan.{drawsIn}
+use Rattle.draws.specs.Draws.{drawsIn}
 use Rattle.frame.specs.Limits.{maxFrame, refusesData}
 use Rattle.frame.specs.Build.{frameOf, built}
 use Rattle.opener.specs.Open.{valueOf as lengthType, dataField, checkWrong, checkError, lengthWrong, unpadded, opened}

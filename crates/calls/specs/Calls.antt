@@ -12,7 +12,7 @@ use Rattle.octets.specs.Words.{putWords}
 use Rattle.layout.specs.declared.Layout.{Layout}
 use Rattle.layout.specs.Fit.{fitOf}
 use Rattle.sheet.specs.Sheet.{readSheet}
-use Rattle.input.specs.Plan.{drawsIn}
+use Rattle.draws.specs.Draws.{drawsIn}
 use Rattle.opener.specs.Open.{opened}
 use Rattle.frame.specs.Build.{built}
 use Rattle.area.specs.Places.{areaSize}

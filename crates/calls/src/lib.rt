@@ -25,7 +25,7 @@ fn start_drawn(area: &mut [u8], y: Layout, depth: u32, draws: &[u8]) -> u32
     if draws.len() != 2 * (n * d) {
         return answers::numbers::reply(9, 0);
     }
-    let rows = input::read_draws(draws, 0, n, d);
+    let rows = draws::read_draws(draws, 0, n, d);
     let done = start::start(area, y, depth, rows);
     answers::numbers::reply(answers::numbers::done_number(done), 0)
 }

@@ -10,7 +10,8 @@ use Rattle.octets.specs.Filled.{listed, filled}
 use Rattle.layout.specs.Layout.{tapAt, gapOf, spanOf}
 use Rattle.layout.specs.Check.{gap1Out, figuresOut, addressWrong, refusalOf}
 use Rattle.sheet.specs.Sheet.{fieldAt, field, figuresIn, tapIn, layoutIn, sheetSize, readSheet}
-use Rattle.input.specs.Plan.{offerPlace, drawsWrong, timeBefore, offersWrong, planWrong, lastRefusal, afterSheet, planRefusal, Planned, blankRow, drawIn, rowIn, drawsIn, planRead}
+use Rattle.draws.specs.Draws.{blankRow, drawIn, rowIn, drawsIn}
+use Rattle.input.specs.Plan.{offerPlace, drawsWrong, timeBefore, offersWrong, planWrong, lastRefusal, afterSheet, planRefusal, Planned, planRead}
 
 sheet : List ℕ
 sheet = 0 ∷ 2 ∷ 0 ∷ 2 ∷ 0 ∷ 0 ∷ 0 ∷ 0 ∷ 1 ∷ 10 ∷ 2 ∷ 0 ∷ 0 ∷ 0 ∷ 0 ∷ 2 ∷ []

@@ -4,11 +4,10 @@ use Prim.Native.Nat.{ℕ, zero, suc, _+_, _*_}
 use mathlib.Core.Bool.{Bool, _||_, not}
 use mathlib.Core.List.{List, []}
 use lib.Dec.{ltb, eqb}
-use lib.ListN.{length, getD, replicate}
+use lib.ListN.{length, getD}
 use Rattle.octets.specs.Base.{pick, some, outside, Answer, refused, accepted}
 use Rattle.octets.specs.Number.{get}
 use Rattle.octets.specs.Store.{part}
-use Rattle.octets.specs.Filled.{filled}
 use Rattle.layout.specs.declared.Layout.{Layout}
 use Rattle.layout.specs.Layout.{blankLayout}
 use Rattle.sheet.specs.Sheet.{countIn, layoutIn, sheetSize, readSheet}
@@ -17,30 +16,11 @@ use Rattle.input.specs.declared.Verdict.the-variants.{Refused, Whole}
 use Rattle.input.specs.declared.Plan.{Plan}
 use Rattle.input.specs.declared.Offered.{Offered}
 
--- ---- D and the draws
+-- ---- D; the draws are in `draws`
 
 -- "sheet; D": D, where it stands at u, just after the sheet
 abbrev pub depthIn : List ℕ → (u : ℕ) → ℕ
 depthIn l u = getD l u 0
-
--- "N × D draws (2 octets)", station by station: where station i's d draws begin, of those from octet `at` on
-abbrev pub rowPlace : (at d i : ℕ) → ℕ
-rowPlace at d i = at + 2 * (i * d)
-
--- draw k of the row that begins at `at`
-unfoldable pub drawIn : List ℕ → (at k : ℕ) → ℕ
-drawIn l at k = get 2 l (at + 2 * k)
-
--- the d draws that begin at `at`, in sixteen places, and zeros after them
-unfoldable pub rowIn : List ℕ → (at d : ℕ) → List ℕ
-rowIn l at d = filled 0 (drawIn l at) d
-
-abbrev pub blankRow : List ℕ
-blankRow = replicate 16 0
-
--- the rows of n stations from octet `at` on, in sixteen places, and blank rows after them
-unfoldable pub drawsIn : List ℕ → (at n d : ℕ) → List (List ℕ)
-drawsIn l at n d = filled blankRow (λ i. rowIn l (rowPlace at d i) d) n
 
 -- ---- the offers
 

@@ -3,61 +3,23 @@ use Prim.Native.Nat.{ℕ, zero, suc, _+_, _-_, _*_, _≤_, _<_}
 use mathlib.Core.Path.{_≡_, refl, sym, _∙_, ap, ap₂}
 use mathlib.Core.Bool.{Bool, true, false, _||_, not, or-true}
 use mathlib.Core.List.{List, [], _∷_}
-use native.Mathlib.Nat.{suc-mul, mul-le-mul, mul-le-mul-right}
+use native.Mathlib.Nat.{mul-le-mul}
 use native.Mathlib.Numerals.{add-one}
 use native.Mathlib.Omega.{arith}
 use borrow.Author.Tests.{lt-ltb, le-ltb, eq-eqb, ne-eqb, ltb-false, eqb-true, eqb-false}
 use lib.Dec.{ltb, eqb}
-use lib.ListN.{length, getD, set, replicate, take, drop}
+use lib.ListN.{length, getD, take, drop}
 use Rattle.octets.specs.Base.{pick, some, outside, Answer, refused, accepted}
 use Rattle.octets.specs.BaseLaws.{neither, some-more, some-hit, within}
 use Rattle.octets.specs.Number.{get}
 use Rattle.octets.specs.Store.{part}
-use Rattle.octets.specs.Filled.{filled-none, filled-more}
 use Rattle.layout.specs.declared.Layout.{Layout}
 use Rattle.layout.specs.Check.{refusalOf}
 use Rattle.sheet.specs.declared.Sheet.{Sheet}
 use Rattle.sheet.specs.declared.SheetRead.the-variants as sheets
 use Rattle.sheet.specs.Sheet.{mapOf, stands, layoutIn, sheetSize, Reading, unread, readSheet, sheetAnswer, sheetReading}
 use Rattle.sheet.specs.SheetTheorems.{Read, read-sound}
-use Rattle.input.specs.Plan.{rowPlace, drawIn, rowIn, blankRow, drawsIn, offersIn, offerData, offerIn, offerPlace, timesPlace, timesIn, drawsWrong, timeBefore, timeFalls, offersWrong, planWrong, lastRefusal, afterSheet, sheetRefusal, planRefusal, Planned, unplanned, wholeOf, wholeFrom, unless, planRead}
-
--- ---- the draws
-
-pub row-none : (l : List ℕ) (at : ℕ) → replicate 16 0 ≡ rowIn l at 0
-unfolding rowIn
-row-none l at = filled-none 0 (drawIn l at)
-
-pub row-more : (l : List ℕ) (at k d : ℕ) (row : List ℕ) (v : ℕ) → v ≡ get 2 l (at + 2 * k) → k < d → d ≤ 16 → row ≡ rowIn l at k → set row k v ≡ rowIn l at (k + 1)
-unfolding rowIn drawIn
-row-more l at k d row v p h g q = filled-more 0 (drawIn l at) k d row v p h g q
-
-pub row-end : (l : List ℕ) (at d k : ℕ) (row : List ℕ) → k ≤ d → d ≤ k → row ≡ rowIn l at k → row ≡ rowIn l at d
-row-end l at d k row p q r = let e : k ≡ d = omega arith in rw e at r
-
-pub draws-none : (l : List ℕ) (at d : ℕ) → replicate 16 (replicate 16 0) ≡ drawsIn l at 0 d
-unfolding drawsIn
-draws-none l at d = filled-none blankRow (λ i. rowIn l (rowPlace at d i) d)
-
-pub draws-more : (l : List ℕ) (at d i n p : ℕ) (all : List (List ℕ)) (row : List ℕ) → row ≡ rowIn l p d → p ≡ at + 2 * (i * d) → i < n → n ≤ 16
-    → all ≡ drawsIn l at i d → set all i row ≡ drawsIn l at (i + 1) d
-unfolding drawsIn
-draws-more l at d i n p all row q e h g r =
-    filled-more blankRow (λ i. rowIn l (rowPlace at d i) d) i n all row (q ∙ ap (λ (x : ℕ). rowIn l x d) e) h g r
-
-pub draws-end : (l : List ℕ) (at d n i : ℕ) (all : List (List ℕ)) → i ≤ n → n ≤ i → all ≡ drawsIn l at i d → all ≡ drawsIn l at n d
-draws-end l at d n i all p q r = let e : i ≡ n = omega arith in rw e at r
-
-pub row-room : (l : List ℕ) (at d i n p : ℕ) → p ≡ at + 2 * (i * d) → i < n → at + 2 * (n * d) ≤ length l → p + 2 * d ≤ length l
-row-room l at d i n p e h g =
-    let m : suc i * d ≤ n * d = mul-le-mul-right d h in
-    omega (arith, suc-mul i d)
-
-pub row-next : (at d i p : ℕ) → p ≡ at + 2 * (i * d) → p + 2 * d ≡ at + 2 * ((i + 1) * d)
-row-next at d i p e = rw (add-one i) (omega (arith, suc-mul i d))
-
-pub row-first : (at d : ℕ) → at ≡ at + 2 * (0 * d)
-row-first at d = let e : 0 * d ≡ 0 = omega arith in rw e (omega arith)
+use Rattle.input.specs.Plan.{offersIn, offerData, offerIn, offerPlace, timesPlace, timesIn, drawsWrong, timeBefore, timeFalls, offersWrong, planWrong, lastRefusal, afterSheet, sheetRefusal, planRefusal, Planned, unplanned, wholeOf, wholeFrom, unless, planRead}
 
 -- N × D with both at most sixteen
 pub few : (n d : ℕ) (b : Bool) → n ≤ 16 → b ≡ outside d 1 16 → b ≡ false → n * d ≤ 256

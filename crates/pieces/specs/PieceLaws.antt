@@ -31,7 +31,8 @@ use Rattle.text.specs.Text.{Written, written, puts, counted, line, firstLine, f
 use Rattle.lines.specs.Events.{stepLines}
 use Rattle.input.specs.declared.Offered.{Offered}
 use Rattle.input.specs.declared.Plan.{Plan}
-use Rattle.input.specs.Plan.{drawsIn, offerTime, offerIn, offerData, offerSize, Planned, planRead, planReading, verdictAnswer}
+use Rattle.draws.specs.Draws.{drawsIn}
+use Rattle.input.specs.Plan.{offerTime, offerIn, offerData, offerSize, Planned, planRead, planReading, verdictAnswer}
 use Rattle.input.specs.PlanTheorems.{reading-right}
 use Rattle.pieces.specs.declared.Progress.{Progress}
 use Rattle.pieces.specs.declared.Piece.{Piece}

@@ -16,7 +16,8 @@ use Rattle.offer.specs.Offer.{offered}
 use Rattle.course.specs.Run.{lateAt}
 use Rattle.text.specs.Text.{firstLine, fitYes, fitNo, refusedLine, refusedOffer, endLine}
 use Rattle.lines.specs.Events.{stepLines}
-use Rattle.input.specs.Plan.{drawsIn, offerTime, offerStation, offerDestination, offerValue, offerSize, offerData, Planned, planRead}
+use Rattle.draws.specs.Draws.{drawsIn}
+use Rattle.input.specs.Plan.{offerTime, offerStation, offerDestination, offerValue, offerSize, offerData, Planned, planRead}
 
 -- ---- an offer
 

@@ -27,10 +27,11 @@ use Rattle.record.specs.Codec.{transmitterOf, encoded}
 use Rattle.record.specs.CodecLaws.{Fit}
 use Rattle.area.specs.Places.{Part, layout, station, buffer, place, Off, Keeps}
 use Rattle.area.specs.Area.{addressAt, recordAt, stationAt, withStation, withWord, withBit, heardOf, symbolAt, arrivalAt, withArrival}
-use Rattle.area.specs.AreaLaws.{keeps-refl, keeps-trans, address-by, record-by, arrival-by, arrival-keeps, station-keeps, bit-keeps, length-arrival, length-bit, station-same}
+use Rattle.area.specs.AreaLaws.{keeps-refl, keeps-trans, address-by, record-by, arrival-by, arrival-keeps, station-keeps, bit-keeps, length-arrival, station-same}
 use Rattle.area.specs.Written.{Wrote, wrote-none, wrote-word, wrote-station, station-arrival, station-bit, station-over, word-small}
 use Rattle.area.specs.OneWord.{station-back}
 use Rattle.medium.specs.Medium.{pushed}
+use Rattle.pair.specs.InPlace.{length-stored}
 use Rattle.pair.specs.BitTime.{withStored, turnIn}
 use Rattle.pair.specs.Range.{fine-fit}
 use Rattle.quick.specs.Quick.{Plain, Taken, taken-by, taken-area, taken-events, hearsIn, calmIn, mk, quietly, later, Calm, within, or-false, heard-step, hear-state, calm-state, stored-arrival}
@@ -141,10 +142,6 @@ down-small (Heading k) s b h = h
 down-small (Jamming k) s b h = h
 
 -- ---- collecting: what is kept
-
-length-stored : (i : ℕ) (st : Stored) (y : List ℕ) → length (withStored i st y) ≡ length y
-length-stored i NoStore y = refl
-length-stored i (Store k b) y = length-bit y i k b
 
 stored-keeps : (p : Part) (i k : ℕ) (b : Bool) (y : List ℕ) → Off p (buffer i) → Keeps p (withStored i (storedBit k b) y) y
 unfolding storedBit

@@ -1,14 +1,13 @@
 -- A pair on which all stations rest and nothing is on its way: a step changes the clock alone, so all steps left are one. Assumes nothing.
-use Prim.Native.Nat.{ℕ, zero, suc, _+_, _-_, _%_, _/_, _^_, _≤_, _<_}
+use Prim.Native.Nat.{ℕ, zero, suc, _+_, _-_, _%_, _^_, _≤_, _<_}
 use mathlib.Core.Path.{_≡_, refl, sym, _∙_, ap, subst}
 use mathlib.Core.Bool.{Bool, true, false, true≢false}
-use mathlib.Core.List.{List, [], _∷_, _++_}
-use native.Mathlib.Decide.{decLt}
+use mathlib.Core.List.{List, []}
 use native.Mathlib.Omega.{arith}
 use borrow.Author.Tests.{ltb-true, ltb-false}
 use lib.Dec.{ltb}
-use lib.ListN.{length, getD, List·getD-append}
-use lib.Seq.{sets, getD-at, ext-getD}
+use lib.ListN.{length, getD}
+use lib.Seq.{sets, ext-getD}
 use Rattle.octets.specs.Base.{some, accepted}
 use Rattle.octets.specs.BaseLaws.{by-test}
 use Rattle.octets.specs.Filled.{filled-at}
@@ -20,6 +19,7 @@ use Rattle.layout.specs.declared.Figures.{Figures}
 use Rattle.record.specs.Codec.{encoded}
 use Rattle.area.specs.Places.{layout, station, place}
 use Rattle.area.specs.Area.{clockAt, withClock, depthAt, figuresAt, countAt, recordAt, symbolAt}
+use Rattle.area.specs.Written.{spelled-octet}
 use Rattle.area.specs.AreaLaws.{count-by, record-by, station-by, symbol-by, symbol-turn, clock-keeps, clock-same, length-clock}
 use Rattle.pair.specs.BitTime.{actIn, actAt, settled, turnIn, eventsOf, noEvents, eventsAt, stepArea, eventAt}
 use Rattle.quick.specs.Quick.{Plain, AllPlain, restsIn, Taken, rest-taken, taken-area, taken-events}
@@ -30,17 +30,6 @@ use Rattle.course.specs.RunLaws.{Runnable}
 use Rattle.runs.specs.OnLaws.{filled-past, OnCourse, course-few}
 
 -- ---- the clock written twice, and its octets
-
-spelled-octet : (w v k : ℕ) → k < w → getD (spelled w v) k 0 < 256
-unfolding spelled
-spelled-octet zero v k h = absurd (omega arith)
-spelled-octet (suc w) v k h = go (decLt k w) (λ p. spelled-octet w (v / 256) k p)
-  where
-    go : Dec (k < w) → (k < w → getD (spelled w (v / 256)) k 0 < 256) → getD (spelled w (v / 256) ++ (v % 256 ∷ [])) k 0 < 256
-    go (yes p) ih = rw (List·getD-append (spelled w (v / 256)) (v % 256 ∷ []) 0 k (omega (arith, length-spelled w (v / 256)))) (ih p)
-    go (no p) ih =
-        let e : k ≡ w = omega arith in
-        rw (e, getD-at (spelled w (v / 256)) (v % 256) [] 0 w (length-spelled w (v / 256))) (omega arith)
 
 -- an octet of the clock, and one behind it
 clock-octet : (l : List ℕ) (v k : ℕ) → 4 ≤ length l → k < 4 → getD (withClock l v) k 0 ≡ getD (spelled 4 v) k 0

@@ -32,7 +32,8 @@ use Rattle.tally.specs.Tally.{isLate}
 use Rattle.text.specs.Text.{fitYes, fitNo, refusedLine, endLine}
 use Rattle.lines.specs.Sizes.{first-size, refused-size, refused-offer-size, end-size, step-size}
 use Rattle.lines.specs.Events.{sentLine, gotLine, stationLines, stepLines}
-use Rattle.input.specs.Plan.{offerTime, offerStation, offerDestination, offerValue, offerSize, offerData, offerPlace, drawsIn, Planned, planRead}
+use Rattle.draws.specs.Draws.{drawsIn}
+use Rattle.input.specs.Plan.{offerTime, offerStation, offerDestination, offerValue, offerSize, offerData, offerPlace, Planned, planRead}
 use Rattle.input.specs.PlanTheorems.{Right, read-right, read-passes, read-formed}
 use Rattle.pieces.specs.declared.Progress.{Progress}
 use Rattle.pieces.specs.Printed.{nextOffer, lies, made, offerLine, offerText, none, after, dueOffers, stepThen, runText, firstText, startArea, zeros, planText, printed}

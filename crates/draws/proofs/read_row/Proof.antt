@@ -1,13 +1,13 @@
--- `input::read_row` meets its contract. Assumes nothing.
+-- `draws::read_row` meets its contract. Assumes nothing.
 use native.Mathlib.Omega.{arith}
 use borrow.Author.Needs.{needs}
 use Prim.Native.Nat.{_≤_, _-_}
 use mathlib.Core.Path.{_≡_, refl}
 use lib.ListN.{length, length-set}
-use Rattle.input.specs.Plan.{rowIn}
-use Rattle.input.specs.PlanLaws.{row-none, row-more, row-end}
-use Rattle.input.proofs.read_row.Statement.{statement}
-use Rattle.input.proofs.read_row.Tie as tie
+use Rattle.draws.specs.Draws.{rowIn}
+use Rattle.draws.specs.DrawsLaws.{row-none, row-more, row-end}
+use Rattle.draws.proofs.read_row.Statement.{statement}
+use Rattle.draws.proofs.read_row.Tie as tie
 
 abbrev Inv-loop : tie.InvT-loop
 Inv-loop s at d row₀ k₀ row k = (k ≤ d) × (length row ≡ 16) × (row ≡ rowIn s at k)

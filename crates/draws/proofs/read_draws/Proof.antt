@@ -1,13 +1,13 @@
--- `input::read_draws` meets its contract. Assumes nothing.
+-- `draws::read_draws` meets its contract. Assumes nothing.
 use native.Mathlib.Omega.{arith}
 use borrow.Author.Needs.{needs}
 use Prim.Native.Nat.{_≤_, _-_, _+_, _*_}
 use mathlib.Core.Path.{_≡_, refl}
 use lib.ListN.{length, length-set}
-use Rattle.input.specs.Plan.{drawsIn}
-use Rattle.input.specs.PlanLaws.{draws-none, draws-more, draws-end, row-room, row-next, row-first}
-use Rattle.input.proofs.read_draws.Statement.{statement}
-use Rattle.input.proofs.read_draws.Tie as tie
+use Rattle.draws.specs.Draws.{drawsIn}
+use Rattle.draws.specs.DrawsLaws.{draws-none, draws-more, draws-end, row-room, row-next, row-first}
+use Rattle.draws.proofs.read_draws.Statement.{statement}
+use Rattle.draws.proofs.read_draws.Tie as tie
 
 abbrev Inv-loop : tie.InvT-loop
 Inv-loop s at n d all₀ place₀ i₀ all place i = (i ≤ n) × (length all ≡ 16) × (place ≡ at + 2 * (i * d)) × (all ≡ drawsIn s at i d)
