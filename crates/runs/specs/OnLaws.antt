@@ -1,11 +1,10 @@
 -- A run as the code makes it: events are counted turn by turn, and after its first step turns may be taken quickly. Assumes nothing.
 use Prim.Native.Nat.{ℕ, zero, suc, _+_, _-_, _*_, _≤_, _<_}
 use mathlib.Core.Path.{_≡_, refl, sym, _∙_, ap, subst}
-use mathlib.Core.Bool.{Bool, true, false, not, _||_, true≢false}
+use mathlib.Core.Bool.{Bool, true, false, true≢false}
 use mathlib.Core.List.{List, [], _∷_, _++_}
 use native.Mathlib.Numerals.{add-one}
 use native.Mathlib.Omega.{arith}
-use borrow.Author.Tests.{not-true}
 use lib.ListN.{length, getD, set, replicate, length-append}
 use lib.Seq.{getD-append-add}
 use Rattle.octets.specs.Base.{some, accepted}
@@ -35,14 +34,9 @@ use Rattle.course.specs.RunLaws.{Runnable, tally-none, run-next, run-on, run-la
 unfoldable pub lates : List Events → ℕ → List Bool
 lates es n = filled false (lateAt es) n
 
-module _ (es : List Events) where
-  pub any-none : false ≡ some (lateAt es) 0
-  unfolding some
-  any-none = refl
-
-  pub lates-none : replicate 16 false ≡ lates es 0
-  unfolding lates
-  lates-none = filled-none false (lateAt es)
+pub lates-none : (es : List Events) → replicate 16 false ≡ lates es 0
+unfolding lates
+lates-none es = filled-none false (lateAt es)
 
 -- ---- the places after the last station
 
@@ -51,7 +45,7 @@ unfolding listed
 length-listed t zero = refl
 length-listed t (suc n) = length-append (listed t n) (t n ∷ []) ∙ omega (arith, length-listed t n)
 
-blank-at : {A : Type 0} (m k : ℕ) (b : A) → getD (replicate m b) k b ≡ b
+pub blank-at : {A : Type 0} (m k : ℕ) (b : A) → getD (replicate m b) k b ≡ b
 blank-at zero k b = refl
 blank-at (suc m) zero b = refl
 blank-at (suc m) (suc k) b = blank-at m k b
@@ -113,10 +107,6 @@ module _ (f : Figures) (d n t i : ℕ) (a x : List ℕ) (v : AllAble n f a) (hi 
   unfolding hasLate lateAt
   late-here has q = q ∙ ap (λ (z : Events). isLate (z .sent)) event-here
 
-  pub any-turn : (any r has : Bool) → r ≡ (any || has) → has ≡ hasLate (eventsOf (actIn f d t x i)) → any ≡ some (lateAt (eventsIn f d t a n)) i → r ≡ some (lateAt (eventsIn f d t a n)) (i + 1)
-  unfolding some
-  any-turn any r has p q e = p ∙ rw (e, late-here has q, add-one i)
-
   pub lates-turn : (late : List Bool) (has : Bool) → n ≤ 16 → has ≡ hasLate (eventsOf (actIn f d t x i)) → late ≡ lates (eventsIn f d t a n) i → set late i has ≡ lates (eventsIn f d t a n) (i + 1)
   unfolding lates
   lates-turn late has h q e = filled-more false (lateAt (eventsIn f d t a n)) i n late has (late-here has q) hi h e
@@ -126,36 +116,35 @@ unfolding eventsCounted
 turn-bounded ws vs e m i p h = got-bounded ws (sentCounted ws (e .sent)) vs (e .sent) (e .got) m i p refl h
 
 -- in the middle of a step: the first i stations have had their turn
-abbrev pub Midway : Figures → (d n t : ℕ) → (a ws₀ : List ℕ) → (top i : ℕ) → (x ws : List ℕ) → Bool → List Bool → Type 0
-Midway f d n t a ws₀ top i x ws any late =
-    (x ≡ turnedIn f d n t a i) × (ws ≡ tallied (eventsIn f d t a n) i ws₀) × Bounded ws (top + 2 * i) × (any ≡ some (lateAt (eventsIn f d t a n)) i) × (late ≡ lates (eventsIn f d t a n) i)
+abbrev pub Midway : Figures → (d n t : ℕ) → (a ws₀ : List ℕ) → (top i : ℕ) → (x ws : List ℕ) → List Bool → Type 0
+Midway f d n t a ws₀ top i x ws late =
+    (x ≡ turnedIn f d n t a i) × (ws ≡ tallied (eventsIn f d t a n) i ws₀) × Bounded ws (top + 2 * i) × (late ≡ lates (eventsIn f d t a n) i)
 
 -- its turn
-pub midway-turn : (f : Figures) (d n t : ℕ) (a ws₀ : List ℕ) (top i : ℕ) (x ws : List ℕ) (any : Bool) (late : List Bool) → AllAble n f a → i < n → 57344 ≤ length a → n ≤ 16
-    → Midway f d n t a ws₀ top i x ws any late → (y vs : List ℕ) (has more : Bool) → y ≡ turnIn f d n t i x → vs ≡ eventsCounted ws (eventsOf (actIn f d t x i))
-    → has ≡ hasLate (eventsOf (actIn f d t x i)) → more ≡ (any || has) → Midway f d n t a ws₀ top (i + 1) y vs more (set late i has)
-midway-turn f d n t a ws₀ top i x ws any late v hi room few m y vs has more ey ew eh ea = (
+pub midway-turn : (f : Figures) (d n t : ℕ) (a ws₀ : List ℕ) (top i : ℕ) (x ws : List ℕ) (late : List Bool) → AllAble n f a → i < n → 57344 ≤ length a → n ≤ 16
+    → Midway f d n t a ws₀ top i x ws late → (y vs : List ℕ) (has : Bool) → y ≡ turnIn f d n t i x → vs ≡ eventsCounted ws (eventsOf (actIn f d t x i))
+    → has ≡ hasLate (eventsOf (actIn f d t x i)) → Midway f d n t a ws₀ top (i + 1) y vs (set late i has)
+midway-turn f d n t a ws₀ top i x ws late v hi room few m y vs has ey ew eh = (
   turn-next f d n t i a x v hi room (m .0) y ey,
   tally-turn f d n t i a x v hi room (m .0) ws₀ ws vs ew (m .1),
   turn-bounded ws vs (eventsOf (actIn f d t x i)) top i ew (m .2),
-  any-turn f d n t i a x v hi room (m .0) any more has ea eh (m .3),
-  lates-turn f d n t i a x v hi room (m .0) late has few eh (m .4),
+  lates-turn f d n t i a x v hi room (m .0) late has few eh (m .3),
 )
 
-pub midway-start : (f : Figures) (d n t : ℕ) (a ws₀ : List ℕ) (top : ℕ) → Bounded ws₀ top → Midway f d n t a ws₀ top 0 a ws₀ false (replicate 16 false)
+pub midway-start : (f : Figures) (d n t : ℕ) (a ws₀ : List ℕ) (top : ℕ) → Bounded ws₀ top → Midway f d n t a ws₀ top 0 a ws₀ (replicate 16 false)
 midway-start f d n t a ws₀ top h =
-    (turned-none f d n t a, tally-none (eventsIn f d t a n) ws₀, start-bounded ws₀ top h, any-none (eventsIn f d t a n), lates-none (eventsIn f d t a n))
+    (turned-none f d n t a, tally-none (eventsIn f d t a n) ws₀, start-bounded ws₀ top h, lates-none (eventsIn f d t a n))
 
 pub advanced-turned : (f : Figures) (d n t i : ℕ) (a x b : List ℕ) → b ≡ withClock x (t + 1) → x ≡ turnedIn f d n t a i → i ≤ n → n ≤ i → b ≡ advancedIn f d n t a
 advanced-turned f d n t i a x b p q lo up = advanced-is f d n t a b x p (turned-end f d n t a x i lo up q)
 
 -- all turns are taken, and the clock goes on
-pub midway-end : (f : Figures) (d n t : ℕ) (a ws₀ : List ℕ) (top i : ℕ) (x ws : List ℕ) (any : Bool) (late : List Bool) → Midway f d n t a ws₀ top i x ws any late → n ≤ 16 → i ≤ n → n ≤ i
+pub midway-end : (f : Figures) (d n t : ℕ) (a ws₀ : List ℕ) (top i : ℕ) (x ws : List ℕ) (late : List Bool) → Midway f d n t a ws₀ top i x ws late → n ≤ 16 → i ≤ n → n ≤ i
     → (z y : List ℕ) → z ≡ x → y ≡ withClock z (t + 1)
-    → (y ≡ advancedIn f d n t a) × ((ws ≡ tallied (eventsIn f d t a n) 16 ws₀) × ((any ≡ some (lateAt (eventsIn f d t a n)) 16) × (late ≡ lates (eventsIn f d t a n) n)))
-midway-end f d n t a ws₀ top i x ws any late m few lo up z y e p = (
+    → (y ≡ advancedIn f d n t a) × ((ws ≡ tallied (eventsIn f d t a n) 16 ws₀) × (late ≡ lates (eventsIn f d t a n) n))
+midway-end f d n t a ws₀ top i x ws late m few lo up z y e p = (
   advanced-turned f d n t i a x y (p ∙ rw e) (m .0) lo up,
-  (tally-all f d t a n i ws₀ ws few lo up (m .1), (any-all f d t a n i any few lo up (m .3), lates-all f d t a n i late lo up (m .4))),
+  (tally-all f d t a n i ws₀ ws few lo up (m .1), lates-all f d t a n i late lo up (m .3)),
 )
 
 -- ---- the run
@@ -233,14 +222,6 @@ none-late-is es n i late e h p =
 
 module _ (m t n d c : ℕ) (f : Figures) (swift : Bool) (a : List ℕ) (h : OnCourse (m - t) n d c f swift a) (g : t < m) (ws vs b : List ℕ) (R : Ran)
     (eb : b ≡ advancedIn f d n c a) (ev : vs ≡ tallied (eventsIn f d c a n) 16 ws) (p : runOf (m - t) t ws a ≡ R) where
-  on : (any : Bool) → any ≡ some (lateAt (eventsIn f d c a n)) 16 → any ≡ false → runOf (m - (t + 1)) (t + 1) vs b ≡ R
-  on any e q =
-      run-on m t ws a R (eventsIn f d c a n) vs b 16 (course-area (m - t) n d c f swift a h b eb) (course-events (m - t) n d c f swift a h) ev
-      (sym e ∙ q) (omega arith) (omega arith) g p
-
-  pub course-on : (any : Bool) → any ≡ some (lateAt (eventsIn f d c a n)) 16 → not any ≡ true → runOf (m - (t + 1)) (t + 1) vs b ≡ R
-  course-on any e q = on any e (not-true any q)
-
   pub course-late : (late : List Bool) (i : ℕ) → late ≡ lates (eventsIn f d c a n) n → getD late i false ≡ true → NoneLate late i → i < n
       → record { answer = accepted []; steps = t + 1; words = vs; ended = how.Late (t + 1 - 1) i; octets = b } ≡ R
   unfolding lates
@@ -255,4 +236,5 @@ module _ (m t n d c : ℕ) (f : Figures) (swift : Bool) (a : List ℕ) (h : OnCo
   course-searched late i e w lo up =
       let few = course-few (m - t) n d c f swift a h in
       let z : some (lateAt (eventsIn f d c a n)) i ≡ false = none-late-is (eventsIn f d c a n) n i late e lo w in
-      on (some (lateAt (eventsIn f d c a n)) i) (any-all f d c a n i (some (lateAt (eventsIn f d c a n)) i) few lo up refl) z
+      run-on m t ws a R (eventsIn f d c a n) vs b 16 (course-area (m - t) n d c f swift a h b eb) (course-events (m - t) n d c f swift a h) ev
+      (sym (any-all f d c a n i (some (lateAt (eventsIn f d c a n)) i) few lo up refl) ∙ z) (omega arith) (omega arith) g p

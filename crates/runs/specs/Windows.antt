@@ -1,13 +1,13 @@
 -- A window of a run: its turns, made station by station, are the steps that it stands for. Assumes nothing.
 use Prim.Native.Nat.{ℕ, zero, suc, _+_, _-_, _*_, _≤_, _<_, min}
 use mathlib.Core.Path.{_≡_, refl, sym, _∙_, ap, subst}
-use mathlib.Core.Bool.{Bool, true, false, not, true≢false}
+use mathlib.Core.Bool.{Bool, true, false, true≢false}
 use mathlib.Core.List.{List, []}
 use native.Mathlib.Numerals.{add-one}
 use native.Mathlib.Omega.{arith}
 use borrow.Author.Tests.{ltb-true, ltb-false}
 use lib.Dec.{ltb}
-use lib.ListN.{length, getD}
+use lib.ListN.{length, getD, replicate}
 use Rattle.octets.specs.Base.{some, accepted}
 use Rattle.octets.specs.BaseLaws.{by-test, below-none}
 use Rattle.octets.specs.Filled.{filled-at}
@@ -26,16 +26,16 @@ use Rattle.pair.specs.Range.{Fine}
 use Rattle.pair.specs.Ready.{Readiness, Ready, AllAble, turn-next, ready-able, step-is, step-events}
 use Rattle.ready.specs.Stays.{step-length, step-layout, step-depth, step-clock, step-ready}
 use Rattle.quick.specs.Quick.{Plain, AllPlain}
-use Rattle.tally.specs.TallyLaws.{Bounded}
+use Rattle.tally.specs.TallyLaws.{Bounded, zero-bounded}
 use Rattle.order.specs.Window.{eventsCounted, hasLate, Going, played, windowTurn, clocked, Reaches, Within, within-clock, across-clock, either-order}
 use Rattle.order.specs.Order.{across, stepwise, stationwise}
 use Rattle.order.specs.Late.{Safe, AllSafe, act-safe, safe-step}
 use Rattle.order.specs.Reach.{AllSafeIf}
 use Rattle.order.specs.Going.{Open}
 use Rattle.course.specs.Run.{tallied, lateAt, Ran, runOf}
-use Rattle.course.specs.RunLaws.{Runnable, tally-none, next-bounded}
+use Rattle.course.specs.RunLaws.{Runnable, tally-none, next-bounded, run-zero}
 use Rattle.course.specs.declared.Ended.the-variants as how
-use Rattle.runs.specs.OnLaws.{tally-turn, tally-all, filled-past, lates, OnCourse, plain-after, course-next, NoneLate, course-on, course-searched, course-late}
+use Rattle.runs.specs.OnLaws.{tally-turn, tally-all, filled-past, blank-at, lates, OnCourse, course-first, course-few, plain-after, course-next, NoneLate, course-searched, course-late}
 use Rattle.runs.specs.Still.{clock-twice}
 
 -- ---- a step, turn by turn
@@ -390,15 +390,14 @@ runnable-spread k n a h e = subst (λ (z : ℕ). Spread z a) (sym e) (h .0 .spre
 -- ---- a window, or one step
 
 -- what was made of x and ws, and which stations had a late collision in the last step
-pub data Advanced (f : Figures) (d n t m left steps : ℕ) (any : Bool) (late : List Bool) (x ws y vs : List ℕ) : Type 0 where
-  stepped : steps ≡ 1 → y ≡ advancedIn f d n t x → vs ≡ tallied (eventsIn f d t x n) 16 ws → any ≡ some (lateAt (eventsIn f d t x n)) 16 → late ≡ lates (eventsIn f d t x n) n
-      → Advanced f d n t m left steps any late x ws y vs
-  passed : any ≡ false → Made f d n t m left steps x ws y vs → Advanced f d n t m left steps any late x ws y vs
+pub data Advanced (f : Figures) (d n t m left steps : ℕ) (late : List Bool) (x ws y vs : List ℕ) : Type 0 where
+  stepped : steps ≡ 1 → y ≡ advancedIn f d n t x → vs ≡ tallied (eventsIn f d t x n) 16 ws → late ≡ lates (eventsIn f d t x n) n → Advanced f d n t m left steps late x ws y vs
+  passed : late ≡ replicate 16 false → Made f d n t m left steps x ws y vs → Advanced f d n t m left steps late x ws y vs
 
 module _ (f : Figures) (d n t m left r : ℕ) (x ws z us : List ℕ) (w : Windowed f d n t m left r x ws z us) where
-  pub advanced-window : (late : List Bool) → (r ≡ 0 → ⊥) → Advanced f d n t m left r false late x ws z us
+  pub advanced-window : (r ≡ 0 → ⊥) → Advanced f d n t m left r (replicate 16 false) x ws z us
   unfolding Windowed
-  advanced-window late ne = passed refl (w .1 ne)
+  advanced-window ne = passed refl (w .1 ne)
 
   module _ (e : r ≡ 0) where
     pub still-area : z ≡ x
@@ -412,48 +411,102 @@ module _ (f : Figures) (d n t m left r : ℕ) (x ws z us : List ℕ) (w : Window
     unfolding Windowed
     still-bounded k h = rw (w .0 e .1) h
 
-    pub advanced-step : (steps : ℕ) (any : Bool) (late : List Bool) (y vs : List ℕ) → steps ≡ 1 → y ≡ advancedIn f d n t z → vs ≡ tallied (eventsIn f d t z n) 16 us
-        → any ≡ some (lateAt (eventsIn f d t z n)) 16 → late ≡ lates (eventsIn f d t z n) n → Advanced f d n t m left steps any late x ws y vs
+    pub advanced-step : (steps : ℕ) (late : List Bool) (y vs : List ℕ) → steps ≡ 1 → y ≡ advancedIn f d n t z → vs ≡ tallied (eventsIn f d t z n) 16 us
+        → late ≡ lates (eventsIn f d t z n) n → Advanced f d n t m left steps late x ws y vs
     unfolding Windowed
-    advanced-step steps any late y vs es ey ev ea el =
+    advanced-step steps late y vs es ey ev el =
         let q = w .0 e in
-        stepped es (ey ∙ rw (q .0)) (ev ∙ rw (q .0, q .1)) (ea ∙ rw (q .0)) (el ∙ rw (q .0))
+        stepped es (ey ∙ rw (q .0)) (ev ∙ rw (q .0, q .1)) (el ∙ rw (q .0))
 
-pub advanced-some : (k t n d c : ℕ) (f : Figures) (a b ws vs : List ℕ) (m r : ℕ) (any : Bool) (late : List Bool) → Advanced f d n c m (k - t) r any late a ws b vs → t < k → 0 < m → (0 < r) × (t + r ≤ k)
-advanced-some k t n d c f a b ws vs m r any late (stepped es ey ev ea el) g hm = (omega arith, omega arith)
-advanced-some k t n d c f a b ws vs m r any late (passed ea w) g hm = (omega (arith, w .some), omega (arith, w .within))
+-- ---- the run, step by step or window by window
 
-module _ (k t n d c : ℕ) (f : Figures) (swift : Bool) (a b ws vs : List ℕ) (m r : ℕ) (any : Bool) (late : List Bool) where
-  module _ (h : OnCourse (k - t) n d c f swift a) (re : Reaches m n a) (g : t < k) (hm : 0 < m) (small : m ≤ 64) where
-    pub advanced-course : Advanced f d n c m (k - t) r any late a ws b vs → OnCourse (k - (t + r)) n d (c + r) f true b
-    advanced-course (stepped es ey ev ea el) = rw es (course-next k t n d c f swift a b h ey g)
-    advanced-course (passed ea w) = window-course k t n d c f swift a b ws vs r h (reaches-less m r n a (w .reach) re) (w .some) (omega (arith, w .reach)) (w .within) (w .safe) (w .leaves)
+-- t of k steps are made: from here on it goes as R, the whole run, says
+pub record Underway (k t n d c : ℕ) (f : Figures) (swift : Bool) (m : ℕ) (R : Ran) (a ws : List ℕ) : Type 0 where
+  pub within : t ≤ k
+  pub limit : k ≤ 16777216
+  pub some : 0 < m
+  pub small : m ≤ 64
+  pub course : OnCourse (k - t) n d c f swift a
+  pub reaches : Reaches m n a
+  pub bounded : Bounded ws (32 * t)
+  pub rest : runOf (k - t) t ws a ≡ R
 
-    pub advanced-bounded : Bounded ws (32 * t) → Advanced f d n c m (k - t) r any late a ws b vs → Bounded vs (32 * (t + r))
-    advanced-bounded q (stepped es ey ev ea el) = rw es (next-bounded (eventsIn f d c a n) ws vs t ev q)
-    advanced-bounded q (passed ea w) = window-bounded k t n d c f swift a b ws vs r h (reaches-less m r n a (w .reach) re) (w .some) (omega (arith, w .reach)) (w .within) (w .safe) (w .leaves) q
+pub underway-first : (k n n₀ d c : ℕ) (f : Figures) (m : ℕ) (a ws : List ℕ) → Runnable k a → k ≤ 16777216 → n₀ ≡ countAt a → n ≡ n₀ → d ≡ depthAt a → c ≡ clockAt a → f ≡ figuresAt a
+    → (Reaches m n a) × ((0 < m) × (m ≤ 64)) → Bounded ws 0 → Underway k 0 n d c f false m (runOf k 0 ws a) a ws
+underway-first k n n₀ d c f m a ws h limit en e ed ec ef reach b = record {
+  within = omega arith;
+  limit = limit;
+  some = reach .1 .0;
+  small = reach .1 .1;
+  course = course-first k n n₀ d c f a ec ef ed en e h;
+  reaches = reach .0;
+  bounded = zero-bounded ws b;
+  rest = run-zero k ws a;
+}
 
-    pub advanced-reaches : Advanced f d n c m (k - t) r any late a ws b vs → Reaches m n b
-    unfolding OnCourse Runnable
-    advanced-reaches (stepped es ey ev ea el) =
-        let few = h .0 .0 .spread .few in
-        rw (step-is f d n c a b ey (h .1) (h .3) (h .2) (h .4)) (reaches-by m n (stepArea a) a (omega (arith, h .1)) (step-layout a (h .0 .0)) re)
-    advanced-reaches (passed ea w) =
-        let few = h .0 .0 .spread .few in
-        window-reaches k t n d c f swift a b ws vs r h (reaches-less m r n a (w .reach) re) (w .some) (omega (arith, w .reach)) (w .within) (w .safe) (w .leaves) m (omega (arith, h .1)) re
+-- what the code asks for
+module _ (k t n d c : ℕ) (f : Figures) (swift : Bool) (m : ℕ) (R : Ran) (a ws : List ℕ) (g : Underway k t n d c f swift m R a ws) where
+  pub underway-few : n ≤ 16
+  underway-few = course-few (k - t) n d c f swift a (g .course)
 
-    module _ (R : Ran) (q : runOf (k - t) t ws a ≡ R) where
-      -- no station was late
-      pub advanced-on : Advanced f d n c m (k - t) r any late a ws b vs → not any ≡ true → runOf (k - (t + r)) (t + r) vs b ≡ R
-      advanced-on (stepped es ey ev ea el) z = rw es (course-on k t n d c f swift a h g ws vs b R ey ev q any ea z)
-      advanced-on (passed ea w) z = window-run k t n d c f swift a b ws vs r h (reaches-less m r n a (w .reach) re) (w .some) (omega (arith, w .reach)) (w .within) (w .safe) (w .leaves) R q
+  pub underway-room : c + (k - t) ≤ 16777216
+  underway-room = course-room (k - t) n d c f swift a (g .course)
 
-      -- one was, and is looked for
-      pub advanced-searched : Advanced f d n c m (k - t) r any late a ws b vs → (i : ℕ) → NoneLate late i → i ≤ n → n ≤ i → runOf (k - (t + r)) (t + r) vs b ≡ R
-      advanced-searched (stepped es ey ev ea el) i w lo up = rw es (course-searched k t n d c f swift a h g ws vs b R ey ev q late i el w lo up)
-      advanced-searched (passed ea w) i u lo up = window-run k t n d c f swift a b ws vs r h (reaches-less m r n a (w .reach) re) (w .some) (omega (arith, w .reach)) (w .within) (w .safe) (w .leaves) R q
+  pub underway-asks : t < k → length ws ≡ 9
+      → ((0 < k - t) × (0 < m) × (m ≤ 64) × (c + (k - t) ≤ 16777216) × (57344 ≤ length a) × OnCourse (k - t) n d c f swift a × Reaches m n a) × ((length ws ≡ 9) × Bounded ws (32 * t) × (32 * t + 2048 < 4294967295))
+  unfolding OnCourse Runnable
+  underway-asks lt nine = ((omega arith, g .some, g .small, underway-room, g .course .0 .0 .long, g .course, g .reaches), (nine, g .bounded, omega (arith, g .limit)))
 
-      pub advanced-late : Advanced f d n c m (k - t) r any late a ws b vs → not any ≡ false → (i : ℕ) → getD late i false ≡ true → NoneLate late i → i < n
-          → record { answer = accepted []; steps = t + r; words = vs; ended = how.Late (t + r - 1) i; octets = b } ≡ R
-      advanced-late (stepped es ey ev ea el) z i l w hi = rw es (course-late k t n d c f swift a h g ws vs b R ey ev q late i el l w hi)
-      advanced-late (passed ea u) z i l w hi = absurd (true≢false (sym (ap not ea) ∙ z))
+module _ (k t n d c : ℕ) (f : Figures) (swift : Bool) (m : ℕ) (R : Ran) (a b ws vs : List ℕ) (r : ℕ) (late : List Bool) (g : Underway k t n d c f swift m R a ws) (lt : t < k) where
+  pub advanced-some : Advanced f d n c m (k - t) r late a ws b vs → (0 < r) × (t + r ≤ k) × (c + r ≤ 16777216)
+  advanced-some (stepped es ey ev el) = let room = course-room (k - t) n d c f swift a (g .course) in (omega arith, omega arith, omega arith)
+  advanced-some (passed el w) =
+      let room = course-room (k - t) n d c f swift a (g .course) in
+      (omega (arith, w .some), omega (arith, w .within), omega (arith, w .within))
+
+  module _ (w : Made f d n c m (k - t) r a ws b vs) where
+    reaches-made : Reaches r n a
+    reaches-made = reaches-less m r n a (w .reach) (g .reaches)
+
+    underway-window : Underway k (t + r) n d (c + r) f true m R b vs
+    underway-window =
+        let few = course-few (k - t) n d c f swift a (g .course) in
+        let fewer : r ≤ 64 = omega (arith, w .reach, g .small) in
+        record {
+          within = omega (arith, w .within);
+          limit = g .limit;
+          some = g .some;
+          small = g .small;
+          course = window-course k t n d c f swift a b ws vs r (g .course) reaches-made (w .some) fewer (w .within) (w .safe) (w .leaves);
+          reaches = window-reaches k t n d c f swift a b ws vs r (g .course) reaches-made (w .some) fewer (w .within) (w .safe) (w .leaves) m few (g .reaches);
+          bounded = window-bounded k t n d c f swift a b ws vs r (g .course) reaches-made (w .some) fewer (w .within) (w .safe) (w .leaves) (g .bounded);
+          rest = window-run k t n d c f swift a b ws vs r (g .course) reaches-made (w .some) fewer (w .within) (w .safe) (w .leaves) R (g .rest);
+        }
+
+  reaches-stepped : b ≡ advancedIn f d n c a → Reaches m n b
+  unfolding OnCourse Runnable
+  reaches-stepped ey =
+      let h = g .course in
+      let few = h .0 .0 .spread .few in
+      rw (step-is f d n c a b ey (h .1) (h .3) (h .2) (h .4)) (reaches-by m n (stepArea a) a (omega (arith, h .1)) (step-layout a (h .0 .0)) (g .reaches))
+
+  -- no station is found late
+  pub underway-on : Advanced f d n c m (k - t) r late a ws b vs → (i : ℕ) → NoneLate late i → i ≤ n → n ≤ i → Underway k (t + r) n d (c + r) f true m R b vs
+  underway-on (stepped es ey ev el) i u lo up =
+      rw es (record {
+        within = omega arith;
+        limit = g .limit;
+        some = g .some;
+        small = g .small;
+        course = course-next k t n d c f swift a b (g .course) ey lt;
+        reaches = reaches-stepped ey;
+        bounded = next-bounded (eventsIn f d c a n) ws vs t ev (g .bounded);
+        rest = course-searched k t n d c f swift a (g .course) lt ws vs b R ey ev (g .rest) late i el u lo up;
+      })
+  underway-on (passed el w) i u lo up = underway-window w
+
+  -- one is
+  pub underway-late : Advanced f d n c m (k - t) r late a ws b vs → (i : ℕ) → getD late i false ≡ true → NoneLate late i → i < n
+      → record { answer = accepted []; steps = t + r; words = vs; ended = how.Late (t + r - 1) i; octets = b } ≡ R
+  underway-late (stepped es ey ev el) i l u hi = rw es (course-late k t n d c f swift a (g .course) lt ws vs b R ey ev (g .rest) late i el l u hi)
+  underway-late (passed el w) i l u hi = absurd (true≢false (sym l ∙ ap (λ (q : List Bool). getD q i false) el ∙ blank-at 16 i false))

@@ -9,12 +9,12 @@ ghost use mathlib.Core.Path.{_≡_};
 ghost use mathlib.Core.Bool.{true};
 ghost use Prim.Native.Nat.{_+_, _<_, _≤_};
 ghost use lib.ListN.{length, replicate};
-ghost use Rattle.octets.specs.Base.{some, refused, doneAnswer};
+ghost use Rattle.octets.specs.Base.{refused, doneAnswer};
 ghost use Rattle.octets.specs.NumberLaws.{Octets};
 ghost use Rattle.pair.specs.BitTime.{eventsIn, advancedIn};
 ghost use Rattle.pair.specs.Ready.{AllAble};
 ghost use Rattle.quick.specs.Quick.{AllPlain};
-ghost use Rattle.course.specs.Run.{tallied, lateAt, courseOf, runOf, runOutcome, ran};
+ghost use Rattle.course.specs.Run.{tallied, courseOf, runOf, runOutcome, ran};
 ghost use Rattle.tally.specs.TallyLaws.{Bounded};
 ghost use Rattle.course.specs.RunLaws.{Runnable};
 ghost use Rattle.order.specs.Window.{Reaches};
@@ -23,10 +23,9 @@ ghost use Rattle.runs.specs.Windows.{Windowed, Advanced};
 ghost use Rattle.runs.specs.Still.{Clear, CalmIf, Idle};
 ghost use Rattle.course.specs.declared.Ended.the-variants.{All};
 
-// The steps that were made, which stations had a late collision in the last of them, and whether any had.
+// The steps that were made, and which stations had a late collision in the last of them.
 pub struct Lates {
     pub steps: u32,
-    pub any: bool,
     pub late: [bool; 16],
 }
 
@@ -45,25 +44,18 @@ fn step_on(
     ensures steps { λ r. ⌜ r .steps ≡ 1 ⌝ }
     ensures area { λ r. ⌜ now (area .exit) ≡ advancedIn f depth n t (now (area .entry)) ⌝ }
     ensures words { λ r. ⌜ now (words .exit) ≡ tallied (eventsIn f depth t (now (area .entry)) n) 16 (now (words .entry)) ⌝ }
-    ensures any { λ r. ⌜ r .any ≡ some (lateAt (eventsIn f depth t (now (area .entry)) n)) 16 ⌝ }
     ensures late { λ r. ⌜ r .late ≡ lates (eventsIn f depth t (now (area .entry)) n) n ⌝ }
 {
-    let mut any = false;
     let mut late = [false; 16];
     let mut i: usize = 0;
     while i < n {
         let high = top + 2 * i as u32;
         let has = window::turn_on(area, words, n, depth, t as usize, f, i, high);
         late[i] = has;
-        any = octets::either(any, has);
         i += 1;
     }
     area::write_clock(area, t + 1);
-    Lates {
-        steps: 1,
-        any,
-        late,
-    }
+    Lates { steps: 1, late }
 }
 
 // Whether nothing is on its way to station i.
@@ -159,13 +151,12 @@ fn advance(
 ) -> Lates
     requires { ⌜ (0 < left) × (0 < m) × (m ≤ 64) × (t + left ≤ 16777216) × (57344 ≤ length (now area)) × OnCourse left n depth t f swift (now area) × Reaches m n (now area) ⌝ }
     requires { ⌜ (length (now words) ≡ 9) × Bounded (now words) top × (top + 2048 < 4294967295) ⌝ }
-    ensures { λ r. ⌜ Advanced f depth n t m left (r .steps) (r .any) (r .late) (now (area .entry)) (now (words .entry)) (now (area .exit)) (now (words .exit)) ⌝ }
+    ensures { λ r. ⌜ Advanced f depth n t m left (r .steps) (r .late) (now (area .entry)) (now (words .entry)) (now (area .exit)) (now (words .exit)) ⌝ }
 {
     let steps = pass_window(area, words, swift, n, depth, t, f, m, left, top);
     if steps != 0 {
         return Lates {
             steps,
-            any: false,
             late: [false; 16],
         };
     }
@@ -209,9 +200,6 @@ fn run_steps(area: &mut [u8], words: &mut [u32], n: u32) -> Course
         t += step.steps;
         clock += step.steps;
         swift = true;
-        if !step.any {
-            continue;
-        }
         let late = step.late;
         let mut i: usize = 0;
         while i < count {

@@ -16,7 +16,7 @@ same-length-2 : tie.Need-same-length-2
 same-length-2 c = search needs
 
 returns : tie.Need-returns
-returns c = advanced-window _ _ _ _ _ _ _ _ _ _ _ (c .before .before .before .before .before .pass-window .ensures) _ (c .if1 .taken)
+returns c = advanced-window _ _ _ _ _ _ _ _ _ _ _ (c .before .before .before .before .before .pass-window .ensures) (c .if1 .taken)
 
 step-on-requires : tie.Need-step-on-requires
 step-on-requires c κs = ((course-few _ _ _ _ _ _ _ (still-course _ _ _ _ _ _ _ _ _ _ _ (c .before .before .before .before .before .before .before .pass-window .ensures) (c .before .before .if1 .left) _ (c .before .before .before .before .before .before .before .before .before .before .before .before .pre .0 .5)), omega arith, omega arith, course-able _ _ _ _ _ _ _ (still-course _ _ _ _ _ _ _ _ _ _ _ (c .before .before .before .before .before .before .before .pass-window .ensures) (c .before .before .if1 .left) _ (c .before .before .before .before .before .before .before .before .before .before .before .before .pre .0 .5))), (omega arith, still-bounded _ _ _ _ _ _ _ _ _ _ _ (c .before .before .before .before .before .before .before .pass-window .ensures) (c .before .before .if1 .left) _ (c .before .before .before .before .before .before .before .before .before .before .before .before .pre .1 .1), omega arith))
@@ -28,7 +28,7 @@ same-length-4 : tie.Need-same-length-4
 same-length-4 c = search needs
 
 returns-2 : tie.Need-returns-2
-returns-2 c = let e = c .before .before .before .before .step-on .ensures in advanced-step _ _ _ _ _ _ _ _ _ _ _ (c .before .before .before .before .before .before .before .before .before .before .before .before .pass-window .ensures) (c .before .before .before .before .before .before .before .if1 .left) _ _ _ _ _ (e .0) (e .1 .0) (e .1 .1 .0) (e .1 .1 .1 .0) (e .1 .1 .1 .1)
+returns-2 c = let e = c .before .before .before .before .step-on .ensures in advanced-step _ _ _ _ _ _ _ _ _ _ _ (c .before .before .before .before .before .before .before .before .before .before .before .before .pass-window .ensures) (c .before .before .before .before .before .before .before .if1 .left) _ _ _ _ (e .0) (e .1 .0) (e .1 .1 .0) (e .1 .1 .1)
 
 pub advance-spec : {M : Type 1} → statement M
 advance-spec =

@@ -1,17 +1,15 @@
 -- `runs::run_steps` meets its contract. Assumes nothing.
 use borrow.Author.Needs.{needs}
 use native.Mathlib.Omega.{arith}
-use Prim.Native.Nat.{_≤_, _-_, _*_}
+use Prim.Native.Nat.{_≤_, _-_}
 use mathlib.Core.Path.{_≡_, refl}
 use lib.ListN.{length}
 use Rattle.course.specs.declared.Ended.the-variants.{All}
 use Rattle.course.specs.Run.{runOf}
-use Rattle.tally.specs.TallyLaws.{Bounded, zero-bounded}
-use Rattle.course.specs.RunLaws.{run-zero, run-end}
-use Rattle.runs.specs.OnLaws.{OnCourse, course-first, course-few, course-plain, NoneLate, none-late-first, none-late-more}
+use Rattle.course.specs.RunLaws.{run-end}
+use Rattle.runs.specs.OnLaws.{course-plain, NoneLate, none-late-first, none-late-more}
 use Rattle.runs.specs.Still.{idle-run}
-use Rattle.order.specs.Window.{Reaches}
-use Rattle.runs.specs.Windows.{advanced-some, advanced-course, advanced-bounded, advanced-reaches, advanced-on, advanced-searched, advanced-late, course-room, runnable-few, runnable-spread}
+use Rattle.runs.specs.Windows.{Underway, underway-first, underway-few, underway-room, underway-asks, underway-on, underway-late, advanced-some, runnable-few, runnable-spread}
 use Rattle.runs.proofs.run_steps.Statement.{statement}
 use Rattle.runs.proofs.run_steps.Tie as tie
 
@@ -22,7 +20,7 @@ abbrev μ-loop : tie.MeasureT-loop
 μ-loop area words n count depth f reach clock ended₀ swift t late i₀ ended i = count - i
 
 abbrev Inv-steps : tie.InvT-steps
-Inv-steps area₀ words₀ n count depth f reach clock₀ ended₀ swift₀ t₀ area words clock ended swift t = (t ≤ n) × (length area ≡ length area₀) × (length words ≡ length words₀) × (ended ≡ All) × Bounded words (32 * t) × OnCourse (n - t) count depth clock f swift area × (runOf (n - t) t words area ≡ runOf n 0 words₀ area₀) × Reaches reach count area
+Inv-steps area₀ words₀ n count depth f reach clock₀ ended₀ swift₀ t₀ area words clock ended swift t = (length area ≡ length area₀) × (length words ≡ length words₀) × (ended ≡ All) × Underway n t count depth clock f swift reach (runOf n 0 words₀ area₀) area words
 
 abbrev μ-steps : tie.MeasureT-steps
 μ-steps area₀ words₀ n count depth f reach clock₀ ended₀ swift₀ t₀ area words clock ended swift t = n - t
@@ -46,16 +44,16 @@ read-clock-requires : tie.Need-read-clock-requires Inv-loop μ-loop Inv-steps μ
 read-clock-requires c κs = omega arith
 
 steps-holds : tie.Need-steps-holds Inv-loop μ-loop Inv-steps μ-steps
-steps-holds c = (omega arith, refl, refl, refl, search zero-bounded, search course-first, search run-zero, search needs)
+steps-holds c = (refl, refl, refl, underway-first _ _ _ _ _ _ _ _ _ (c .before .before .before .before .before .before .before .before .before .before .before .before .pre .0 .0) (c .before .before .before .before .before .before .before .before .before .before .before .before .pre .0 .2) (c .before .before .before .before .before .before .before .before .read-count .ensures) refl (c .before .before .before .before .before .before .read-depth .ensures) (c .read-clock .ensures) (c .before .before .before .before .read-figures .ensures) (c .before .before .reach .ensures) (c .before .before .before .before .before .before .before .before .before .before .before .before .pre .1 .1))
 
 is-idle-requires : tie.Need-is-idle-requires Inv-loop μ-loop Inv-steps μ-steps
-is-idle-requires c κs = (search course-few, omega arith, search course-plain)
+is-idle-requires c κs = (underway-few _ _ _ _ _ _ _ _ _ _ _ (c .before .before .steps .inv .3), omega arith, course-plain _ _ _ _ _ _ _ ((c .before .before .steps .inv .3) .course))
 
 sub-write-clock : tie.Need-sub-write-clock Inv-loop μ-loop Inv-steps μ-steps
-sub-write-clock c = omega arith
+sub-write-clock c = omega (arith, (c .before .before .before .before .before .steps .inv .3) .within, (c .before .before .before .before .steps-test .taken))
 
 add-write-clock : tie.Need-add-write-clock Inv-loop μ-loop Inv-steps μ-steps
-add-write-clock c = let h = c .before .before .before .before .before .steps .inv .5 in let g = c .before .before .before .before .steps-test .taken in let m = c .before .before .before .before .before .before .before .before .reach .ensures .1 in let room = course-room _ _ _ _ _ _ _ h in omega arith
+add-write-clock c = omega (arith, underway-room _ _ _ _ _ _ _ _ _ _ _ (c .before .before .before .before .before .steps .inv .3), (c .before .before .before .before .steps-test .taken))
 
 write-clock-requires : tie.Need-write-clock-requires Inv-loop μ-loop Inv-steps μ-steps
 write-clock-requires c κs = omega arith
@@ -67,49 +65,43 @@ same-length-2 : tie.Need-same-length-2 Inv-loop μ-loop Inv-steps μ-steps
 same-length-2 c = omega arith
 
 returns : tie.Need-returns Inv-loop μ-loop Inv-steps μ-steps
-returns c = idle-run _ _ _ _ _ _ _ _ _ _ _ _ (c .before .before .before .before .before .before .before .before .steps .inv .5) (c .before .before .before .before .before .is-idle .ensures) (c .before .before .before .before .if1 .taken) (c .before .before .before .before .before .before .before .steps-test .taken) (omega arith) (c .before .before .write-clock .ensures) (c .before .before .before .before .before .before .before .before .steps .inv .6)
+returns c = idle-run _ _ _ _ _ _ _ _ _ _ _ _ ((c .before .before .before .before .before .before .before .before .steps .inv .3) .course) (c .before .before .before .before .before .is-idle .ensures) (c .before .before .before .before .if1 .taken) (c .before .before .before .before .before .before .before .steps-test .taken) (omega arith) (c .before .before .write-clock .ensures) ((c .before .before .before .before .before .before .before .before .steps .inv .3) .rest)
 
 sub-advance : tie.Need-sub-advance Inv-loop μ-loop Inv-steps μ-steps
-sub-advance c = omega arith
+sub-advance c = omega (arith, (c .before .before .before .before .before .before .steps .inv .3) .within, (c .before .before .before .before .before .steps-test .taken))
 
 mul-advance : tie.Need-mul-advance Inv-loop μ-loop Inv-steps μ-steps
-mul-advance c = omega arith
+mul-advance c = omega (arith, (c .before .before .before .before .before .before .steps .inv .3) .within, (c .before .before .before .before .before .before .steps .inv .3) .limit)
 
 advance-requires : tie.Need-advance-requires Inv-loop μ-loop Inv-steps μ-steps
-advance-requires c κs = let h = c .before .before .before .before .before .before .steps .inv .5 in let g = c .before .before .before .before .before .steps-test .taken in let m = c .before .before .before .before .before .before .before .before .before .reach .ensures .1 in let room = course-room _ _ _ _ _ _ _ h in ((omega arith, omega arith, omega arith, omega arith, omega arith, h, c .before .before .before .before .before .before .steps .inv .7), (omega arith, c .before .before .before .before .before .before .steps .inv .4, omega arith))
+advance-requires c κs = underway-asks _ _ _ _ _ _ _ _ _ _ _ (c .before .before .before .before .before .before .steps .inv .3) (c .before .before .before .before .before .steps-test .taken) (omega arith)
 
 add-t : tie.Need-add-t Inv-loop μ-loop Inv-steps μ-steps
-add-t c = let h = c .before .before .before .before .before .before .before .before .before .before .before .before .steps .inv .5 in let g = c .before .before .before .before .before .before .before .before .before .before .before .steps-test .taken in let m = c .before .before .before .before .before .before .before .before .before .before .before .before .before .before .before .reach .ensures .1 in let room = course-room _ _ _ _ _ _ _ h in let v = c .before .before .before .before .before .advance .ensures in let some = advanced-some _ _ _ _ _ _ _ _ _ _ _ _ _ _ v (omega arith) (omega arith) in omega (arith, c .before .before .before .before .before .before .before .before .before .before .before .before .before .before .before .before .before .before .before .before .before .before .before .before .before .pre .0 .2)
+add-t c = let some = advanced-some _ _ _ _ _ _ _ _ _ _ _ _ _ _ _ (c .before .before .before .before .before .before .before .before .before .before .before .before .steps .inv .3) (c .before .before .before .before .before .before .before .before .before .before .before .steps-test .taken) (c .before .before .before .before .before .advance .ensures) in omega (arith, some .1, (c .before .before .before .before .before .before .before .before .before .before .before .before .steps .inv .3) .limit)
 
 add-clock : tie.Need-add-clock Inv-loop μ-loop Inv-steps μ-steps
-add-clock c = let h = c .before .before .before .before .before .before .before .before .before .before .before .before .before .steps .inv .5 in let g = c .before .before .before .before .before .before .before .before .before .before .before .before .steps-test .taken in let m = c .before .before .before .before .before .before .before .before .before .before .before .before .before .before .before .before .reach .ensures .1 in let room = course-room _ _ _ _ _ _ _ h in let v = c .before .before .before .before .before .before .advance .ensures in let some = advanced-some _ _ _ _ _ _ _ _ _ _ _ _ _ _ v (omega arith) (omega arith) in omega (arith, some .1)
-
-steps-less : tie.Need-steps-less Inv-loop μ-loop Inv-steps μ-steps
-steps-less c = let h = c .before .before .before .before .before .before .before .before .before .before .before .before .before .before .before .steps .inv .5 in let g = c .before .before .before .before .before .before .before .before .before .before .before .before .before .before .steps-test .taken in let m = c .before .before .before .before .before .before .before .before .before .before .before .before .before .before .before .before .before .before .reach .ensures .1 in let room = course-room _ _ _ _ _ _ _ h in let v = c .before .before .before .before .before .before .before .before .advance .ensures in let some = advanced-some _ _ _ _ _ _ _ _ _ _ _ _ _ _ v (omega arith) (omega arith) in omega (arith, some)
-
-steps-again : tie.Need-steps-again Inv-loop μ-loop Inv-steps μ-steps
-steps-again c = let h = c .before .before .before .before .before .before .before .before .before .before .before .before .before .before .before .steps .inv .5 in let g = c .before .before .before .before .before .before .before .before .before .before .before .before .before .before .steps-test .taken in let m = c .before .before .before .before .before .before .before .before .before .before .before .before .before .before .before .before .before .before .reach .ensures .1 in let room = course-room _ _ _ _ _ _ _ h in let v = c .before .before .before .before .before .before .before .before .advance .ensures in let some = advanced-some _ _ _ _ _ _ _ _ _ _ _ _ _ _ v (omega arith) (omega arith) in (omega (arith, some), omega arith, omega arith, search needs, advanced-bounded _ _ _ _ _ _ _ _ _ _ _ _ _ _ _ h (c .before .before .before .before .before .before .before .before .before .before .before .before .before .before .before .steps .inv .7) (omega arith) (omega arith) (omega arith) (c .before .before .before .before .before .before .before .before .before .before .before .before .before .before .before .steps .inv .4) v, advanced-course _ _ _ _ _ _ _ _ _ _ _ _ _ _ _ h (c .before .before .before .before .before .before .before .before .before .before .before .before .before .before .before .steps .inv .7) (omega arith) (omega arith) (omega arith) v, advanced-on _ _ _ _ _ _ _ _ _ _ _ _ _ _ _ h (c .before .before .before .before .before .before .before .before .before .before .before .before .before .before .before .steps .inv .7) (omega arith) (omega arith) (omega arith) _ (c .before .before .before .before .before .before .before .before .before .before .before .before .before .before .before .steps .inv .6) v (c .if2 .taken), advanced-reaches _ _ _ _ _ _ _ _ _ _ _ _ _ _ _ h (c .before .before .before .before .before .before .before .before .before .before .before .before .before .before .before .steps .inv .7) (omega arith) (omega arith) (omega arith) v)
+add-clock c = let some = advanced-some _ _ _ _ _ _ _ _ _ _ _ _ _ _ _ (c .before .before .before .before .before .before .before .before .before .before .before .before .before .steps .inv .3) (c .before .before .before .before .before .before .before .before .before .before .before .before .steps-test .taken) (c .before .before .before .before .before .before .advance .ensures) in omega (arith, some .2, some .0)
 
 loop-holds : tie.Need-loop-holds Inv-loop μ-loop Inv-steps μ-steps
 loop-holds c = (omega arith, search needs, search none-late-first)
 
-steps-less-2 : tie.Need-steps-less-2 Inv-loop μ-loop Inv-steps μ-steps
-steps-less-2 c = let h = c .before .before .before .before .before .before .before .before .before .before .before .before .before .before .before .before .before .before .steps .inv .5 in let g = c .before .before .before .before .before .before .before .before .before .before .before .before .before .before .before .before .before .steps-test .taken in let m = c .before .before .before .before .before .before .before .before .before .before .before .before .before .before .before .before .before .before .before .before .before .reach .ensures .1 in let room = course-room _ _ _ _ _ _ _ h in let v = c .before .before .before .before .before .before .before .before .before .before .before .advance .ensures in let some = advanced-some _ _ _ _ _ _ _ _ _ _ _ _ _ _ v (omega arith) (omega arith) in omega (arith, some)
+steps-less : tie.Need-steps-less Inv-loop μ-loop Inv-steps μ-steps
+steps-less c = let some = advanced-some _ _ _ _ _ _ _ _ _ _ _ _ _ _ _ (c .before .before .before .before .before .before .before .before .before .before .before .before .before .before .before .before .steps .inv .3) (c .before .before .before .before .before .before .before .before .before .before .before .before .before .before .before .steps-test .taken) (c .before .before .before .before .before .before .before .before .before .advance .ensures) in omega (arith, some .0, some .1)
 
-steps-again-2 : tie.Need-steps-again-2 Inv-loop μ-loop Inv-steps μ-steps
-steps-again-2 c = let h = c .before .before .before .before .before .before .before .before .before .before .before .before .before .before .before .before .before .before .steps .inv .5 in let g = c .before .before .before .before .before .before .before .before .before .before .before .before .before .before .before .before .before .steps-test .taken in let m = c .before .before .before .before .before .before .before .before .before .before .before .before .before .before .before .before .before .before .before .before .before .reach .ensures .1 in let room = course-room _ _ _ _ _ _ _ h in let v = c .before .before .before .before .before .before .before .before .before .before .before .advance .ensures in let some = advanced-some _ _ _ _ _ _ _ _ _ _ _ _ _ _ v (omega arith) (omega arith) in (omega (arith, some), omega arith, omega arith, search needs, advanced-bounded _ _ _ _ _ _ _ _ _ _ _ _ _ _ _ h (c .before .before .before .before .before .before .before .before .before .before .before .before .before .before .before .before .before .before .steps .inv .7) (omega arith) (omega arith) (omega arith) (c .before .before .before .before .before .before .before .before .before .before .before .before .before .before .before .before .before .before .steps .inv .4) v, advanced-course _ _ _ _ _ _ _ _ _ _ _ _ _ _ _ h (c .before .before .before .before .before .before .before .before .before .before .before .before .before .before .before .before .before .before .steps .inv .7) (omega arith) (omega arith) (omega arith) v, advanced-searched _ _ _ _ _ _ _ _ _ _ _ _ _ _ _ h (c .before .before .before .before .before .before .before .before .before .before .before .before .before .before .before .before .before .before .steps .inv .7) (omega arith) (omega arith) (omega arith) _ (c .before .before .before .before .before .before .before .before .before .before .before .before .before .before .before .before .before .before .steps .inv .6) v _ (c .before .loop .inv .2) (c .before .loop .inv .0) (c .loop-test .left), advanced-reaches _ _ _ _ _ _ _ _ _ _ _ _ _ _ _ h (c .before .before .before .before .before .before .before .before .before .before .before .before .before .before .before .before .before .before .steps .inv .7) (omega arith) (omega arith) (omega arith) v)
+steps-again : tie.Need-steps-again Inv-loop μ-loop Inv-steps μ-steps
+steps-again c = (omega arith, omega arith, c .before .loop .inv .1, underway-on _ _ _ _ _ _ _ _ _ _ _ _ _ _ _ (c .before .before .before .before .before .before .before .before .before .before .before .before .before .before .before .before .steps .inv .3) (c .before .before .before .before .before .before .before .before .before .before .before .before .before .before .before .steps-test .taken) (c .before .before .before .before .before .before .before .before .before .advance .ensures) _ (c .before .loop .inv .2) (c .before .loop .inv .0) (c .loop-test .left))
 
-array-read-if3 : tie.Need-array-read-if3 Inv-loop μ-loop Inv-steps μ-steps
-array-read-if3 c = omega (arith, course-few _ _ _ _ _ _ _ (c .before .before .before .before .before .before .before .before .before .before .before .before .before .before .before .before .before .before .steps .inv .5))
+array-read-if2 : tie.Need-array-read-if2 Inv-loop μ-loop Inv-steps μ-steps
+array-read-if2 c = omega (arith, underway-few _ _ _ _ _ _ _ _ _ _ _ (c .before .before .before .before .before .before .before .before .before .before .before .before .before .before .before .before .steps .inv .3))
 
 sub-t46 : tie.Need-sub-t46 Inv-loop μ-loop Inv-steps μ-steps
-sub-t46 c = let h = c .before .before .before .before .before .before .before .before .before .before .before .before .before .before .before .before .before .before .before .steps .inv .5 in let g = c .before .before .before .before .before .before .before .before .before .before .before .before .before .before .before .before .before .before .steps-test .taken in let m = c .before .before .before .before .before .before .before .before .before .before .before .before .before .before .before .before .before .before .before .before .before .before .reach .ensures .1 in let room = course-room _ _ _ _ _ _ _ h in let v = c .before .before .before .before .before .before .before .before .before .before .before .before .advance .ensures in let some = advanced-some _ _ _ _ _ _ _ _ _ _ _ _ _ _ v (omega arith) (omega arith) in omega (arith, some)
+sub-t46 c = let some = advanced-some _ _ _ _ _ _ _ _ _ _ _ _ _ _ _ (c .before .before .before .before .before .before .before .before .before .before .before .before .before .before .before .before .before .steps .inv .3) (c .before .before .before .before .before .before .before .before .before .before .before .before .before .before .before .before .steps-test .taken) (c .before .before .before .before .before .before .before .before .before .before .advance .ensures) in omega (arith, some .0)
 
 cast-t47 : tie.Need-cast-t47 Inv-loop μ-loop Inv-steps μ-steps
-cast-t47 c = omega (arith, course-few _ _ _ _ _ _ _ (c .before .before .before .before .before .before .before .before .before .before .before .before .before .before .before .before .before .before .before .steps .inv .5))
+cast-t47 c = omega (arith, underway-few _ _ _ _ _ _ _ _ _ _ _ (c .before .before .before .before .before .before .before .before .before .before .before .before .before .before .before .before .before .steps .inv .3))
 
 add-i : tie.Need-add-i Inv-loop μ-loop Inv-steps μ-steps
-add-i c = omega (arith, course-few _ _ _ _ _ _ _ (c .before .before .before .before .before .before .before .before .before .before .before .before .before .before .before .before .before .before .before .steps .inv .5))
+add-i c = omega (arith, underway-few _ _ _ _ _ _ _ _ _ _ _ (c .before .before .before .before .before .before .before .before .before .before .before .before .before .before .before .before .before .steps .inv .3))
 
 loop-less : tie.Need-loop-less Inv-loop μ-loop Inv-steps μ-steps
 loop-less c = omega arith
@@ -124,7 +116,7 @@ same-length-4 : tie.Need-same-length-4 Inv-loop μ-loop Inv-steps μ-steps
 same-length-4 c = omega arith
 
 returns-2 : tie.Need-returns-2 Inv-loop μ-loop Inv-steps μ-steps
-returns-2 c = search run-end
+returns-2 c = run-end _ _ _ _ _ _ (c .before .steps .inv .2) (c .steps-test .left) (c .before .steps .inv .3 .rest)
 
 same-length-5 : tie.Need-same-length-5 Inv-loop μ-loop Inv-steps μ-steps
 same-length-5 c = omega arith
@@ -133,7 +125,7 @@ same-length-6 : tie.Need-same-length-6 Inv-loop μ-loop Inv-steps μ-steps
 same-length-6 c = omega arith
 
 returns-3 : tie.Need-returns-3 Inv-loop μ-loop Inv-steps μ-steps
-returns-3 c = let h = c .before .before .before .before .before .before .before .before .before .before .before .before .before .before .before .before .before .before .before .steps .inv .5 in let g = c .before .before .before .before .before .before .before .before .before .before .before .before .before .before .before .before .before .before .steps-test .taken in let m = c .before .before .before .before .before .before .before .before .before .before .before .before .before .before .before .before .before .before .before .before .before .before .reach .ensures .1 in let room = course-room _ _ _ _ _ _ _ h in let v = c .before .before .before .before .before .before .before .before .before .before .before .before .advance .ensures in let some = advanced-some _ _ _ _ _ _ _ _ _ _ _ _ _ _ v (omega arith) (omega arith) in advanced-late _ _ _ _ _ _ _ _ _ _ _ _ _ _ _ h (c .before .before .before .before .before .before .before .before .before .before .before .before .before .before .before .before .before .before .before .steps .inv .7) (omega arith) (omega arith) (omega arith) _ (c .before .before .before .before .before .before .before .before .before .before .before .before .before .before .before .before .before .before .before .steps .inv .6) v (c .before .before .before .before .if2 .left) _ (c .if3 .taken) (c .before .before .loop .inv .2) (c .before .loop-test .taken)
+returns-3 c = underway-late _ _ _ _ _ _ _ _ _ _ _ _ _ _ _ (c .before .before .before .before .before .before .before .before .before .before .before .before .before .before .before .before .before .steps .inv .3) (c .before .before .before .before .before .before .before .before .before .before .before .before .before .before .before .before .steps-test .taken) (c .before .before .before .before .before .before .before .before .before .before .advance .ensures) _ (c .if2 .taken) (c .before .before .loop .inv .2) (c .before .loop-test .taken)
 
 pub run-steps-spec : {M : Type 1} → statement M
 run-steps-spec =
@@ -162,12 +154,10 @@ run-steps-spec =
     advance-requires
     add-t
     add-clock
+    loop-holds
     steps-less
     steps-again
-    loop-holds
-    steps-less-2
-    steps-again-2
-    array-read-if3
+    array-read-if2
     sub-t46
     cast-t47
     add-i

@@ -1,5 +1,4 @@
 -- `runs::step_on` meets its contract. Assumes nothing.
-use borrow.Author.Needs.{needs}
 use native.Mathlib.Omega.{arith}
 use Prim.Native.Nat.{_≤_, _-_}
 use mathlib.Core.Path.{_≡_, refl}
@@ -10,10 +9,10 @@ use Rattle.runs.proofs.step_on.Statement.{statement}
 use Rattle.runs.proofs.step_on.Tie as tie
 
 abbrev Inv-loop : tie.InvT-loop
-Inv-loop area₀ words₀ n depth t f top any₀ late₀ i₀ area words any late i = (i ≤ n) × (length area ≡ length area₀) × (length words ≡ length words₀) × Midway f depth n t area₀ words₀ top i area words any late
+Inv-loop area₀ words₀ n depth t f top late₀ i₀ area words late i = (i ≤ n) × (length area ≡ length area₀) × (length words ≡ length words₀) × Midway f depth n t area₀ words₀ top i area words late
 
 abbrev μ-loop : tie.MeasureT-loop
-μ-loop area₀ words₀ n depth t f top any₀ late₀ i₀ area words any late i = n - i
+μ-loop area₀ words₀ n depth t f top late₀ i₀ area words late i = n - i
 
 loop-holds : tie.Need-loop-holds Inv-loop μ-loop
 loop-holds c = (omega arith, refl, refl, midway-start _ _ _ _ _ _ _ (c .before .before .pre .1 .1))
@@ -33,9 +32,6 @@ turn-on-requires c κs = ((omega arith, omega arith, omega arith, omega arith, t
 array-write-late : tie.Need-array-write-late Inv-loop μ-loop
 array-write-late c = omega arith
 
-either-requires : tie.Need-either-requires Inv-loop μ-loop
-either-requires c κs = search needs
-
 add-i : tie.Need-add-i Inv-loop μ-loop
 add-i c = omega arith
 
@@ -43,7 +39,7 @@ loop-less : tie.Need-loop-less Inv-loop μ-loop
 loop-less c = omega arith
 
 loop-again : tie.Need-loop-again Inv-loop μ-loop
-loop-again c = (omega arith, omega arith, omega arith, midway-turn _ _ _ _ _ _ _ _ _ _ _ _ (c .before .before .before .before .before .before .before .before .before .before .before .before .pre .0 .3) (omega arith) (omega arith) (omega arith) (c .before .before .before .before .before .before .before .before .before .loop .inv .3) _ _ _ _ (c .before .before .before .before .before .turn-on .ensures .0) (c .before .before .before .before .before .turn-on .ensures .1 .0) (c .before .before .before .before .before .turn-on .ensures .1 .1) (c .either .ensures))
+loop-again c = (omega arith, omega arith, omega arith, midway-turn _ _ _ _ _ _ _ _ _ _ _ (c .before .before .before .before .before .before .before .before .before .before .before .pre .0 .3) (omega arith) (omega arith) (omega arith) (c .before .before .before .before .before .before .before .before .loop .inv .3) _ _ _ (c .before .before .before .before .turn-on .ensures .0) (c .before .before .before .before .turn-on .ensures .1 .0) (c .before .before .before .before .turn-on .ensures .1 .1))
 
 add-write-clock : tie.Need-add-write-clock Inv-loop μ-loop
 add-write-clock c = omega arith
@@ -58,7 +54,7 @@ same-length-2 : tie.Need-same-length-2 Inv-loop μ-loop
 same-length-2 c = omega arith
 
 returns : tie.Need-returns Inv-loop μ-loop
-returns c = (refl, midway-end _ _ _ _ _ _ _ _ _ _ _ _ (c .before .before .before .before .before .loop .inv .3) (omega arith) (omega arith) (omega arith) _ _ refl (c .before .before .write-clock .ensures))
+returns c = (refl, midway-end _ _ _ _ _ _ _ _ _ _ _ (c .before .before .before .before .before .loop .inv .3) (omega arith) (omega arith) (omega arith) _ _ refl (c .before .before .write-clock .ensures))
 
 pub step-on-spec : {M : Type 1} → statement M
 step-on-spec =
@@ -72,7 +68,6 @@ step-on-spec =
     add-high
     turn-on-requires
     array-write-late
-    either-requires
     add-i
     loop-less
     loop-again
