@@ -1,6 +1,9 @@
-// How far a run goes: its answer, and the definition of a run and its laws (specs). No code.
+// How far a run goes: its answer, and the definition of a run and its laws (specs).
 
 use octets::Done;
+ghost use mathlib.Core.Path.{_≡_};
+ghost use Prim.Native.Nat.{_-_, _<_};
+ghost use Rattle.course.specs.declared.Ended.the-variants.{Late};
 
 // How a run ended: all its steps were made, or a station had a late collision in the last of them.
 pub enum Ended {
@@ -21,4 +24,15 @@ pub struct RunAnswer {
 pub struct Course {
     pub steps: u32,
     pub ended: Ended,
+}
+
+// How a run ends that makes so many steps, where the station has a late collision in the last of them.
+pub fn late_end(steps: u32, station: u32) -> Ended
+    requires { ⌜ 0 < steps ⌝ }
+    ensures { λ r. ⌜ r ≡ Late (steps - 1) station ⌝ }
+{
+    Ended::Late {
+        step: steps - 1,
+        station,
+    }
 }

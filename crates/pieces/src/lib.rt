@@ -1,17 +1,15 @@
-// The pieces in which what is printed is handed out: where a run stands, and how far it goes until the next one.
+// The pieces in which what is printed is handed out: where a run stands, and which piece is the next.
 
 use pair::Events;
-use receiver::ReceiveEvent;
-use transmitter::TransmitEvent;
 ghost use mathlib.Core.Path.{_≡_};
 ghost use mathlib.Core.Bool.{false};
 ghost use Prim.Native.Nat.{_-_, _≤_};
 ghost use lib.ListN.{length};
 ghost use Rattle.octets.specs.Base.{pick, some, refused};
+ghost use Rattle.octets.specs.NumberLaws.{Octets};
 ghost use Rattle.course.specs.Run.{lateAt};
-ghost use Rattle.course.specs.RunLaws.{Runnable};
 ghost use Rattle.pieces.specs.Printed.{lies};
-ghost use Rattle.pieces.specs.Pieces.{hasEvent, eventful, untilEvent, stretchOf, isDue, spanOf, pieceAnswer, offerShort};
+ghost use Rattle.pieces.specs.Pieces.{isDue, spanOf, pieceAnswer, offerShort, moveRefusal};
 
 // The octets that `out` must have: no piece is longer.
 pub const ROOM: usize = 2048;
@@ -43,29 +41,6 @@ pub struct Stretch {
     pub events: [Events; 16],
 }
 
-fn has_event(e: Events) -> bool
-    ensures { λ r. ⌜ r ≡ hasEvent e ⌝ }
-{
-    let sent = e.sent;
-    let got = e.got;
-    octets::either(turn::is_transmit(sent), turn::is_receive(got))
-}
-
-// Whether some station has an event.
-fn is_eventful(events: [Events; 16]) -> bool
-    ensures { λ r. ⌜ r ≡ eventful events ⌝ }
-{
-    let mut i: usize = 0;
-    while i < 16 {
-        let e = events[i];
-        if has_event(e) {
-            return true;
-        }
-        i += 1;
-    }
-    false
-}
-
 // Whether some station has a late collision.
 fn is_late(events: [Events; 16]) -> bool
     ensures { λ r. ⌜ r ≡ some (lateAt events) 16 ⌝ }
@@ -80,29 +55,6 @@ fn is_late(events: [Events; 16]) -> bool
         i += 1;
     }
     false
-}
-
-// At most n steps, until one has an event.
-pub fn until_event(area: &mut [u8], n: u32) -> Stretch
-    requires { ⌜ Runnable n (now area) × (57344 ≤ length (now area)) ⌝ }
-    ensures { λ r. ⌜ stretchOf r (now (area .exit)) ≡ untilEvent n (now (area .entry)) ⌝ }
-{
-    let mut t: u32 = 0;
-    while t < n {
-        let events = step::step(area);
-        t += 1;
-        if is_eventful(events) {
-            return Stretch { steps: t, events };
-        }
-    }
-    let none = Events {
-        sent: TransmitEvent::NoTransmit,
-        got: ReceiveEvent::NoReceive,
-    };
-    Stretch {
-        steps: t,
-        events: [none; 16],
-    }
 }
 
 // Whether the offer that begins at `at` lies within the input.
@@ -128,6 +80,28 @@ pub fn offer_short(input: &[u8], g: Progress) -> bool
         return false;
     }
     !offer_lies(input, g.at)
+}
+
+// Refusals 2, 13, 15 and 16, by their number; 0 where there is none.
+pub fn refusal(input: &[u8], area: &[u8], room: usize, g: Progress) -> u32
+    requires { ⌜ 57344 ≤ length (now area) ⌝ }
+    ensures value { λ r. ⌜ r ≡ moveRefusal (now (input .entry)) (now (area .entry)) room g ⌝ }
+    ensures octets { λ r. ⌜ Octets (now (area .entry)) ⌝ }
+{
+    let number = ready::refusal(area);
+    if number != 0 {
+        return number;
+    }
+    if 16777216 - area::read_clock(area) < g.times {
+        return 13;
+    }
+    if room < ROOM {
+        return 15;
+    }
+    if offer_short(input, g) {
+        return 16;
+    }
+    0
 }
 
 // Whether the next offer's time is the clock.

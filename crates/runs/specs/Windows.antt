@@ -34,6 +34,7 @@ use Rattle.order.specs.Reach.{AllSafeIf}
 use Rattle.order.specs.Going.{Open}
 use Rattle.course.specs.Run.{tallied, lateAt, Ran, runOf}
 use Rattle.course.specs.RunLaws.{Runnable, tally-none, next-bounded, run-zero}
+use Rattle.course.specs.declared.Ended.{Ended}
 use Rattle.course.specs.declared.Ended.the-variants as how
 use Rattle.runs.specs.OnLaws.{tally-turn, tally-all, filled-past, blank-at, lates, OnCourse, course-first, course-few, plain-after, course-next, NoneLate, course-searched, course-late}
 use Rattle.runs.specs.Still.{clock-twice}
@@ -506,7 +507,7 @@ module _ (k t n d c : ℕ) (f : Figures) (swift : Bool) (m : ℕ) (R : Ran) (a b
   underway-on (passed el w) i u lo up = underway-window w
 
   -- one is
-  pub underway-late : Advanced f d n c m (k - t) r late a ws b vs → (i : ℕ) → getD late i false ≡ true → NoneLate late i → i < n
-      → record { answer = accepted []; steps = t + r; words = vs; ended = how.Late (t + r - 1) i; octets = b } ≡ R
-  underway-late (stepped es ey ev el) i l u hi = rw es (course-late k t n d c f swift a (g .course) lt ws vs b R ey ev (g .rest) late i el l u hi)
-  underway-late (passed el w) i l u hi = absurd (true≢false (sym l ∙ ap (λ (q : List Bool). getD q i false) el ∙ blank-at 16 i false))
+  pub underway-late : Advanced f d n c m (k - t) r late a ws b vs → (i : ℕ) → getD late i false ≡ true → NoneLate late i → i < n → (e : Ended) → e ≡ how.Late (t + r - 1) i
+      → record { answer = accepted []; steps = t + r; words = vs; ended = e; octets = b } ≡ R
+  underway-late (stepped es ey ev el) i l u hi e ee = rw (ee, es) (course-late k t n d c f swift a (g .course) lt ws vs b R ey ev (g .rest) late i el l u hi)
+  underway-late (passed el w) i l u hi e ee = absurd (true≢false (sym l ∙ ap (λ (q : List Bool). getD q i false) el ∙ blank-at 16 i false))

@@ -204,10 +204,7 @@ fn run_steps(area: &mut [u8], words: &mut [u32], n: u32) -> Course
         let mut i: usize = 0;
         while i < count {
             if late[i] {
-                ended = Ended::Late {
-                    step: t - 1,
-                    station: i as u32,
-                };
+                ended = course::late_end(t, i as u32);
                 break 'steps;
             }
             i += 1;

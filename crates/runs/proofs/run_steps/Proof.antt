@@ -94,11 +94,11 @@ steps-again c = (omega arith, omega arith, c .before .loop .inv .1, underway-on 
 array-read-if2 : tie.Need-array-read-if2 Inv-loop μ-loop Inv-steps μ-steps
 array-read-if2 c = omega (arith, underway-few _ _ _ _ _ _ _ _ _ _ _ (c .before .before .before .before .before .before .before .before .before .before .before .before .before .before .before .before .steps .inv .3))
 
-sub-t46 : tie.Need-sub-t46 Inv-loop μ-loop Inv-steps μ-steps
-sub-t46 c = let some = advanced-some _ _ _ _ _ _ _ _ _ _ _ _ _ _ _ (c .before .before .before .before .before .before .before .before .before .before .before .before .before .before .before .before .before .steps .inv .3) (c .before .before .before .before .before .before .before .before .before .before .before .before .before .before .before .before .steps-test .taken) (c .before .before .before .before .before .before .before .before .before .before .advance .ensures) in omega (arith, some .0)
+cast-late-end : tie.Need-cast-late-end Inv-loop μ-loop Inv-steps μ-steps
+cast-late-end c = omega (arith, underway-few _ _ _ _ _ _ _ _ _ _ _ (c .before .before .before .before .before .before .before .before .before .before .before .before .before .before .before .before .before .steps .inv .3))
 
-cast-t47 : tie.Need-cast-t47 Inv-loop μ-loop Inv-steps μ-steps
-cast-t47 c = omega (arith, underway-few _ _ _ _ _ _ _ _ _ _ _ (c .before .before .before .before .before .before .before .before .before .before .before .before .before .before .before .before .before .steps .inv .3))
+late-end-requires : tie.Need-late-end-requires Inv-loop μ-loop Inv-steps μ-steps
+late-end-requires c κs = let some = advanced-some _ _ _ _ _ _ _ _ _ _ _ _ _ _ _ (c .before .before .before .before .before .before .before .before .before .before .before .before .before .before .before .before .before .steps .inv .3) (c .before .before .before .before .before .before .before .before .before .before .before .before .before .before .before .before .steps-test .taken) (c .before .before .before .before .before .before .before .before .before .before .advance .ensures) in omega (arith, some .0)
 
 add-i : tie.Need-add-i Inv-loop μ-loop Inv-steps μ-steps
 add-i c = omega (arith, underway-few _ _ _ _ _ _ _ _ _ _ _ (c .before .before .before .before .before .before .before .before .before .before .before .before .before .before .before .before .before .steps .inv .3))
@@ -125,7 +125,7 @@ same-length-6 : tie.Need-same-length-6 Inv-loop μ-loop Inv-steps μ-steps
 same-length-6 c = omega arith
 
 returns-3 : tie.Need-returns-3 Inv-loop μ-loop Inv-steps μ-steps
-returns-3 c = underway-late _ _ _ _ _ _ _ _ _ _ _ _ _ _ _ (c .before .before .before .before .before .before .before .before .before .before .before .before .before .before .before .before .before .steps .inv .3) (c .before .before .before .before .before .before .before .before .before .before .before .before .before .before .before .before .steps-test .taken) (c .before .before .before .before .before .before .before .before .before .before .advance .ensures) _ (c .if2 .taken) (c .before .before .loop .inv .2) (c .before .loop-test .taken)
+returns-3 c = underway-late _ _ _ _ _ _ _ _ _ _ _ _ _ _ _ (c .before .before .before .before .before .before .before .before .before .before .before .before .before .before .before .before .before .before .steps .inv .3) (c .before .before .before .before .before .before .before .before .before .before .before .before .before .before .before .before .before .steps-test .taken) (c .before .before .before .before .before .before .before .before .before .before .before .advance .ensures) _ (c .before .if2 .taken) (c .before .before .before .loop .inv .2) (c .before .before .loop-test .taken) _ (c .late-end .ensures)
 
 pub run-steps-spec : {M : Type 1} → statement M
 run-steps-spec =
@@ -158,8 +158,8 @@ run-steps-spec =
     steps-less
     steps-again
     array-read-if2
-    sub-t46
-    cast-t47
+    cast-late-end
+    late-end-requires
     add-i
     loop-less
     loop-again

@@ -1,9 +1,9 @@
--- `pieces::is_eventful` meets its contract. Assumes nothing.
+-- `plan::is_eventful` meets its contract. Assumes nothing.
 use native.Mathlib.Omega.{arith}
 use Prim.Native.Nat.{_≤_, _-_}
 use Rattle.pieces.specs.PieceLaws.{Calm, calm-none, calm-more, calm-hit, calm-end}
-use Rattle.pieces.proofs.is_eventful.Statement.{statement}
-use Rattle.pieces.proofs.is_eventful.Tie as tie
+use Rattle.plan.proofs.is_eventful.Statement.{statement}
+use Rattle.plan.proofs.is_eventful.Tie as tie
 
 abbrev Inv-loop : tie.InvT-loop
 Inv-loop events i₀ i = (i ≤ 16) × Calm events i

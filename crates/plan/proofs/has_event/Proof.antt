@@ -1,8 +1,8 @@
--- `pieces::has_event` meets its contract. Assumes nothing.
+-- `plan::has_event` meets its contract. Assumes nothing.
 use Rattle.pieces.specs.PieceLaws.{event-is}
 use borrow.Author.Needs.{needs}
-use Rattle.pieces.proofs.has_event.Statement.{statement}
-use Rattle.pieces.proofs.has_event.Tie as tie
+use Rattle.plan.proofs.has_event.Statement.{statement}
+use Rattle.plan.proofs.has_event.Tie as tie
 
 is-transmit-requires : tie.Need-is-transmit-requires
 is-transmit-requires c κs = search needs

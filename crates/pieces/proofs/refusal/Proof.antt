@@ -1,10 +1,10 @@
--- `plan::refusal` meets its contract. Assumes nothing.
+-- `pieces::refusal` meets its contract. Assumes nothing.
 use Rattle.course.specs.RunLaws.{clock-within}
 use native.Mathlib.Omega.{arith}
 use Rattle.pieces.specs.PieceLaws.{refusal-area, refusal-clock, refusal-room, refusal-offer, refusal-none}
 use borrow.Author.Needs.{needs}
-use Rattle.plan.proofs.refusal.Statement.{statement}
-use Rattle.plan.proofs.refusal.Tie as tie
+use Rattle.pieces.proofs.refusal.Statement.{statement}
+use Rattle.pieces.proofs.refusal.Tie as tie
 
 refusal-requires : tie.Need-refusal-requires
 refusal-requires c κs = search needs

@@ -1,14 +1,14 @@
--- `pieces::until_event` meets its contract. Assumes nothing.
+-- `plan::until_event` meets its contract. Assumes nothing.
 use native.Mathlib.Omega.{arith}
 use borrow.Author.Needs.{needs}
 use Prim.Native.Nat.{_≤_, _-_}
 use mathlib.Core.Path.{_≡_, refl}
 use lib.ListN.{length}
 use Rattle.course.specs.RunLaws.{Runnable, run-next}
 use Rattle.pieces.specs.Pieces.{untilEvent}
 use Rattle.pieces.specs.PieceLaws.{run-first, run-ready, run-clock, plus, stretch-first, stretch-on, stretch-hit, stretch-end}
-use Rattle.pieces.proofs.until_event.Statement.{statement}
-use Rattle.pieces.proofs.until_event.Tie as tie
+use Rattle.plan.proofs.until_event.Statement.{statement}
+use Rattle.plan.proofs.until_event.Tie as tie
 
 abbrev Inv-loop : tie.InvT-loop
 Inv-loop area₀ n t₀ area t = (t ≤ n) × (length area ≡ length area₀) × Runnable (n - t) area × (plus t (untilEvent (n - t) area) ≡ untilEvent n area₀)
