@@ -8,7 +8,7 @@ use native.Mathlib.Nat.{not-suc-le-zero}
 use native.Mathlib.Numerals.{add-one}
 use native.Mathlib.Omega.{arith}
 use lib.ListN.{length, getD, set, replicate, length-append, List·getD-append}
-use lib.Seq.{set-at, getD-at, append-snoc}
+use lib.Seq.{set-at, getD-at, append-snoc, getD-append-add}
 
 module _ {A : Type 0} where
   unfoldable pub listed : (ℕ → A) → ℕ → List A
@@ -46,6 +46,19 @@ module _ {A : Type 0} where
   pub filled-at : (b : A) (t : ℕ → A) (n i : ℕ) (d : A) → i < n → getD (filled b t n) i d ≡ t i
   unfolding filled
   filled-at b t n i d h = List·getD-append (listed t n) (replicate (16 - n) b) d i (omega (arith, length-listed t n)) ∙ listed-at t n i d h
+
+  -- and none of those after them
+  pub blank-at : (m k : ℕ) (b : A) → getD (replicate m b) k b ≡ b
+  blank-at zero k b = refl
+  blank-at (suc m) zero b = refl
+  blank-at (suc m) (suc k) b = blank-at m k b
+
+  pub filled-past : (b : A) (t : ℕ → A) (n k : ℕ) → getD (filled b t n) (n + k) b ≡ b
+  unfolding filled
+  filled-past b t n k =
+      ap (λ (m : ℕ). getD (listed t n ++ replicate (16 - n) b) (m + k) b) (sym (length-listed t n))
+      ∙ getD-append-add (listed t n) (replicate (16 - n) b) k b
+      ∙ blank-at (16 - n) k b
 
   -- ---- the loop
 

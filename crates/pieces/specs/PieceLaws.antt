@@ -197,9 +197,6 @@ offer-room l p h = lies-room l p h .0
 pub time-at : (l : List ℕ) (p : ℕ) → lies l p ≡ true → p + 4 ≤ length l
 time-at l p h = omega (arith, offer-room l p h)
 
-pub station-at : (l : List ℕ) (p : ℕ) → lies l p ≡ true → p + 4 < length l
-station-at l p h = omega (arith, offer-room l p h)
-
 pub size-at : (l : List ℕ) (p : ℕ) → lies l p ≡ true → p + 13 + 2 ≤ length l
 size-at l p h = omega (arith, offer-room l p h)
 
@@ -357,9 +354,6 @@ offer-is l o x a b g z e n d h q w r =
     let s : b ≡ made l (g .at) a .octets = ap (λ (y : Outcome). y .octets) h in
     (λ i. record { answer = accepted (e ∷ []); progress = standing (g .at + 15 + r i) (g .offers - 1) (g .times) false; octets = s i; out = x })
     ∙ hand-is o x e (offerPiece l g a) (w ∙ ap (λ (k : ℕ). puts o 0 (offerLine l (g .at) k)) m)
-
-pub offer-fits : (l : List ℕ) (p z : ℕ) → z ≡ get 2 l (p + 13) → lies l p ≡ true → p + 15 + z ≤ length l
-offer-fits l p z q h = omega (arith, lies-room l p h .1)
 
 -- ---- the bit times left
 

@@ -2,14 +2,13 @@
 use Prim.Native.Nat.{ℕ, zero, suc, _+_, _-_, _*_, _≤_, _<_}
 use mathlib.Core.Path.{_≡_, refl, sym, _∙_, ap, subst}
 use mathlib.Core.Bool.{Bool, true, false, true≢false}
-use mathlib.Core.List.{List, [], _∷_, _++_}
+use mathlib.Core.List.{List, []}
 use native.Mathlib.Numerals.{add-one}
 use native.Mathlib.Omega.{arith}
-use lib.ListN.{length, getD, set, replicate, length-append}
-use lib.Seq.{getD-append-add}
+use lib.ListN.{length, getD, set, replicate}
 use Rattle.octets.specs.Base.{some, accepted}
 use Rattle.octets.specs.BaseLaws.{some-none, some-more, some-same}
-use Rattle.octets.specs.Filled.{listed, filled, filled-at, filled-none, filled-more}
+use Rattle.octets.specs.Filled.{filled, filled-at, filled-past, filled-none, filled-more}
 use Rattle.octets.specs.Turns.{turns}
 use Rattle.layout.specs.declared.Figures.{Figures}
 use Rattle.record.specs.Codec.{encoded}
@@ -39,23 +38,6 @@ unfolding lates
 lates-none es = filled-none false (lateAt es)
 
 -- ---- the places after the last station
-
-length-listed : {A : Type 0} (t : ℕ → A) (n : ℕ) → length (listed t n) ≡ n
-unfolding listed
-length-listed t zero = refl
-length-listed t (suc n) = length-append (listed t n) (t n ∷ []) ∙ omega (arith, length-listed t n)
-
-pub blank-at : {A : Type 0} (m k : ℕ) (b : A) → getD (replicate m b) k b ≡ b
-blank-at zero k b = refl
-blank-at (suc m) zero b = refl
-blank-at (suc m) (suc k) b = blank-at m k b
-
-pub filled-past : {A : Type 0} (b : A) (t : ℕ → A) (n k : ℕ) → getD (filled b t n) (n + k) b ≡ b
-unfolding filled
-filled-past b t n k =
-    ap (λ (m : ℕ). getD (listed t n ++ replicate (16 - n) b) (m + k) b) (sym (length-listed t n))
-    ∙ getD-append-add (listed t n) (replicate (16 - n) b) k b
-    ∙ blank-at (16 - n) k b
 
 module _ (f : Figures) (d t : ℕ) (a : List ℕ) (n : ℕ) where
   es : List Events
@@ -171,10 +153,6 @@ module _ (k n d t : ℕ) (f : Figures) (swift : Bool) (a : List ℕ) (h : OnCour
   pub course-plain : AllPlain swift n a
   unfolding OnCourse
   course-plain = h .5
-
-  pub course-clock : 0 < k → t < 16777216
-  unfolding OnCourse Runnable
-  course-clock g = omega (arith, h .0 .1, h .3)
 
   pub course-area : (b : List ℕ) → b ≡ advancedIn f d n t a → b ≡ stepArea a
   unfolding OnCourse

@@ -10,7 +10,7 @@ use lib.ListN.{length, getD}
 use lib.Seq.{sets, ext-getD}
 use Rattle.octets.specs.Base.{some, accepted}
 use Rattle.octets.specs.BaseLaws.{by-test}
-use Rattle.octets.specs.Filled.{filled-at}
+use Rattle.octets.specs.Filled.{filled-at, filled-past}
 use Rattle.octets.specs.Number.{spelled, put}
 use Rattle.octets.specs.NumberLaws.{Octets, length-spelled}
 use Rattle.octets.specs.Store.{octet-same, octet-other}
@@ -27,7 +27,7 @@ use Rattle.course.specs.declared.Ended.the-variants as how
 use Rattle.tally.specs.Tally.{sentCounted, gotCounted}
 use Rattle.course.specs.Run.{tallied, lateAt, Ran, runOf}
 use Rattle.course.specs.RunLaws.{Runnable}
-use Rattle.runs.specs.OnLaws.{filled-past, OnCourse, course-few}
+use Rattle.runs.specs.OnLaws.{OnCourse, course-few}
 
 -- ---- the clock written twice, and its octets
 

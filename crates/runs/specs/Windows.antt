@@ -10,7 +10,7 @@ use lib.Dec.{ltb}
 use lib.ListN.{length, getD, replicate}
 use Rattle.octets.specs.Base.{some, accepted}
 use Rattle.octets.specs.BaseLaws.{by-test, below-none}
-use Rattle.octets.specs.Filled.{filled-at}
+use Rattle.octets.specs.Filled.{filled-at, filled-past, blank-at}
 use Rattle.octets.specs.Turns.{turns}
 use Rattle.layout.specs.declared.Figures.{Figures}
 use Rattle.layout.specs.CheckLaws.{Figured}
@@ -36,7 +36,7 @@ use Rattle.course.specs.Run.{tallied, lateAt, Ran, runOf}
 use Rattle.course.specs.RunLaws.{Runnable, tally-none, next-bounded, run-zero}
 use Rattle.course.specs.declared.Ended.{Ended}
 use Rattle.course.specs.declared.Ended.the-variants as how
-use Rattle.runs.specs.OnLaws.{tally-turn, tally-all, filled-past, blank-at, lates, OnCourse, course-first, course-few, plain-after, course-next, NoneLate, course-searched, course-late}
+use Rattle.runs.specs.OnLaws.{tally-turn, tally-all, lates, OnCourse, course-first, course-few, plain-after, course-next, NoneLate, course-searched, course-late}
 use Rattle.runs.specs.Still.{clock-twice}
 
 -- ---- a step, turn by turn
