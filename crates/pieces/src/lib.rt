@@ -73,7 +73,7 @@ fn offer_lies(input: &[u8], at: usize) -> bool
 }
 
 // Whether an offer is left and does not lie within the input.
-pub fn offer_short(input: &[u8], g: Progress) -> bool
+fn offer_short(input: &[u8], g: Progress) -> bool
     ensures { λ r. ⌜ r ≡ offerShort (now (input .entry)) g ⌝ }
 {
     if g.offers == 0 {

@@ -147,7 +147,7 @@ pub fn together(
 
 // Takes the turns of station i in the steps from t on, as many as it can of those in which little changes and nothing happens, at most m; says
 // how many.
-pub fn stretch(
+fn stretch(
     area: &mut [u8],
     n: usize,
     depth: u32,
