@@ -147,15 +147,7 @@ pub fn together(
 
 // Takes the turns of station i in the steps from t on, as many as it can of those in which little changes and nothing happens, at most m; says
 // how many.
-fn stretch(
-    area: &mut [u8],
-    n: usize,
-    depth: u32,
-    t: usize,
-    f: Figures,
-    i: usize,
-    m: usize,
-) -> usize
+fn stretch(area: &mut [u8], n: usize, depth: u32, t: usize, f: Figures, i: usize, m: usize) -> usize
     requires { ⌜ (i < n) × (n ≤ 16) × (t + m ≤ 16777216) × (m ≤ 256) × (57344 ≤ length (now area)) × Fine f depth t (stationAt (now area) i) × Figured f × (depth ≤ 16) × Plain (now area) i ⌝ }
     ensures went { λ r. ⌜ Silently f depth n t i r (now (area .entry)) (now (area .exit)) ⌝ }
     ensures bound { λ r. ⌜ r ≤ m ⌝ }
