@@ -5,7 +5,7 @@ use mathlib.Core.List.{List, [], _∷_}
 use lib.Dec.{eqb}
 use lib.ListN.{getD}
 use lib.Seq.{sets}
-use Rattle.octets.specs.Base.{pick, Answer}
+use Rattle.octets.specs.Base.{pick, Answer, valuesOf}
 use Rattle.octets.specs.Number.{put}
 use Rattle.octets.specs.Words.{putWords}
 use Rattle.octets.specs.Turns.{turns}
@@ -32,7 +32,7 @@ replied n v = pick (eqb n 0) v (refusalBit + n)
 
 -- the first value of an answer, 0 where it has none
 abbrev pub valueOf : Answer → ℕ
-valueOf r = getD (r .values) 0 0
+valueOf r = getD (valuesOf r) 0 0
 
 -- ---- a layout
 
@@ -65,7 +65,7 @@ layoutPut y out = tapsPut (y .stations) 16 (putWords 8 out 0 (layoutWords y))
 
 -- where the client data begin in the frame, and how many octets they are; 0 and 0 but with receiveOK
 unfoldable pub clientWords : Answer → List ℕ
-clientWords r = pick (eqb (valueOf r) 5) 14 0 ∷ getD (r .values) 1 0 ∷ []
+clientWords r = pick (eqb (valueOf r) 5) 14 0 ∷ getD (valuesOf r) 1 0 ∷ []
 
 -- ---- events
 

@@ -6,6 +6,7 @@ use native.Mathlib.Omega.{arith}
 use borrow.Author.Tests.{eq-eqb, ne-eqb}
 use lib.ListN.{length, getD}
 use lib.Seq.{sets}
+use Rattle.octets.specs.Base.{valuesOf}
 use Rattle.octets.specs.Number.{spelled, put}
 use Rattle.octets.specs.Words.{putWords}
 use Rattle.octets.specs.Turns.{turns-none, turns-more}
@@ -55,7 +56,7 @@ sheet-cast s n p h = rw p at h
 pub built-cast : (b : Built) (n : ℕ) → b ≡ builds.Made n → valueOf (builtAnswer b) < 4294967296 → n < 4294967296
 built-cast b n p h = rw p at h
 
-pub client-cast : (s : ReceiveStatus) (n : ℕ) → s ≡ opens.ReceiveOk n → getD (statusAnswer s .values) 1 0 < 4294967296 → n < 4294967296
+pub client-cast : (s : ReceiveStatus) (n : ℕ) → s ≡ opens.ReceiveOk n → getD (valuesOf (statusAnswer s)) 1 0 < 4294967296 → n < 4294967296
 client-cast s n p h = rw p at h
 
 module _ (s : ReceiveStatus) where

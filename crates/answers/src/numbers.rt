@@ -16,7 +16,7 @@ ghost use Rattle.layout.specs.Fit.{fitAnswer};
 ghost use Rattle.sheet.specs.Sheet.{sheetAnswer};
 ghost use Rattle.frame.specs.Build.{builtAnswer};
 ghost use Rattle.opener.specs.Open.{statusAnswer};
-ghost use Rattle.octets.specs.Base.{doneAnswer};
+ghost use Rattle.octets.specs.Base.{doneAnswer, numberOf, valuesOf};
 ghost use Rattle.answers.specs.Answers.{replied, valueOf, clientWords, sentCode, sentNumber, gotCode, gotNumber, eventWords};
 
 // Set in a reply that is a refusal.
@@ -48,7 +48,7 @@ pub fn address(x: u64) -> [u8; 6]
 }
 
 pub fn done_number(d: Done) -> u32
-    ensures { λ r. ⌜ r ≡ doneAnswer d .number ⌝ }
+    ensures { λ r. ⌜ r ≡ numberOf (doneAnswer d) ⌝ }
 {
     match d {
         Done::Refused(n) => n,
@@ -57,7 +57,7 @@ pub fn done_number(d: Done) -> u32
 }
 
 pub fn sheet_number(s: SheetRead) -> u32
-    ensures { λ r. ⌜ r ≡ sheetAnswer s .number ⌝ }
+    ensures { λ r. ⌜ r ≡ numberOf (sheetAnswer s) ⌝ }
 {
     match s {
         SheetRead::Refused(n) => n,
@@ -77,7 +77,7 @@ pub fn sheet_size(s: SheetRead) -> u32
 }
 
 pub fn fit_number(f: Fit) -> u32
-    ensures { λ r. ⌜ r ≡ fitAnswer f .number ⌝ }
+    ensures { λ r. ⌜ r ≡ numberOf (fitAnswer f) ⌝ }
 {
     match f {
         Fit::Refused(n) => n,
@@ -98,7 +98,7 @@ pub fn fit_value(f: Fit) -> u32
 }
 
 pub fn built_number(b: Built) -> u32
-    ensures { λ r. ⌜ r ≡ builtAnswer b .number ⌝ }
+    ensures { λ r. ⌜ r ≡ numberOf (builtAnswer b) ⌝ }
 {
     match b {
         Built::Refused(n) => n,
@@ -118,7 +118,7 @@ pub fn built_size(b: Built) -> u32
 }
 
 pub fn status_number(s: ReceiveStatus) -> u32
-    ensures { λ r. ⌜ r ≡ statusAnswer s .number ⌝ }
+    ensures { λ r. ⌜ r ≡ numberOf (statusAnswer s) ⌝ }
 {
     match s {
         ReceiveStatus::Refused(n) => n,
@@ -148,7 +148,7 @@ pub fn status_value(s: ReceiveStatus) -> u32
 
 // Where the client data begin, and their octets.
 pub fn status_words(s: ReceiveStatus) -> [u32; 2]
-    requires { ⌜ getD (statusAnswer s .values) 1 0 < 4294967296 ⌝ }
+    requires { ⌜ getD (valuesOf (statusAnswer s)) 1 0 < 4294967296 ⌝ }
     ensures { λ r. ⌜ r ≡ clientWords (statusAnswer s) ⌝ }
 {
     match s {

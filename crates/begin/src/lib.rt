@@ -11,7 +11,7 @@ ghost use Prim.Native.Nat.{_<_, _≤_};
 ghost use mathlib.Core.List.{[], _∷_};
 ghost use lib.ListN.{length};
 ghost use lib.Seq.{sets};
-ghost use Rattle.octets.specs.Base.{accepted};
+ghost use Rattle.octets.specs.Base.{accepted, numberOf};
 ghost use Rattle.text.specs.Text.{written, puts, refusedLine};
 ghost use Rattle.input.specs.Plan.{planRead, planReading, verdictAnswer};
 ghost use Rattle.pieces.specs.Printed.{firstText};
@@ -56,7 +56,7 @@ fn refused_piece(out: &mut [u8], n: u32) -> Handed
 
 // The first piece of an input that is read: a fresh start.
 fn start_piece(input: &[u8], area: &mut [u8], out: &mut [u8], p: Plan) -> Handed
-    requires { ⌜ (planReading p ≡ planRead (now input)) × (planRead (now input) .answer .number ≡ 0) ⌝ }
+    requires { ⌜ (planReading p ≡ planRead (now input)) × (numberOf (planRead (now input) .answer) ≡ 0) ⌝ }
     requires { ⌜ (57344 ≤ length (now area)) × (2048 ≤ length (now out)) ⌝ }
     ensures { λ r. ⌜ handing r (now (area .exit)) (now (out .exit)) ≡ given (now (out .entry)) (startPiece (now (input .entry)) (planReading p) (now (area .entry))) ⌝ }
 {
@@ -77,7 +77,7 @@ fn start_piece(input: &[u8], area: &mut [u8], out: &mut [u8], p: Plan) -> Handed
 
 // The number of the refusal of an input, 0 where there is none.
 fn refusal_in(v: Verdict) -> u32
-    ensures { λ r. ⌜ r ≡ verdictAnswer v .number ⌝ }
+    ensures { λ r. ⌜ r ≡ numberOf (verdictAnswer v) ⌝ }
 {
     match v {
         Verdict::Refused(n) => n,

@@ -8,7 +8,7 @@ use native.Mathlib.Omega.{arith}
 use borrow.Author.Tests.{eq-eqb, ne-eqb, lt-ltb, le-ltb, eqb-true, eqb-false}
 use lib.Dec.{ltb, eqb}
 use lib.ListN.{length, getD, replicate}
-use Rattle.octets.specs.Base.{pick, some, outside, Answer, accepted, Outcome, outcome, doneAnswer}
+use Rattle.octets.specs.Base.{pick, some, outside, Answer, accepted, Outcome, outcome, doneAnswer, numberOf, valuesOf}
 use Rattle.octets.specs.BaseLaws.{by-test, within}
 use Rattle.octets.specs.Number.{spelled}
 use Rattle.octets.specs.Words.{putWords}
@@ -63,7 +63,7 @@ passes-long : {A : Type 0} (k : ℕ) (out : List ℕ) (keep : ℕ → A) (x : A)
 passes-long k out keep x h = passes (short k out) 0 0 keep x (long-so k out h)
 
 -- an answer and what is beside it
-code-given : (x : Outcome) (A : Answer) (o : List ℕ) (r n v : ℕ) → r ≡ replied n v → n ≡ A .number → v ≡ valueOf A → outcome A o ≡ x → given r o ≡ codeGiven x
+code-given : (x : Outcome) (A : Answer) (o : List ℕ) (r n v : ℕ) → r ≡ replied n v → n ≡ numberOf A → v ≡ valueOf A → outcome A o ≡ x → given r o ≡ codeGiven x
 code-given x A o r n v p q e h = rw (p, q, e) (ap codeGiven h)
 
 done-value : (d : Done) → 0 ≡ valueOf (doneAnswer d)
@@ -72,9 +72,9 @@ done-value ways.Made = refl
 
 -- ---- sheets
 
-module _ (l : List ℕ) (f : Sheet) (n : ℕ) (q : n ≡ sheetAnswer (f .read) .number) (e : sheetReading f ≡ readSheet l) where
-  number-is : readSheet l .answer .number ≡ n
-  number-is = ap (λ (z : Reading). z .answer .number) (sym e) ∙ sym q
+module _ (l : List ℕ) (f : Sheet) (n : ℕ) (q : n ≡ numberOf (sheetAnswer (f .read))) (e : sheetReading f ≡ readSheet l) where
+  number-is : numberOf (readSheet l .answer) ≡ n
+  number-is = ap (λ (z : Reading). numberOf (z .answer)) (sym e) ∙ sym q
 
   layout-same : f .layout ≡ readSheet l .layout
   layout-same = ap (λ (z : Reading). z .layout) e
@@ -87,44 +87,44 @@ module _ (l : List ℕ) (f : Sheet) (n : ℕ) (q : n ≡ sheetAnswer (f .read) .
 
   pub sheet-refused : (out : List ℕ) (r : ℕ) → r ≡ replied n 0 → (n ≡ 0 → ⊥) → given r out ≡ sheetGiven l out
   unfolding sheetGiven
-  sheet-refused out r p h = refuses (readSheet l .answer .number) n r (kept out) _ p number-is h
+  sheet-refused out r p h = refuses (numberOf (readSheet l .answer)) n r (kept out) _ p number-is h
 
   pub sheet-short : (out : List ℕ) (r : ℕ) → r ≡ replied 15 0 → length out < 192 → n ≡ 0 → given r out ≡ sheetGiven l out
   unfolding sheetGiven
-  sheet-short out r p h z = refuses-short 192 r out (kept out) _ p h ∙ passes (readSheet l .answer .number) 0 0 (kept out) _ (number-is ∙ z)
+  sheet-short out r p h z = refuses-short 192 r out (kept out) _ p h ∙ passes (numberOf (readSheet l .answer)) 0 0 (kept out) _ (number-is ∙ z)
 
   pub sheet-made : (out x : List ℕ) (r : ℕ) → r ≡ valueOf (sheetAnswer (f .read)) → x ≡ layoutPut (f .layout) out → 192 ≤ length out → n ≡ 0 → given r x ≡ sheetGiven l out
   unfolding sheetGiven
   sheet-made out x r p w h z =
       let v : r ≡ valueOf (readSheet l .answer) = p ∙ ap (λ (y : Reading). valueOf (y .answer)) e in
       let o : x ≡ layoutPut (readSheet l .layout) out = w ∙ ap (λ (y : Layout). layoutPut y out) layout-same in
-      rw (v, o) (passes-long 192 out (kept out) _ h ∙ passes (readSheet l .answer .number) 0 0 (kept out) _ (number-is ∙ z))
+      rw (v, o) (passes-long 192 out (kept out) _ h ∙ passes (numberOf (readSheet l .answer)) 0 0 (kept out) _ (number-is ∙ z))
 
   pub fits-refused : (r : ℕ) → r ≡ replied n 0 → (n ≡ 0 → ⊥) → r ≡ fitsGiven l
   unfolding fitsGiven
-  fits-refused r p h = refuses (readSheet l .answer .number) n r (λ k. k) _ p number-is h
+  fits-refused r p h = refuses (numberOf (readSheet l .answer)) n r (λ k. k) _ p number-is h
 
-  pub fits-made : (t : Fit) (r k v : ℕ) → r ≡ replied k v → v ≡ valueOf (fitAnswer t) → k ≡ fitAnswer t .number → fitAnswer t ≡ fitOf (f .layout) → n ≡ 0 → r ≡ fitsGiven l
+  pub fits-made : (t : Fit) (r k v : ℕ) → r ≡ replied k v → v ≡ valueOf (fitAnswer t) → k ≡ numberOf (fitAnswer t) → fitAnswer t ≡ fitOf (f .layout) → n ≡ 0 → r ≡ fitsGiven l
   unfolding fitsGiven
   fits-made t r k v p a b c z =
       let w : fitAnswer t ≡ fitOf (readSheet l .layout) = c ∙ ap fitOf layout-same in
-      p ∙ ap₂ replied b a ∙ ap codeOf w ∙ passes (readSheet l .answer .number) 0 0 (λ k. k) _ (number-is ∙ z)
+      p ∙ ap₂ replied b a ∙ ap codeOf w ∙ passes (numberOf (readSheet l .answer)) 0 0 (λ k. k) _ (number-is ∙ z)
 
   pub start-sheet : (a draws : List ℕ) (d r : ℕ) → r ≡ replied n 0 → (n ≡ 0 → ⊥) → 57344 ≤ length a → given r a ≡ startGiven a l d draws
   unfolding startGiven
   start-sheet a draws d r p h g =
-      refuses (readSheet l .answer .number) n r (kept a) _ p number-is h
+      refuses (numberOf (readSheet l .answer)) n r (kept a) _ p number-is h
       ∙ passes (pick (ltb (length a) 57344) 1 0) 0 0 (kept a) _ (rw (le-ltb (length a) 57344 g))
 
   pub start-made : (a b draws : List ℕ) (d r : ℕ) → given r b ≡ drawnGiven a (f .layout) d draws → n ≡ 0 → 57344 ≤ length a → given r b ≡ startGiven a l d draws
   unfolding startGiven
   start-made a b draws d r p z g =
       p ∙ ap (λ (y : Layout). drawnGiven a y d draws) layout-same
-      ∙ passes (readSheet l .answer .number) 0 0 (kept a) _ (number-is ∙ z)
+      ∙ passes (numberOf (readSheet l .answer)) 0 0 (kept a) _ (number-is ∙ z)
       ∙ passes (pick (ltb (length a) 57344) 1 0) 0 0 (kept a) _ (rw (le-ltb (length a) 57344 g))
 
-pub fit-number-low : (y : Layout) (t : Fit) (k : ℕ) → k ≡ fitAnswer t .number → fitAnswer t ≡ fitOf y → k ≤ 16
-fit-number-low y t k p q = let h : fitAnswer t .number ≡ fitOf y .number = ap (λ (r : Answer). r .number) q in omega (arith, fit-low y)
+pub fit-number-low : (y : Layout) (t : Fit) (k : ℕ) → k ≡ numberOf (fitAnswer t) → fitAnswer t ≡ fitOf y → k ≤ 16
+fit-number-low y t k p q = let h : numberOf (fitAnswer t) ≡ numberOf (fitOf y) = ap numberOf q in omega (arith, fit-low y)
 
 -- ---- frames
 
@@ -132,21 +132,21 @@ module _ (out o x d s : List ℕ) (dn sn v : ℕ) (b : Built) (e : outcome (buil
   build-same : outcome (builtAnswer b) o ≡ built out (spelled 6 dn) (spelled 6 sn) v x
   build-same = e ∙ rw (ed, es)
 
-  pub build-number-low : (n : ℕ) → n ≡ builtAnswer b .number → n ≤ 16
+  pub build-number-low : (n : ℕ) → n ≡ numberOf (builtAnswer b) → n ≤ 16
   build-number-low n q =
-      let h : builtAnswer b .number ≡ built out d s v x .answer .number = ap (λ (z : Outcome). z .answer .number) e in
+      let h : numberOf (builtAnswer b) ≡ numberOf (built out d s v x .answer) = ap (λ (z : Outcome). numberOf (z .answer)) e in
       omega (arith, build-low out d s v x)
 
   pub build-value-small : valueOf (builtAnswer b) < 4294967296
   build-value-small = rw (ap (λ (z : Outcome). valueOf (z .answer)) build-same) (build-small out dn sn v x)
 
-  pub build-made : (r n k : ℕ) → r ≡ replied n k → k ≡ valueOf (builtAnswer b) → n ≡ builtAnswer b .number → given r o ≡ buildGiven dn sn v x out
+  pub build-made : (r n k : ℕ) → r ≡ replied n k → k ≡ valueOf (builtAnswer b) → n ≡ numberOf (builtAnswer b) → given r o ≡ buildGiven dn sn v x out
   unfolding buildGiven
   build-made r n k p w q = code-given (built out (spelled 6 dn) (spelled 6 sn) v x) (builtAnswer b) o r n k p q w build-same
 
-module _ (f : List ℕ) (x : ℕ) (s : ReceiveStatus) (n : ℕ) (q : n ≡ statusAnswer s .number) (e : statusAnswer s ≡ opened false f x .status) where
-  status-is : opened false f x .status .number ≡ n
-  status-is = ap (λ (r : Answer). r .number) (sym e) ∙ sym q
+module _ (f : List ℕ) (x : ℕ) (s : ReceiveStatus) (n : ℕ) (q : n ≡ numberOf (statusAnswer s)) (e : statusAnswer s ≡ opened false f x .status) where
+  status-is : numberOf (opened false f x .status) ≡ n
+  status-is = ap numberOf (sym e) ∙ sym q
 
   pub status-number-low : n ≤ 16
   status-number-low = omega (arith, status-is, open-low false f x)
@@ -157,19 +157,19 @@ module _ (f : List ℕ) (x : ℕ) (s : ReceiveStatus) (n : ℕ) (q : n ≡ statu
 
   pub client-refused : (out : List ℕ) (r : ℕ) → r ≡ replied n 0 → (n ≡ 0 → ⊥) → given r out ≡ clientGiven f x out
   unfolding clientGiven
-  client-refused out r p h = refuses (opened false f x .status .number) n r (kept out) _ p status-is h
+  client-refused out r p h = refuses (numberOf (opened false f x .status)) n r (kept out) _ p status-is h
 
   pub client-short : (out : List ℕ) (r : ℕ) → r ≡ replied 15 0 → length out < 8 → n ≡ 0 → given r out ≡ clientGiven f x out
   unfolding clientGiven
-  client-short out r p h z = refuses-short 8 r out (kept out) _ p h ∙ passes (opened false f x .status .number) 0 0 (kept out) _ (status-is ∙ z)
+  client-short out r p h z = refuses-short 8 r out (kept out) _ p h ∙ passes (numberOf (opened false f x .status)) 0 0 (kept out) _ (status-is ∙ z)
 
   pub client-made : (out b ws : List ℕ) (r : ℕ) → r ≡ valueOf (statusAnswer s) → b ≡ putWords (length ws) out 0 ws → ws ≡ clientWords (statusAnswer s) → 8 ≤ length out → n ≡ 0
       → given r b ≡ clientGiven f x out
   unfolding clientGiven clientWords
   client-made out b ws r p w ew h z =
-      rw (p, w, ew, e) (passes-long 8 out (kept out) _ h ∙ passes (opened false f x .status .number) 0 0 (kept out) _ (status-is ∙ z))
+      rw (p, w, ew, e) (passes-long 8 out (kept out) _ h ∙ passes (numberOf (opened false f x .status)) 0 0 (kept out) _ (status-is ∙ z))
 
-pub client-value-small : (f : List ℕ) (x : ℕ) (s : ReceiveStatus) → statusAnswer s ≡ opened false f x .status → getD (statusAnswer s .values) 1 0 < 4294967296
+pub client-value-small : (f : List ℕ) (x : ℕ) (s : ReceiveStatus) → statusAnswer s ≡ opened false f x .status → getD (valuesOf (statusAnswer s)) 1 0 < 4294967296
 client-value-small f x s e = rw e (open-small false f x)
 
 -- ---- fresh start and offers
@@ -183,16 +183,16 @@ module _ (a l : List ℕ) (y : Layout) (d : ℕ) where
   unfolding drawnGiven drawsRefusal
   drawn-size b r p q t h = refuses (drawsRefusal (y .count) d (length l)) 9 r (kept a) _ p (rw (← q, t, ne-eqb (length l) (2 * (y .count * d)) h)) (λ z. omega arith)
 
-  pub drawn-made : (b : Bool) (c : List ℕ) (rows : List (List ℕ)) (t : Done) (r n : ℕ) → r ≡ replied n 0 → n ≡ doneAnswer t .number → outcome (doneAnswer t) c ≡ started a y d rows
+  pub drawn-made : (b : Bool) (c : List ℕ) (rows : List (List ℕ)) (t : Done) (r n : ℕ) → r ≡ replied n 0 → n ≡ numberOf (doneAnswer t) → outcome (doneAnswer t) c ≡ started a y d rows
       → rows ≡ drawsIn l 0 (y .count) d → b ≡ outside d 1 16 → b ≡ false → length l ≡ 2 * (y .count * d) → given r c ≡ drawnGiven a y d l
   unfolding drawnGiven drawsRefusal
   drawn-made b c rows t r n p k e w q f h =
       code-given (started a y d (drawsIn l 0 (y .count) d)) (doneAnswer t) c r n 0 p k (done-value t) (e ∙ ap (started a y d) w)
       ∙ passes (drawsRefusal (y .count) d (length l)) 0 0 (kept a) _ (rw (← q, f, eq-eqb (length l) (2 * (y .count * d)) h))
 
-pub start-number-low : (a c : List ℕ) (y : Layout) (d : ℕ) (rows : List (List ℕ)) (t : Done) (n : ℕ) → n ≡ doneAnswer t .number → outcome (doneAnswer t) c ≡ started a y d rows → n ≤ 16
+pub start-number-low : (a c : List ℕ) (y : Layout) (d : ℕ) (rows : List (List ℕ)) (t : Done) (n : ℕ) → n ≡ numberOf (doneAnswer t) → outcome (doneAnswer t) c ≡ started a y d rows → n ≤ 16
 start-number-low a c y d rows t n p e =
-    let h : doneAnswer t .number ≡ started a y d rows .answer .number = ap (λ (z : Outcome). z .answer .number) e in
+    let h : numberOf (doneAnswer t) ≡ numberOf (started a y d rows .answer) = ap (λ (z : Outcome). numberOf (z .answer)) e in
     omega (arith, start-low a y d rows)
 
 -- N × D with both at most sixteen
@@ -209,10 +209,10 @@ pub start-short : (a s draws : List ℕ) (d r : ℕ) → r ≡ replied 1 0 → l
 unfolding startGiven
 start-short a s draws d r p h = refuses (pick (ltb (length a) 57344) 1 0) 1 r (kept a) _ p (rw (lt-ltb (length a) 57344 h)) (λ z. omega arith)
 
-module _ (a b x d : List ℕ) (i dn v : ℕ) (t : Done) (n : ℕ) (q : n ≡ doneAnswer t .number) (e : outcome (doneAnswer t) b ≡ offered a i d v x) where
+module _ (a b x d : List ℕ) (i dn v : ℕ) (t : Done) (n : ℕ) (q : n ≡ numberOf (doneAnswer t)) (e : outcome (doneAnswer t) b ≡ offered a i d v x) where
   pub offer-number-low : n ≤ 16
   offer-number-low =
-      let h : doneAnswer t .number ≡ offered a i d v x .answer .number = ap (λ (z : Outcome). z .answer .number) e in
+      let h : numberOf (doneAnswer t) ≡ numberOf (offered a i d v x .answer) = ap (λ (z : Outcome). numberOf (z .answer)) e in
       omega (arith, offer-low a i d v x)
 
   pub offer-made : (r : ℕ) → r ≡ replied n 0 → d ≡ spelled 6 dn → given r b ≡ offerGiven a i dn v x
@@ -245,21 +245,21 @@ short-only a n m r p q h = p ∙ rw (← q, eq-eqb m 0 h)
 
 -- ---- one step
 
-step-number : (a : List ℕ) → steppedOnce a .answer .number ≡ timeRefusal a 1
+step-number : (a : List ℕ) → numberOf (steppedOnce a .answer) ≡ timeRefusal a 1
 unfolding steppedOnce timeRefusal
 step-number a = go (eqb (areaRefusal a) 0) (ltb 16777216 (clockAt a + 1))
   where
-    go : (b c : Bool) → pick b (pick c (unstepped 13 a) (record { answer = accepted []; events = eventsAt a; octets = stepArea a })) (unstepped (areaRefusal a) a) .answer .number ≡ pick b (pick c 13 0) (areaRefusal a)
+    go : (b c : Bool) → numberOf (pick b (pick c (unstepped 13 a) (record { answer = accepted []; events = eventsAt a; octets = stepArea a })) (unstepped (areaRefusal a) a) .answer) ≡ pick b (pick c 13 0) (areaRefusal a)
     go true true = refl
     go true false = refl
     go false c = refl
 
-step-kept : (a : List ℕ) → (steppedOnce a .answer .number ≡ 0 → ⊥) → steppedOnce a .octets ≡ a
+step-kept : (a : List ℕ) → (numberOf (steppedOnce a .answer) ≡ 0 → ⊥) → steppedOnce a .octets ≡ a
 unfolding steppedOnce
 step-kept a = go (eqb (areaRefusal a) 0) (ltb 16777216 (clockAt a + 1))
   where
     go : (b c : Bool)
-        → (pick b (pick c (unstepped 13 a) (record { answer = accepted []; events = eventsAt a; octets = stepArea a })) (unstepped (areaRefusal a) a) .answer .number ≡ 0 → ⊥)
+        → (numberOf (pick b (pick c (unstepped 13 a) (record { answer = accepted []; events = eventsAt a; octets = stepArea a })) (unstepped (areaRefusal a) a) .answer) ≡ 0 → ⊥)
         → pick b (pick c (unstepped 13 a) (record { answer = accepted []; events = eventsAt a; octets = stepArea a })) (unstepped (areaRefusal a) a) .octets ≡ a
     go true true h = refl
     go true false h = absurd (h refl)
@@ -275,11 +275,11 @@ refuses-first m n k r out keep x e p h =
 
 pub step-short : (a out : List ℕ) (r : ℕ) → r ≡ replied (pick (eqb (timeRefusal a 1) 0) 15 (timeRefusal a 1)) 0 → length out < 256 → left r a out ≡ stepLeft a out
 unfolding stepLeft
-step-short a out r p h = refuses-first (steppedOnce a .answer .number) (timeRefusal a 1) 256 r out (bothKept a out) _ (step-number a) p h
+step-short a out r p h = refuses-first (numberOf (steppedOnce a .answer)) (timeRefusal a 1) 256 r out (bothKept a out) _ (step-number a) p h
 
-module _ (a b : List ℕ) (t : BitTime) (n : ℕ) (q : n ≡ doneAnswer (t .done) .number) (e : bitTimeOutcome t b ≡ steppedOnce a) where
-  stepped-is : steppedOnce a .answer .number ≡ n
-  stepped-is = ap (λ (z : Bit). z .answer .number) (sym e) ∙ sym q
+module _ (a b : List ℕ) (t : BitTime) (n : ℕ) (q : n ≡ numberOf (doneAnswer (t .done))) (e : bitTimeOutcome t b ≡ steppedOnce a) where
+  stepped-is : numberOf (steppedOnce a .answer) ≡ n
+  stepped-is = ap (λ (z : Bit). numberOf (z .answer)) (sym e) ∙ sym q
 
   pub step-number-low : n ≤ 16
   step-number-low = omega (arith, stepped-is, step-number a, time-low a 1)
@@ -288,40 +288,40 @@ module _ (a b : List ℕ) (t : BitTime) (n : ℕ) (q : n ≡ doneAnswer (t .done
   unfolding stepLeft
   step-refused out r p h =
       let w : b ≡ a = ap (λ (z : Bit). z .octets) e ∙ step-kept a (λ z. h (sym stepped-is ∙ z)) in
-      rw w (refuses (steppedOnce a .answer .number) n r (bothKept a out) _ p stepped-is h)
+      rw w (refuses (numberOf (steppedOnce a .answer)) n r (bothKept a out) _ p stepped-is h)
 
   pub step-made : (out o : List ℕ) → o ≡ eventsPut (t .events) 16 out → 256 ≤ length out → n ≡ 0 → left 0 b o ≡ stepLeft a out
   unfolding stepLeft
   step-made out o p h z =
       rw (p, ap (λ (y : Bit). y .octets) e, ap (λ (y : Bit). y .events) e)
-      (passes-long 256 out (bothKept a out) _ h ∙ passes (steppedOnce a .answer .number) 0 0 (bothKept a out) _ (stepped-is ∙ z))
+      (passes-long 256 out (bothKept a out) _ h ∙ passes (numberOf (steppedOnce a .answer)) 0 0 (bothKept a out) _ (stepped-is ∙ z))
 
 -- ---- a run
 
 -- a run that is made has no refusal
-run-accepted : (k m : ℕ) (ws a : List ℕ) → runOf k m ws a .answer .number ≡ 0
+run-accepted : (k m : ℕ) (ws a : List ℕ) → numberOf (runOf k m ws a .answer) ≡ 0
 unfolding runOf
 run-accepted zero m ws a = refl
 run-accepted (suc k) m ws a = go (some (lateAt (eventsAt a)) 16) _ _ refl (run-accepted k (m + 1) (tallied (eventsAt a) 16 ws) (stepArea a))
   where
-    go : (b : Bool) (x y : Ran) → x .answer .number ≡ 0 → y .answer .number ≡ 0 → pick b x y .answer .number ≡ 0
+    go : (b : Bool) (x y : Ran) → numberOf (x .answer) ≡ 0 → numberOf (y .answer) ≡ 0 → numberOf (pick b x y .answer) ≡ 0
     go true x y p h = p
     go false x y p h = h
 
-run-number : (a : List ℕ) (n : ℕ) → ran a n .answer .number ≡ timeRefusal a n
+run-number : (a : List ℕ) (n : ℕ) → numberOf (ran a n .answer) ≡ timeRefusal a n
 unfolding ran timeRefusal
 run-number a n = go (eqb (areaRefusal a) 0) (ltb 16777216 (clockAt a + n))
   where
-    go : (b c : Bool) → pick b (pick c (unrun 13 a) (runOf n 0 (replicate 9 0) a)) (unrun (areaRefusal a) a) .answer .number ≡ pick b (pick c 13 0) (areaRefusal a)
+    go : (b c : Bool) → numberOf (pick b (pick c (unrun 13 a) (runOf n 0 (replicate 9 0) a)) (unrun (areaRefusal a) a) .answer) ≡ pick b (pick c 13 0) (areaRefusal a)
     go true true = refl
     go true false = run-accepted n 0 (replicate 9 0) a
     go false c = refl
 
-run-kept : (a : List ℕ) (n : ℕ) → (ran a n .answer .number ≡ 0 → ⊥) → ran a n .octets ≡ a
+run-kept : (a : List ℕ) (n : ℕ) → (numberOf (ran a n .answer) ≡ 0 → ⊥) → ran a n .octets ≡ a
 unfolding ran
 run-kept a n = go (eqb (areaRefusal a) 0) (ltb 16777216 (clockAt a + n))
   where
-    go : (b c : Bool) → (pick b (pick c (unrun 13 a) (runOf n 0 (replicate 9 0) a)) (unrun (areaRefusal a) a) .answer .number ≡ 0 → ⊥)
+    go : (b c : Bool) → (numberOf (pick b (pick c (unrun 13 a) (runOf n 0 (replicate 9 0) a)) (unrun (areaRefusal a) a) .answer) ≡ 0 → ⊥)
         → pick b (pick c (unrun 13 a) (runOf n 0 (replicate 9 0) a)) (unrun (areaRefusal a) a) .octets ≡ a
     go true true h = refl
     go true false h = absurd (h (run-accepted n 0 (replicate 9 0) a))
@@ -329,11 +329,11 @@ run-kept a n = go (eqb (areaRefusal a) 0) (ltb 16777216 (clockAt a + n))
 
 pub run-short : (a out : List ℕ) (n r : ℕ) → r ≡ replied (pick (eqb (timeRefusal a n) 0) 15 (timeRefusal a n)) 0 → length out < 48 → left r a out ≡ runLeft a n out
 unfolding runLeft
-run-short a out n r p h = refuses-first (ran a n .answer .number) (timeRefusal a n) 48 r out (bothKept a out) _ (run-number a n) p h
+run-short a out n r p h = refuses-first (numberOf (ran a n .answer)) (timeRefusal a n) 48 r out (bothKept a out) _ (run-number a n) p h
 
-module _ (a b : List ℕ) (k : ℕ) (t : RunAnswer) (n : ℕ) (q : n ≡ doneAnswer (t .done) .number) (e : runOutcome t b ≡ ran a k) where
-  ran-is : ran a k .answer .number ≡ n
-  ran-is = ap (λ (z : Ran). z .answer .number) (sym e) ∙ sym q
+module _ (a b : List ℕ) (k : ℕ) (t : RunAnswer) (n : ℕ) (q : n ≡ numberOf (doneAnswer (t .done))) (e : runOutcome t b ≡ ran a k) where
+  ran-is : numberOf (ran a k .answer) ≡ n
+  ran-is = ap (λ (z : Ran). numberOf (z .answer)) (sym e) ∙ sym q
 
   pub run-number-low : n ≤ 16
   run-number-low = omega (arith, ran-is, run-number a k, time-low a k)
@@ -342,43 +342,43 @@ module _ (a b : List ℕ) (k : ℕ) (t : RunAnswer) (n : ℕ) (q : n ≡ doneAns
   unfolding runLeft
   run-refused out r p h =
       let w : b ≡ a = ap (λ (z : Ran). z .octets) e ∙ run-kept a k (λ z. h (sym ran-is ∙ z)) in
-      rw w (refuses (ran a k .answer .number) n r (bothKept a out) _ p ran-is h)
+      rw w (refuses (numberOf (ran a k .answer)) n r (bothKept a out) _ p ran-is h)
 
   pub run-made : (out o : List ℕ) → o ≡ runPut (t .words) (t .ended) out → 48 ≤ length out → n ≡ 0 → left (t .steps) b o ≡ runLeft a k out
   unfolding runLeft
   run-made out o p h z =
       rw (p, ap (λ (y : Ran). y .octets) e, ap (λ (y : Ran). y .words) e, ap (λ (y : Ran). y .ended) e, ap (λ (y : Ran). y .steps) e)
-      (passes-long 48 out (bothKept a out) _ h ∙ passes (ran a k .answer .number) 0 0 (bothKept a out) _ (ran-is ∙ z))
+      (passes-long 48 out (bothKept a out) _ h ∙ passes (numberOf (ran a k .answer)) 0 0 (bothKept a out) _ (ran-is ∙ z))
 
 -- ---- readings
 
-module _ (a out o : List ℕ) (i : ℕ) (A : Answer) (n : ℕ) (q : n ≡ A .number) (e : outcome A o ≡ frameRead a i out) where
+module _ (a out o : List ℕ) (i : ℕ) (A : Answer) (n : ℕ) (q : n ≡ numberOf A) (e : outcome A o ≡ frameRead a i out) where
   pub frame-number-low : n ≤ 16
   frame-number-low =
-      let h : A .number ≡ frameRead a i out .answer .number = ap (λ (z : Outcome). z .answer .number) e in
+      let h : numberOf A ≡ numberOf (frameRead a i out .answer) = ap (λ (z : Outcome). numberOf (z .answer)) e in
       omega (arith, frame-low a i out)
 
   pub frame-made : (r v : ℕ) → r ≡ replied n v → v ≡ valueOf A → given r o ≡ frameGiven a i out
   unfolding frameGiven
   frame-made r v p w = code-given (frameRead a i out) A o r n v p q w e
 
-module _ (a : List ℕ) (i : ℕ) (c : Counters) (n : ℕ) (q : n ≡ doneAnswer (c .done) .number) (e : countersReading c ≡ countersRead a i) where
-  counted-is : countersRead a i .answer .number ≡ n
-  counted-is = ap (λ (z : Counted). z .answer .number) (sym e) ∙ sym q
+module _ (a : List ℕ) (i : ℕ) (c : Counters) (n : ℕ) (q : n ≡ numberOf (doneAnswer (c .done))) (e : countersReading c ≡ countersRead a i) where
+  counted-is : numberOf (countersRead a i .answer) ≡ n
+  counted-is = ap (λ (z : Counted). numberOf (z .answer)) (sym e) ∙ sym q
 
   pub counters-number-low : n ≤ 16
   counters-number-low = omega (arith, counted-is, counters-low a i)
 
   pub counters-refused : (out : List ℕ) (r : ℕ) → r ≡ replied n 0 → (n ≡ 0 → ⊥) → given r out ≡ countersGiven a i out
   unfolding countersGiven
-  counters-refused out r p h = refuses (countersRead a i .answer .number) n r (kept out) _ p counted-is h
+  counters-refused out r p h = refuses (numberOf (countersRead a i .answer)) n r (kept out) _ p counted-is h
 
   pub counters-short : (out : List ℕ) (r : ℕ) → r ≡ replied 15 0 → length out < 64 → n ≡ 0 → given r out ≡ countersGiven a i out
   unfolding countersGiven
-  counters-short out r p h z = refuses-short 64 r out (kept out) _ p h ∙ passes (countersRead a i .answer .number) 0 0 (kept out) _ (counted-is ∙ z)
+  counters-short out r p h z = refuses-short 64 r out (kept out) _ p h ∙ passes (numberOf (countersRead a i .answer)) 0 0 (kept out) _ (counted-is ∙ z)
 
   pub counters-made : (out o : List ℕ) → o ≡ putWords 16 out 0 (c .words) → 64 ≤ length out → n ≡ 0 → given 0 o ≡ countersGiven a i out
   unfolding countersGiven
   counters-made out o p h z =
       rw (p, ap (λ (y : Counted). y .words) e)
-      (passes-long 64 out (kept out) _ h ∙ passes (countersRead a i .answer .number) 0 0 (kept out) _ (counted-is ∙ z))
+      (passes-long 64 out (kept out) _ h ∙ passes (numberOf (countersRead a i .answer)) 0 0 (kept out) _ (counted-is ∙ z))

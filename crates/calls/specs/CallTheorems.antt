@@ -8,7 +8,7 @@ use native.Mathlib.Omega.{arith}
 use borrow.Author.Tests.{eq-eqb, ltb-false, leb-false, eqb-true}
 use lib.Dec.{ltb, leb, eqb}
 use lib.ListN.{length, replicate}
-use Rattle.octets.specs.Base.{pick, some, outside, Outcome}
+use Rattle.octets.specs.Base.{pick, some, outside, Outcome, numberOf}
 use Rattle.octets.specs.BaseLaws.{by-test, by-eq}
 use Rattle.octets.specs.NumberLaws.{Octets, length-spelled}
 use Rattle.octets.specs.Number.{spelled}
@@ -60,13 +60,13 @@ both-answer r a out b o p h = absurd (omega arith)
 
 -- an answer below the bit, and octets that a refusal leaves as they were
 abbrev Told : List ℕ → Outcome → Type 0
-Told l o = (valueOf (o .answer) < refusalBit) × ((o .answer .number ≡ 0 → ⊥) → o .octets ≡ l)
+Told l o = (valueOf (o .answer) < refusalBit) × ((numberOf (o .answer) ≡ 0 → ⊥) → o .octets ≡ l)
 
 coded : (l : List ℕ) (o : Outcome) → Told l o → Keeps l (codeGiven o)
 unfolding replied
 coded l o t h =
-    by-eq (o .answer .number) 0
-    (λ e. let z : refusalBit ≤ valueOf (o .answer) = rw (eq-eqb (o .answer .number) 0 e) at h in absurd (omega (arith, t .0)))
+    by-eq (numberOf (o .answer)) 0
+    (λ e. let z : refusalBit ≤ valueOf (o .answer) = rw (eq-eqb (numberOf (o .answer)) 0 e) at h in absurd (omega (arith, t .0)))
     (t .1)
 
 -- ---- sheets and frames
@@ -74,10 +74,10 @@ coded l o t h =
 pub sheet-keeps : (l out : List ℕ) → Keeps out (sheetGiven l out)
 unfolding sheetGiven
 sheet-keeps l out =
-    checks (readSheet l .answer .number) out _
+    checks (numberOf (readSheet l .answer)) out _
     (checks (short 192 out) out _ (answers (valueOf (readSheet l .answer)) out (layoutPut (readSheet l .layout) out) (omega (arith, sheet-small l))))
 
-build-same : (out d s : List ℕ) (v : ℕ) (x : List ℕ) → (built out d s v x .answer .number ≡ 0 → ⊥) → built out d s v x .octets ≡ out
+build-same : (out d s : List ℕ) (v : ℕ) (x : List ℕ) → (numberOf (built out d s v x .answer) ≡ 0 → ⊥) → built out d s v x .octets ≡ out
 unfolding built
 build-same out d s v x =
     by-test (refusesData v (length x)) (λ p. rw p (λ h. refl))
@@ -109,7 +109,7 @@ status-small f e =
 pub client-keeps : (f : List ℕ) (e : ℕ) (out : List ℕ) → Keeps out (clientGiven f e out)
 unfolding clientGiven
 client-keeps f e out =
-    checks (opened false f e .status .number) out _
+    checks (numberOf (opened false f e .status)) out _
     (checks (short 8 out) out _ (answers (valueOf (opened false f e .status)) out (putWords 2 out 0 (clientWords (opened false f e .status))) (omega (arith, status-small f e))))
 
 -- ---- calls on a work area
@@ -130,7 +130,7 @@ pub start-keeps : (a s : List ℕ) (d : ℕ) (l : List ℕ) → Keeps a (startGi
 unfolding startGiven
 start-keeps a s d l =
     checks (pick (ltb (length a) 57344) 1 0) a _
-    (checks (readSheet s .answer .number) a _ (drawn-keeps a (readSheet s .layout) d l))
+    (checks (numberOf (readSheet s .answer)) a _ (drawn-keeps a (readSheet s .layout) d l))
 
 offer-told : (a : List ℕ) (i : ℕ) (d : List ℕ) (v : ℕ) (x : List ℕ) → Told a (offered a i d v x)
 unfolding offered
@@ -148,7 +148,7 @@ offer-keeps a i d v x = coded a (offered a i (spelled 6 d) v x) (offer-told a i 
 pub step-keeps : (a out : List ℕ) → BothKept a out (stepLeft a out)
 unfolding stepLeft
 step-keeps a out =
-    both-check (steppedOnce a .answer .number) a out _
+    both-check (numberOf (steppedOnce a .answer)) a out _
     (both-check (short 256 out) a out _ (both-answer 0 a out (steppedOnce a .octets) (eventsPut (steppedOnce a .events) 16 out) (omega arith)))
 
 -- a run makes at most the steps asked
@@ -170,7 +170,7 @@ run-small a n =
 pub run-keeps : (a : List ℕ) (n : ℕ) (out : List ℕ) → BothKept a out (runLeft a n out)
 unfolding runLeft
 run-keeps a n out =
-    both-check (ran a n .answer .number) a out _
+    both-check (numberOf (ran a n .answer)) a out _
     (both-check (short 48 out) a out _ (both-answer (ran a n .steps) a out (ran a n .octets) (runPut (ran a n .words) (ran a n .ended) out) (omega (arith, run-small a n))))
 
 -- ---- readings
@@ -197,5 +197,5 @@ frame-keeps a i out o = coded out (frameRead a i out) (frame-told a i out o)
 pub counters-keeps : (a : List ℕ) (i : ℕ) (out : List ℕ) → Keeps out (countersGiven a i out)
 unfolding countersGiven
 counters-keeps a i out =
-    checks (countersRead a i .answer .number) out _
+    checks (numberOf (countersRead a i .answer)) out _
     (checks (short 64 out) out _ (answers 0 out (putWords 16 out 0 (countersRead a i .words)) (omega arith)))

@@ -6,7 +6,7 @@ use mathlib.Core.Bool.{false}
 use mathlib.Core.List.{List, [], _∷_}
 use lib.Dec.{ltb, eqb}
 use lib.ListN.{length}
-use Rattle.octets.specs.Base.{pick, outside, Answer, Outcome}
+use Rattle.octets.specs.Base.{pick, outside, Answer, Outcome, numberOf}
 use Rattle.octets.specs.Number.{spelled}
 use Rattle.octets.specs.Words.{putWords}
 use Rattle.layout.specs.declared.Layout.{Layout}
@@ -31,7 +31,7 @@ use Rattle.tables.specs.RunWords.{runPut}
 
 -- what a call returns for an answer
 abbrev pub codeOf : Answer → ℕ
-codeOf r = replied (r .number) (valueOf r)
+codeOf r = replied (numberOf r) (valueOf r)
 
 -- ---- what a call gives: the number, and the octets lent to it
 
@@ -77,13 +77,13 @@ short k out = pick (ltb (length out) k) 15 0
 -- "Reading answers the layout and how many octets it used"; refusals 3 to 8, 15
 unfoldable pub sheetGiven : (sheet out : List ℕ) → Given
 sheetGiven l out =
-    unless (readSheet l .answer .number) (kept out)
+    unless (numberOf (readSheet l .answer)) (kept out)
     (unless (short 192 out) (kept out)
     (given (valueOf (readSheet l .answer)) (layoutPut (readSheet l .layout) out)))
 
 -- 1 where the layout of a sheet fits, else 0; refusals 3 to 8
 unfoldable pub fitsGiven : (sheet : List ℕ) → ℕ
-fitsGiven l = unless (readSheet l .answer .number) (λ r. r) (codeOf (fitOf (readSheet l .layout)))
+fitsGiven l = unless (numberOf (readSheet l .answer)) (λ r. r) (codeOf (fitOf (readSheet l .layout)))
 
 -- ---- frames
 
@@ -98,7 +98,7 @@ statusGiven f e = codeOf (opened false f e .status)
 -- the status, and where the client data lie; refusals 5, 15
 unfoldable pub clientGiven : (frame : List ℕ) (excess : ℕ) (out : List ℕ) → Given
 clientGiven f e out =
-    unless (opened false f e .status .number) (kept out)
+    unless (numberOf (opened false f e .status)) (kept out)
     (unless (short 8 out) (kept out)
     (given (valueOf (opened false f e .status)) (putWords 2 out 0 (clientWords (opened false f e .status)))))
 
@@ -118,7 +118,7 @@ drawnGiven a y d l =
 unfoldable pub startGiven : (area sheet : List ℕ) (d : ℕ) (draws : List ℕ) → Given
 startGiven a s d l =
     unless (pick (ltb (length a) areaSize) 1 0) (kept a)
-    (unless (readSheet s .answer .number) (kept a)
+    (unless (numberOf (readSheet s .answer)) (kept a)
     (drawnGiven a (readSheet s .layout) d l))
 
 -- to station i; refusals 1, 2, 10, 11, 12
@@ -130,14 +130,14 @@ offerGiven a i d v x = codeGiven (offered a i (spelled 6 d) v x)
 -- one bit time; refusals 1, 2, 13, and after them 15, with the area as it was
 unfoldable pub stepLeft : (area out : List ℕ) → Left
 stepLeft a out =
-    unless (steppedOnce a .answer .number) (bothKept a out)
+    unless (numberOf (steppedOnce a .answer)) (bothKept a out)
     (unless (short 256 out) (bothKept a out)
     (left 0 (steppedOnce a .octets) (eventsPut (steppedOnce a .events) 16 out)))
 
 -- a run of n bit times answers the steps made; refusals 1, 2, 13, and after them 15, with the area as it was
 unfoldable pub runLeft : (area : List ℕ) (n : ℕ) (out : List ℕ) → Left
 runLeft a n out =
-    unless (ran a n .answer .number) (bothKept a out)
+    unless (numberOf (ran a n .answer)) (bothKept a out)
     (unless (short 48 out) (bothKept a out)
     (left (ran a n .steps) (ran a n .octets) (runPut (ran a n .words) (ran a n .ended) out)))
 
@@ -154,6 +154,6 @@ frameGiven a i out = codeGiven (frameRead a i out)
 -- the sixteen counters of station i; refusals 1, 2, 10, 15
 unfoldable pub countersGiven : (area : List ℕ) (i : ℕ) (out : List ℕ) → Given
 countersGiven a i out =
-    unless (countersRead a i .answer .number) (kept out)
+    unless (numberOf (countersRead a i .answer)) (kept out)
     (unless (short 64 out) (kept out)
     (given 0 (putWords 16 out 0 (countersRead a i .words))))

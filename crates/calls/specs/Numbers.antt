@@ -7,7 +7,7 @@ use native.Mathlib.Omega.{arith}
 use borrow.Author.Tests.{ltb-false, leb-true, eqb-true}
 use lib.Dec.{ltb, leb, eqb}
 use lib.ListN.{length, getD, drop, length-take, length-drop}
-use Rattle.octets.specs.Base.{some, outside}
+use Rattle.octets.specs.Base.{some, outside, numberOf, valuesOf}
 use Rattle.octets.specs.BaseLaws.{by-test}
 use Rattle.octets.specs.NumberLaws.{length-spelled}
 use Rattle.octets.specs.Number.{spelled}
@@ -44,14 +44,14 @@ layout-low y =
     (λ s. by-test (some (addressWrong y) (y .count)) (λ t. rw (p, q, r, s, t) (omega arith))
     (λ t. rw (p, q, r, s, t) (omega arith))))))
 
-pub fit-low : (y : Layout) → fitOf y .number ≤ 16
+pub fit-low : (y : Layout) → numberOf (fitOf y) ≤ 16
 unfolding fitOf
 fit-low y =
     by-test (eqb (refusalOf y) 0)
     (λ p. by-test (fitsWell y) (λ q. rw (p, q) (omega arith)) (λ q. rw (p, q) (omega arith)))
     (λ p. rw p (layout-low y))
 
-pub sheet-low : (l : List ℕ) → readSheet l .answer .number ≤ 16
+pub sheet-low : (l : List ℕ) → numberOf (readSheet l .answer) ≤ 16
 unfolding readSheet
 sheet-low l =
     by-test (ltb (length l) (sheetSize l)) (λ p. rw p (omega arith))
@@ -104,15 +104,15 @@ sheet-value l f p =
 
 -- ---- frames
 
-check-low : (e : ℕ) → checkError e .number ≤ 16
+check-low : (e : ℕ) → numberOf (checkError e) ≤ 16
 unfolding checkError
 check-low e = by-test (eqb e 0) (λ p. rw p (omega arith)) (λ p. rw p (omega arith))
 
-rules-low : (v : ℕ) (l : List ℕ) → unpadded v l .status .number ≤ 16
+rules-low : (v : ℕ) (l : List ℕ) → numberOf (unpadded v l .status) ≤ 16
 unfolding unpadded
 rules-low v l = by-test (lengthWrong v (length l)) (λ p. rw p (omega arith)) (λ p. rw p (omega arith))
 
-pub open-low : (s : Bool) (f : List ℕ) (e : ℕ) → opened s f e .status .number ≤ 16
+pub open-low : (s : Bool) (f : List ℕ) (e : ℕ) → numberOf (opened s f e .status) ≤ 16
 unfolding opened
 open-low b f e =
     by-test (ltb 7 e) (λ p. rw p (omega arith))
@@ -122,7 +122,7 @@ open-low b f e =
     (λ s. rw (p, q, r, s) (rules-low (lengthType f) (dataField f))))))
 
 -- the octets of client data
-check-small : (e : ℕ) → getD (checkError e .values) 1 0 < 4294967296
+check-small : (e : ℕ) → getD (valuesOf (checkError e)) 1 0 < 4294967296
 unfolding checkError
 check-small e = by-test (eqb e 0) (λ p. rw p (omega arith)) (λ p. rw p (omega arith))
 
@@ -130,7 +130,7 @@ client-small : (v n : ℕ) → n ≤ 1518 → clientSize v n < 4294967296
 unfolding clientSize
 client-small v n h = by-test (leb v 1500) (λ p. rw p (omega (arith, leb-true v 1500 p))) (λ p. rw p (omega arith))
 
-rules-small : (v : ℕ) (l : List ℕ) → length l ≤ 1518 → getD (unpadded v l .status .values) 1 0 < 4294967296
+rules-small : (v : ℕ) (l : List ℕ) → length l ≤ 1518 → getD (valuesOf (unpadded v l .status)) 1 0 < 4294967296
 unfolding unpadded
 rules-small v l h = by-test (lengthWrong v (length l)) (λ p. rw p (omega arith)) (λ p. rw p (client-small v (length l) h))
 
@@ -142,7 +142,7 @@ frame-small : (v n : ℕ) → ltb (maxFrame v) n ≡ false → n ≤ 1518
 unfolding maxFrame
 frame-small v n p = ltb-false 1518 n p
 
-pub open-small : (s : Bool) (f : List ℕ) (e : ℕ) → getD (opened s f e .status .values) 1 0 < 4294967296
+pub open-small : (s : Bool) (f : List ℕ) (e : ℕ) → getD (valuesOf (opened s f e .status)) 1 0 < 4294967296
 unfolding opened
 open-small b f e =
     by-test (ltb 7 e) (λ p. rw p (omega arith))
@@ -151,7 +151,7 @@ open-small b f e =
     (λ r. by-test (checkWrong b f) (λ s. rw (p, q, r, s) (check-small e))
     (λ s. rw (p, q, r, s) (rules-small (lengthType f) (dataField f) (field-small f (frame-small (lengthType f) (length f) r)))))))
 
-pub build-low : (l d s : List ℕ) (v : ℕ) (x : List ℕ) → built l d s v x .answer .number ≤ 16
+pub build-low : (l d s : List ℕ) (v : ℕ) (x : List ℕ) → numberOf (built l d s v x .answer) ≤ 16
 unfolding built
 build-low l d s v x =
     by-test (refusesData v (length x)) (λ p. rw p (omega arith))
@@ -177,7 +177,7 @@ area-low a =
     (λ p. by-test (areaWrong a) (λ q. rw (p, q) (omega arith))
     (λ q. rw (p, q) (omega arith)))
 
-pub start-low : (a : List ℕ) (y : Layout) (d : ℕ) (ds : List (List ℕ)) → started a y d ds .answer .number ≤ 16
+pub start-low : (a : List ℕ) (y : Layout) (d : ℕ) (ds : List (List ℕ)) → numberOf (started a y d ds .answer) ≤ 16
 unfolding started
 start-low a y d ds =
     by-test (ltb (length a) 57344) (λ p. rw p (omega arith))
@@ -185,7 +185,7 @@ start-low a y d ds =
     (λ q. by-test (outside d 1 16) (λ r. rw (p, q, r) (omega arith)) (λ r. rw (p, q, r) (omega arith)))
     (λ q. rw (p, q) (layout-low y)))
 
-pub offer-low : (a : List ℕ) (i : ℕ) (d : List ℕ) (v : ℕ) (x : List ℕ) → offered a i d v x .answer .number ≤ 16
+pub offer-low : (a : List ℕ) (i : ℕ) (d : List ℕ) (v : ℕ) (x : List ℕ) → numberOf (offered a i d v x .answer) ≤ 16
 unfolding offered
 offer-low a i d v x =
     by-test (eqb (areaRefusal a) 0)
@@ -201,7 +201,7 @@ time-low a n =
     (λ p. by-test (ltb 16777216 (clockAt a + n)) (λ q. rw (p, q) (omega arith)) (λ q. rw (p, q) (omega arith)))
     (λ p. rw p (area-low a))
 
-pub frame-low : (a : List ℕ) (i : ℕ) (out : List ℕ) → frameRead a i out .answer .number ≤ 16
+pub frame-low : (a : List ℕ) (i : ℕ) (out : List ℕ) → numberOf (frameRead a i out .answer) ≤ 16
 unfolding frameRead
 frame-low a i out =
     by-test (eqb (areaRefusal a) 0)
@@ -211,7 +211,7 @@ frame-low a i out =
     (λ r. rw (p, q, r) (omega arith))))
     (λ p. rw p (area-low a))
 
-pub counters-low : (a : List ℕ) (i : ℕ) → countersRead a i .answer .number ≤ 16
+pub counters-low : (a : List ℕ) (i : ℕ) → numberOf (countersRead a i .answer) ≤ 16
 unfolding countersRead
 counters-low a i =
     by-test (eqb (areaRefusal a) 0)

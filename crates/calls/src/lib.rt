@@ -7,7 +7,7 @@ use reading::Reading;
 ghost use mathlib.Core.Path.{_≡_};
 ghost use Prim.Native.Nat.{_*_, _<_, _≤_};
 ghost use lib.Dec.{eqb};
-ghost use Rattle.octets.specs.Base.{pick};
+ghost use Rattle.octets.specs.Base.{pick, numberOf};
 ghost use Rattle.answers.specs.Answers.{replied, valueOf};
 ghost use Rattle.reading.specs.Read.{readAnswer};
 ghost use Rattle.calls.specs.Calls.{given, left, sheetGiven, fitsGiven, buildGiven, statusGiven, clientGiven, drawnGiven, startGiven, offerGiven, stepLeft, timeRefusal, frameGiven, countersGiven};
@@ -57,7 +57,7 @@ pub fn refuse_short(area: &[u8], n: u32) -> u32
 }
 
 fn read_number(g: Reading) -> u32
-    ensures { λ r. ⌜ r ≡ readAnswer g .number ⌝ }
+    ensures { λ r. ⌜ r ≡ numberOf (readAnswer g) ⌝ }
 {
     match g {
         Reading::Refused(n) => n,

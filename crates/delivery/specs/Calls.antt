@@ -7,7 +7,7 @@ use mathlib.Core.Bool.{Bool}
 use mathlib.Core.List.{List, [], _∷_, _++_}
 use lib.Dec.{eqb}
 use lib.ListN.{length, getD}
-use Rattle.octets.specs.Base.{pick, some}
+use Rattle.octets.specs.Base.{pick, some, numberOf}
 use Rattle.octets.specs.NumberLaws.{Octets}
 use Rattle.frame.specs.Build.{frameOf}
 use Rattle.packet.specs.declared.Heard.{Heard}
@@ -84,18 +84,18 @@ taken number = eqb number 0
 -- the steps that a call makes: the moment before each
 unfoldable pub made : Call → Moment → List Moment
 made (offer i d v x) m = []
-made step m = pick (taken (steppedOnce (m .area) .answer .number)) (m ∷ []) []
-made (run n) m = pick (taken (ran (m .area) n .answer .number)) (runMade n m) []
+made step m = pick (taken (numberOf (steppedOnce (m .area) .answer))) (m ∷ []) []
+made (run n) m = pick (taken (numberOf (ran (m .area) n .answer))) (runMade n m) []
 made (read i out) m = []
 
 -- and what it leaves
 unfoldable pub leaves : Call → Moment → Moment
 leaves (offer i d v x) m =
-    pick (taken (offered (m .area) i d v x .answer .number))
+    pick (taken (numberOf (offered (m .area) i d v x .answer)))
     (accept i (frameOf d (addressAt (m .area) i) v x) (offered (m .area) i d v x .octets) m)
     m
-leaves step m = pick (taken (steppedOnce (m .area) .answer .number)) (next m) m
-leaves (run n) m = pick (taken (ran (m .area) n .answer .number)) (runEnd n m) m
+leaves step m = pick (taken (numberOf (steppedOnce (m .area) .answer))) (next m) m
+leaves (run n) m = pick (taken (numberOf (ran (m .area) n .answer))) (runEnd n m) m
 leaves (read i out) m = m
 
 -- a list of calls: the moment before each step made, in order, and what is left

@@ -143,13 +143,13 @@ pub by-start : (a : List ℕ) (y : Layout) (d : ℕ) (ds : List (List ℕ)) (D :
 unfolding started
 by-start a y d ds D h go =
     by-test (ltb (length a) 57344)
-    (λ c. refused-none 1 [] (λ z. omega arith) (rw c at h))
+    (λ c. refused-none 1 [] (rw c at h))
     (λ c. by-test (eqb (refusalOf y) 0)
     (λ e. by-test (outside d 1 16)
-    (λ o. refused-none 9 [] (λ z. omega arith) (rw (c, e, o) at h))
+    (λ o. refused-none 9 [] (rw (c, e, o) at h))
     (λ o. let q = within d 1 16 o in
     rw (c, e, o) (go (ltb-false (length a) 57344 c) (eqb-true (refusalOf y) 0 e) (q .0) (q .1))))
-    (λ e. refused-none (refusalOf y) [] (eqb-false (refusalOf y) 0 e) (rw (c, e) at h)))
+    (λ e. refused-none (refusalOf y) [] (rw (c, e) at h)))
 
 pub started-passes : (a : List ℕ) (y : Layout) (d : ℕ) (ds : List (List ℕ)) → Formed (y .stations) (y .count) → started a y d ds .answer ≡ accepted []
     → Passing (started a y d ds .octets)

@@ -10,7 +10,7 @@ use borrow.Author.Tests.{eq-eqb, lt-leb, leb-true, eqb-true}
 use lib.Dec.{ltb, leb, eqb}
 use lib.ListN.{length, take, replicate}
 use lib.Seq.{sets}
-use Rattle.octets.specs.Base.{pick, some, Answer, refused, accepted, Outcome, outcome}
+use Rattle.octets.specs.Base.{pick, some, Answer, refused, accepted, Outcome, outcome, numberOf}
 use Rattle.octets.specs.BaseLaws.{by-test}
 use Rattle.octets.specs.Filled.{filled-at}
 use Rattle.octets.specs.NumberLaws.{Octets}
@@ -243,29 +243,29 @@ run-answer zero t ws a = refl
 run-answer (suc k) t ws a = by-test (some (lateAt (eventsAt a)) 16) (λ e. rw e) (λ e. rw e (run-answer k (t + 1) (tallied (eventsAt a) 16 ws) (stepArea a)))
 
 module _ (m : Moment) (n : ℕ) (ok : areaRefusal (m .area) ≡ 0) where
-  number-none : runOf n 0 (replicate 9 0) (m .area) .answer .number ≡ 0
-  number-none = ap (λ (r : Answer). r .number) (run-answer n 0 (replicate 9 0) (m .area))
+  number-none : numberOf (runOf n 0 (replicate 9 0) (m .area) .answer) ≡ 0
+  number-none = ap numberOf (run-answer n 0 (replicate 9 0) (m .area))
 
   ran-steps : ran (m .area) n .steps ≡ length (made (run n) m)
   unfolding ran made
   ran-steps =
       by-test (ltb 16777216 (clockAt (m .area) + n))
       (λ c. rw (eq-eqb (areaRefusal (m .area)) 0 ok, c))
-      (λ c. rw (eq-eqb (areaRefusal (m .area)) 0 ok, c, eq-eqb (runOf n 0 (replicate 9 0) (m .area) .answer .number) 0 number-none) (run-steps n 0 (replicate 9 0) m ∙ omega arith))
+      (λ c. rw (eq-eqb (areaRefusal (m .area)) 0 ok, c, eq-eqb (numberOf (runOf n 0 (replicate 9 0) (m .area) .answer)) 0 number-none) (run-steps n 0 (replicate 9 0) m ∙ omega arith))
 
   ran-words : ran (m .area) n .words ≡ counted (made (run n) m) (replicate 9 0)
   unfolding ran made
   ran-words =
       by-test (ltb 16777216 (clockAt (m .area) + n))
       (λ c. rw (eq-eqb (areaRefusal (m .area)) 0 ok, c))
-      (λ c. rw (eq-eqb (areaRefusal (m .area)) 0 ok, c, eq-eqb (runOf n 0 (replicate 9 0) (m .area) .answer .number) 0 number-none) (run-words n 0 (replicate 9 0) m))
+      (λ c. rw (eq-eqb (areaRefusal (m .area)) 0 ok, c, eq-eqb (numberOf (runOf n 0 (replicate 9 0) (m .area) .answer)) 0 number-none) (run-words n 0 (replicate 9 0) m))
 
   ran-octets : leaves (run n) m .area ≡ ran (m .area) n .octets
   unfolding ran leaves
   ran-octets =
       by-test (ltb 16777216 (clockAt (m .area) + n))
       (λ c. rw (eq-eqb (areaRefusal (m .area)) 0 ok, c))
-      (λ c. rw (eq-eqb (areaRefusal (m .area)) 0 ok, c, eq-eqb (runOf n 0 (replicate 9 0) (m .area) .answer .number) 0 number-none) (sym (run-octets n 0 (replicate 9 0) m)))
+      (λ c. rw (eq-eqb (areaRefusal (m .area)) 0 ok, c, eq-eqb (numberOf (runOf n 0 (replicate 9 0) (m .area) .answer)) 0 number-none) (sym (run-octets n 0 (replicate 9 0) m)))
 
 -- ---- what each call leaves is what its promise says
 
@@ -312,8 +312,8 @@ run-balanced P (suc k) m T t h b =
 ran-balanced : (P : Net) (n : ℕ) (m : Moment) (T : List Moment) → Traced P m T → AllBalanced (m .area) → AllBalanced (leaves (run n) m .area)
 unfolding leaves
 ran-balanced P n m T t b =
-    by-test (eqb (ran (m .area) n .answer .number) 0)
-    (λ e. rw e (run-balanced P n m T t (run-fits P n m T t (eqb-true (ran (m .area) n .answer .number) 0 e)) b))
+    by-test (eqb (numberOf (ran (m .area) n .answer)) 0)
+    (λ e. rw e (run-balanced P n m T t (run-fits P n m T t (eqb-true (numberOf (ran (m .area) n .answer)) 0 e)) b))
     (λ e. rw e b)
 
 read-balanced : (i : ℕ) (out : List ℕ) (m : Moment) → AllBalanced (m .area) → AllBalanced (leaves (read i out) m .area)

@@ -9,7 +9,7 @@ use borrow.Author.Tests.{eq-eqb, ne-eqb, eqb-true, ltb-false, leb-false}
 use lib.Dec.{ltb, leb, eqb}
 use lib.ListN.{length, length-append, List·getD-append}
 use lib.Seq.{getD-append-seam}
-use Rattle.octets.specs.Base.{pick}
+use Rattle.octets.specs.Base.{pick, numberOf}
 use Rattle.octets.specs.BaseLaws.{by-test, by-eq}
 use Rattle.octets.specs.NumberLaws.{Octets}
 use Rattle.frame.specs.Limits.{refusesData}
@@ -205,7 +205,7 @@ record Taken (a : List ℕ) (i : ℕ) (d : List ℕ) (v : ℕ) (x : List ℕ) : 
 no-number : {C : Type 0} (k : ℕ) → (k ≡ 0 → ⊥) → k ≡ 0 → C
 no-number k h e = absurd (h e)
 
-offer-taken : (a : List ℕ) (i : ℕ) (d : List ℕ) (v : ℕ) (x : List ℕ) → areaRefusal a ≡ 0 → offered a i d v x .answer .number ≡ 0 → Taken a i d v x
+offer-taken : (a : List ℕ) (i : ℕ) (d : List ℕ) (v : ℕ) (x : List ℕ) → areaRefusal a ≡ 0 → numberOf (offered a i d v x .answer) ≡ 0 → Taken a i d v x
 unfolding offered withOffer
 offer-taken a i d v x ok =
     by-test (leb (countAt a) i)
@@ -285,14 +285,14 @@ traced-offer P m T t i d v x q k =
 
 -- ---- the calls
 
-step-taken : (a : List ℕ) → areaRefusal a ≡ 0 → steppedOnce a .answer .number ≡ 0 → clockAt a < 16777216
+step-taken : (a : List ℕ) → areaRefusal a ≡ 0 → numberOf (steppedOnce a .answer) ≡ 0 → clockAt a < 16777216
 unfolding steppedOnce
 step-taken a ok =
     by-test (ltb 16777216 (clockAt a + 1))
     (λ c. rw (eq-eqb (areaRefusal a) 0 ok, c) (no-number 13 (λ z. omega arith)))
     (λ c. λ n. let l = ltb-false 16777216 (clockAt a + 1) c in omega arith)
 
-pub ran-taken : (a : List ℕ) (n : ℕ) → areaRefusal a ≡ 0 → ran a n .answer .number ≡ 0 → clockAt a + n ≤ 16777216
+pub ran-taken : (a : List ℕ) (n : ℕ) → areaRefusal a ≡ 0 → numberOf (ran a n .answer) ≡ 0 → clockAt a + n ≤ 16777216
 unfolding ran
 ran-taken a n ok =
     by-test (ltb 16777216 (clockAt a + n))
@@ -302,22 +302,22 @@ ran-taken a n ok =
 none-more : (P : Net) (m : Moment) (T : List Moment) → Traced P m T → Traced P m (T ++ [])
 none-more P m T v = subst (Traced P m) (sym (append-nil T)) v
 
-pub run-fits : (P : Net) (n : ℕ) (m : Moment) (T : List Moment) → Traced P m T → ran (m .area) n .answer .number ≡ 0 → length T + n ≤ 16777216
+pub run-fits : (P : Net) (n : ℕ) (m : Moment) (T : List Moment) → Traced P m T → numberOf (ran (m .area) n .answer) ≡ 0 → length T + n ≤ 16777216
 run-fits P n m T t e = let c = clock-is P m T t in let h = ran-taken (m .area) n (ready-passes (m .area) (t .here .passing)) e in omega arith
 
 pub traced-call : (P : Net) (c : Call) (m : Moment) (T : List Moment) → Fair c → Traced P m T → Traced P (leaves c m) (T ++ made c m)
 unfolding leaves made
 traced-call P (offer i d v x) m T q t =
-    by-test (eqb (offered (m .area) i d v x .answer .number) 0)
-    (λ e. rw e (none-more P _ T (traced-offer P m T t i d v x q (offer-taken (m .area) i d v x (ready-passes (m .area) (t .here .passing)) (eqb-true (offered (m .area) i d v x .answer .number) 0 e)))))
+    by-test (eqb (numberOf (offered (m .area) i d v x .answer)) 0)
+    (λ e. rw e (none-more P _ T (traced-offer P m T t i d v x q (offer-taken (m .area) i d v x (ready-passes (m .area) (t .here .passing)) (eqb-true (numberOf (offered (m .area) i d v x .answer)) 0 e)))))
     (λ e. rw e (none-more P m T t))
 traced-call P step m T q t =
-    by-test (eqb (steppedOnce (m .area) .answer .number) 0)
-    (λ e. rw e (traced-step P m T t (step-taken (m .area) (ready-passes (m .area) (t .here .passing)) (eqb-true (steppedOnce (m .area) .answer .number) 0 e))))
+    by-test (eqb (numberOf (steppedOnce (m .area) .answer)) 0)
+    (λ e. rw e (traced-step P m T t (step-taken (m .area) (ready-passes (m .area) (t .here .passing)) (eqb-true (numberOf (steppedOnce (m .area) .answer)) 0 e))))
     (λ e. rw e (none-more P m T t))
 traced-call P (run n) m T q t =
-    by-test (eqb (ran (m .area) n .answer .number) 0)
-    (λ e. rw e (traced-run P n m T t (run-fits P n m T t (eqb-true (ran (m .area) n .answer .number) 0 e))))
+    by-test (eqb (numberOf (ran (m .area) n .answer)) 0)
+    (λ e. rw e (traced-run P n m T t (run-fits P n m T t (eqb-true (numberOf (ran (m .area) n .answer)) 0 e))))
     (λ e. rw e (none-more P m T t))
 traced-call P (read i out) m T q t = none-more P m T t
 

@@ -5,7 +5,7 @@ use mathlib.Core.Bool.{Bool, _||_, not}
 use mathlib.Core.List.{List, []}
 use lib.Dec.{ltb, eqb}
 use lib.ListN.{length, getD}
-use Rattle.octets.specs.Base.{pick, some, outside, Answer, refused, accepted}
+use Rattle.octets.specs.Base.{pick, some, outside, Answer, refused, accepted, numberOf}
 use Rattle.octets.specs.Number.{get}
 use Rattle.octets.specs.Store.{part}
 use Rattle.layout.specs.declared.Layout.{Layout}
@@ -105,7 +105,7 @@ afterSheet l u n = pick (drawsWrong l u n) 9 (lastRefusal l (offersPlace l u n))
 
 -- 3 to 8: what the reader of sheets refuses, everything after the sheet at hand
 abbrev pub sheetRefusal : List ℕ → ℕ
-sheetRefusal l = readSheet l .answer .number
+sheetRefusal l = numberOf (readSheet l .answer)
 
 -- the number of the refusal, 0 where there is none
 unfoldable pub planRefusal : List ℕ → ℕ

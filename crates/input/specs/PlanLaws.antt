@@ -9,7 +9,7 @@ use native.Mathlib.Omega.{arith}
 use borrow.Author.Tests.{lt-ltb, le-ltb, eq-eqb, ne-eqb, ltb-false, eqb-true, eqb-false}
 use lib.Dec.{ltb, eqb}
 use lib.ListN.{length, getD, take, drop}
-use Rattle.octets.specs.Base.{pick, some, outside, Answer, refused, accepted}
+use Rattle.octets.specs.Base.{pick, some, outside, Answer, refused, accepted, numberOf, valuesOf}
 use Rattle.octets.specs.BaseLaws.{neither, some-more, some-hit, within}
 use Rattle.octets.specs.Number.{get}
 use Rattle.octets.specs.Store.{part}
@@ -249,14 +249,14 @@ refused-number l n =
     go (ltb (length l) (sheetSize l)) (stands (mapOf l) 6 || stands (mapOf l) 7) (eqb (refusalOf (layoutIn l)) 0) refl
   where
     number : Answer → ℕ
-    number a = a .number
+    number a = numberOf a
 
     go : (s t u : Bool) → eqb (refusalOf (layoutIn l)) 0 ≡ u
         → pick s (unread 3) (pick t (unread 4) (pick u (record { answer = accepted (sheetSize l ∷ []); layout = layoutIn l }) (unread (refusalOf (layoutIn l))))) .answer ≡ refused n
         → n ≡ 0 → ⊥
     go true t u q h z = let e : 3 ≡ n = ap number h in omega arith
     go false true u q h z = let e : 4 ≡ n = ap number h in omega arith
-    go false false true q h z = let e : length (sheetSize l ∷ []) ≡ 0 = ap (λ (a : Answer). length (a .values)) h in omega arith
+    go false false true q h z = let e : length (sheetSize l ∷ []) ≡ 0 = ap (λ (a : Answer). length (valuesOf a)) h in omega arith
     go false false false q h z = eqb-false (refusalOf (layoutIn l)) 0 q (ap number h ∙ z)
 
 module _ (l : List ℕ) (f : Sheet) (n : ℕ) (p : sheetReading f ≡ readSheet l) where
@@ -279,7 +279,7 @@ unfolding planRead
 plan-refused l f n r q p e =
     let a : readSheet l .answer ≡ refused n = sym (answers l f n p) ∙ ap sheetAnswer e in
     let b : n ≡ 0 → ⊥ = refused-number l n a in
-    q ∙ rw (sheet-number l n (ap (λ (x : Answer). x .number) a) b, ne-eqb n 0 b)
+    q ∙ rw (sheet-number l n (ap numberOf a) b, ne-eqb n 0 b)
 
 pub sheet-within : (l : List ℕ) (f : Sheet) (n : ℕ) → sheetReading f ≡ readSheet l → f .read ≡ sheets.Used n → n ≤ length l
 sheet-within l f n p e = used l f n p e .within
@@ -290,5 +290,5 @@ sheet-few l f n p e = rw (ap (λ (r : Reading). r .layout .count) p) (used l f n
 pub plan-read : (l : List ℕ) (f : Sheet) (n : ℕ) (r : Planned) → r ≡ sheetOn l n (f .layout) → sheetReading f ≡ readSheet l → f .read ≡ sheets.Used n → r ≡ planRead l
 unfolding planRead planRefusal sheetOn layoutIn
 plan-read l f n r q p e =
-    let a : readSheet l .answer .number ≡ 0 = ap (λ (x : Answer). x .number) (sym (answers l f n p) ∙ ap sheetAnswer e) in
+    let a : numberOf (readSheet l .answer) ≡ 0 = ap numberOf (sym (answers l f n p) ∙ ap sheetAnswer e) in
     q ∙ rw (layout l f n p e, used l f n p e .used, a)

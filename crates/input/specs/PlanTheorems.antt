@@ -8,7 +8,7 @@ use native.Mathlib.Omega.{arith}
 use borrow.Author.Tests.{ltb-false, eqb-true, eqb-false, eq-eqb}
 use lib.Dec.{ltb, eqb}
 use lib.ListN.{length, getD}
-use Rattle.octets.specs.Base.{pick, some, outside, accepted}
+use Rattle.octets.specs.Base.{pick, some, outside, accepted, numberOf}
 use Rattle.octets.specs.BaseLaws.{neither, none-below, within}
 use Rattle.octets.specs.Store.{length-part}
 use Rattle.octets.specs.Filled.{filled-at}
@@ -40,10 +40,10 @@ passed : (b : Bool) (n m : ℕ) → (n ≡ 0 → ⊥) → pick b n m ≡ 0 → (
 passed true n m h p = absurd (h p)
 passed false n m h p = (refl, p)
 
-accepts : (n : ℕ) (r : Planned) → unless n r .answer .number ≡ 0 → n ≡ 0
+accepts : (n : ℕ) (r : Planned) → numberOf (unless n r .answer) ≡ 0 → n ≡ 0
 accepts n r = go (eqb n 0) refl
   where
-    go : (b : Bool) → eqb n 0 ≡ b → pick b r (unplanned n) .answer .number ≡ 0 → n ≡ 0
+    go : (b : Bool) → eqb n 0 ≡ b → numberOf (pick b r (unplanned n) .answer) ≡ 0 → n ≡ 0
     go true e p = eqb-true n 0 e
     go false e p = p
 
@@ -53,7 +53,7 @@ sheet-accepts l =
     go (ltb (length l) (sheetSize l)) (stands (mapOf l) 6 || stands (mapOf l) 7) (eqb (refusalOf (layoutIn l)) 0) 0 refl refl
   where
     go : (s t u : Bool) (x : ℕ) → x ≡ 0 → eqb (refusalOf (layoutIn l)) 0 ≡ u
-        → pick s (unread 3) (pick t (unread 4) (pick u (record { answer = accepted (sheetSize l ∷ []); layout = layoutIn l }) (unread (refusalOf (layoutIn l))))) .answer .number ≡ x
+        → numberOf (pick s (unread 3) (pick t (unread 4) (pick u (record { answer = accepted (sheetSize l ∷ []); layout = layoutIn l }) (unread (refusalOf (layoutIn l))))) .answer) ≡ x
         → pick s (unread 3) (pick t (unread 4) (pick u (record { answer = accepted (sheetSize l ∷ []); layout = layoutIn l }) (unread (refusalOf (layoutIn l))))) .answer ≡ accepted (sheetSize l ∷ [])
     go true t u x z q h = absurd (omega arith)
     go false true u x z q h = absurd (omega arith)
@@ -140,7 +140,7 @@ from-right l y u s h =
       times = c .1;
     }
 
-pub read-right : (l : List ℕ) → planRead l .answer .number ≡ 0 → Right l (planRead l)
+pub read-right : (l : List ℕ) → numberOf (planRead l .answer) ≡ 0 → Right l (planRead l)
 unfolding planRead
 read-right l h =
     let e : planRefusal l ≡ 0 = accepts (planRefusal l) (wholeFrom l (layoutIn l) (sheetSize l)) h in
@@ -158,23 +158,23 @@ sheet-passes l =
     go (ltb (length l) (sheetSize l)) (stands (mapOf l) 6 || stands (mapOf l) 7) (eqb (refusalOf (layoutIn l)) 0) refl
   where
     go : (s t u : Bool) → eqb (refusalOf (layoutIn l)) 0 ≡ u
-        → pick s (unread 3) (pick t (unread 4) (pick u (record { answer = accepted (sheetSize l ∷ []); layout = layoutIn l }) (unread (refusalOf (layoutIn l))))) .answer .number ≡ 0
+        → numberOf (pick s (unread 3) (pick t (unread 4) (pick u (record { answer = accepted (sheetSize l ∷ []); layout = layoutIn l }) (unread (refusalOf (layoutIn l))))) .answer) ≡ 0
         → refusalOf (layoutIn l) ≡ 0
     go true t u q h = absurd (omega arith)
     go false true u q h = absurd (omega arith)
     go false false true q h = eqb-true (refusalOf (layoutIn l)) 0 q
     go false false false q h = h
 
-read-layout : (l : List ℕ) → planRead l .answer .number ≡ 0 → planRead l .layout ≡ layoutIn l
+read-layout : (l : List ℕ) → numberOf (planRead l .answer) ≡ 0 → planRead l .layout ≡ layoutIn l
 unfolding planRead
 read-layout l h = rw (eq-eqb (planRefusal l) 0 (accepts (planRefusal l) (wholeFrom l (layoutIn l) (sheetSize l)) h))
 
-plan-accepts : (l : List ℕ) → planRead l .answer .number ≡ 0 → sheetRefusal l ≡ 0
+plan-accepts : (l : List ℕ) → numberOf (planRead l .answer) ≡ 0 → sheetRefusal l ≡ 0
 unfolding planRead
 plan-accepts l h = both-right l (accepts (planRefusal l) (wholeFrom l (layoutIn l) (sheetSize l)) h) .0
 
 -- it passes checks 5 to 8
-pub read-passes : (l : List ℕ) → planRead l .answer .number ≡ 0 → refusalOf (planRead l .layout) ≡ 0
+pub read-passes : (l : List ℕ) → numberOf (planRead l .answer) ≡ 0 → refusalOf (planRead l .layout) ≡ 0
 read-passes l h = ap refusalOf (read-layout l h) ∙ sheet-passes l (plan-accepts l h)
 
 sheet-formed : (l : List ℕ) → sheetSize l ≤ length l → (i : ℕ) → i < layoutIn l .count → i < 16 → length (getD (layoutIn l .stations) i (record { position = 0; address = [] }) .address) ≡ 6
@@ -184,7 +184,7 @@ sheet-formed l h i g f =
     ∙ length-part l (countPlace l + 1 + 7 * i + 1) 6 (omega arith)
 
 -- each address has six octets
-pub read-formed : (l : List ℕ) → planRead l .answer .number ≡ 0 → (i : ℕ) → i < planRead l .layout .count
+pub read-formed : (l : List ℕ) → numberOf (planRead l .answer) ≡ 0 → (i : ℕ) → i < planRead l .layout .count
     → length (getD (planRead l .layout .stations) i (record { position = 0; address = [] }) .address) ≡ 6
 read-formed l h i g =
     let e = read-layout l h in
@@ -195,5 +195,5 @@ read-formed l h i g =
 
 -- ---- the same of the code's answer, as its callers meet it
 
-pub reading-right : (l : List ℕ) (p : Plan) → planReading p ≡ planRead l → planRead l .answer .number ≡ 0 → Right l (planReading p)
+pub reading-right : (l : List ℕ) (p : Plan) → planReading p ≡ planRead l → numberOf (planRead l .answer) ≡ 0 → Right l (planReading p)
 reading-right l p e n = subst (λ (r : Planned). Right l r) (sym e) (read-right l n)

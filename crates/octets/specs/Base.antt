@@ -21,17 +21,21 @@ some t (suc n) = some t n || t n
 unfoldable pub outside : (x a b : ℕ) → Bool
 outside x a b = ltb x a || ltb b x
 
--- An answer as document 01 gives it: the number of its refusal, 0 where there is none, and its values.
+-- An answer as document 01 gives it: a refusal with its number, or what was asked for with its values.
 -- "A refusal returns its number alone."
-pub record Answer : Type 0 where
-  pub number : ℕ
-  pub values : List ℕ
+pub data Answer : Type 0 where
+  refused : (number : ℕ) → Answer
+  accepted : (values : List ℕ) → Answer
 
-abbrev pub refused : ℕ → Answer
-refused n = record { number = n; values = [] }
+-- the number of a refusal, 0 where there is none
+abbrev pub numberOf : Answer → ℕ
+numberOf (refused n) = n
+numberOf (accepted vs) = 0
 
-abbrev pub accepted : List ℕ → Answer
-accepted vs = record { number = 0; values = vs }
+-- the values of an accepted answer, none of a refusal
+abbrev pub valuesOf : Answer → List ℕ
+valuesOf (refused n) = []
+valuesOf (accepted vs) = vs
 
 -- what each case of the code's answer stands for
 abbrev pub doneAnswer : Done → Answer

@@ -23,9 +23,13 @@ by-eq {C} m n f g = go (ℕ-discrete m n)
     go (yes h) = f h
     go (no h) = g h
 
--- a refusal is no accepted answer
-pub refused-none : {C : Type 0} (k : ℕ) (vs : List ℕ) → (k ≡ 0 → ⊥) → refused k ≡ accepted vs → C
-refused-none k vs h p = absurd (h (ap (λ (r : Answer). r .number) p))
+-- a refusal is no accepted answer, whatever its number
+abbrev isAccepted : Answer → Bool
+isAccepted (refused n) = false
+isAccepted (accepted vs) = true
+
+pub refused-none : {C : Type 0} (k : ℕ) (vs : List ℕ) → refused k ≡ accepted vs → C
+refused-none k vs p = absurd (true≢false (sym (ap isAccepted p)))
 
 -- neither of two
 pub neither : (a b : Bool) → (a || b) ≡ false → (a ≡ false) × (b ≡ false)

@@ -8,7 +8,7 @@ use borrow.Author.Tests.{lt-ltb, le-ltb, le-leb, lt-leb, eq-eqb, ne-eqb, ltb-fal
 use lib.Dec.{ltb, leb, eqb}
 use lib.ListN.{length, getD, take, drop, length-take, length-drop}
 use lib.Seq.{take-all, take-take}
-use Rattle.octets.specs.Base.{pick, Answer, refused, accepted}
+use Rattle.octets.specs.Base.{pick, Answer, refused, accepted, valuesOf}
 use Rattle.octets.specs.Equal.{equal}
 use Rattle.octets.specs.Number.{get}
 use Rattle.octets.specs.Store.{part}
@@ -109,7 +109,7 @@ fair-without f r h = record { handed = λ n p. absurd (h n p); none = λ q. refl
 
 -- the first value of an answer, which numbers the status
 first : Answer → ℕ
-first r = getD (r .values) 0 0
+first r = getD (valuesOf r) 0 0
 
 pub other-status : (k n : ℕ) → (k ≡ 5 → ⊥) → accepted (k ∷ []) ≡ receiveOK n → ⊥
 unfolding first
@@ -147,7 +147,7 @@ part-field f n h = take-take n (length f - 18) (drop 14 f) h
 fair-ok : (f : List ℕ) (m : ℕ) → 64 ≤ length f → m ≤ length f - 18 → Fair f (record { status = receiveOK m; clientData = take m (dataField f) })
 fair-ok f m h k =
     record {
-      handed = λ n p. let e : m ≡ n = ap (λ (r : Answer). getD (r .values) 1 0) p in
+      handed = λ n p. let e : m ≡ n = ap (λ (r : Answer). getD (valuesOf r) 1 0) p in
           record { octets = part-field f m k ∙ ap (part f 14) e; room = omega arith };
       none = λ q. absurd (q m refl);
     }

@@ -9,7 +9,7 @@ use lib.Dec.{ltb, leb, eqb}
 use lib.ListN.{length, getD, take, replicate, length-append}
 use lib.Seq.{take-at, drop-at, take-append-seam, take-length, sets}
 use Rattle.octets.specs.BaseLaws.{refused-none}
-use Rattle.octets.specs.Base.{pick, Answer, refused, accepted, Outcome, outcome}
+use Rattle.octets.specs.Base.{pick, Answer, refused, accepted, Outcome, outcome, valuesOf}
 use Rattle.octets.specs.EqualLaws.{equal-refl}
 use Rattle.octets.specs.Number.{get, spelled}
 use Rattle.octets.specs.NumberLaws.{length-spelled, get-spelled, get-front, get-after}
@@ -180,12 +180,12 @@ built-begins l d s v x n = go (refusesData v (length x)) (ltb (length l) (length
     go : (t u : Bool) → refusesData v (length x) ≡ t → ltb (length l) (length (frameOf d s v x)) ≡ u
         → pick t (outcome (refused 11) l) (pick u (outcome (refused 15) l) (outcome (accepted (length (frameOf d s v x) ∷ [])) (sets l 0 (frameOf d s v x)))) .answer ≡ accepted (n ∷ [])
         → Begins l d s v x n (pick t (outcome (refused 11) l) (pick u (outcome (refused 15) l) (outcome (accepted (length (frameOf d s v x) ∷ [])) (sets l 0 (frameOf d s v x)))))
-    go true u p q h = refused-none 11 (n ∷ []) (λ z. omega arith) h
-    go false true p q h = refused-none 15 (n ∷ []) (λ z. omega arith) h
+    go true u p q h = refused-none 11 (n ∷ []) h
+    go false true p q h = refused-none 15 (n ∷ []) h
     go false false p q h =
         record {
           taken = p;
-          front = take-sets (frameOf d s v x) l n (sym (ap (λ (r : Answer). getD (r .values) 0 0) h)) (ltb-false (length l) (length (frameOf d s v x)) q);
+          front = take-sets (frameOf d s v x) l n (sym (ap (λ (r : Answer). getD (valuesOf r) 0 0) h)) (ltb-false (length l) (length (frameOf d s v x)) q);
         }
 
 -- The same of the octets that `build` leaves: where it answers n, its first n octets are such a frame.

@@ -10,7 +10,7 @@ use lib.Dec.{ltb, leb, eqb}
 use lib.ListN.{getD, take}
 use lib.Pow.{pow-pos, pow-mono}
 use borrow.Author.Tests.{ltb-true, ltb-false, leb-false, eqb-false}
-use Rattle.octets.specs.Base.{Answer}
+use Rattle.octets.specs.Base.{Answer, valuesOf}
 use Rattle.octets.specs.BaseLaws.{by-test}
 use Rattle.octets.specs.Bits.{digit}
 use Rattle.opener.specs.Open.{opened}
@@ -246,7 +246,7 @@ opening-range t n buffer sp p =
     by-test (ltb 1518 (n / 8))
     (λ c. rw c tt)
     (λ c. let h = ltb-false 1518 (n / 8) c in
-    by-test (eqb (getD (opened sp (take (n / 8) buffer) (n % 8) .status .values) 0 0) 5) (λ b. rw (c, b) (omega arith, omega arith)) (λ b. rw (c, b) tt))
+    by-test (eqb (getD (valuesOf (opened sp (take (n / 8) buffer) (n % 8) .status)) 0 0) 5) (λ b. rw (c, b) (omega arith, omega arith)) (λ b. rw (c, b) tt))
 
 decide-range : (t n : ℕ) (address buffer : List ℕ) (sp own : Bool) → ReceiverIn t (decide address buffer n sp own .receiver)
 unfolding decide

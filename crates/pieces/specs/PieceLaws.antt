@@ -9,7 +9,7 @@ use borrow.Rule.Slice.PartMut.{putMid}
 use lib.Dec.{eqb, ltb, leb}
 use lib.ListN.{length, getD, replicate, take}
 use lib.Seq.{sets}
-use Rattle.octets.specs.Base.{pick, some, Answer, refused, accepted, Outcome, outcome, doneAnswer}
+use Rattle.octets.specs.Base.{pick, some, Answer, refused, accepted, Outcome, outcome, doneAnswer, numberOf}
 use Rattle.octets.specs.BaseLaws.{by-test, some-none, some-more, some-hit, some-end}
 use Rattle.octets.specs.Number.{get}
 use Rattle.octets.specs.NumberLaws.{Octets}
@@ -345,12 +345,12 @@ module _ (l o : List ℕ) (p n : ℕ) where
   unfolding offerLine refusedOffer
   offer-line x e t s h w q r = rw (ne-eqb n 0 h, ← q, ← r) w
 
-pub offer-is : (l o x a b : List ℕ) (g : Progress) (z e n : ℕ) (d : Done) → outcome (doneAnswer d) b ≡ made l (g .at) a → n ≡ doneAnswer d .number
+pub offer-is : (l o x a b : List ℕ) (g : Progress) (z e n : ℕ) (d : Done) → outcome (doneAnswer d) b ≡ made l (g .at) a → n ≡ numberOf (doneAnswer d)
     → written e x ≡ puts o 0 (offerLine l (g .at) n) → z ≡ get 2 l (g .at + 13)
     → record { answer = accepted (e ∷ []); progress = standing (g .at + 15 + z) (g .offers - 1) (g .times) false; octets = b; out = x } ≡ given o (offerPiece l g a)
 unfolding offerPiece offerText
 offer-is l o x a b g z e n d h q w r =
-    let m : n ≡ made l (g .at) a .answer .number = q ∙ ap (λ (y : Outcome). y .answer .number) h in
+    let m : n ≡ numberOf (made l (g .at) a .answer) = q ∙ ap (λ (y : Outcome). numberOf (y .answer)) h in
     let s : b ≡ made l (g .at) a .octets = ap (λ (y : Outcome). y .octets) h in
     (λ i. record { answer = accepted (e ∷ []); progress = standing (g .at + 15 + r i) (g .offers - 1) (g .times) false; octets = s i; out = x })
     ∙ hand-is o x e (offerPiece l g a) (w ∙ ap (λ (k : ℕ). puts o 0 (offerLine l (g .at) k)) m)
@@ -496,7 +496,7 @@ start-is l o x a b p e ds h q w =
     let s : b ≡ startArea l (planReading p) a = h ∙ ap (λ (d : List (List ℕ)). fresh (p .layout) (p .depth) d a) q in
     (λ i. record { answer = accepted (e ∷ []); progress = standing (p .first) (p .offers) (p .times) false; octets = s i; out = x }) ∙ hand-is o x e (startPiece l (planReading p) a) w
 
-module _ (l : List ℕ) (p : Plan) (e : planReading p ≡ planRead l) (n : planRead l .answer .number ≡ 0) where
+module _ (l : List ℕ) (p : Plan) (e : planReading p ≡ planRead l) (n : numberOf (planRead l .answer) ≡ 0) where
   pub start-few : p .layout .count ≤ 16
   start-few = reading-right l p e n .sound .count .1
 
@@ -509,11 +509,11 @@ module _ (l : List ℕ) (p : Plan) (e : planReading p ≡ planRead l) (n : planR
   pub start-draws : p .drawn + 2 * (p .layout .count * p .depth) ≤ length l
   start-draws = reading-right l p e n .draws
 
-module _ (l : List ℕ) (p : Plan) (n : ℕ) (q : n ≡ verdictAnswer (p .read) .number) (e : planReading p ≡ planRead l) where
-  plan-number : n ≡ planRead l .answer .number
-  plan-number = q ∙ ap (λ (r : Planned). r .answer .number) e
+module _ (l : List ℕ) (p : Plan) (n : ℕ) (q : n ≡ numberOf (verdictAnswer (p .read))) (e : planReading p ≡ planRead l) where
+  plan-number : n ≡ numberOf (planRead l .answer)
+  plan-number = q ∙ ap (λ (r : Planned). numberOf (r .answer)) e
 
-  pub plan-right : n ≡ 0 → planRead l .answer .number ≡ 0
+  pub plan-right : n ≡ 0 → numberOf (planRead l .answer) ≡ 0
   plan-right z = sym plan-number ∙ z
 
   pub first-refused : (o x a : List ℕ) (r : Handed) → (n ≡ 0 → ⊥) → pieceAnswer (r .piece) ≡ accepted (length (refusedLine n) ∷ []) → r .progress ≡ noProgress
@@ -524,7 +524,7 @@ module _ (l : List ℕ) (p : Plan) (n : ℕ) (q : n ≡ verdictAnswer (p .read) 
 
   pub first-start : (o x a b : List ℕ) (r : Handed) → n ≡ 0 → handing r b x ≡ given o (startPiece l (planReading p) a) → handing r b x ≡ given o (firstPiece l a)
   unfolding firstPiece
-  first-start o x a b r h t = t ∙ ap (λ (y : Planned). given o (startPiece l y a)) e ∙ rw (eq-eqb (planRead l .answer .number) 0 (plan-right h))
+  first-start o x a b r h t = t ∙ ap (λ (y : Planned). given o (startPiece l y a)) e ∙ rw (eq-eqb (numberOf (planRead l .answer)) 0 (plan-right h))
 
 -- ---- an area longer than one must be
 

@@ -6,7 +6,7 @@ use mathlib.Core.List.{List, [], _∷_, _++_}
 use lib.Dec.{eqb, ltb}
 use lib.ListN.{length, getD, replicate, take, drop}
 use lib.Seq.{sets}
-use Rattle.octets.specs.Base.{pick, some, Answer, refused, accepted}
+use Rattle.octets.specs.Base.{pick, some, Answer, refused, accepted, numberOf, valuesOf}
 use Rattle.area.specs.Places.{areaSize}
 use Rattle.area.specs.Area.{clockAt}
 use Rattle.valid.specs.Valid.{areaRefusal, lastClock}
@@ -157,7 +157,7 @@ startPiece l r a = moved (firstText (r .layout)) (standing (r .first) (r .offers
 
 unfoldable pub firstPiece : List ℕ → List ℕ → Moved
 firstPiece l a =
-    pick (eqb (planRead l .answer .number) 0) (startPiece l (planRead l) a) (moved (refusedLine (planRead l .answer .number)) noProgress a)
+    pick (eqb (numberOf (planRead l .answer)) 0) (startPiece l (planRead l) a) (moved (refusedLine (numberOf (planRead l .answer))) noProgress a)
 
 unfoldable pub begun : List ℕ → (a o : List ℕ) → Hand
 begun l a o =
@@ -174,7 +174,7 @@ remaining l g a = pick (g .ended) [] (runText l (g .times) (g .offers) (g .at) a
 
 -- the octets of the piece
 abbrev pub pieceOf : Hand → List ℕ
-pieceOf h = take (getD (h .answer .values) 0 0) (h .out)
+pieceOf h = take (getD (valuesOf (h .answer)) 0 0) (h .out)
 
 -- the pieces of a call and of at most n − 1 calls of `advance` after it
 unfoldable pub told : (n : ℕ) → List ℕ → Hand → List ℕ

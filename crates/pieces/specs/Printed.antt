@@ -5,7 +5,7 @@ use mathlib.Core.Bool.{Bool, _&&_}
 use mathlib.Core.List.{List, [], _++_}
 use lib.Dec.{eqb, leb}
 use lib.ListN.{length, replicate}
-use Rattle.octets.specs.Base.{pick, some, Outcome}
+use Rattle.octets.specs.Base.{pick, some, Outcome, numberOf}
 use Rattle.layout.specs.declared.Layout.{Layout}
 use Rattle.layout.specs.Layout.{fitsWell}
 use Rattle.area.specs.Places.{areaSize}
@@ -38,7 +38,7 @@ unfoldable pub offerLine : List ℕ → (p n : ℕ) → List ℕ
 offerLine l p n = pick (eqb n 0) [] (refusedOffer (offerTime l p) (offerStation l p) n)
 
 unfoldable pub offerText : List ℕ → (p : ℕ) → List ℕ → List ℕ
-offerText l p a = offerLine l p (made l p a .answer .number)
+offerText l p a = offerLine l p (numberOf (made l p a .answer))
 
 -- what the offers made before a step leave: their lines, how many offers are left, where the next begins, the area
 pub record Offers : Type 0 where
@@ -92,4 +92,4 @@ planText l r = firstText (r .layout) ++ runText l (r .times) (r .offers) (r .fir
 
 -- "A refused input prints `refused n`."
 unfoldable pub printed : List ℕ → List ℕ
-printed l = pick (eqb (planRead l .answer .number) 0) (planText l (planRead l)) (refusedLine (planRead l .answer .number))
+printed l = pick (eqb (numberOf (planRead l .answer)) 0) (planText l (planRead l)) (refusedLine (numberOf (planRead l .answer)))

@@ -13,7 +13,7 @@ ghost use mathlib.Core.Path.{_≡_};
 ghost use mathlib.Core.Bool.{true, false};
 ghost use Prim.Native.Nat.{_<_, _≤_};
 ghost use lib.ListN.{length};
-ghost use Rattle.octets.specs.Base.{outcome, doneAnswer};
+ghost use Rattle.octets.specs.Base.{outcome, doneAnswer, numberOf};
 ghost use Rattle.course.specs.RunLaws.{Runnable};
 ghost use Rattle.text.specs.Text.{written, puts};
 ghost use Rattle.pieces.specs.Printed.{lies, made, offerLine};
@@ -50,7 +50,7 @@ fn make_offer(input: &[u8], area: &mut [u8], at: usize) -> Done
 
 // The number of a refusal, 0 where there is none.
 fn number_of(d: Done) -> u32
-    ensures { λ r. ⌜ r ≡ doneAnswer d .number ⌝ }
+    ensures { λ r. ⌜ r ≡ numberOf (doneAnswer d) ⌝ }
 {
     match d {
         Done::Refused(n) => n,

@@ -5,7 +5,7 @@ use mathlib.Core.Bool.{Bool, true, false, not, _||_}
 use mathlib.Core.List.{List}
 use lib.Dec.{ltb, eqb}
 use lib.ListN.{getD, take, replicate}
-use Rattle.octets.specs.Base.{pick, Answer}
+use Rattle.octets.specs.Base.{pick, Answer, valuesOf}
 use Rattle.octets.specs.Bits.{digit}
 use Rattle.octets.specs.Equal.{equal}
 use Rattle.opener.specs.Open.{destinationOf, frameTooLong, opened}
@@ -84,16 +84,16 @@ openAnswer buffer n spoiled = pick (ltb bufferOctets (n / 8)) frameTooLong (open
 -- what a status reports: its first value numbers it, receiveOK has the octets of client data behind that
 unfoldable pub gotEvent : Answer → (octets : ℕ) → ReceiveEvent
 gotEvent r n =
-    pick (eqb (getD (r .values) 0 0) 1) (GotTooLong n)
-    (pick (eqb (getD (r .values) 0 0) 2) (GotCheck n)
-    (pick (eqb (getD (r .values) 0 0) 3) (GotAlignment n)
-    (pick (eqb (getD (r .values) 0 0) 4) (GotLength n)
-    (pick (eqb (getD (r .values) 0 0) 5) (GotOk (getD (r .values) 1 0))
+    pick (eqb (getD (valuesOf r) 0 0) 1) (GotTooLong n)
+    (pick (eqb (getD (valuesOf r) 0 0) 2) (GotCheck n)
+    (pick (eqb (getD (valuesOf r) 0 0) 3) (GotAlignment n)
+    (pick (eqb (getD (valuesOf r) 0 0) 4) (GotLength n)
+    (pick (eqb (getD (valuesOf r) 0 0) 5) (GotOk (getD (valuesOf r) 1 0))
     NoReceive))))
 
 -- "The frame of a receiveOK can be read, whole with its check sequence, until that station's next reception begins."
 unfoldable pub readableAfter : Answer → (octets : ℕ) → Receiver
-readableAfter r n = pick (eqb (getD (r .values) 0 0) 5) (Readable n) Listening
+readableAfter r n = pick (eqb (getD (valuesOf r) 0 0) 5) (Readable n) Listening
 
 abbrev pub deciding : Receiver → ReceiveEvent → Received
 deciding r v = record { receiver = r; event = v; stored = NoStore }

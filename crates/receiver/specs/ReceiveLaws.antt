@@ -8,7 +8,7 @@ use lib.Dec.{ltb}
 use lib.ListN.{length, getD, take, replicate}
 use lib.Seq.{length-take-le}
 use borrow.Author.Tests.{lt-ltb, le-ltb, eq-eqb, ne-eqb, ltb-false}
-use Rattle.octets.specs.Base.{pick, Answer}
+use Rattle.octets.specs.Base.{pick, Answer, valuesOf}
 use Rattle.octets.specs.Bits.{digit}
 use Rattle.octets.specs.Equal.{equal}
 use Rattle.opener.specs.declared.ReceiveStatus.{ReceiveStatus}
@@ -160,7 +160,7 @@ unfolding openAnswer
 ok-within buffer n k sp h = go (ltb 1518 (n / 8)) refl
   where
     go : (t : Bool) → ltb 1518 (n / 8) ≡ t → pick t frameTooLong (opened sp (take (n / 8) buffer) (n % 8) .status) ≡ receiveOK k → k ≤ 1518
-    go true p q = let z : _≡_ {A = ℕ} 1 5 = ap (λ (r : Answer). getD (r .values) 0 0) q in omega arith
+    go true p q = let z : _≡_ {A = ℕ} 1 5 = ap (λ (r : Answer). getD (valuesOf r) 0 0) q in omega arith
     go false p q =
         let w = fair sp (take (n / 8) buffer) (n % 8) .handed k q .room in
         omega (arith, length-take-le (n / 8) buffer (omega (arith, ltb-false 1518 (n / 8) p)), ltb-false 1518 (n / 8) p)

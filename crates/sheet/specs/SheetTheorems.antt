@@ -11,7 +11,7 @@ use lib.Dec.{ltb, eqb}
 use lib.ListN.{length, getD, take, drop, length-append, List·getD-append, take-append-drop, length-drop}
 use lib.Seq.{take-append-le, drop-append-le, length-take-le}
 use Rattle.octets.specs.BaseLaws.{refused-none}
-use Rattle.octets.specs.Base.{pick, Answer, refused, accepted}
+use Rattle.octets.specs.Base.{pick, Answer, refused, accepted, valuesOf}
 use Rattle.octets.specs.Number.{get}
 use Rattle.octets.specs.NumberLaws.{get-front}
 use Rattle.octets.specs.Store.{part}
@@ -40,17 +40,17 @@ read-sound l n =
     go : (s t u : Bool) → ltb (length l) (sheetSize l) ≡ s → eqb (refusalOf (layoutIn l)) 0 ≡ u
         → pick s (unread 3) (pick t (unread 4) (pick u (record { answer = accepted (sheetSize l ∷ []); layout = layoutIn l }) (unread (refusalOf (layoutIn l))))) .answer ≡ accepted (n ∷ [])
         → Read l n (pick s (unread 3) (pick t (unread 4) (pick u (record { answer = accepted (sheetSize l ∷ []); layout = layoutIn l }) (unread (refusalOf (layoutIn l))))))
-    go true t u p q h = refused-none 3 (n ∷ []) (λ z. omega arith) h
-    go false true u p q h = refused-none 4 (n ∷ []) (λ z. omega arith) h
+    go true t u p q h = refused-none 3 (n ∷ []) h
+    go false true u p q h = refused-none 4 (n ∷ []) h
     go false false true p q h =
-        let e : sheetSize l ≡ n = ap (λ (r : Answer). getD (r .values) 0 0) h in
+        let e : sheetSize l ≡ n = ap (λ (r : Answer). getD (valuesOf r) 0 0) h in
         record {
           used = sym e;
           within = omega (arith, ltb-false (length l) (sheetSize l) p);
           layout = refl;
           sound = sound (layoutIn l) (eqb-true (refusalOf (layoutIn l)) 0 q);
         }
-    go false false false p q h = refused-none (refusalOf (layoutIn l)) (n ∷ []) (λ z. eqb-false (refusalOf (layoutIn l)) 0 q z) h
+    go false false false p q h = refused-none (refusalOf (layoutIn l)) (n ∷ []) h
 
 -- ---- octets after the sheet do not matter: a reader that stays within a reads the same of a and of a with more behind it
 

@@ -10,7 +10,7 @@ use borrow.Author.Tests.{ne-eqb, lt-ltb, le-ltb, eqb-false, ltb-true, ltb-false}
 use lib.Dec.{eqb, ltb}
 use lib.ListN.{length, getD, take, drop, length-append, take-append-drop, List·getD-append}
 use lib.Seq.{take-all, length-take-le}
-use Rattle.octets.specs.Base.{pick, outside}
+use Rattle.octets.specs.Base.{pick, outside, numberOf}
 use Rattle.octets.specs.BaseLaws.{by-test, within}
 use Rattle.octets.specs.NumberLaws.{Octets, octets-by}
 use Rattle.sheet.specs.Sheet.{stands, width, fieldAt, countPlace, countIn, layoutIn, sheetSize, Reading}
@@ -21,13 +21,13 @@ use Rattle.pieces.specs.Printed.{printed}
 
 -- ---- a refused input prints its number
 
-unless-number : (n : ℕ) (r : Planned) → (n ≡ 0 → ⊥) → unless n r .answer .number ≡ n
-unless-number n r h = ap (λ (b : Bool). pick b r (unplanned n) .answer .number) (ne-eqb n 0 h)
+unless-number : (n : ℕ) (r : Planned) → (n ≡ 0 → ⊥) → numberOf (unless n r .answer) ≡ n
+unless-number n r h = ap (λ (b : Bool). numberOf (pick b r (unplanned n) .answer)) (ne-eqb n 0 h)
 
 refused-print : (l : List ℕ) → (planRefusal l ≡ 0 → ⊥) → printed l ≡ refusedLine (planRefusal l)
 unfolding printed planRead
 refused-print l h =
-    let e : unless (planRefusal l) (wholeFrom l (layoutIn l) (sheetSize l)) .answer .number ≡ planRefusal l = unless-number (planRefusal l) (wholeFrom l (layoutIn l) (sheetSize l)) h in
+    let e : numberOf (unless (planRefusal l) (wholeFrom l (layoutIn l) (sheetSize l)) .answer) ≡ planRefusal l = unless-number (planRefusal l) (wholeFrom l (layoutIn l) (sheetSize l)) h in
     rw (e, ne-eqb (planRefusal l) 0 h)
 
 -- ---- what is refused of more than 16,384 octets
@@ -77,7 +77,7 @@ module _ (a z : List ℕ) (h : length a ≡ 16385) (o : Octets a) where
   small = omega (arith, size-most a o)
 
   sheet-same : sheetRefusal (a ++ z) ≡ sheetRefusal a
-  sheet-same = ap (λ (r : Reading). r .answer .number) (sheet-front a z small)
+  sheet-same = ap (λ (r : Reading). numberOf (r .answer)) (sheet-front a z small)
 
   depth-same : (u : ℕ) → u ≤ 1799 → depthIn (a ++ z) u ≡ depthIn a u
   depth-same u p = List·getD-append a z 0 u (omega arith)

@@ -9,7 +9,7 @@ use borrow.Author.Tests.{eq-eqb, ne-eqb, le-ltb, le-leb, eqb-false, ltb-false}
 use lib.Dec.{eqb, ltb}
 use lib.ListN.{length, getD, replicate, take, drop, length-append, length-replicate, getD-replicate}
 use lib.Seq.{sets, length-sets, ext-getD, take-at, drop-at, length-take-le}
-use Rattle.octets.specs.Base.{pick, some, accepted}
+use Rattle.octets.specs.Base.{pick, some, accepted, numberOf}
 use Rattle.octets.specs.Store.{length-part, take-sets}
 use Rattle.octets.specs.Turns.{blanked, length-blanked, blanked-same}
 use Rattle.layout.specs.Layout.{fitsWell}
@@ -416,9 +416,9 @@ last-size g a = omega (arith, end-size (clockAt a))
 offer-size : (l : List ℕ) (g : Progress) (a : List ℕ) → length (offerPiece l g a .text) ≤ 2048
 unfolding offerPiece offerText offerLine
 offer-size l g a =
-    by-test (eqb (made l (g .at) a .answer .number) 0)
+    by-test (eqb (numberOf (made l (g .at) a .answer)) 0)
     (λ b. rw b (omega arith))
-    (λ b. rw b (omega (arith, refused-offer-size (offerTime l (g .at)) (offerStation l (g .at)) (made l (g .at) a .answer .number))))
+    (λ b. rw b (omega (arith, refused-offer-size (offerTime l (g .at)) (offerStation l (g .at)) (numberOf (made l (g .at) a .answer)))))
 
 stretch-size : (g : Progress) (s : Stretched) → length (stretchPiece g s .text) ≤ 2048
 unfolding stretchPiece
@@ -443,11 +443,11 @@ move-size l g a = go (g .ended) (eqb (g .times) 0) (isDue l g a)
 
 first-room : (l a : List ℕ) → length (firstPiece l a .text) ≤ 2048
 unfolding firstPiece
-first-room l a = go (eqb (planRead l .answer .number) 0)
+first-room l a = go (eqb (numberOf (planRead l .answer)) 0)
   where
-    go : (b : Bool) → length (pick b (startPiece l (planRead l) a) (moved (refusedLine (planRead l .answer .number)) noProgress a) .text) ≤ 2048
+    go : (b : Bool) → length (pick b (startPiece l (planRead l) a) (moved (refusedLine (numberOf (planRead l .answer))) noProgress a) .text) ≤ 2048
     go true = start-size l (planRead l) a
-    go false = omega (arith, refused-size (planRead l .answer .number))
+    go false = omega (arith, refused-size (numberOf (planRead l .answer)))
 
 -- ---- the first piece
 
@@ -469,14 +469,14 @@ inside-lies l p h = rw (le-leb (p + 15) (length l) (omega arith), le-leb (p + 15
 zeros-long : length zeros ≡ 57344
 zeros-long = length-replicate {A = ℕ} 57344 0
 
-module _ (l a : List ℕ) (h : length a ≡ 57344) (n : planRead l .answer .number ≡ 0) where
+module _ (l a : List ℕ) (h : length a ≡ 57344) (n : numberOf (planRead l .answer) ≡ 0) where
   y : Right l (planRead l)
   y = read-right l n
 
   start-on : printed l ≡ startPiece l (planRead l) a .text ++ remaining l (startPiece l (planRead l) a .progress) (startPiece l (planRead l) a .octets)
   unfolding printed planText startPiece
   start-on =
-      rw (eq-eqb (planRead l .answer .number) 0 n)
+      rw (eq-eqb (numberOf (planRead l .answer)) 0 n)
       (ap (λ (x : List ℕ). firstText (planRead l .layout) ++ x)
       (ap (runText l (planRead l .times) (planRead l .offers) (planRead l .first)) (start-same l (planRead l) zeros a zeros-long h)
       ∙ sym (remaining-on l (standing (planRead l .first) (planRead l .offers) (planRead l .times) false) (startArea l (planRead l) a) refl)))
@@ -532,13 +532,13 @@ told-on (suc n) l b z o g w e h p =
     (λ q. rw q (told-on n l (move l g b .octets) z (sets o 0 (move l g b .text)) (move l g b .progress) (m .going) q k (let f = m .fewer in omega arith))))
     ∙ sym (m .onward))
 
-started-first : (l a : List ℕ) → planRead l .answer .number ≡ 0 → firstPiece l a ≡ startPiece l (planRead l) a
+started-first : (l a : List ℕ) → numberOf (planRead l .answer) ≡ 0 → firstPiece l a ≡ startPiece l (planRead l) a
 unfolding firstPiece
-started-first l a e = rw (eq-eqb (planRead l .answer .number) 0 e)
+started-first l a e = rw (eq-eqb (numberOf (planRead l .answer)) 0 e)
 
-refused-first : (l a : List ℕ) → (planRead l .answer .number ≡ 0 → ⊥) → firstPiece l a ≡ moved (refusedLine (planRead l .answer .number)) noProgress a
+refused-first : (l a : List ℕ) → (numberOf (planRead l .answer) ≡ 0 → ⊥) → firstPiece l a ≡ moved (refusedLine (numberOf (planRead l .answer))) noProgress a
 unfolding firstPiece
-refused-first l a e = rw (ne-eqb (planRead l .answer .number) 0 e)
+refused-first l a e = rw (ne-eqb (numberOf (planRead l .answer)) 0 e)
 
 module _ (n : ℕ) (l a o : List ℕ) (h : 57344 ≤ length a) (k : 2048 ≤ length o) where
   cut : length (take 57344 a) ≡ 57344
@@ -549,14 +549,14 @@ module _ (n : ℕ) (l a o : List ℕ) (h : 57344 ≤ length a) (k : 2048 ≤ len
   begin-on = rw (le-ltb (length a) 57344 h, le-ltb (length o) 2048 k)
 
   -- an input that is refused has one piece
-  told-refused : (planRead l .answer .number ≡ 0 → ⊥) → told (suc n) l (begun l a o) ≡ printed l
+  told-refused : (numberOf (planRead l .answer) ≡ 0 → ⊥) → told (suc n) l (begun l a o) ≡ printed l
   unfolding told printed
   told-refused e =
-      let f : firstPiece l (take 57344 a) ≡ moved (refusedLine (planRead l .answer .number)) noProgress (take 57344 a) = refused-first l (take 57344 a) e in
-      rw (begin-on, f, ne-eqb (planRead l .answer .number) 0 e)
-      (append-nil _ ∙ take-sets (refusedLine (planRead l .answer .number)) o (length (refusedLine (planRead l .answer .number))) refl (omega (arith, refused-size (planRead l .answer .number))))
+      let f : firstPiece l (take 57344 a) ≡ moved (refusedLine (numberOf (planRead l .answer))) noProgress (take 57344 a) = refused-first l (take 57344 a) e in
+      rw (begin-on, f, ne-eqb (numberOf (planRead l .answer)) 0 e)
+      (append-nil _ ∙ take-sets (refusedLine (numberOf (planRead l .answer))) o (length (refusedLine (numberOf (planRead l .answer)))) refl (omega (arith, refused-size (numberOf (planRead l .answer)))))
 
-  told-whole : 16777281 ≤ n → planRead l .answer .number ≡ 0 → told (suc n) l (begun l a o) ≡ printed l
+  told-whole : 16777281 ≤ n → numberOf (planRead l .answer) ≡ 0 → told (suc n) l (begun l a o) ≡ printed l
   unfolding told startPiece
   told-whole q e =
       let f : firstPiece l (take 57344 a) ≡ startPiece l (planRead l) (take 57344 a) = started-first l (take 57344 a) e in
@@ -573,4 +573,4 @@ module _ (n : ℕ) (l a o : List ℕ) (h : 57344 ≤ length a) (k : 2048 ≤ len
 -- refused, and there are no more than 16,777,282.
 pub told-printed : (l a o : List ℕ) → 57344 ≤ length a → 2048 ≤ length o → told 16777282 l (begun l a o) ≡ printed l
 told-printed l a o h k =
-    by-eq (planRead l .answer .number) 0 (λ e. told-whole 16777281 l a o h k (omega arith) e) (λ e. told-refused 16777281 l a o h k e)
+    by-eq (numberOf (planRead l .answer)) 0 (λ e. told-whole 16777281 l a o h k (omega arith) e) (λ e. told-refused 16777281 l a o h k e)

@@ -10,7 +10,7 @@ use lib.Dec.{ltb, eqb}
 use lib.ListN.{length, getD, take}
 use lib.Seq.{take-take}
 use borrow.Author.Tests.{le-ltb, eqb-true}
-use Rattle.octets.specs.Base.{pick, Answer, refused}
+use Rattle.octets.specs.Base.{pick, Answer, refused, valuesOf}
 use Rattle.octets.specs.BaseLaws.{by-test}
 use Rattle.opener.specs.Open.{destinationOf, valueOf, fragment, frameTooLong, frameCheckError, alignmentError, receiveOK, Opening, checkWrong, checkError, opened}
 use Rattle.frame.specs.Limits.{maxFrame}
@@ -65,13 +65,13 @@ no-ok m e = let z : _≡_ {A = ℕ} 0 1 = cc in omega arith
 abbrev Not : ℕ → Answer → Type 0
 Not m r = (n : ℕ) → gotEvent r n ≡ GotOk m → ⊥
 
-not-status : (m : ℕ) (r : Answer) → eqb (getD (r .values) 0 0) 5 ≡ false → Not m r
+not-status : (m : ℕ) (r : Answer) → eqb (getD (valuesOf r) 0 0) 5 ≡ false → Not m r
 unfolding gotEvent
 not-status m r h n e =
-    by-test (eqb (getD (r .values) 0 0) 1) (λ c. let z : _≡_ {A = ℕ} 0 1 = cc (rw c at e) in omega arith)
-    (λ c. by-test (eqb (getD (r .values) 0 0) 2) (λ d. let z : _≡_ {A = ℕ} 0 1 = cc (rw (c, d) at e) in omega arith)
-    (λ d. by-test (eqb (getD (r .values) 0 0) 3) (λ f. let z : _≡_ {A = ℕ} 0 1 = cc (rw (c, d, f) at e) in omega arith)
-    (λ f. by-test (eqb (getD (r .values) 0 0) 4) (λ g. let z : _≡_ {A = ℕ} 0 1 = cc (rw (c, d, f, g) at e) in omega arith)
+    by-test (eqb (getD (valuesOf r) 0 0) 1) (λ c. let z : _≡_ {A = ℕ} 0 1 = cc (rw c at e) in omega arith)
+    (λ c. by-test (eqb (getD (valuesOf r) 0 0) 2) (λ d. let z : _≡_ {A = ℕ} 0 1 = cc (rw (c, d) at e) in omega arith)
+    (λ d. by-test (eqb (getD (valuesOf r) 0 0) 3) (λ f. let z : _≡_ {A = ℕ} 0 1 = cc (rw (c, d, f) at e) in omega arith)
+    (λ f. by-test (eqb (getD (valuesOf r) 0 0) 4) (λ g. let z : _≡_ {A = ℕ} 0 1 = cc (rw (c, d, f, g) at e) in omega arith)
     (λ g. no-ok m (rw (c, d, f, g, h) at e)))))
 
 not-choice : (m : ℕ) (t : Bool) (x y : Opening) → Not m (x .status) → Not m (y .status) → Not m (pick t x y .status)
@@ -165,15 +165,15 @@ pub record Leaves (A B : List ℕ) (r : Receiver) (h : Heard) (x : Bool) (n : �
   pub silence : h ≡ Nothing
   pub why : (r ≡ Readable n) ⊎ ((m : ℕ) × (receive A B r h x .event ≡ GotOk m))
 
-got-five : (B : List ℕ) (n : ℕ) (s : Bool) → getD (openAnswer B n s .values) 0 0 ≡ 5 → opening B n s .event ≡ GotOk (getD (openAnswer B n s .values) 1 0)
+got-five : (B : List ℕ) (n : ℕ) (s : Bool) → getD (valuesOf (openAnswer B n s)) 0 0 ≡ 5 → opening B n s .event ≡ GotOk (getD (valuesOf (openAnswer B n s)) 1 0)
 unfolding opening gotEvent
 got-five B n s e = rw e
 
 opening-reads : (B : List ℕ) (n : ℕ) (s : Bool) (k : ℕ) → opening B n s .receiver ≡ Readable k → (m : ℕ) × (opening B n s .event ≡ GotOk m)
 unfolding opening readableAfter
 opening-reads B n s k e =
-    by-test (eqb (getD (openAnswer B n s .values) 0 0) 5)
-    (λ c. (getD (openAnswer B n s .values) 1 0, got-five B n s (eqb-true (getD (openAnswer B n s .values) 0 0) 5 c)))
+    by-test (eqb (getD (valuesOf (openAnswer B n s)) 0 0) 5)
+    (λ c. (getD (valuesOf (openAnswer B n s)) 1 0, got-five B n s (eqb-true (getD (valuesOf (openAnswer B n s)) 0 0) 5 c)))
     (λ c. absurd (let z : _≡_ {A = ℕ} 0 1 = cc (rw c at e) in omega arith))
 
 decide-reads : (A B : List ℕ) (n : ℕ) (s o : Bool) (k : ℕ) → decide A B n s o .receiver ≡ Readable k → (m : ℕ) × (decide A B n s o .event ≡ GotOk m)

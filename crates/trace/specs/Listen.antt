@@ -6,6 +6,7 @@ use mathlib.Core.Bool.{Bool, true, false}
 use mathlib.Core.List.{List}
 use lib.Dec.{ltb, eqb}
 use lib.ListN.{length, getD, length-set}
+use Rattle.octets.specs.Base.{valuesOf}
 use Rattle.octets.specs.BaseLaws.{by-test}
 use Rattle.packet.specs.declared.Heard.{Heard}
 use Rattle.packet.specs.declared.Heard.the-variants.{Nothing, Clean}
@@ -90,7 +91,7 @@ Idle (Collecting n spoiled own) = ⊥
 
 opening-idle : (B : List ℕ) (n : ℕ) (spoiled : Bool) → Idle (opening B n spoiled .receiver)
 unfolding opening readableAfter
-opening-idle B n spoiled = by-test (eqb (getD (openAnswer B n spoiled .values) 0 0) 5) (λ e. rw e tt) (λ e. rw e tt)
+opening-idle B n spoiled = by-test (eqb (getD (valuesOf (openAnswer B n spoiled)) 0 0) 5) (λ e. rw e tt) (λ e. rw e tt)
 
 decide-idle : (A B : List ℕ) (n : ℕ) (spoiled own : Bool) → Idle (decide A B n spoiled own .receiver)
 unfolding decide
