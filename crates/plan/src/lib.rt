@@ -1,12 +1,12 @@
 // The run program on lent octets: what it prints for an input, handed out piece by piece (document 01, "The run program"). The first piece
 // is `begin::begin`'s.
 
+use course::Stretch;
 use octets::Done;
 use pair::Events;
 use pieces::Handed;
 use pieces::Piece;
 use pieces::Progress;
-use pieces::Stretch;
 use receiver::ReceiveEvent;
 use transmitter::TransmitEvent;
 ghost use mathlib.Core.Path.{_≡_};
@@ -15,9 +15,10 @@ ghost use Prim.Native.Nat.{_<_, _≤_};
 ghost use lib.ListN.{length};
 ghost use Rattle.octets.specs.Base.{outcome, doneAnswer, numberOf};
 ghost use Rattle.course.specs.RunLaws.{Runnable};
+ghost use Rattle.course.specs.Until.{hasEvent, eventful, untilEvent, stretchOf};
 ghost use Rattle.text.specs.Text.{written, puts};
 ghost use Rattle.pieces.specs.Printed.{lies, made, offerLine};
-ghost use Rattle.pieces.specs.Pieces.{hasEvent, eventful, untilEvent, stretchOf, lastPiece, offerPiece, stepPiece, handing, given, offerShort, advancedOn, advanced};
+ghost use Rattle.pieces.specs.Pieces.{lastPiece, offerPiece, stepPiece, handing, given, offerShort, advancedOn, advanced};
 
 // The last line.
 fn end_piece(area: &[u8], out: &mut [u8], g: Progress) -> Handed

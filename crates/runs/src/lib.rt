@@ -8,8 +8,7 @@ use octets::Done;
 ghost use mathlib.Core.Path.{_≡_};
 ghost use mathlib.Core.Bool.{true};
 ghost use Prim.Native.Nat.{_+_, _<_, _≤_};
-ghost use lib.ListN.{length, replicate};
-ghost use Rattle.octets.specs.Base.{refused, doneAnswer};
+ghost use lib.ListN.{length};
 ghost use Rattle.octets.specs.NumberLaws.{Octets};
 ghost use Rattle.pair.specs.BitTime.{eventsIn, advancedIn};
 ghost use Rattle.pair.specs.Ready.{AllAble};
@@ -21,7 +20,6 @@ ghost use Rattle.order.specs.Window.{Reaches};
 ghost use Rattle.runs.specs.OnLaws.{lates, OnCourse};
 ghost use Rattle.runs.specs.Windows.{Windowed, Advanced};
 ghost use Rattle.runs.specs.Still.{Clear, CalmIf, Idle};
-ghost use Rattle.course.specs.declared.Ended.the-variants.{All};
 
 // The steps that were made, and which stations had a late collision in the last of them.
 pub struct Lates {
@@ -213,29 +211,17 @@ fn run_steps(area: &mut [u8], words: &mut [u32], n: u32) -> Course
     Course { steps: t, ended }
 }
 
-// A run refused under this number.
-fn no_run(number: u32) -> RunAnswer
-    ensures { λ r. ⌜ (doneAnswer (r .done) ≡ refused number) × (r .steps ≡ 0) × (r .words ≡ replicate 9 0) × (r .ended ≡ All) ⌝ }
-{
-    RunAnswer {
-        done: Done::Refused(number),
-        steps: 0,
-        words: [0u32; 9],
-        ended: Ended::All,
-    }
-}
-
 // A run of n bit times. Refusals 1, 2, 13.
 pub fn run(area: &mut [u8], n: u32) -> RunAnswer
     ensures { λ r. ⌜ runOutcome r (now (area .exit)) ≡ ran (now (area .entry)) n ⌝ }
 {
     let number = ready::refusal(area);
     if number != 0 {
-        return no_run(number);
+        return course::no_run(number);
     }
     let t = area::read_clock(area);
     if 16777216 - t < n {
-        return no_run(13);
+        return course::no_run(13);
     }
     let mut words = [0u32; 9];
     let c = run_steps(area, &mut words, n);

@@ -1,5 +1,5 @@
 -- `plan::has_event` meets its contract. Assumes nothing.
-use Rattle.pieces.specs.PieceLaws.{event-is}
+use Rattle.course.specs.UntilLaws.{event-is}
 use borrow.Author.Needs.{needs}
 use Rattle.plan.proofs.has_event.Statement.{statement}
 use Rattle.plan.proofs.has_event.Tie as tie

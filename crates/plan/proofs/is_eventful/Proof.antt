@@ -1,7 +1,7 @@
 -- `plan::is_eventful` meets its contract. Assumes nothing.
 use native.Mathlib.Omega.{arith}
 use Prim.Native.Nat.{_≤_, _-_}
-use Rattle.pieces.specs.PieceLaws.{Calm, calm-none, calm-more, calm-hit, calm-end}
+use Rattle.course.specs.UntilLaws.{Calm, calm-none, calm-more, calm-hit, calm-end}
 use Rattle.plan.proofs.is_eventful.Statement.{statement}
 use Rattle.plan.proofs.is_eventful.Tie as tie
 

@@ -4,9 +4,9 @@ use borrow.Author.Needs.{needs}
 use Prim.Native.Nat.{_≤_, _-_}
 use mathlib.Core.Path.{_≡_, refl}
 use lib.ListN.{length}
-use Rattle.course.specs.RunLaws.{Runnable, run-next}
-use Rattle.pieces.specs.Pieces.{untilEvent}
-use Rattle.pieces.specs.PieceLaws.{run-first, run-ready, run-clock, plus, stretch-first, stretch-on, stretch-hit, stretch-end}
+use Rattle.course.specs.RunLaws.{Runnable, run-next, run-first, run-ready, run-clock}
+use Rattle.course.specs.Until.{untilEvent}
+use Rattle.course.specs.UntilLaws.{plus, stretch-first, stretch-on, stretch-hit, stretch-end}
 use Rattle.plan.proofs.until_event.Statement.{statement}
 use Rattle.plan.proofs.until_event.Tie as tie
 
