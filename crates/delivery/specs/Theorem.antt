@@ -44,7 +44,8 @@ use Rattle.bus.specs.Step.{steppedOnce}
 use Rattle.course.specs.Run.{tallied, lateAt, Ran, runOf, ran}
 use Rattle.reading.specs.Read.{frameRead}
 use Rattle.trace.specs.World as world
-use Rattle.trace.specs.World.{Net, Offer, ready}
+use Rattle.meeting.specs.Net.{Net}
+use Rattle.trace.specs.World.{Offer, ready}
 use Rattle.trace.specs.Run as exec
 use Rattle.trace.specs.Run.{outAt, sees, frameIn, ready-clock, sees-is}
 use Rattle.trace.specs.Late as collisions

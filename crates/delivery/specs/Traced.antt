@@ -29,7 +29,8 @@ use Rattle.offer.specs.OfferLaws.{address-six}
 use Rattle.bus.specs.Step.{steppedOnce}
 use Rattle.course.specs.Run.{ran}
 use Rattle.trace.specs.World as world
-use Rattle.trace.specs.World.{Net, Offer, frameFor, World, outcome, given, offers, before, ready}
+use Rattle.meeting.specs.Net.{Net}
+use Rattle.trace.specs.World.{Offer, frameFor, World, outcome, given, offers, before, ready}
 use Rattle.trace.specs.Run.{before-suc, ready-clock}
 use Rattle.trace.specs.Keep.{held-back}
 use Rattle.delivery.specs.Passing.{frame-range, holding, offer-passing}

@@ -1,7 +1,7 @@
 -- Symbols that meet at a station: who is heard, from what is heard, and the other way round. Assumes nothing.
 use Prim.Native.Nat.{ℕ, zero, suc, _<_}
 use mathlib.Core.Path.{_≡_, refl, sym, _∙_, ap, ap₂, subst}
-use mathlib.Core.Bool.{Bool, true, false}
+use mathlib.Core.Bool.{Bool, true, false, true≢false}
 use native.Mathlib.Omega.{arith}
 use Rattle.octets.specs.BaseLaws.{by-eq}
 use Rattle.packet.specs.declared.Heard.{Heard}
@@ -9,8 +9,7 @@ use Rattle.packet.specs.declared.Heard.the-variants.{Nothing, Clean, Jammed, Se
 use Rattle.packet.specs.declared.Symbol.{Symbol}
 use Rattle.packet.specs.declared.Symbol.the-variants.{Silence, Bit, Jam}
 use Rattle.area.specs.Area.{alone, joined}
-use Rattle.trace.specs.Basic.{clash}
-use Rattle.trace.specs.World.{gathered}
+use Rattle.meeting.specs.Net.{gathered}
 
 -- whether a symbol is heard
 abbrev pub on : Symbol → Bool
@@ -20,8 +19,8 @@ on Jam = true
 
 pub off-is : (s : Symbol) → on s ≡ false → s ≡ Silence
 off-is Silence e = refl
-off-is (Bit b) e = clash refl e
-off-is Jam e = clash refl e
+off-is (Bit b) e = absurd (true≢false e)
+off-is Jam e = absurd (true≢false e)
 
 pub joined-none : (h : Heard) → joined h Silence ≡ h
 joined-none Nothing = refl

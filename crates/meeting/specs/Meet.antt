@@ -1,7 +1,6 @@
 -- Symbols that meet on the pair: order and grouping do not matter; and what a step adds to what will be heard. Assumes nothing.
 use Prim.Native.Nat.{ℕ, zero, suc, _+_, _-_, _≤_, _<_}
 use mathlib.Core.Path.{_≡_, refl, sym, _∙_, ap, ap₂}
-use mathlib.Core.Bool.{Bool, true, false}
 use native.Mathlib.Omega.{arith}
 use lib.Dec.{leb, eqb}
 use borrow.Author.Tests.{eq-eqb, ne-eqb, leb-true, leb-false}
@@ -11,9 +10,9 @@ use Rattle.packet.specs.declared.Heard.{Heard}
 use Rattle.packet.specs.declared.Heard.the-variants.{Nothing, Clean, Jammed, Several}
 use Rattle.packet.specs.declared.Symbol.{Symbol}
 use Rattle.packet.specs.declared.Symbol.the-variants.{Silence, Bit, Jam}
-use Rattle.area.specs.Area.{alone, overlaid, joined}
-use Rattle.trace.specs.World.{Net, gathered, reaches, heard, grown}
-use Rattle.trace.specs.Gather.{gathered-none}
+use Rattle.area.specs.Area.{alone, joined}
+use Rattle.meeting.specs.Net.{Net, gathered, reaches, heard, grown}
+use Rattle.meeting.specs.Gather.{gathered-none}
 
 -- two that are heard, and what is heard where both are
 abbrev pub over : Heard → Heard → Heard

@@ -2,7 +2,7 @@
 -- Assumes nothing.
 use Prim.Native.Nat.{ℕ, zero, suc, _+_, _%_, _≤_, _<_}
 use mathlib.Core.Path.{_≡_, refl, sym, _∙_, ap, ap₂}
-use mathlib.Core.Bool.{Bool, true, false, true≢false}
+use mathlib.Core.Bool.{true, true≢false}
 use mathlib.Core.List.{List}
 use native.Mathlib.Omega.{arith}
 use lib.Dec.{eqb}
@@ -15,25 +15,35 @@ use Rattle.packet.specs.declared.Heard.{Heard}
 use Rattle.packet.specs.declared.Heard.the-variants.{Nothing}
 use Rattle.packet.specs.declared.Symbol.{Symbol}
 use Rattle.packet.specs.declared.Symbol.the-variants.{Silence, Bit, Jam}
-use Rattle.area.specs.Places.{Part, counters, station, buffer, place, Off, Keeps}
+use Rattle.area.specs.Places.{counters, station, buffer, place}
 use Rattle.area.specs.Area.{spaceAt, arrivalAt, alone, joined}
 use Rattle.area.specs.AreaLaws.{space-by, arrival-by, arrival-keeps, arrival-same, arrival-turn}
-use Rattle.station.specs.declared.Stepped.{Stepped}
 use Rattle.pair.specs.declared.Act.{Act}
 use Rattle.medium.specs.Medium.{sendTo, isSilence, pushed}
 use Rattle.pair.specs.BitTime.{placed, settled}
-use Rattle.pair.specs.InPlace.{Kept, Spread, Foreign, Ahead, place-keeps, settle-keeps, placed-layout, length-placed}
+use Rattle.pair.specs.InPlace.{Kept, Spread, place-keeps, settle-keeps, placed-layout, length-placed}
 use Rattle.medium.specs.MediumLaws.{send-keeps, sends-layout, sends-keep, push-keeps, length-sends}
 use Rattle.ready.specs.After.{length-after, ahead, placed-clear}
-use Rattle.trace.specs.World.{gathered}
-use Rattle.trace.specs.Gather.{joined-none}
-use Rattle.delivery.specs.Meet.{met, met-none, met-group, joined-met}
+use Rattle.meeting.specs.Net.{gathered}
+use Rattle.meeting.specs.Gather.{joined-none}
+use Rattle.meeting.specs.Meet.{met, met-none, met-group, joined-met, adds}
 
 -- ---- one symbol
 
 -- what place u of j's line gets of the symbol s that i emits in step t at distance d
 unfoldable pub share : (t d i : ℕ) (s : Symbol) (j u : ℕ) → Symbol
 share t d i s j u = pick (eqb i j) Silence (pick (eqb ((t + d) % 256) (u % 256)) s Silence)
+
+-- by the place and by the step, where the clock is c and places are counted from it
+pub share-adds : (d : ℕ → ℕ → ℕ) (c t : ℕ) (e : ℕ → Symbol) (j v i T U : ℕ) → T ≡ c + t → U ≡ c + v
+    → ((i ≡ j → ⊥) → 0 < d i j) → d i j < 256 → t < v → v < t + 256 → share T (d i j) i (e i) j U ≡ adds d t e j v i
+unfolding share adds
+share-adds d c t e j v i T U et eu p q lo hi =
+    by-eq i j (λ z. rw (eq-eqb i j z))
+    (λ z. let r = p z in
+    by-eq (t + d i j) v
+    (λ y. rw (ne-eqb i j z, eq-eqb (t + d i j) v y, eq-eqb ((T + d i j) % 256) (U % 256) (ap (λ (x : ℕ). x % 256) (omega arith))))
+    (λ y. rw (ne-eqb i j z, ne-eqb (t + d i j) v y, ne-eqb ((T + d i j) % 256) (U % 256) (λ x. y (omega arith)))))
 
 share-none : (t d i j u : ℕ) → share t d i Silence j u ≡ Silence
 unfolding share
