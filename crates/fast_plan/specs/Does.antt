@@ -87,14 +87,14 @@ does-by a P K i H on em st pos few hi room same begins fit address kept step sym
 
 -- ---- all of them
 
-none-at : (n k : ℕ) → getD (filled noEvents (λ i. noEvents) n) k noEvents ≡ noEvents
+pub none-at : (n k : ℕ) → getD (filled noEvents (λ i. noEvents) n) k noEvents ≡ noEvents
 none-at n k =
     by-test (ltb k n)
     (λ c. filled-at noEvents (λ i. noEvents) n k noEvents (ltb-true k n c))
     (λ c. let g = ltb-false k n c in
     let z : k ≡ n + (k - n) = omega arith in ap (λ (m : ℕ). getD (filled noEvents (λ i. noEvents) n) m noEvents) z ∙ filled-past noEvents (λ i. noEvents) n (k - n))
 
-nothing-tallied : (n m : ℕ) (ws : List ℕ) → tallied (filled noEvents (λ i. noEvents) n) m ws ≡ ws
+pub nothing-tallied : (n m : ℕ) (ws : List ℕ) → tallied (filled noEvents (λ i. noEvents) n) m ws ≡ ws
 unfolding tallied turns sentCounted gotCounted
 nothing-tallied n zero ws = refl
 nothing-tallied n (suc m) ws = rw (none-at n m) (nothing-tallied n m ws)

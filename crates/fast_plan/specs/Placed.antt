@@ -77,28 +77,28 @@ module _ (a : List ℕ) (P : Plan) (K : ℕ) (few : countAt a ≤ 16) where
   only : (j : ℕ) → j < countAt a → LineOnly (countAt a) j (λ x. lineDone a P K j x)
   only j hj = done-only (countAt a) j few hj a P K
 
-  done-long : (k : ℕ) (x : List ℕ) → k ≤ countAt a → length (linesDone a P K k x) ≡ length x
+  pub done-long : (k : ℕ) (x : List ℕ) → k ≤ countAt a → length (linesDone a P K k x) ≡ length x
   unfolding linesDone turns
   done-long zero x h = refl
   done-long (suc k) x h = only k h .long (linesDone a P K k x) ∙ done-long k x (omega arith)
 
-  done-keeps : (p : Part) (k : ℕ) (x : List ℕ) → k ≤ countAt a → ((j u : ℕ) → j < k → Off p (place j u)) → Keeps p (linesDone a P K k x) x
+  pub done-keeps : (p : Part) (k : ℕ) (x : List ℕ) → k ≤ countAt a → ((j u : ℕ) → j < k → Off p (place j u)) → Keeps p (linesDone a P K k x) x
   unfolding linesDone turns
   done-keeps p zero x h o = keeps-refl p x
   done-keeps p (suc k) x h o =
       keeps-trans p (linesDone a P K (suc k) x) (linesDone a P K k x) x (only k h .off p (linesDone a P K k x) (λ u. o k u (omega arith))) (done-keeps p k x (omega arith) (λ j u l. o j u (omega arith)))
 
-  done-still : (m k : ℕ) (x : List ℕ) → k ≤ countAt a → Still (countAt a) m → getD (linesDone a P K k x) m 0 ≡ getD x m 0
+  pub done-still : (m k : ℕ) (x : List ℕ) → k ≤ countAt a → Still (countAt a) m → getD (linesDone a P K k x) m 0 ≡ getD x m 0
   unfolding linesDone turns
   done-still m zero x h s = refl
   done-still m (suc k) x h s = only k h .still m (linesDone a P K k x) s ∙ done-still m k x (omega arith) s
 
-  done-codes : (k : ℕ) (x : List ℕ) → k ≤ countAt a → 57344 ≤ length x → ((i u : ℕ) → i < countAt a → symbolAt x i u ≤ 4) → (i u : ℕ) → i < countAt a → symbolAt (linesDone a P K k x) i u ≤ 4
+  pub done-codes : (k : ℕ) (x : List ℕ) → k ≤ countAt a → 57344 ≤ length x → ((i u : ℕ) → i < countAt a → symbolAt x i u ≤ 4) → (i u : ℕ) → i < countAt a → symbolAt (linesDone a P K k x) i u ≤ 4
   unfolding linesDone turns
   done-codes zero x h room c = c
   done-codes (suc k) x h room c = only k h .codes (linesDone a P K k x) (omega (arith, done-long k x (omega arith))) (done-codes k x (omega arith) room c)
 
-  done-line : (sp : Spread (countAt a) a) (k j v : ℕ) (x : List ℕ) → k ≤ countAt a → j < k → 57344 ≤ length x → ((i u : ℕ) → i < countAt a → arrivalAt x i u ≡ arrivalAt a i u) → K ≤ v → v < K + 256
+  pub done-line : (sp : Spread (countAt a) a) (k j v : ℕ) (x : List ℕ) → k ≤ countAt a → j < k → 57344 ≤ length x → ((i u : ℕ) → i < countAt a → arrivalAt x i u ≡ arrivalAt a i u) → K ≤ v → v < K + 256
       → arrivalAt (linesDone a P K k x) j (clockAt a + v) ≡ lineAfter a P K j v
   unfolding linesDone turns
   done-line sp zero j v x hk hj room same lo up = absurd (omega arith)
