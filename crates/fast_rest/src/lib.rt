@@ -27,7 +27,8 @@ pub fn rests_for(f: Figures, d: Deference) -> u32
     }
 }
 
-fn larger(x: u32, y: u32) -> u32
+// The larger of two counts.
+pub fn larger(x: u32, y: u32) -> u32
     ensures { λ r. ⌜ r ≡ max x y ⌝ }
 {
     if x < y {
@@ -85,7 +86,8 @@ fn rest_deference(f: Figures, m: u32, d: Deference) -> Deference
     }
 }
 
-fn rest_transmitter(m: u32, x: Transmitter) -> Transmitter
+// A transmitter after m steps without a start: its backoff runs down.
+pub fn rest_transmitter(m: u32, x: Transmitter) -> Transmitter
     ensures { λ r. ⌜ r ≡ restedTransmitter m x ⌝ }
 {
     match x {
@@ -103,7 +105,8 @@ fn rest_transmitter(m: u32, x: Transmitter) -> Transmitter
     }
 }
 
-fn has_waited(m: u32, x: Transmitter) -> bool
+// Whether a frame waited in one of m steps.
+pub fn has_waited(m: u32, x: Transmitter) -> bool
     ensures { λ r. ⌜ r ≡ hasWaited m x ⌝ }
 {
     match x {

@@ -40,7 +40,7 @@ idle (Collecting n sp own) = false
 unfoldable pub stationRests : Figures → (m : ℕ) → Station → ℕ
 stationRests f m s = pick (s .emitted) 0 (pick (idle (s .receiver)) (framesRest f m (s .deference) (s .transmitter)) 0)
 
-frames-last : (f : Figures) (m K : ℕ) (d : Deference) (x : Transmitter) → 0 < K → K ≤ framesRest f m d x → Lasts f K d x
+pub frames-last : (f : Figures) (m K : ℕ) (d : Deference) (x : Transmitter) → 0 < K → K ≤ framesRest f m d x → Lasts f K d x
 unfolding framesRest
 frames-last f m K d NoFrame p h = tt
 frames-last f m K d Waiting p h = h
