@@ -1,5 +1,5 @@
-// Turns that change little: whether a station rests, sends, hears, is in a gap or in backoff; and the turn of one whose reception goes on, in
-// place. It is the general turn (`turn::turn`), made by the few words that it changes. Other such turns are taken many at once (`stretch`).
+// Turns that change little: whether a station rests, sends, hears, is in a gap or in backoff, by a few words of its record; and the words that
+// count. The turn of a station whose reception goes on is taken by crate `heard`; many turns at once by `collecting`, `sending` and `silence`.
 
 ghost use mathlib.Core.Path.{_≡_};
 ghost use mathlib.Core.Bool.{true};
