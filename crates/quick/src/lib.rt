@@ -1,5 +1,6 @@
-// Turns that change little: whether a station rests, sends, hears, is in a gap or in backoff, by a few words of its record; and the words that
-// count. The turn of a station whose reception goes on is taken by crate `heard`; many turns at once by `collecting`, `sending` and `silence`.
+// Turns that change little: whether a station rests, sends, hears, is in a gap or in backoff, by a few words of its record; how many turns a
+// backoff lasts, and how a count is written. The turns are taken by other crates: one of a reception that goes on by `heard`, many at once by
+// `collecting`, `sending` and `silence`.
 
 ghost use mathlib.Core.Path.{_≡_};
 ghost use mathlib.Core.Bool.{true};
