@@ -206,7 +206,7 @@ module _ (l : List ℕ) (g : Progress) (a : List ℕ) where
   remaining-off h = ap (λ (b : Bool). pick b (course [] a) (runOn l (g .times) (g .offers) (g .at) a)) h
 
 -- what a piece hands out comes first in what is still to come
-abbrev Onward : (l : List ℕ) (g : Progress) (a : List ℕ) → Moved → Type 0
+abbrev pub Onward : (l : List ℕ) (g : Progress) (a : List ℕ) → Moved → Type 0
 Onward l g a m = remaining l g a ≡ before (m .text) (remaining l (m .progress) (m .octets))
 
 -- ---- the last line
@@ -350,10 +350,10 @@ pieces-off g h = ap (λ (b : Bool). pick b 0 (g .times + g .offers + 1)) h
 
 -- what holds of a piece m handed out where the run stands at g on area a: it comes first in what is still to come, the run goes on, and
 -- there are fewer pieces left
-record Next (l : List ℕ) (g : Progress) (a : List ℕ) (m : Moved) : Type 0 where
-  onward : Onward l g a m
-  going : Going l (m .progress) (m .octets)
-  fewer : pieces (m .progress) < pieces g
+pub record Next (l : List ℕ) (g : Progress) (a : List ℕ) (m : Moved) : Type 0 where
+  pub onward : Onward l g a m
+  pub going : Going l (m .progress) (m .octets)
+  pub fewer : pieces (m .progress) < pieces g
 
 module _ (l : List ℕ) (g : Progress) (a : List ℕ) (w : Going l g a) (h : g .ended ≡ false) where
   last-next : g .times ≡ 0 → Next l g a (lastPiece g a)
@@ -389,7 +389,7 @@ module _ (l : List ℕ) (g : Progress) (a : List ℕ) (w : Going l g a) (h : g .
         fewer = omega (arith, pieces-on (standing (g .at) (g .offers) (timesLeft (g .times) (untilEvent (spanOf l g a) a)) false) refl, pieces-on g h, left-most l g a w (untilEvent (spanOf l g a) a), stretch-some (spanOf l g a) a s);
       }
 
-  next : Next l g a (move l g a)
+  pub next : Next l g a (move l g a)
   next =
       by-eq (g .times) 0
       (λ t. subst (Next l g a) (move-last l g a h t) (last-next t))
@@ -434,7 +434,7 @@ start-size l r a =
     (λ b. rw b (omega (arith, first-size (r .layout .count) fitYes)))
     (λ b. rw b (omega (arith, first-size (r .layout .count) fitNo)))
 
-move-size : (l : List ℕ) (g : Progress) (a : List ℕ) → length (move l g a .text) ≤ 2048
+pub move-size : (l : List ℕ) (g : Progress) (a : List ℕ) → length (move l g a .text) ≤ 2048
 unfolding move
 move-size l g a = go (g .ended) (eqb (g .times) 0) (isDue l g a)
   where
@@ -444,7 +444,7 @@ move-size l g a = go (g .ended) (eqb (g .times) 0) (isDue l g a)
     go false false true = offer-size l g a
     go false false false = stretch-size g (untilEvent (spanOf l g a) a)
 
-first-room : (l a : List ℕ) → length (firstPiece l a .text) ≤ 2048
+pub first-room : (l a : List ℕ) → length (firstPiece l a .text) ≤ 2048
 unfolding firstPiece
 first-room l a = go (eqb (numberOf (planRead l .answer)) 0)
   where
@@ -502,14 +502,14 @@ module _ (l a : List ℕ) (h : length a ≡ 57344) (n : numberOf (planRead l .an
   y : Right l (planRead l)
   y = read-right l n
 
-  start-on : inputCourse l a ≡ before (startPiece l (planRead l) a .text) (remaining l (startPiece l (planRead l) a .progress) (startPiece l (planRead l) a .octets))
+  pub start-on : inputCourse l a ≡ before (startPiece l (planRead l) a .text) (remaining l (startPiece l (planRead l) a .progress) (startPiece l (planRead l) a .octets))
   unfolding planCourse startPiece
   start-on =
       read-course l a n
       ∙ (ap (before (firstText (planRead l .layout)))
       (sym (remaining-on l (standing (planRead l .first) (planRead l .offers) (planRead l .times) false) (startArea l (planRead l) a) refl)))
 
-  start-going : Going l (startPiece l (planRead l) a .progress) (startPiece l (planRead l) a .octets)
+  pub start-going : Going l (startPiece l (planRead l) a .progress) (startPiece l (planRead l) a .octets)
   unfolding startPiece startArea
   start-going =
       let big : 57344 ≤ length a = omega arith in
@@ -541,7 +541,7 @@ module _ (l b z o : List ℕ) (g : Progress) (w : Going l g b) (h : 2048 ≤ len
   unfolding advancedOn
   given-on = rw (not-refused l g b (length o) w h)
 
-  advance-on : advanced l (b ++ z) o g ≡ record { answer = accepted (length (move l g b .text) ∷ []); progress = move l g b .progress; octets = move l g b .octets ++ z; out = sets o 0 (move l g b .text) }
+  pub advance-on : advanced l (b ++ z) o g ≡ record { answer = accepted (length (move l g b .text) ∷ []); progress = move l g b .progress; octets = move l g b .octets ++ z; out = sets o 0 (move l g b .text) }
   unfolding advanced
   advance-on =
       let k : 57344 ≤ length (b ++ z) = omega (arith, length-append b z, w .long) in
@@ -560,11 +560,11 @@ told-on (suc n) l b z o g w e h p =
     (λ q. rw q (told-on n l (move l g b .octets) z (sets o 0 (move l g b .text)) (move l g b .progress) (m .going) q k (let f = m .fewer in omega arith))))
     ∙ ap (λ (c : Course). c .text) (sym (m .onward)))
 
-started-first : (l a : List ℕ) → numberOf (planRead l .answer) ≡ 0 → firstPiece l a ≡ startPiece l (planRead l) a
+pub started-first : (l a : List ℕ) → numberOf (planRead l .answer) ≡ 0 → firstPiece l a ≡ startPiece l (planRead l) a
 unfolding firstPiece
 started-first l a e = rw (eq-eqb (numberOf (planRead l .answer)) 0 e)
 
-refused-first : (l a : List ℕ) → (numberOf (planRead l .answer) ≡ 0 → ⊥) → firstPiece l a ≡ moved (refusedLine (numberOf (planRead l .answer))) noProgress a
+pub refused-first : (l a : List ℕ) → (numberOf (planRead l .answer) ≡ 0 → ⊥) → firstPiece l a ≡ moved (refusedLine (numberOf (planRead l .answer))) noProgress a
 unfolding firstPiece
 refused-first l a e = rw (ne-eqb (numberOf (planRead l .answer)) 0 e)
 
@@ -572,7 +572,7 @@ module _ (n : ℕ) (l a o : List ℕ) (h : 57344 ≤ length a) (k : 2048 ≤ len
   cut : length (take 57344 a) ≡ 57344
   cut = length-take-le 57344 a h
 
-  begin-on : begun l a o ≡ onFront a (given o (firstPiece l (take 57344 a)))
+  pub begin-on : begun l a o ≡ onFront a (given o (firstPiece l (take 57344 a)))
   unfolding begun
   begin-on = rw (le-ltb (length a) 57344 h, le-ltb (length o) 2048 k)
 
