@@ -1,13 +1,13 @@
 -- A run on its way: how many octets of what is printed are handed out, and what is still to come. One law for its first piece, one for each
 -- piece after it, one for its end. Assumes nothing.
 use Prim.Native.Nat.{ℕ, _+_, _-_, _≤_, _<_}
-use mathlib.Core.Path.{_≡_, refl, sym, _∙_, ap, ap₂, subst}
-use mathlib.Core.Bool.{Bool, true, false, true≢false}
-use mathlib.Core.List.{List, [], _∷_, _++_, append-nil}
+use mathlib.Core.Path.{_≡_, refl, sym, _∙_, ap, subst}
+use mathlib.Core.Bool.{true, false, true≢false}
+use mathlib.Core.List.{List, [], _++_, append-nil}
 use native.Mathlib.Omega.{arith}
 use lib.ListN.{length, getD, take, drop, length-append, length-drop}
 use lib.Seq.{sets, length-sets, take-at, drop-at, drop-drop, take-all}
-use Rattle.octets.specs.Base.{Answer, valuesOf, numberOf}
+use Rattle.octets.specs.Base.{valuesOf, numberOf}
 use Rattle.octets.specs.BaseLaws.{by-eq}
 use Rattle.octets.specs.Store.{part, take-sets}
 use Rattle.input.specs.Plan.{planRead}
@@ -15,8 +15,8 @@ use Rattle.text.specs.Text.{refusedLine}
 use Rattle.pieces.specs.declared.Progress.{Progress}
 use Rattle.pieces.specs.declared.Handed.{Handed}
 use Rattle.pieces.specs.Printed.{Course, course, before, inputCourse, printed}
-use Rattle.pieces.specs.Pieces.{Moved, moved, move, Hand, pieceAnswer, handing, given, onFront, advanced, noProgress, startPiece, firstPiece, begun, remaining}
-use Rattle.told.specs.Whole.{Going, Onward, Next, next, pieces, remaining-off, course-same, read-course, refused-course, started-first, refused-first, start-on, start-going, move-size, first-room, advance-on, begin-on}
+use Rattle.pieces.specs.Pieces.{Moved, moved, move, Hand, pieceAnswer, handing, given, onFront, advanced, noProgress, firstPiece, begun, remaining}
+use Rattle.told.specs.Whole.{Going, next, pieces, remaining-off, course-same, refused-course, started-first, refused-first, start-on, start-going, advance-on, begin-on}
 
 -- n octets of what is printed for l are handed out, and the run stands at g on area b
 pub record Along (l : List ℕ) (n : ℕ) (g : Progress) (b : List ℕ) : Type 0 where

@@ -37,7 +37,7 @@ use Rattle.input.specs.Plan.{offerTime, offerStation, offerDestination, offerVa
 use Rattle.input.specs.PlanTheorems.{Right, read-right, read-passes, read-formed}
 use Rattle.pieces.specs.declared.Progress.{Progress}
 use Rattle.pieces.specs.Printed.{nextOffer, lies, made, offerLine, offerText, none, after, dueOffers, Course, course, before, atEnd, stepThen, runOn, firstText, startArea, planCourse, inputCourse, zeros, printed}
-use Rattle.pieces.specs.Pieces.{hasEvent, eventful, Stretched, oneMore, untilEvent, Moved, moved, standing, isDue, spanOf, lastPiece, offerPiece, timesLeft, stretchPiece, stepPiece, move, Hand, given, offerShort, moveRefusal, advancedOn, onFront, advanced, noProgress, startPiece, firstPiece, begun, remaining, told}
+use Rattle.pieces.specs.Pieces.{hasEvent, eventful, Stretched, oneMore, untilEvent, Moved, moved, standing, isDue, spanOf, lastPiece, offerPiece, timesLeft, stretchPiece, stepPiece, move, given, offerShort, moveRefusal, advancedOn, onFront, advanced, noProgress, startPiece, firstPiece, begun, remaining, told}
 use Rattle.pieces.specs.PieceLaws.{move-last, move-offer, move-step, due-offers, span-most, span-some, stretch-steps, stretch-some, lies-room, short-none, short-is}
 
 -- ---- a step without an event has no lines, and no late collision

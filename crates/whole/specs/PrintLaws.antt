@@ -1,111 +1,67 @@
 -- A law for each way through the code that makes the whole text. Assumes nothing.
 use Prim.Native.Nat.{ℕ, _+_, _-_, _≤_, _<_}
-use mathlib.Core.Path.{_≡_, refl, sym, _∙_, ap, ap₂, subst}
+use mathlib.Core.Path.{_≡_, sym, _∙_, ap, ap₂}
 use mathlib.Core.Bool.{Bool, true, false, not}
 use mathlib.Core.List.{List, [], _∷_, _++_}
 use native.Mathlib.Omega.{arith}
 use borrow.Author.Tests.{lt-ltb, le-ltb, le-leb, lt-leb, leb-true, leb-false, not-true, not-false}
 use borrow.Rule.Slice.PartMut.{putMid}
-use lib.Dec.{ltb, leb}
-use lib.ListN.{length, getD, take, drop, take-append-drop, drop-of-length-le}
-use lib.Seq.{sets, length-take-le, take-all, drop-drop}
-use Rattle.octets.specs.Base.{pick, refused, accepted, valuesOf}
+use lib.Dec.{leb}
+use lib.ListN.{length, take, drop, take-append-drop, drop-of-length-le}
+use lib.Seq.{sets, drop-drop}
+use Rattle.octets.specs.Base.{refused, accepted}
 use Rattle.octets.specs.Store.{part, sets-append}
 use Rattle.pieces.specs.declared.Progress.{Progress}
-use Rattle.pieces.specs.declared.Piece.{Piece}
-use Rattle.pieces.specs.declared.Handed.{Handed}
-use Rattle.pieces.specs.Printed.{Course, inputCourse, printed}
-use Rattle.pieces.specs.Pieces.{Moved, moved, move, pieceAnswer, handing, advanced, firstPiece, begun, remaining}
-use Rattle.told.specs.Whole.{Going, move-size, first-room, pieces}
-use Rattle.told.specs.Along.{Along, Passed, first-passed, first-area, next-passed, next-area, next-fewer, end-place, end-area, begin-hand, advance-hand, hand-moved, hand-within}
+use Rattle.pieces.specs.Printed.{inputCourse, printed}
+use Rattle.pieces.specs.Pieces.{moved, move, firstPiece, remaining}
+use Rattle.told.specs.Along.{Along, first-area, next-area, end-place, end-area}
+use Rattle.parts.specs.PartLaws.{part-size, begun-along, begun-part, along-more, along-part}
 use Rattle.whole.specs.Print.{print, printedInto}
 
--- ---- the pieces
+-- ---- a piece, of k octets in buffer x, is stored
 
-module _ (l b o x c : List ℕ) (r : Handed) (k : ℕ) (e : k ≡ getD (valuesOf (pieceAnswer (r .piece))) 0 0) (f : 2048 ≤ length o) where
-  pub first-is : length b ≡ 57344 → handing r c x ≡ begun l b o → moved (take k x) (r .progress) c ≡ firstPiece l b
-  first-is h p = hand-moved o x c (firstPiece l b) r k e (p ∙ begin-hand l b o f h) (first-room l b) f
-
-  pub first-within : length b ≡ 57344 → handing r c x ≡ begun l b o → k ≤ length x
-  first-within h p = hand-within o x c (firstPiece l b) r k e (p ∙ begin-hand l b o f h) (first-room l b) f
-
-  pub next-is : (g : Progress) → Going l g b → handing r c x ≡ advanced l b o g → moved (take k x) (r .progress) c ≡ move l g b
-  next-is g w p = hand-moved o x c (move l g b) r k e (p ∙ advance-hand l b o f g w) (move-size l g b) f
-
-  pub next-within : (g : Progress) → Going l g b → handing r c x ≡ advanced l b o g → k ≤ length x
-  next-within g w p = hand-within o x c (move l g b) r k e (p ∙ advance-hand l b o f g w) (move-size l g b) f
-
--- ---- a piece, of k octets in buffer x: it stands in what is printed from octet n on
-
-module _ (l c x : List ℕ) (n k : ℕ) (h : Progress) (z : k ≤ length x) (p : Passed l n (moved (take k x) h c)) where
-  sized : length (take k x) ≡ k
-  sized = length-take-le k x z
-
-  along-on : Along l (n + k) h c
-  along-on = subst (λ (m : ℕ). Along l (n + m) h c) sized (p .along)
-
-  -- the rest behind a stored piece is the rest from there on
-  text-on : (y : List ℕ) → sets (sets y n (take (k - 0) x)) (n + k) (drop (n + k) (printed l)) ≡ sets y n (drop n (printed l))
-  text-on y =
-      let t : take k (drop n (printed l)) ≡ take k x = ap (λ (m : ℕ). take m (drop n (printed l))) (sym sized) ∙ p .here in
-      let v : k - 0 ≡ k = omega arith in
-      ap (λ (m : ℕ). sets (sets y n (take m x)) (n + k) (drop (n + k) (printed l))) v
-      ∙ sets-append (take k x) (drop (n + k) (printed l)) y n (n + k) (omega (arith, sized))
-      ∙ ap (sets y n)
-      (ap₂ (λ (u v : List ℕ). u ++ v) (sym t) (sym (drop-drop k n (printed l))) ∙ take-append-drop k (drop n (printed l)))
+-- the rest behind a stored piece is the rest from there on
+text-on : (l x y : List ℕ) (n k : ℕ) → k ≤ length x → part (printed l) n (length (take (k - 0) x)) ≡ take (k - 0) x
+    → sets (sets y n (take (k - 0) x)) (n + k) (drop (n + k) (printed l)) ≡ sets y n (drop n (printed l))
+text-on l x y n k z p =
+    let q : length (take (k - 0) x) ≡ k = part-size x k z in
+    let t : take k (drop n (printed l)) ≡ take (k - 0) x = ap (λ (m : ℕ). take m (drop n (printed l))) (sym q) ∙ p in
+    sets-append (take (k - 0) x) (drop (n + k) (printed l)) y n (n + k) (omega (arith, q))
+    ∙ ap (sets y n)
+    (ap₂ (λ (u v : List ℕ). u ++ v) (sym t) (sym (drop-drop k n (printed l))) ∙ take-append-drop k (drop n (printed l)))
 
 module _ (l a c x : List ℕ) (k : ℕ) (h : Progress) (z : k ≤ length x) (q : length a ≡ 57344) (e : moved (take k x) h c ≡ firstPiece l a) where
-  first-on : Passed l 0 (moved (take k x) h c)
-  first-on = first-passed l a q (moved (take k x) h c) e
-
-  pub begun-along : Along l k h c
-  begun-along = let t : 0 + k ≡ k = omega arith in subst (λ (m : ℕ). Along l m h c) t (along-on l c x 0 k h z first-on)
-
-  pub begun-room : k ≤ length (printed l)
-  begun-room = begun-along .within
-
   pub begun-store : (y : List ℕ) → length (printed l) ≤ length y → 0 + length (take (k - 0) x) ≤ length y
-  begun-store y t = let m : k - 0 ≡ k = omega arith in omega (arith, begun-room, ap (λ (i : ℕ). length (take i x)) m, sized l c x 0 k h z first-on)
+  begun-store y t = omega (arith, begun-along l a c x k h z q e .within, part-size x k z)
 
   pub begun-over : (room : ℕ) → room < k → false ≡ leb (length (printed l)) room
-  begun-over room t = sym (lt-leb (length (printed l)) room (omega (arith, begun-room)))
+  begun-over room t = sym (lt-leb (length (printed l)) room (omega (arith, begun-along l a c x k h z q e .within)))
 
   pub begun-text : (y u v : List ℕ) → u ≡ sets y 0 (take (k - 0) x) → v ≡ sets u k (drop k (printed l)) → v ≡ sets y 0 (printed l)
   begun-text y u v s t =
       let m : 0 + k ≡ k = omega arith in
-      t ∙ ap (λ (i : List ℕ). sets i k (drop k (printed l))) s ∙ ap (λ (i : ℕ). sets (sets y 0 (take (k - 0) x)) i (drop i (printed l))) (sym m) ∙ text-on l c x 0 k h z first-on y
+      t
+      ∙ ap (λ (i : List ℕ). sets i k (drop k (printed l))) s
+      ∙ ap (λ (i : ℕ). sets (sets y 0 (take (k - 0) x)) i (drop i (printed l))) (sym m)
+      ∙ text-on l x y 0 k z (begun-part l a c x k h z q e)
 
   pub begun-area : (d : List ℕ) → d ≡ remaining l h c .octets → d ≡ inputCourse l a .octets
   begun-area d t = t ∙ first-area l a q (moved (take k x) h c) e
 
-module _ (l b c x : List ℕ) (n k : ℕ) (g h : Progress) (w : Along l n g b) (o : not (g .ended) ≡ true) where
-  pub may-advance : Going l g b
-  may-advance = w .going (not-true (g .ended) o)
+module _ (l b c x : List ℕ) (n k : ℕ) (g h : Progress) (w : Along l n g b) (o : not (g .ended) ≡ true) (z : k ≤ length x)
+    (e : moved (take k x) h c ≡ move l g b) where
+  pub along-over : (room : ℕ) → n ≤ room → room - n < k → false ≡ leb (length (printed l)) room
+  along-over room f t = sym (lt-leb (length (printed l)) room (omega (arith, along-more l b c x n k g h w o z e .within)))
 
-  module _ (z : k ≤ length x) (e : moved (take k x) h c ≡ move l g b) where
-    next-on : Passed l n (moved (take k x) h c)
-    next-on = next-passed l n g b w (not-true (g .ended) o) (moved (take k x) h c) e
+  pub along-store : (y v : List ℕ) → length y ≡ length v → length (printed l) ≤ length v → n + length (take (k - 0) x) ≤ length y
+  along-store y v p t = omega (arith, along-more l b c x n k g h w o z e .within, part-size x k z)
 
-    pub along-more : Along l (n + k) h c
-    along-more = along-on l c x n k h z next-on
+  pub along-text : (y u v : List ℕ) → u ≡ sets y n (take (k - 0) x) → sets y n (drop n (printed l)) ≡ v → sets u (n + k) (drop (n + k) (printed l)) ≡ v
+  along-text y u v p t =
+      ap (λ (m : List ℕ). sets m (n + k) (drop (n + k) (printed l))) p ∙ text-on l x y n k z (along-part l b c x n k g h w o z e) ∙ t
 
-    pub along-room : n + k ≤ length (printed l)
-    along-room = along-more .within
-
-    pub along-less : pieces h < pieces g
-    along-less = next-fewer l n g b w (not-true (g .ended) o) (moved (take k x) h c) e
-
-    pub along-over : (room : ℕ) → n ≤ room → room - n < k → false ≡ leb (length (printed l)) room
-    along-over room f t = sym (lt-leb (length (printed l)) room (omega (arith, along-room)))
-
-    pub along-area : (d : List ℕ) → remaining l g b .octets ≡ d → remaining l h c .octets ≡ d
-    along-area d t = next-area l n g b w (not-true (g .ended) o) (moved (take k x) h c) e ∙ t
-
-    pub along-text : (y u v : List ℕ) → u ≡ sets y n (take (k - 0) x) → sets y n (drop n (printed l)) ≡ v → sets u (n + k) (drop (n + k) (printed l)) ≡ v
-    along-text y u v p t = ap (λ (m : List ℕ). sets m (n + k) (drop (n + k) (printed l))) p ∙ text-on l c x n k h z next-on y ∙ t
-
-    pub along-store : (y v : List ℕ) → length y ≡ length v → length (printed l) ≤ length v → n + length (take (k - 0) x) ≤ length y
-    along-store y v p t = let m : k - 0 ≡ k = omega arith in omega (arith, along-room, ap (λ (i : ℕ). length (take i x)) m, sized l c x n k h z next-on)
+  pub along-area : (d : List ℕ) → remaining l g b .octets ≡ d → remaining l h c .octets ≡ d
+  along-area d t = next-area l n g b w (not-true (g .ended) o) (moved (take k x) h c) e ∙ t
 
 -- ---- the end
 

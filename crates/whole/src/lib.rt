@@ -6,60 +6,12 @@ ghost use mathlib.Core.Path.{_≡_};
 ghost use mathlib.Core.Bool.{false};
 ghost use Prim.Native.Nat.{_≤_};
 ghost use lib.Dec.{leb};
-ghost use lib.ListN.{length, getD, take, drop};
+ghost use lib.ListN.{length, drop};
 ghost use lib.Seq.{sets};
-ghost use Rattle.octets.specs.Base.{valuesOf};
 ghost use Rattle.pieces.specs.Printed.{inputCourse, printed};
-ghost use Rattle.pieces.specs.Pieces.{pieceAnswer, moved, move, firstPiece, remaining};
-ghost use Rattle.told.specs.Whole.{Going};
+ghost use Rattle.pieces.specs.Pieces.{pieceAnswer, remaining};
 ghost use Rattle.told.specs.Along.{Along};
 ghost use Rattle.whole.specs.Print.{print, printedInto};
-
-// A piece: its octets, which stand at the front of the lent buffer, and where the run stands after it.
-struct Part {
-    size: usize,
-    progress: Progress,
-}
-
-// The octets of a piece, none of a refusal.
-fn size_of(piece: Piece) -> usize
-    ensures { λ r. ⌜ r ≡ getD (valuesOf (pieceAnswer piece)) 0 0 ⌝ }
-{
-    match piece {
-        Piece::Refused(_) => 0,
-        Piece::Text(n) => n,
-    }
-}
-
-// The first piece.
-fn first(input: &[u8], area: &mut [u8], buf: &mut [u8]) -> Part
-    requires { ⌜ (length (now area) ≡ 57344) × (2048 ≤ length (now buf)) ⌝ }
-    ensures piece { λ r. ⌜ moved (take (r .size) (now (buf .exit))) (r .progress) (now (area .exit)) ≡ firstPiece (now (input .entry)) (now (area .entry)) ⌝ }
-    ensures size { λ r. ⌜ r .size ≤ length (now (buf .exit)) ⌝ }
-{
-    let h = begin::begin(input, area, buf);
-    let piece = h.piece;
-    let progress = h.progress;
-    Part {
-        size: size_of(piece),
-        progress,
-    }
-}
-
-// The piece after it, where the run stands at g.
-fn next(input: &[u8], area: &mut [u8], buf: &mut [u8], g: Progress) -> Part
-    requires { ⌜ (Going (now input) g (now area)) × (2048 ≤ length (now buf)) ⌝ }
-    ensures piece { λ r. ⌜ moved (take (r .size) (now (buf .exit))) (r .progress) (now (area .exit)) ≡ move (now (input .entry)) g (now (area .entry)) ⌝ }
-    ensures size { λ r. ⌜ r .size ≤ length (now (buf .exit)) ⌝ }
-{
-    let h = plan::advance(input, area, buf, g);
-    let piece = h.piece;
-    let progress = h.progress;
-    Part {
-        size: size_of(piece),
-        progress,
-    }
-}
 
 // Whether what is printed for the input has at most `room` octets, where `at` of them are handed out.
 fn rest_fits(input: &[u8], area: &mut [u8], room: usize, at: usize, g: Progress) -> bool
@@ -70,7 +22,7 @@ fn rest_fits(input: &[u8], area: &mut [u8], room: usize, at: usize, g: Progress)
     let mut at = at;
     let mut g = g;
     while !g.ended {
-        let p = next(input, area, &mut buf, g);
+        let p = parts::next(input, area, &mut buf, g);
         if room - at < p.size {
             return false;
         }
@@ -86,7 +38,7 @@ fn fits(input: &[u8], room: usize) -> bool
 {
     let mut area = [0u8; 57344];
     let mut buf = [0u8; 2048];
-    let p = first(input, &mut area, &mut buf);
+    let p = parts::first(input, &mut area, &mut buf);
     if room < p.size {
         return false;
     }
@@ -105,7 +57,7 @@ fn store_rest(input: &[u8], area: &mut [u8], out: &mut [u8], at: usize, g: Progr
     let mut at = at;
     let mut g = g;
     while !g.ended {
-        let p = next(input, area, &mut buf, g);
+        let p = parts::next(input, area, &mut buf, g);
         let size = p.size;
         copies::store(out, at, &buf[0..size]);
         at += size;
@@ -122,7 +74,7 @@ fn store_run(input: &[u8], area: &mut [u8], out: &mut [u8]) -> usize
     ensures area { λ r. ⌜ now (area .exit) ≡ inputCourse (now (input .entry)) (now (area .entry)) .octets ⌝ }
 {
     let mut buf = [0u8; 2048];
-    let p = first(input, area, &mut buf);
+    let p = parts::first(input, area, &mut buf);
     let size = p.size;
     copies::store(out, 0, &buf[0..size]);
     let g = p.progress;

@@ -1,5 +1,6 @@
 -- `whole::fits` meets its contract. Assumes nothing.
-use Rattle.whole.specs.PrintLaws.{begun-along, begun-over}
+use Rattle.parts.specs.PartLaws.{begun-along}
+use Rattle.whole.specs.PrintLaws.{begun-over}
 use native.Mathlib.Omega.{arith}
 use borrow.Author.Needs.{needs}
 use Rattle.whole.proofs.fits.Statement.{statement}

@@ -1,5 +1,6 @@
 -- `whole::rest_fits` meets its contract. Assumes nothing.
-use Rattle.whole.specs.PrintLaws.{may-advance, along-more, along-less, along-over, fits-all}
+use Rattle.parts.specs.PartLaws.{may-advance, along-more, along-less}
+use Rattle.whole.specs.PrintLaws.{along-over, fits-all}
 use Prim.Native.Nat.{_≤_}
 use mathlib.Core.Path.{_≡_}
 use lib.ListN.{length}

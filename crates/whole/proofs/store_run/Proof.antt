@@ -1,6 +1,6 @@
 -- `whole::store_run` meets its contract. Assumes nothing.
-use Rattle.whole.specs.PrintLaws.{begun-store}
-use Rattle.whole.specs.PrintLaws.{begun-along, begun-text, begun-area}
+use Rattle.parts.specs.PartLaws.{begun-along}
+use Rattle.whole.specs.PrintLaws.{begun-store, begun-text, begun-area}
 use native.Mathlib.Omega.{arith}
 use borrow.Author.Needs.{needs}
 use Rattle.whole.proofs.store_run.Statement.{statement}

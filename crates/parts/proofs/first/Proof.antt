@@ -1,8 +1,8 @@
--- `whole::first` meets its contract. Assumes nothing.
-use Rattle.whole.specs.PrintLaws.{first-is, first-within}
+-- `parts::first` meets its contract. Assumes nothing.
+use Rattle.parts.specs.PartLaws.{first-is, first-within}
 use borrow.Author.Needs.{needs}
-use Rattle.whole.proofs.first.Statement.{statement}
-use Rattle.whole.proofs.first.Tie as tie
+use Rattle.parts.proofs.first.Statement.{statement}
+use Rattle.parts.proofs.first.Tie as tie
 
 begin-requires : tie.Need-begin-requires
 begin-requires c κs = search needs

@@ -1,8 +1,8 @@
--- `whole::next` meets its contract. Assumes nothing.
-use Rattle.whole.specs.PrintLaws.{next-is, next-within}
+-- `parts::next` meets its contract. Assumes nothing.
+use Rattle.parts.specs.PartLaws.{next-is, next-within}
 use borrow.Author.Needs.{needs}
-use Rattle.whole.proofs.next.Statement.{statement}
-use Rattle.whole.proofs.next.Tie as tie
+use Rattle.parts.proofs.next.Statement.{statement}
+use Rattle.parts.proofs.next.Tie as tie
 
 advance-requires : tie.Need-advance-requires
 advance-requires c κs = search needs
