@@ -568,6 +568,13 @@ pub refused-first : (l a : List ℕ) → (numberOf (planRead l .answer) ≡ 0 �
 unfolding firstPiece
 refused-first l a e = rw (ne-eqb (numberOf (planRead l .answer)) 0 e)
 
+-- After the first piece there are no more than 16,777,281.
+pub first-pieces : (l a : List ℕ) → length a ≡ 57344 → pieces (firstPiece l a .progress) ≤ 16777281
+first-pieces l a h =
+    by-eq (numberOf (planRead l .answer)) 0
+    (λ e. subst (λ (m : Moved). pieces (m .progress) ≤ 16777281) (sym (started-first l a e)) (start-pieces l a h e))
+    (λ e. subst (λ (m : Moved). pieces (m .progress) ≤ 16777281) (sym (refused-first l a e)) (omega (arith, pieces-off noProgress refl)))
+
 module _ (n : ℕ) (l a o : List ℕ) (h : 57344 ≤ length a) (k : 2048 ≤ length o) where
   cut : length (take 57344 a) ≡ 57344
   cut = length-take-le 57344 a h
