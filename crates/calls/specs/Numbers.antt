@@ -170,7 +170,7 @@ build-small l d s v x = omega (arith, build-size l (spelled 6 d) (spelled 6 s) v
 
 -- ---- work areas
 
-area-low : (a : List ℕ) → areaRefusal a ≤ 16
+pub area-low : (a : List ℕ) → areaRefusal a ≤ 16
 unfolding areaRefusal
 area-low a =
     by-test (ltb (length a) 57344) (λ p. rw p (omega arith))

@@ -18,17 +18,18 @@ use Rattle.sheet.specs.SheetTheorems.{sheet-front, size-front, count-front}
 use Rattle.text.specs.Text.{refusedLine}
 use Rattle.input.specs.Plan.{depthIn, offersPlace, drawsWrong, planWrong, lastRefusal, afterSheet, sheetRefusal, planRefusal, Planned, unplanned, wholeFrom, unless, planRead}
 use Rattle.pieces.specs.Printed.{printed}
+use Rattle.told.specs.Whole.{refused-print}
 
 -- ---- a refused input prints its number
 
 unless-number : (n : ℕ) (r : Planned) → (n ≡ 0 → ⊥) → numberOf (unless n r .answer) ≡ n
 unless-number n r h = ap (λ (b : Bool). numberOf (pick b r (unplanned n) .answer)) (ne-eqb n 0 h)
 
-refused-print : (l : List ℕ) → (planRefusal l ≡ 0 → ⊥) → printed l ≡ refusedLine (planRefusal l)
-unfolding printed planRead
-refused-print l h =
+refusal-print : (l : List ℕ) → (planRefusal l ≡ 0 → ⊥) → printed l ≡ refusedLine (planRefusal l)
+unfolding planRead
+refusal-print l h =
     let e : numberOf (unless (planRefusal l) (wholeFrom l (layoutIn l) (sheetSize l)) .answer) ≡ planRefusal l = unless-number (planRefusal l) (wholeFrom l (layoutIn l) (sheetSize l)) h in
-    rw (e, ne-eqb (planRefusal l) 0 h)
+    refused-print l (λ z. h (sym e ∙ z)) ∙ ap refusedLine e
 
 -- ---- what is refused of more than 16,384 octets
 
@@ -104,9 +105,9 @@ module _ (a z : List ℕ) (h : length a ≡ 16385) (o : Octets a) where
   print-same : printed (a ++ z) ≡ printed a
   print-same =
       let w = length-append a z in
-      refused-print (a ++ z) (long-some (a ++ z) (omega arith))
+      refusal-print (a ++ z) (long-some (a ++ z) (omega arith))
       ∙ ap refusedLine refusal-same
-      ∙ sym (refused-print a (long-some a (omega arith)))
+      ∙ sym (refusal-print a (long-some a (omega arith)))
 
 take-octets : (n : ℕ) (l : List ℕ) → ((k : ℕ) → getD l k 0 < 256) → (k : ℕ) → getD (take n l) k 0 < 256
 take-octets zero l h k = omega arith
