@@ -9,11 +9,11 @@ use native.Mathlib.Omega.{arith}
 use borrow.Author.Tests.{ltb-false, le-ltb, eqb-true, eqb-false}
 use lib.Dec.{ltb, eqb}
 use lib.ListN.{length, getD, take, drop, length-append, List·getD-append, take-append-drop, length-drop}
-use lib.Seq.{take-append-le, drop-append-le, length-take-le, getD-drop}
+use lib.Seq.{take-append-le, drop-append-le, length-take-le}
 use Rattle.octets.specs.BaseLaws.{refused-none}
 use Rattle.octets.specs.Base.{pick, Answer, refused, accepted, valuesOf}
 use Rattle.octets.specs.Number.{get}
-use Rattle.octets.specs.NumberLaws.{Octets, get-front}
+use Rattle.octets.specs.NumberLaws.{Octets, octets-take, octets-drop, get-front}
 use Rattle.octets.specs.Store.{part, length-part}
 use Rattle.layout.specs.declared.Figures.{Figures}
 use Rattle.layout.specs.declared.Tap.{Tap}
@@ -53,20 +53,6 @@ read-sound l n =
     go false false false p q h = refused-none (refusalOf (layoutIn l)) (n ∷ []) h
 
 -- ---- its stations
-
-take-octets : (n : ℕ) (l : List ℕ) → ((k : ℕ) → getD l k 0 < 256) → (k : ℕ) → getD (take n l) k 0 < 256
-take-octets zero l h k = omega arith
-take-octets (suc n) [] h k = omega arith
-take-octets (suc n) (x ∷ l) h zero = h zero
-take-octets (suc n) (x ∷ l) h (suc k) = take-octets n l (λ j. h (suc j)) k
-
-pub octets-take : (n : ℕ) (l : List ℕ) → Octets l → Octets (take n l)
-unfolding Octets
-octets-take n l o = take-octets n l o
-
-octets-drop : (n : ℕ) (l : List ℕ) → Octets l → Octets (drop n l)
-unfolding Octets
-octets-drop n l o k = rw (getD-drop n l k 0) (o (n + k))
 
 station-is : (l : List ℕ) (i : ℕ) → i < countIn l → i < 16 → getD (layoutIn l .stations) i (record { position = 0; address = [] }) ≡ tapsFrom l (countPlace l + 1) i
 unfolding layoutIn
