@@ -34,7 +34,7 @@ use Rattle.calls.specs.Calls.{timeRefusal}
 
 -- ---- sheets
 
-layout-low : (y : Layout) → refusalOf y ≤ 16
+pub layout-low : (y : Layout) → refusalOf y ≤ 16
 unfolding refusalOf
 layout-low y =
     by-test (figuresOut (y .figures)) (λ p. rw p (omega arith))
