@@ -91,7 +91,7 @@ pub extern "C" fn wisavulome_run(area: &mut [u8], n: u32, out: &mut [u8]) -> u32
     if out.len() < 48 {
         return calls::refuse_short(area, n);
     }
-    let a = runs::run(area, n);
+    let a = fast_run::run(area, n);
     let done = a.done;
     let number = answers::numbers::done_number(done);
     if number != 0 {
