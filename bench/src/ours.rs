@@ -72,6 +72,11 @@ pub fn run(area: &mut [u8], n: u32, out: &mut [u8]) -> Answer {
     answer(unsafe { c::wisavulome_run(area.as_mut_ptr(), area.len(), n, out.as_mut_ptr(), out.len()) })
 }
 
+/// The same run by the reference, step by step.
+pub fn run_stepwise(area: &mut [u8], n: u32, out: &mut [u8]) -> Answer {
+    answer(unsafe { c::wisavulome_run_stepwise(area.as_mut_ptr(), area.len(), n, out.as_mut_ptr(), out.len()) })
+}
+
 pub fn read_frame(area: &[u8], station: u32, out: &mut [u8]) -> Answer {
     answer(unsafe { c::wisavulome_read_frame(area.as_ptr(), area.len(), station, out.as_mut_ptr(), out.len()) })
 }

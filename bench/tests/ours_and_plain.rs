@@ -37,6 +37,16 @@ fn same_out<A: PartialEq + Debug>(
     plain_answer
 }
 
+/// A run, by the engine and by the reference: they answer and leave the same.
+fn run_both(area: &mut [u8], n: u32, out: &mut [u8], context: &dyn Fn() -> String) -> Result<u32, u32> {
+    let (mut stepped_area, mut stepped_out) = (area.to_vec(), out.to_vec());
+    let answer = ours::run(area, n, out);
+    assert_eq!(ours::run_stepwise(&mut stepped_area, n, &mut stepped_out), answer, "{}: stepwise", context());
+    assert_eq!(stepped_out, out, "{}: stepwise", context());
+    same_area(area, &stepped_area, context);
+    answer
+}
+
 /// How often each refusal came, so that a generator that never reaches one is seen.
 #[derive(Default)]
 struct Tally([u64; 17]);
@@ -219,7 +229,7 @@ fn lists_of_calls() {
                         8..=13 => rng.range(0, 800),
                         _ => rng.range(0, 4000),
                     };
-                    let answer = ours::run(&mut area, bit_times, &mut ours_out);
+                    let answer = run_both(&mut area, bit_times, &mut ours_out, &context);
                     let context = context();
                     if bit_times > 16_000_000 {
                         assert_eq!(answer, Err(13), "{context}, run");
@@ -301,8 +311,9 @@ fn contention() {
             let ran = world.run(bit_times).expect("the clock does not run out");
             let (mut ours_out, mut plain_out) = ([0; 48], [0; 48]);
             area::put_ran(&ran, &mut plain_out);
-            assert_eq!(ours::run(&mut area, bit_times, &mut ours_out), Ok(ran.steps), "case {case}, turn {turn}");
-            assert_eq!(ours_out, plain_out, "case {case}, turn {turn}");
+            let context = || format!("case {case}, turn {turn}");
+            assert_eq!(run_both(&mut area, bit_times, &mut ours_out, &context), Ok(ran.steps), "{}", context());
+            assert_eq!(ours_out, plain_out, "{}", context());
             area::encode(&world, &mut mirror);
             same_area(&area, &mirror, &|| format!("case {case}, turn {turn}, clock now {}", world.clock));
             for (word, count) in words.iter_mut().zip(ran.counts) {
@@ -374,7 +385,7 @@ fn made_up_areas() {
                         areas,
                         &out,
                         &context,
-                        |area, out| ours::run(area, bit_times, out),
+                        |area, out| run_both(area, bit_times, out, &context),
                         |area, out| {
                             let answer = area::run(area, bit_times, out);
                             if answer.is_ok() {

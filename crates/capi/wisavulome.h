@@ -125,6 +125,9 @@ uint32_t wisavulome_step(uint8_t *area, size_t area_len, uint8_t *out, size_t ou
  * station. The last two are 0 where all steps were made. */
 uint32_t wisavulome_run(uint8_t *area, size_t area_len, uint32_t n, uint8_t *out, size_t out_len);
 
+/* The same run, made step by step: the reference, which is slower. It answers, refuses and writes what wisavulome_run does. */
+uint32_t wisavulome_run_stepwise(uint8_t *area, size_t area_len, uint32_t n, uint8_t *out, size_t out_len);
+
 /* Reads the frame that a station received, whole with its check sequence. Answer: its octets, 64 to 1518. Refusals 1, 2, 10, 14, 15.
  * out: the frame. */
 uint32_t wisavulome_read_frame(const uint8_t *area, size_t area_len, uint32_t station, uint8_t *out, size_t out_len);

@@ -74,6 +74,9 @@ extern "C" {
     // The steps made; refusals 1, 2, 13, 15. out: the 9 words, and how the run ended in 3.
     pub fn wisavulome_run(area: *mut u8, area_len: usize, n: u32, out: *mut u8, out_len: usize) -> u32;
 
+    // The same run, made step by step.
+    pub fn wisavulome_run_stepwise(area: *mut u8, area_len: usize, n: u32, out: *mut u8, out_len: usize) -> u32;
+
     // The octets of the frame; refusals 1, 2, 10, 14, 15. out: the frame.
     pub fn wisavulome_read_frame(area: *const u8, area_len: usize, station: u32, out: *mut u8, out_len: usize) -> u32;
 

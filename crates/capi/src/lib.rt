@@ -125,7 +125,27 @@ pub extern "C" fn wisavulome_run(area: &mut [u8], n: u32, out: &mut [u8]) -> u32
     if out.len() < 48 {
         return calls::refuse_short(area, n);
     }
-    let a = runs::run(area, n);
+    let a = fast_run::run(area, n);
+    let done = a.done;
+    let number = answers::numbers::done_number(done);
+    if number != 0 {
+        return answers::numbers::reply(number, 0);
+    }
+    let words = a.words;
+    let ended = a.ended;
+    tables::write_run(out, words, ended);
+    a.steps
+}
+
+// The same run, made step by step: the reference.
+#[no_mangle]
+pub extern "C" fn wisavulome_run_stepwise(area: &mut [u8], n: u32, out: &mut [u8]) -> u32
+    ensures { λ r. ⌜ left r (now (area .exit)) (now (out .exit)) ≡ runLeft (now (area .entry)) n (now (out .entry)) ⌝ }
+{
+    if out.len() < 48 {
+        return calls::refuse_short(area, n);
+    }
+    let a = bus_run::run(area, n);
     let done = a.done;
     let number = answers::numbers::done_number(done);
     if number != 0 {

@@ -1,2 +1,4 @@
 pub mod Run
 pub mod RunLaws
+pub mod Until
+pub mod UntilLaws

@@ -7,10 +7,6 @@ use lib.Dec.{ltb, eqb}
 use lib.ListN.{replicate}
 use Rattle.octets.specs.Base.{pick, some, Answer, refused, accepted, doneAnswer}
 use Rattle.octets.specs.Turns.{turns}
-use Rattle.receiver.specs.declared.ReceiveEvent.{ReceiveEvent}
-use Rattle.receiver.specs.declared.ReceiveEvent.the-variants.{NoReceive, GotOk, GotTooLong, GotAlignment, GotCheck, GotLength}
-use Rattle.transmitter.specs.declared.TransmitEvent.{TransmitEvent}
-use Rattle.transmitter.specs.declared.TransmitEvent.the-variants.{NoTransmit, Collision, Late, Sent, GivenUp}
 use Rattle.tally.specs.Tally.{sentCounted, gotCounted, isLate}
 use Rattle.area.specs.Area.{clockAt}
 use Rattle.valid.specs.Valid.{areaRefusal, lastClock}

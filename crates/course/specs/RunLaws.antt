@@ -3,29 +3,26 @@ use Prim.Native.Nat.{ℕ, zero, suc, _+_, _-_, _*_, _≤_, _<_}
 use mathlib.Core.Path.{_≡_, refl, sym, _∙_, ap, subst}
 use mathlib.Core.Bool.{Bool, true, false}
 use mathlib.Core.List.{List, []}
+use native.Mathlib.Numerals.{add-one}
 use native.Mathlib.Omega.{arith}
 use borrow.Author.Tests.{eq-eqb, ne-eqb, lt-ltb, le-ltb}
 use lib.ListN.{replicate}
 use Rattle.octets.specs.Base.{pick, some, refused, accepted, doneAnswer}
-use Rattle.octets.specs.BaseLaws.{by-eq, some-hit}
+use Rattle.octets.specs.BaseLaws.{by-eq, some-none, some-more, some-hit}
 use Rattle.octets.specs.NumberLaws.{Octets}
 use Rattle.octets.specs.Turns.{turns}
-use Rattle.receiver.specs.declared.ReceiveEvent.{ReceiveEvent}
-use Rattle.receiver.specs.declared.ReceiveEvent.the-variants.{NoReceive, GotOk, GotTooLong, GotAlignment, GotCheck, GotLength}
-use Rattle.transmitter.specs.declared.TransmitEvent.{TransmitEvent}
-use Rattle.transmitter.specs.declared.TransmitEvent.the-variants.{NoTransmit, Collision, Late, Sent, GivenUp}
 use Rattle.tally.specs.TallyLaws.{Bounded, sent-is-bounded, got-is-bounded, start-bounded}
 use Rattle.area.specs.Area.{clockAt}
 use Rattle.valid.specs.Valid.{areaRefusal}
 use Rattle.pair.specs.declared.Events.{Events}
 use Rattle.pair.specs.BitTime.{eventsAt, stepArea, eventAt}
-use Rattle.pair.specs.Ready.{Readiness}
+use Rattle.pair.specs.Ready.{Ready, Readiness}
 use Rattle.ready.specs.Passes.{passes-ready}
 use Rattle.ready.specs.Stays.{step-ready, step-clock}
 use Rattle.course.specs.declared.Ended.{Ended}
 use Rattle.course.specs.declared.Ended.the-variants as how
 use Rattle.course.specs.declared.RunAnswer.{RunAnswer}
-use Rattle.tally.specs.Tally.{sentCounted}
+use Rattle.tally.specs.Tally.{sentCounted, gotCounted, isLate}
 use Rattle.course.specs.Run.{tallied, lateAt, first, Ran, runOf, runOutcome, ran}
 
 -- ---- the words have room
@@ -42,6 +39,16 @@ tallied-bounded es (suc n) m ws h =
 pub tally-none : (es : List Events) (ws : List ℕ) → ws ≡ tallied es 0 ws
 unfolding tallied turns
 tally-none es ws = refl
+
+-- one station more
+pub tally-more : (es : List Events) (ws us vs xs : List ℕ) (i : ℕ) (e : Events) → e ≡ eventAt es i
+    → vs ≡ sentCounted us (e .sent) → xs ≡ gotCounted vs (e .got) → us ≡ tallied es i ws → xs ≡ tallied es (i + 1) ws
+unfolding tallied turns
+tally-more es ws us vs xs i e ee ev ex p = ex ∙ rw (ev, p, ee, add-one i)
+
+pub tally-end : (es : List Events) (ws us : List ℕ) (i : ℕ) → us ≡ tallied es i ws → i ≤ 16 → 16 ≤ i
+    → us ≡ tallied es 16 ws
+tally-end es ws us i p lo up = let e : i ≡ 16 = omega arith in rw e at p
 
 -- ---- the steps
 
@@ -99,6 +106,49 @@ module _ (n t : ℕ) (ws : List ℕ) (a : List ℕ) (R : Ran) where
   unfolding runOf
   run-end e q h p = let z : n - t ≡ 0 = omega arith in rw q (rw z at p)
 
+-- none of the first i stations has a late collision. Shut, so that a search does not enter it
+unfoldable pub NoneLate : List Events → ℕ → Type 0
+NoneLate es i = some (lateAt es) i ≡ false
+
+pub none-late-first : (es : List Events) → NoneLate es 0
+unfolding NoneLate
+none-late-first es = some-none (lateAt es)
+
+module _ (es : List Events) (i : ℕ) (e : Events) (b : Bool) (p : b ≡ isLate (e .sent)) (q : e ≡ eventAt es i) where
+  late-is : b ≡ lateAt es i
+  unfolding lateAt
+  late-is = p ∙ ap (λ (x : Events). isLate (x .sent)) q
+
+  pub none-late-more : b ≡ false → NoneLate es i → NoneLate es (i + 1)
+  unfolding NoneLate
+  none-late-more r h = some-more (lateAt es) i b late-is r h
+
+  -- it has one: the run ends
+  pub run-found : (n t : ℕ) (ws a vs y : List ℕ) (R : Ran) (w : Ended) → b ≡ true → w ≡ how.Late (t + 1 - 1) i
+      → y ≡ stepArea a → es ≡ eventsAt a → vs ≡ tallied es 16 ws → NoneLate es i → i < 16 → t < n → runOf (n - t) t ws a ≡ R
+      → record { answer = accepted []; steps = t + 1; words = vs; ended = w; octets = y } ≡ R
+  unfolding NoneLate
+  run-found n t ws a vs y R w r ew ey ee ev h hi lt g = rw ew (run-late n t ws a R es vs y i b ey ee ev late-is r h hi lt g)
+
+-- no station has one: the run goes on
+pub run-searched : (n t : ℕ) (ws a : List ℕ) (R : Ran) (es : List Events) (vs b : List ℕ) (i : ℕ) → b ≡ stepArea a
+    → es ≡ eventsAt a → vs ≡ tallied es 16 ws → NoneLate es i → i ≤ 16 → 16 ≤ i → t < n → runOf (n - t) t ws a ≡ R
+    → runOf (n - (t + 1)) (t + 1) vs b ≡ R
+unfolding NoneLate
+run-searched n t ws a R es vs b i eb ee ev h lo up lt g = run-on n t ws a R es vs b i eb ee ev h lo up lt g
+
+-- what a step asks for
+pub run-first : (n : ℕ) (a : List ℕ) → Runnable n a → Runnable (n - 0) a
+run-first n a h = let e : n ≡ n - 0 = omega arith in subst (λ (k : ℕ). Runnable k a) e h
+
+pub run-ready : (n t : ℕ) (a : List ℕ) → Runnable (n - t) a → Ready a
+unfolding Runnable Ready
+run-ready n t a h = h .0
+
+pub run-clock : (n t : ℕ) (a : List ℕ) → Runnable (n - t) a → t < n → clockAt a < 16777216
+unfolding Runnable
+run-clock n t a h g = omega (arith, h .1)
+
 -- ---- the call
 
 module _ (a : List ℕ) (k n : ℕ) where
@@ -123,3 +173,8 @@ run-allowed a k n c e h o ec g = let r = passes-ready a o (sym e ∙ h) .ready i
 
 pub clock-within : (a : List ℕ) (k c : ℕ) → k ≡ areaRefusal a → k ≡ 0 → Octets a → c ≡ clockAt a → c ≤ 16777216
 clock-within a k c e h o ec = let r = passes-ready a o (sym e ∙ h) .ready in omega (arith, r .clock)
+
+-- Two engines that promise `ran` agree, in what they answer and in every octet.
+pub engines-agree : (a b c : List ℕ) (n : ℕ) (r s : RunAnswer) → runOutcome r b ≡ ran a n → runOutcome s c ≡ ran a n
+    → runOutcome r b ≡ runOutcome s c
+engines-agree a b c n r s p q = p ∙ sym q

@@ -1,9 +1,12 @@
 // How far a run goes: its answer, and the definition of a run and its laws (specs).
 
 use octets::Done;
+use pair::Events;
 ghost use mathlib.Core.Path.{_≡_};
 ghost use Prim.Native.Nat.{_-_, _<_};
-ghost use Rattle.course.specs.declared.Ended.the-variants.{Late};
+ghost use lib.ListN.{replicate};
+ghost use Rattle.octets.specs.Base.{refused, doneAnswer};
+ghost use Rattle.course.specs.declared.Ended.the-variants.{All, Late};
 
 // How a run ended: all its steps were made, or a station had a late collision in the last of them.
 pub enum Ended {
@@ -26,6 +29,12 @@ pub struct Course {
     pub ended: Ended,
 }
 
+// Steps made, and the events of the last of them, if it has any.
+pub struct Stretch {
+    pub steps: u32,
+    pub events: [Events; 16],
+}
+
 // How a run ends that makes so many steps, where the station has a late collision in the last of them.
 pub fn late_end(steps: u32, station: u32) -> Ended
     requires { ⌜ 0 < steps ⌝ }
@@ -34,5 +43,17 @@ pub fn late_end(steps: u32, station: u32) -> Ended
     Ended::Late {
         step: steps - 1,
         station,
+    }
+}
+
+// A run refused under this number.
+pub fn no_run(number: u32) -> RunAnswer
+    ensures { λ r. ⌜ (doneAnswer (r .done) ≡ refused number) × (r .steps ≡ 0) × (r .words ≡ replicate 9 0) × (r .ended ≡ All) ⌝ }
+{
+    RunAnswer {
+        done: Done::Refused(number),
+        steps: 0,
+        words: [0u32; 9],
+        ended: Ended::All,
     }
 }

@@ -1,46 +1,41 @@
 -- The area is the encoding of a world: the same clock, stations, frames and buffers, and in each delay line what the emissions so far
 -- will come to. A step keeps it. Assumes nothing.
-use Prim.Native.Nat.{ℕ, suc, _+_, _-_, _%_, _≤_, _<_}
+use Prim.Native.Nat.{ℕ, suc, _+_, _-_, _≤_, _<_}
 use mathlib.Core.Path.{_≡_, refl, sym, _∙_, ap, ap₂, subst}
-use mathlib.Core.Bool.{Bool, true, false, true≢false}
+use mathlib.Core.Bool.{Bool, true, true≢false}
 use mathlib.Core.List.{List}
 use native.Mathlib.Omega.{arith}
 use native.Mathlib.Numerals.{add-one}
 use lib.ListN.{length}
-use borrow.Author.Tests.{eq-eqb, ne-eqb}
 use Rattle.octets.specs.BaseLaws.{by-eq}
 use Rattle.octets.specs.Turns.{turns}
 use Rattle.layout.specs.declared.Figures.{Figures}
 use Rattle.packet.specs.declared.Heard.{Heard}
-use Rattle.packet.specs.declared.Heard.the-variants.{Nothing}
 use Rattle.packet.specs.declared.Symbol.{Symbol}
-use Rattle.packet.specs.declared.Symbol.the-variants.{Silence, Bit, Jam}
 use Rattle.packet.specs.declared.Emission.{Emission}
 use Rattle.packet.specs.declared.Emission.the-variants.{Rest}
 use Rattle.packet.specs.Packet.{symbolOf, hearsAny}
 use Rattle.state.specs.declared.Transmitter.{Transmitter}
 use Rattle.state.specs.declared.Transmitter.the-variants.{NoFrame, Waiting, BackingOff, Sending, Heading, Jamming}
 use Rattle.transmitter.specs.Transmit.{octetsHeld, transmit}
-use Rattle.receiver.specs.declared.Stored.{Stored}
 use Rattle.state.specs.declared.Station.{Station}
 use Rattle.station.specs.declared.Stepped.{Stepped}
 use Rattle.station.specs.Step.{triesAfter, deferring, stepped, nextStation}
-use Rattle.area.specs.Places.{Part, clock, depth, layout, draws, station, frame, buffer, place, Off, Keeps}
+use Rattle.area.specs.Places.{clock, depth, layout, draws, station, frame, buffer, place, Keeps}
 use Rattle.area.specs.Area.{clockAt, depthAt, drawAt, figuresAt, countAt, addressAt, spaceAt, stationAt, frameAt, bufferAt, arrivalAt}
 use Rattle.area.specs.AreaLaws.{depth-by, draw-by, figures-by, count-by, address-by, space-by, frame-by, arrival-by, arrival-turn, clock-keeps}
-use Rattle.pair.specs.declared.Act.{Act}
 use Rattle.pair.specs.BitTime.{outcomeIn, actIn, actAt, settled, stepArea}
 use Rattle.pair.specs.Range.{FrameIn}
-use Rattle.pair.specs.InPlace.{Kept, Spread}
-use Rattle.pair.specs.Ready.{Readiness, kept}
+use Rattle.pair.specs.Ready.{Readiness, kept-at}
 use Rattle.ready.specs.After.{storedIn}
 use Rattle.ready.specs.Stays.{step-length, step-layout, step-depth, step-draws, step-frame, step-clock, step-station, step-buffer}
 use Rattle.offer.specs.Offer.{holds}
-use Rattle.trace.specs.World.{Net, World, gathered, heard, outcome, symbol, grown, step}
-use Rattle.trace.specs.Gather.{gathered-same}
+use Rattle.meeting.specs.Net.{Net, gathered, heard, grown}
+use Rattle.trace.specs.World.{World, outcome, symbol, step}
+use Rattle.meeting.specs.Gather.{gathered-same}
 use Rattle.trace.specs.Keep.{held-back}
-use Rattle.delivery.specs.Meet.{met, adds, Ends, grown-ends, heard-grown, heard-far}
-use Rattle.delivery.specs.Lines.{share, line-all, clear-all}
+use Rattle.meeting.specs.Meet.{met, adds, Ends, grown-ends, heard-grown, heard-far}
+use Rattle.meeting.specs.Lines.{share, share-adds, line-all, clear-all}
 
 -- the layout, the draws and the addresses of area a are P's
 pub record Plan (P : Net) (a : List ℕ) : Type 0 where
@@ -141,21 +136,6 @@ frame-room (Jamming m) z h v = omega (arith, v .1)
 
 -- ---- the delay lines
 
--- what place u gets in step t, by the place and by the step
-share-adds : (d : ℕ → ℕ → ℕ) (t : ℕ) (e : ℕ → Symbol) (j u i : ℕ) → ((i ≡ j → ⊥) → 0 < d i j) → d i j < 256 → t < u → u < t + 256
-    → share t (d i j) i (e i) j u ≡ adds d t e j u i
-unfolding share adds
-share-adds d t e j u i p q lo hi =
-    by-eq i j (λ z. rw (eq-eqb i j z))
-    (λ z. let r = p z in
-    by-eq (t + d i j) u
-    (λ y. rw (ne-eqb i j z, eq-eqb (t + d i j) u y, eq-eqb ((t + d i j) % 256) (u % 256) (ap (λ (x : ℕ). x % 256) y)))
-    (λ y. rw (ne-eqb i j z, ne-eqb (t + d i j) u y, ne-eqb ((t + d i j) % 256) (u % 256) (λ x. y (omega arith)))))
-
-acts-kept : (a : List ℕ) (i : ℕ) → i < countAt a → Kept (actAt a i .outcome .stored)
-unfolding actAt
-acts-kept a i h = kept (figuresAt a) (depthAt a) (clockAt a) a i
-
 module _ (P : Net) (a : List ℕ) (w : World) (e : Encodes P a w) (r : Readiness a) where
   turned : List ℕ
   turned = turns (λ i x. settled (countAt a) (clockAt a) i (actAt a i) x) (countAt a) a
@@ -168,7 +148,7 @@ module _ (P : Net) (a : List ℕ) (w : World) (e : Encodes P a w) (r : Readiness
   unfolding turned step
   line-turned j u hj lo hi =
       let c = e .time in
-      line-all (countAt a) (clockAt a) (actAt a) a (r .spread) (acts-kept a) (r .long) (countAt a) j u (omega arith) (omega (arith, e .plan .count)) (λ z. omega arith)
+      line-all (countAt a) (clockAt a) (actAt a) a (r .spread) (kept-at a) (r .long) (countAt a) j u (omega arith) (omega (arith, e .plan .count)) (λ z. omega arith)
       ∙ ap₂ met (e .line j u hj (omega arith) hi)
       (ap (λ (m : ℕ). gathered m (λ i. share (clockAt a) (spaceAt a i j) i (actAt a i .symbol) j u)) (e .plan .count)
       ∙ gathered-same (P .n) (λ i. share (clockAt a) (spaceAt a i j) i (actAt a i .symbol) j u) (adds (P .d) (w .clock) (symbol P w) j u) (λ i hi′. one i j u hi′ hj lo hi))
@@ -178,7 +158,7 @@ module _ (P : Net) (a : List ℕ) (w : World) (e : Encodes P a w) (r : Readiness
       one i j u hi hj lo up =
           ap (λ (c : ℕ). share c (spaceAt a i j) i (actAt a i .symbol) j u) (e .time)
           ∙ ap₂ (λ (d : ℕ) (s : Symbol). share (w .clock) d i s j u) (e .plan .space i j hi hj) (same-symbols P a w e r i hi)
-          ∙ share-adds (P .d) (w .clock) (symbol P w) j u i
+          ∙ share-adds (P .d) 0 (w .clock) (symbol P w) j u i _ _ (omega arith) (omega arith)
           (λ ne. subst (λ (x : ℕ). 0 < x) (e .plan .space i j hi hj) (r .spread .pos i j (counted P a w e r i hi) (counted P a w e r j hj) ne))
           (subst (λ (x : ℕ). x < 256) (e .plan .space i j hi hj) (r .spread .near i j (counted P a w e r i hi) (counted P a w e r j hj))) lo up
 
@@ -187,7 +167,7 @@ module _ (P : Net) (a : List ℕ) (w : World) (e : Encodes P a w) (r : Readiness
   unfolding turned step
   line-last j hj =
       arrival-turn turned j (w .clock + 256) (clockAt a) (omega (arith, e .time))
-      ∙ clear-all (countAt a) (clockAt a) (actAt a) a (r .spread) (acts-kept a) (r .long) (countAt a) j (omega arith) (counted P a w e r j hj)
+      ∙ clear-all (countAt a) (clockAt a) (actAt a) a (r .spread) (kept-at a) (r .long) (countAt a) j (omega arith) (counted P a w e r j hj)
       ∙ sym (heard-far P (suc (w .clock)) (grown (w .clock) (symbol P w) (w .past)) j (w .clock + 256) (grown-ends (w .clock) (symbol P w) (w .past) (e .ends))
       (λ i hi. omega (arith, e .plan .space i j hi hj, r .spread .near i j (counted P a w e r i hi) (counted P a w e r j hj))))
 

@@ -1,7 +1,5 @@
 pub mod Passing
 pub mod Balance
-pub mod Meet
-pub mod Lines
 pub mod Encode
 pub mod Net
 pub mod Offered

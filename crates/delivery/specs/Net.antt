@@ -26,8 +26,9 @@ use Rattle.ready.specs.Passes.{Passing, rise}
 use Rattle.offer.specs.OfferLaws.{address-six}
 use Rattle.trace.specs.Trace.{Metric}
 use Rattle.trace.specs.World as world
-use Rattle.trace.specs.World.{Net, World, heard, reaches}
-use Rattle.trace.specs.Gather.{gathered-none}
+use Rattle.meeting.specs.Net.{Net, heard, reaches}
+use Rattle.trace.specs.World.{World}
+use Rattle.meeting.specs.Gather.{gathered-none}
 use Rattle.trace.specs.Run as run
 use Rattle.delivery.specs.Passing.{freshStation, start-station, start-passing}
 use Rattle.delivery.specs.Encode.{Plan, Encodes}

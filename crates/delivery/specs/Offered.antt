@@ -15,9 +15,10 @@ use Rattle.area.specs.AreaLaws.{keeps-trans, frame-by, buffer-by, arrival-by, f
 use Rattle.pair.specs.Range.{FrameIn}
 use Rattle.ready.specs.Passes.{Passing}
 use Rattle.offer.specs.Offer.{holds, offeredStation, withHeld, withOffered}
-use Rattle.trace.specs.World.{Net, Offer, frameFor, World, heard, given}
+use Rattle.meeting.specs.Net.{Net, heard}
+use Rattle.trace.specs.World.{Offer, frameFor, World, given}
 use Rattle.delivery.specs.Passing.{holding, elsewhere, offer-layout, offer-clock, offer-own, offer-other}
-use Rattle.delivery.specs.Meet.{Ends}
+use Rattle.meeting.specs.Meet.{Ends}
 use Rattle.delivery.specs.Encode.{Plan, Encodes, plan-by, frame-room}
 
 holding-length : (a f : List ℕ) (i : ℕ) → length (holding a f i) ≡ length a

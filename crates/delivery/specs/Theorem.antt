@@ -51,7 +51,8 @@ use Rattle.station.specs.Count.{octetsIn}
 use Rattle.reading.specs.Read.{isReadable, frameRead}
 use Rattle.trace.specs.Basic.{either, by-le, clash}
 use Rattle.trace.specs.World as world
-use Rattle.trace.specs.World.{Net, Offer, ready}
+use Rattle.meeting.specs.Net.{Net}
+use Rattle.trace.specs.World.{Offer, ready}
 use Rattle.trace.specs.Run as exec
 use Rattle.trace.specs.Run.{outAt, sees, frameIn, ready-clock, sees-is}
 use Rattle.trace.specs.Late as collisions

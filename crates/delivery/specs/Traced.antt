@@ -36,7 +36,8 @@ use Rattle.bus.specs.Step.{steppedOnce}
 use Rattle.course.specs.Run.{ran}
 use Rattle.trace.specs.Basic.{either, clash}
 use Rattle.trace.specs.World as world
-use Rattle.trace.specs.World.{Net, Offer, frameFor, World, outcome, given, offers, before, ready}
+use Rattle.meeting.specs.Net.{Net}
+use Rattle.trace.specs.World.{Offer, frameFor, World, outcome, given, offers, before, ready}
 use Rattle.trace.specs.Run.{before-suc, ready-clock}
 use Rattle.trace.specs.Keep.{held-back}
 use Rattle.trace.specs.Sent.{end-phase}

@@ -67,7 +67,7 @@ module _ (f : Figures) (a : List ℕ) (i : ℕ) (s : Station) (p : Able f a i) (
 
 -- ---- a bit that is stored is one that the buffer holds
 
-stored-kept : (n : ℕ) (b : Bool) → Kept (storedBit n b)
+pub stored-kept : (n : ℕ) (b : Bool) → Kept (storedBit n b)
 unfolding storedBit
 stored-kept n b = by-test (ltb n 12144) (λ c. rw c (ltb-true n 12144 c)) (λ c. rw c tt)
 
@@ -97,7 +97,7 @@ ended-kept address buffer (Readable n) = tt
 ended-kept address buffer (Seeking row sp own) = tt
 ended-kept address buffer (Collecting n sp own) = decide-kept address buffer n sp own
 
-receive-kept : (address buffer : List ℕ) (x : Receiver) (h : Heard) (e : Bool) → Kept (receive address buffer x h e .stored)
+pub receive-kept : (address buffer : List ℕ) (x : Receiver) (h : Heard) (e : Bool) → Kept (receive address buffer x h e .stored)
 unfolding receive
 receive-kept address buffer x Nothing e = ended-kept address buffer x
 receive-kept address buffer x (Clean b) e = hear-kept x true b e
@@ -107,6 +107,10 @@ receive-kept address buffer x Several e = hear-kept x false false e
 pub kept : (f : Figures) (d t : ℕ) (a : List ℕ) (i : ℕ) → Kept (actIn f d t a i .outcome .stored)
 unfolding actIn outcomeIn stepped
 kept f d t a i = receive-kept (stationAt a i .address) (bufferAt a i) (stationAt a i .receiver) (arrivalAt a i t) _
+
+pub kept-at : (a : List ℕ) (i : ℕ) → i < countAt a → Kept (actAt a i .outcome .stored)
+unfolding actAt
+kept-at a i h = kept (figuresAt a) (depthAt a) (clockAt a) a i
 
 pub acts-kept : (f : Figures) (d t : ℕ) (a : List ℕ) (i : ℕ) (r : Act) → r ≡ actIn f d t a i → Kept (r .outcome .stored)
 acts-kept f d t a i r e = subst (λ (x : Act). Kept (x .outcome .stored)) (sym e) (kept f d t a i)

@@ -1,16 +1,16 @@
 -- A law for each way through the code that hands out the pieces. Assumes nothing.
 use Prim.Native.Nat.{ℕ, zero, suc, _+_, _-_, _*_, _≤_, _<_, min}
-use mathlib.Core.Path.{_≡_, refl, sym, _∙_, ap, subst}
-use mathlib.Core.Bool.{Bool, true, false, not, _&&_, _||_, true≢false}
+use mathlib.Core.Path.{_≡_, refl, sym, _∙_, ap}
+use mathlib.Core.Bool.{Bool, true, false, not, _&&_, true≢false}
 use mathlib.Core.List.{List, [], _∷_}
 use native.Mathlib.Omega.{arith}
 use borrow.Author.Tests.{eq-eqb, ne-eqb, lt-ltb, le-ltb, le-leb, lt-leb, leb-true, leb-false, ltb-true, ltb-false, eqb-true, eqb-false}
 use borrow.Rule.Slice.PartMut.{putMid}
 use lib.Dec.{eqb, ltb, leb}
-use lib.ListN.{length, getD, replicate, take}
+use lib.ListN.{length, getD, take}
 use lib.Seq.{sets}
 use Rattle.octets.specs.Base.{pick, some, Answer, refused, accepted, Outcome, outcome, doneAnswer, numberOf}
-use Rattle.octets.specs.BaseLaws.{by-test, some-none, some-more, some-hit, some-end}
+use Rattle.octets.specs.BaseLaws.{by-test, some-more, some-hit}
 use Rattle.octets.specs.Number.{get}
 use Rattle.octets.specs.NumberLaws.{Octets}
 use Rattle.layout.specs.declared.Layout.{Layout}
@@ -19,14 +19,15 @@ use Rattle.area.specs.Area.{clockAt}
 use Rattle.start.specs.Fresh.{fresh}
 use Rattle.valid.specs.Valid.{areaRefusal}
 use Rattle.pair.specs.declared.Events.{Events}
-use Rattle.pair.specs.BitTime.{isTransmit, isReceive, noEvents, eventsAt, stepArea}
+use Rattle.pair.specs.BitTime.{noEvents}
 use Rattle.octets.specs.declared.Done.{Done}
 use Rattle.offer.specs.Offer.{offered}
 use Rattle.tally.specs.Tally.{isLate}
+use Rattle.course.specs.declared.Stretch.{Stretch}
 use Rattle.course.specs.Run.{lateAt}
-use Rattle.course.specs.RunLaws.{Runnable, clock-within, run-allowed, run-next}
-use Rattle.pair.specs.Ready.{Ready}
-use Rattle.ready.specs.Stays.{step-clock}
+use Rattle.course.specs.RunLaws.{Runnable, clock-within, run-allowed}
+use Rattle.course.specs.Until.{Stretched, stretchOf, untilEvent}
+use Rattle.course.specs.UntilLaws.{stretch-steps, stretch-clock, stretch-some}
 use Rattle.text.specs.Text.{Written, written, puts, counted, line, firstLine, fitYes, fitNo, refusedWord, refusedLine, refusedOffer, endWord, endLine}
 use Rattle.lines.specs.Events.{stepLines}
 use Rattle.input.specs.declared.Offered.{Offered}
@@ -35,133 +36,9 @@ use Rattle.draws.specs.Draws.{drawsIn}
 use Rattle.input.specs.Plan.{offerTime, offerIn, offerData, offerSize, Planned, planRead, planReading, verdictAnswer}
 use Rattle.input.specs.PlanTheorems.{reading-right}
 use Rattle.pieces.specs.declared.Progress.{Progress}
-use Rattle.pieces.specs.declared.Piece.{Piece}
-use Rattle.pieces.specs.declared.Piece.the-variants.{Refused, Text}
 use Rattle.pieces.specs.declared.Handed.{Handed}
-use Rattle.pieces.specs.declared.Stretch.{Stretch}
 use Rattle.pieces.specs.Printed.{nextOffer, lies, made, offerLine, offerText, firstText, startArea}
-use Rattle.pieces.specs.Pieces.{hasEvent, eventful, Stretched, stretchOf, oneMore, untilEvent, Moved, moved, standing, isDue, spanOf, lastPiece, offerPiece, timesLeft, stretchPiece, stepPiece, move, Hand, pieceAnswer, handing, given, withheld, offerShort, moveRefusal, advancedOn, onFront, advanced, noProgress, startPiece, firstPiece, begun}
-
--- ---- whether some station has an event
-
--- none of the first i. Shut, so that a search does not enter it
-unfoldable pub Calm : List Events → ℕ → Type 0
-Calm es i = some (λ k. hasEvent (getD es k noEvents)) i ≡ false
-
-pub event-is : (e : Events) (s g b : Bool) → s ≡ isTransmit (e .sent) → g ≡ isReceive (e .got) → b ≡ (s || g) → b ≡ hasEvent e
-unfolding hasEvent
-event-is e s g b p q r = r ∙ rw (p, q)
-
-pub calm-none : (es : List Events) → Calm es 0
-unfolding Calm
-calm-none es = some-none (λ k. hasEvent (getD es k noEvents))
-
-module _ (es : List Events) (i : ℕ) where
-  pub calm-more : (e : Events) (b : Bool) → b ≡ hasEvent e → e ≡ getD es i noEvents → b ≡ false → Calm es i → Calm es (i + 1)
-  unfolding Calm
-  calm-more e b p q r h = some-more (λ k. hasEvent (getD es k noEvents)) i b (p ∙ ap hasEvent q) r h
-
-  pub calm-hit : (e : Events) (b : Bool) → b ≡ hasEvent e → e ≡ getD es i noEvents → b ≡ true → i < 16 → true ≡ eventful es
-  unfolding eventful
-  calm-hit e b p q r h = some-hit (λ k. hasEvent (getD es k noEvents)) 16 i b (p ∙ ap hasEvent q) r h
-
-  pub calm-end : i ≤ 16 → 16 ≤ i → Calm es i → false ≡ eventful es
-  unfolding Calm eventful
-  calm-end p q h = some-end (λ k. hasEvent (getD es k noEvents)) 16 i p q h
-
--- ---- steps until an event
-
-pub run-first : (n : ℕ) (a : List ℕ) → Runnable n a → Runnable (n - 0) a
-run-first n a h = let e : n ≡ n - 0 = omega arith in subst (λ (k : ℕ). Runnable k a) e h
-
-pub run-ready : (n t : ℕ) (a : List ℕ) → Runnable (n - t) a → Ready a
-unfolding Runnable Ready
-run-ready n t a h = h .0
-
-pub run-clock : (n t : ℕ) (a : List ℕ) → Runnable (n - t) a → t < n → clockAt a < 16777216
-unfolding Runnable
-run-clock n t a h g = omega (arith, h .1)
-
--- t steps more, made before
-abbrev pub plus : ℕ → Stretched → Stretched
-plus t s = record { steps = t + s .steps; events = s .events; octets = s .octets }
-
-pub stretch-first : (n : ℕ) (a : List ℕ) → plus 0 (untilEvent (n - 0) a) ≡ untilEvent n a
-stretch-first n a =
-    let e : n - 0 ≡ n = omega arith in
-    rw e (λ i. record { steps = z (untilEvent n a .steps) i; events = untilEvent n a .events; octets = untilEvent n a .octets })
-  where
-    z : (k : ℕ) → 0 + k ≡ k
-    z k = omega arith
-
-module _ (n t : ℕ) (a : List ℕ) (R : Stretched) (h : t < n) (p : plus t (untilEvent (n - t) a) ≡ R) where
-  turn : (k : ℕ) → k ≡ n - t → plus t (pick (eventful (eventsAt a)) (record { steps = 1; events = eventsAt a; octets = stepArea a }) (oneMore (untilEvent (n - (t + 1)) (stepArea a)))) ≡ R
-  unfolding untilEvent
-  turn zero e = absurd (omega arith)
-  turn (suc k) e = let z : n - (t + 1) ≡ k = omega arith in rw z (rw (← e) at p)
-
-  pub stretch-on : (es : List Events) (b : List ℕ) (c : Bool) → b ≡ stepArea a → es ≡ eventsAt a → c ≡ eventful es → c ≡ false → plus (t + 1) (untilEvent (n - (t + 1)) b) ≡ R
-  stretch-on es b c eb ee ec et =
-      let f : eventful (eventsAt a) ≡ false = ap eventful (sym ee) ∙ sym ec ∙ et in
-      rw eb (one (untilEvent (n - (t + 1)) (stepArea a)) ∙ (rw f at (turn (n - t) refl)))
-    where
-      one : (s : Stretched) → plus (t + 1) s ≡ plus t (oneMore s)
-      one s = λ i. record { steps = z (s .steps) i; events = s .events; octets = s .octets }
-        where
-          z : (k : ℕ) → t + 1 + k ≡ t + (k + 1)
-          z k = omega arith
-
-  pub stretch-hit : (es : List Events) (b : List ℕ) (c : Bool) → b ≡ stepArea a → es ≡ eventsAt a → c ≡ eventful es → c ≡ true → record { steps = t + 1; events = es; octets = b } ≡ R
-  stretch-hit es b c eb ee ec et =
-      let f : eventful (eventsAt a) ≡ true = ap eventful (sym ee) ∙ sym ec ∙ et in
-      rw (eb, ee) (rw f at (turn (n - t) refl))
-
-pub stretch-end : (n t : ℕ) (a : List ℕ) (R : Stretched) → n ≤ t → plus t (untilEvent (n - t) a) ≡ R → record { steps = t; events = replicate 16 noEvents; octets = a } ≡ R
-unfolding untilEvent
-stretch-end n t a R h p =
-    let z : n - t ≡ 0 = omega arith in
-    let e : t ≡ t + 0 = omega arith in
-    let q : plus t (untilEvent 0 a) ≡ R = rw z at p in
-    (λ i. record { steps = e i; events = replicate 16 noEvents; octets = a }) ∙ q
-
-pub stretch-steps : (n : ℕ) (a : List ℕ) → untilEvent n a .steps ≤ n
-unfolding untilEvent
-stretch-steps zero a = omega arith
-stretch-steps (suc n) a = go (eventful (eventsAt a)) (stretch-steps n (stepArea a))
-  where
-    go : (b : Bool) → untilEvent n (stepArea a) .steps ≤ n
-        → pick b (record { steps = 1; events = eventsAt a; octets = stepArea a }) (oneMore (untilEvent n (stepArea a))) .steps ≤ suc n
-    go true h = omega arith
-    go false h = omega arith
-
-runnable-on : (n : ℕ) (a : List ℕ) → Runnable (suc n) a → (clockAt (stepArea a) ≡ clockAt a + 1) × Runnable n (stepArea a)
-unfolding Runnable
-runnable-on n a h =
-    let e : suc n - (0 + 1) ≡ n = omega arith in
-    (step-clock a (h .0), subst (λ (k : ℕ). Runnable k (stepArea a)) e (run-next (suc n) 0 a (stepArea a) refl (run-first (suc n) a h) (omega arith)))
-
--- the clock goes on by the steps made
-pub stretch-clock : (n : ℕ) (a : List ℕ) → Runnable n a → clockAt (untilEvent n a .octets) ≡ clockAt a + untilEvent n a .steps
-unfolding untilEvent
-stretch-clock zero a h = omega arith
-stretch-clock (suc n) a h =
-    let r = runnable-on n a h in
-    go (eventful (eventsAt a)) (r .0) (stretch-clock n (stepArea a) (r .1))
-  where
-    go : (b : Bool) → clockAt (stepArea a) ≡ clockAt a + 1 → clockAt (untilEvent n (stepArea a) .octets) ≡ clockAt (stepArea a) + untilEvent n (stepArea a) .steps
-        → clockAt (pick b (record { steps = 1; events = eventsAt a; octets = stepArea a }) (oneMore (untilEvent n (stepArea a))) .octets)
-        ≡ clockAt a + pick b (record { steps = 1; events = eventsAt a; octets = stepArea a }) (oneMore (untilEvent n (stepArea a))) .steps
-    go true p q = p
-    go false p q = omega (arith, p, q)
-
-pub stretch-some : (n : ℕ) (a : List ℕ) → 0 < n → 0 < untilEvent n a .steps
-unfolding untilEvent
-stretch-some zero a h = h
-stretch-some (suc n) a h = go (eventful (eventsAt a))
-  where
-    go : (b : Bool) → 0 < pick b (record { steps = 1; events = eventsAt a; octets = stepArea a }) (oneMore (untilEvent n (stepArea a))) .steps
-    go true = omega arith
-    go false = omega arith
+use Rattle.pieces.specs.Pieces.{Moved, moved, standing, isDue, spanOf, lastPiece, offerPiece, timesLeft, stretchPiece, stepPiece, move, Hand, pieceAnswer, handing, given, withheld, offerShort, moveRefusal, advancedOn, onFront, advanced, noProgress, startPiece, firstPiece, begun}
 
 -- ---- the next offer
 

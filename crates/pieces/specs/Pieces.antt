@@ -1,18 +1,17 @@
 -- The text of a run handed out piece by piece, on lent octets: the input l, a work area a, and octets o for the text. That the pieces
 -- are what is printed is in Whole. The laws are in PieceLaws. Assumes nothing.
 use Prim.Native.Nat.{ℕ, zero, suc, _+_, _-_, min}
-use mathlib.Core.Bool.{Bool, true, false, not, _||_}
+use mathlib.Core.Bool.{Bool, true, false, not}
 use mathlib.Core.List.{List, [], _∷_, _++_}
 use lib.Dec.{eqb, ltb}
-use lib.ListN.{length, getD, replicate, take, drop}
+use lib.ListN.{length, getD, take, drop}
 use lib.Seq.{sets}
 use Rattle.octets.specs.Base.{pick, some, Answer, refused, accepted, numberOf, valuesOf}
 use Rattle.area.specs.Places.{areaSize}
 use Rattle.area.specs.Area.{clockAt}
 use Rattle.valid.specs.Valid.{areaRefusal, lastClock}
-use Rattle.pair.specs.declared.Events.{Events}
-use Rattle.pair.specs.BitTime.{isTransmit, isReceive, noEvents, eventsAt, stepArea}
 use Rattle.course.specs.Run.{lateAt}
+use Rattle.course.specs.Until.{Stretched, untilEvent}
 use Rattle.text.specs.Text.{refusedLine, endLine}
 use Rattle.lines.specs.Events.{stepLines}
 use Rattle.input.specs.Plan.{offerTime, Planned, planRead}
@@ -20,35 +19,7 @@ use Rattle.pieces.specs.declared.Progress.{Progress}
 use Rattle.pieces.specs.declared.Piece.{Piece}
 use Rattle.pieces.specs.declared.Piece.the-variants.{Refused, Text}
 use Rattle.pieces.specs.declared.Handed.{Handed}
-use Rattle.pieces.specs.declared.Stretch.{Stretch}
 use Rattle.pieces.specs.Printed.{nextOffer, lies, made, offerText, Course, course, runOn, firstText, startArea}
-
--- ---- steps until an event
-
-unfoldable pub hasEvent : Events → Bool
-hasEvent e = isTransmit (e .sent) || isReceive (e .got)
-
--- whether some station has an event
-unfoldable pub eventful : List Events → Bool
-eventful es = some (λ i. hasEvent (getD es i noEvents)) 16
-
--- steps made, the events of the last one, the area
-pub record Stretched : Type 0 where
-  pub steps : ℕ
-  pub events : List Events
-  pub octets : List ℕ
-
-abbrev pub stretchOf : Stretch → List ℕ → Stretched
-stretchOf s a = record { steps = s .steps; events = s .events; octets = a }
-
-abbrev pub oneMore : Stretched → Stretched
-oneMore s = record { steps = s .steps + 1; events = s .events; octets = s .octets }
-
--- at most n steps; the last one is the first that has an event
-unfoldable pub untilEvent : ℕ → List ℕ → Stretched
-untilEvent zero a = record { steps = 0; events = replicate 16 noEvents; octets = a }
-untilEvent (suc n) a =
-    pick (eventful (eventsAt a)) (record { steps = 1; events = eventsAt a; octets = stepArea a }) (oneMore (untilEvent n (stepArea a)))
 
 -- ---- the next piece
 

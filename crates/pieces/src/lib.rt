@@ -35,12 +35,6 @@ pub struct Handed {
     pub progress: Progress,
 }
 
-// Steps made, and the events of the last of them, if it has any.
-pub struct Stretch {
-    pub steps: u32,
-    pub events: [Events; 16],
-}
-
 // Whether some station has a late collision.
 fn is_late(events: [Events; 16]) -> bool
     ensures { λ r. ⌜ r ≡ some (lateAt events) 16 ⌝ }

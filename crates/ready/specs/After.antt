@@ -258,8 +258,11 @@ module _ (n t : ℕ) (r : ℕ → Act) (a : List ℕ) (sp : Spread n a) (kept : 
   turn-own p i hi o =
       push-keeps p n t i (r i .symbol) (placed t i (r i .outcome) (after i)) (omega (arith, sp .few)) (sp .few) (λ j h e. o j _ h)
 
-  own : (p : Part) (i k : ℕ) → k ≤ n → i < k → ((j : ℕ) → j < n → (j ≡ i → ⊥) → Foreign p t j) → ((j u : ℕ) → j < n → Off p (place j u))
-      → Keeps p (after k) (placed t i (r i .outcome) (after i))
+  -- and the turns after it leave it so
+  pub own : (p : Part) (i k : ℕ) → k ≤ n → i < k → ((j : ℕ) → j < n → (j ≡ i → ⊥) → Foreign p t j)
+      → ((j u : ℕ) → j < n → Off p (place j u))
+      → Keeps p (turns (λ i x. settled n t i (r i) x) k a) (placed t i (r i .outcome) (turns (λ i x. settled n t i (r i) x) i a))
+  unfolding after
   own p i k hk hi q o =
       keeps-trans p (after k) (after (suc i)) (placed t i (r i .outcome) (after i)) (later p i k hk hi q o) (turn-own p i (omega arith) o)
 

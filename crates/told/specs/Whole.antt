@@ -28,6 +28,8 @@ use Rattle.ready.specs.Passes.{Passing, ready-passes}
 use Rattle.ready.specs.Stays.{step-clock, step-length, step-passing}
 use Rattle.delivery.specs.Passing.{start-passing, offered-passes, offered-keeps}
 use Rattle.course.specs.Run.{lateAt}
+use Rattle.course.specs.Until.{hasEvent, eventful, Stretched, oneMore, untilEvent}
+use Rattle.course.specs.UntilLaws.{stretch-steps, stretch-some}
 use Rattle.tally.specs.Tally.{isLate}
 use Rattle.text.specs.Text.{fitYes, fitNo, refusedLine, endLine}
 use Rattle.lines.specs.Sizes.{first-size, refused-size, refused-offer-size, end-size, step-size}
@@ -37,8 +39,8 @@ use Rattle.input.specs.Plan.{offerTime, offerStation, offerDestination, offerVa
 use Rattle.input.specs.PlanTheorems.{Right, read-right, read-passes, read-formed}
 use Rattle.pieces.specs.declared.Progress.{Progress}
 use Rattle.pieces.specs.Printed.{nextOffer, lies, made, offerLine, offerText, none, after, dueOffers, Course, course, before, atEnd, stepThen, runOn, firstText, startArea, planCourse, inputCourse, zeros, printed}
-use Rattle.pieces.specs.Pieces.{hasEvent, eventful, Stretched, oneMore, untilEvent, Moved, moved, standing, isDue, spanOf, lastPiece, offerPiece, timesLeft, stretchPiece, stepPiece, move, given, offerShort, moveRefusal, advancedOn, onFront, advanced, noProgress, startPiece, firstPiece, begun, remaining, told}
-use Rattle.pieces.specs.PieceLaws.{move-last, move-offer, move-step, due-offers, span-most, span-some, stretch-steps, stretch-some, lies-room, short-none, short-is}
+use Rattle.pieces.specs.Pieces.{Moved, moved, standing, isDue, spanOf, lastPiece, offerPiece, timesLeft, stretchPiece, stepPiece, move, given, offerShort, moveRefusal, advancedOn, onFront, advanced, noProgress, startPiece, firstPiece, begun, remaining, told}
+use Rattle.pieces.specs.PieceLaws.{move-last, move-offer, move-step, due-offers, span-most, span-some, lies-room, short-none, short-is}
 
 -- ---- a step without an event has no lines, and no late collision
 

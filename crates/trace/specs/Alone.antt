@@ -14,8 +14,9 @@ use Rattle.packet.specs.Packet.{packetBit}
 use Rattle.transmitter.specs.Transmit.{packetLength}
 use Rattle.trace.specs.Basic.{either}
 use Rattle.trace.specs.Trace.{Clear, alone, apart, listens, silent-before, silent-after}
-use Rattle.trace.specs.World.{Net, Offer}
-use Rattle.trace.specs.Gather.{on, off-is}
+use Rattle.meeting.specs.Net.{Net}
+use Rattle.trace.specs.World.{Offer}
+use Rattle.meeting.specs.Gather.{on, off-is}
 use Rattle.trace.specs.Hear.{Only, only-heard, silence-heard}
 use Rattle.trace.specs.Run.{sig, emits, sees, Sound}
 use Rattle.trace.specs.Inv.{Whole}

@@ -21,7 +21,8 @@ use Rattle.station.specs.Step.{triesAfter}
 use Rattle.pair.specs.Range.{AttemptsIn}
 use Rattle.offer.specs.Offer.{holds, offeredStation}
 use Rattle.trace.specs.Basic.{either, clash}
-use Rattle.trace.specs.World.{Net, Offer, freshStation, fresh, before}
+use Rattle.meeting.specs.Net.{Net}
+use Rattle.trace.specs.World.{Offer, freshStation, fresh, before}
 use Rattle.trace.specs.Run.{state, frameIn, outAt, sees, deferAt, sendAt, Sound, Made, Kept, ready-kept, frame-suc, out-start, out-sent, next-transmitter, next-attempts, fine-before, fine}
 use Rattle.trace.specs.Keep.{held-back}
 use Rattle.trace.specs.Sent.{Ends, end-next}

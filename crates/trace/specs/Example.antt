@@ -8,7 +8,8 @@ use Rattle.layout.specs.declared.Figures.{Figures}
 use Rattle.layout.specs.Layout.{gapOf}
 use Rattle.layout.specs.CheckLaws.{Figured}
 use Rattle.trace.specs.Trace.{Metric}
-use Rattle.trace.specs.World.{Net, Offer}
+use Rattle.meeting.specs.Net.{Net}
+use Rattle.trace.specs.World.{Offer}
 use Rattle.trace.specs.Run.{Sound}
 use Rattle.trace.specs.Frames.{octets-replicate}
 

@@ -19,7 +19,8 @@ use Rattle.opener.specs.Open.{destinationOf, sourceOf, receiveOK, Opening, open
 use Rattle.opener.specs.RoundTrip.{handedBack, received, opens-frame}
 use Rattle.receiver.specs.Receive.{addressed}
 use Rattle.trace.specs.Basic.{by-le}
-use Rattle.trace.specs.World.{Net, Offer, frameFor}
+use Rattle.meeting.specs.Net.{Net}
+use Rattle.trace.specs.World.{Offer, frameFor}
 use Rattle.trace.specs.Run.{Sound, Made}
 use Rattle.trace.specs.Inv.{Whole}
 use Rattle.trace.specs.Attempts.{reported}

@@ -14,8 +14,8 @@ use Rattle.packet.specs.Packet.{hearsAny}
 use Rattle.area.specs.Area.{alone}
 use Rattle.trace.specs.Basic.{clash}
 use Rattle.trace.specs.Trace.{Hears}
-use Rattle.trace.specs.World.{Net, reaches, heard}
-use Rattle.trace.specs.Gather.{on, off-is, One, Says, gathered-says, gathered-none, gathered-one}
+use Rattle.meeting.specs.Net.{Net, reaches, heard}
+use Rattle.meeting.specs.Gather.{on, off-is, One, Says, gathered-says, gathered-none, gathered-one}
 
 -- Of what reaches station j in step u just one symbol, s, is not silence: station `from` emitted it in step `at`.
 pub record Only (n : ℕ) (d : ℕ → ℕ → ℕ) (E : ℕ → ℕ → Symbol) (j u : ℕ) (s : Symbol) : Type 0 where

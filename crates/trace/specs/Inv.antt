@@ -24,8 +24,9 @@ use Rattle.offer.specs.Offer.{holds}
 use Rattle.trace.specs.Basic.{clash}
 use Rattle.trace.specs.Trace as trace
 use Rattle.trace.specs.Trace.{Hears, Start}
-use Rattle.trace.specs.World.{Net, Offer}
-use Rattle.trace.specs.Gather.{on}
+use Rattle.meeting.specs.Net.{Net}
+use Rattle.trace.specs.World.{Offer}
+use Rattle.meeting.specs.Gather.{on}
 use Rattle.trace.specs.Run.{frameIn, outAt, sig, emits, sees, Sound}
 
 -- station i hears another in step t, and is busy then

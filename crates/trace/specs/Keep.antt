@@ -24,8 +24,9 @@ use Rattle.pair.specs.Range.{FrameIn, no-start}
 use Rattle.offer.specs.Offer.{holds, offeredStation}
 use Rattle.trace.specs.Basic.{either, clash}
 use Rattle.trace.specs.Trace.{Emitted, Rules, Lawful}
-use Rattle.trace.specs.World.{Net, Offer, freshStation, fresh, before}
-use Rattle.trace.specs.Gather.{on}
+use Rattle.meeting.specs.Net.{Net}
+use Rattle.trace.specs.World.{Offer, freshStation, fresh, before}
+use Rattle.meeting.specs.Gather.{on}
 use Rattle.trace.specs.Hear.{heard-yes, heard-no, unheard}
 use Rattle.trace.specs.Run.{state, frameIn, sig, emits, sees, deferAt, sendAt, Sound, Kept, ready-kept, frame-suc, out-sent, sig-is, next-deference, next-transmitter, next-size, next-emitted, on-symbol, fine}
 use Rattle.trace.specs.Inv.{HeardIn, Ran, Over, Resting, TxInv, tx-step, bit-sent, jam-sent}

@@ -19,8 +19,9 @@ use Rattle.transmitter.specs.Transmit.{packetLength, collision, sendBit, headBi
 use Rattle.station.specs.Step.{triesAfter}
 use Rattle.trace.specs.Basic.{either, clash}
 use Rattle.trace.specs.Trace.{no-late}
-use Rattle.trace.specs.World.{Net, Offer}
-use Rattle.trace.specs.Gather.{on}
+use Rattle.meeting.specs.Net.{Net}
+use Rattle.trace.specs.World.{Offer}
+use Rattle.meeting.specs.Gather.{on}
 use Rattle.trace.specs.Run.{state, frameIn, outAt, emits, sees, deferAt, sendAt, Sound, out-sent}
 use Rattle.trace.specs.Inv.{HeardIn, TxInv, bit-sent, more}
 use Rattle.trace.specs.Keep.{says, emits-is, unheard-in, flags, lawful}

@@ -1,7 +1,6 @@
 pub mod Basic
 pub mod Trace
 pub mod World
-pub mod Gather
 pub mod Hear
 pub mod Run
 pub mod Inv

@@ -21,8 +21,9 @@ use Rattle.state.specs.declared.Station.{Station}
 use Rattle.offer.specs.Offer.{offeredStation}
 use Rattle.trace.specs.Basic.{either}
 use Rattle.ready.specs.After.{storedIn}
-use Rattle.trace.specs.World.{Net, Offer, fresh, before}
-use Rattle.trace.specs.Gather.{on}
+use Rattle.meeting.specs.Net.{Net}
+use Rattle.trace.specs.World.{Offer, fresh, before}
+use Rattle.meeting.specs.Gather.{on}
 use Rattle.trace.specs.Run.{state, frameIn, bufferIn, outAt, emits, sees, sendAt, receiveAt, Sound, Kept, ready-kept, ready-buffer, buffer-suc, out-got, out-stored, sig-is, next-receiver, on-symbol, address-is}
 
 -- ---- a step

@@ -18,7 +18,8 @@ use Rattle.deference.specs.Defer.{defer, to, quietRule, busyRule, goesBack, gap
 use Rattle.trace.specs.Basic.{either, clash, and-left}
 use Rattle.trace.specs.Trace as trace
 use Rattle.trace.specs.Trace.{Emitted, Free}
-use Rattle.trace.specs.World.{Net, Offer}
+use Rattle.meeting.specs.Net.{Net}
+use Rattle.trace.specs.World.{Offer}
 use Rattle.trace.specs.Run.{emits, Sound}
 use Rattle.trace.specs.Inv.{HeardIn, BusyIn}
 

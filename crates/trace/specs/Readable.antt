@@ -15,7 +15,8 @@ use Rattle.receiver.specs.declared.Received.{Received}
 use Rattle.receiver.specs.Receive.{addressed, deciding, ended, receive}
 use Rattle.trace.specs.Basic.{either}
 use Rattle.ready.specs.After.{storedIn}
-use Rattle.trace.specs.World.{Net, Offer, freshStation, fresh, before}
+use Rattle.meeting.specs.Net.{Net}
+use Rattle.trace.specs.World.{Offer, freshStation, fresh, before}
 use Rattle.trace.specs.Run.{state, frameIn, bufferIn, outAt, emits, sees, Sound, ready-buffer}
 use Rattle.trace.specs.Frames.{clientIn}
 use Rattle.trace.specs.Listen.{receptionAt, receiver-ready, got-is, receiver-next, buffer-next, reception-nothing}

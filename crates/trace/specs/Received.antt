@@ -20,8 +20,9 @@ use Rattle.state.specs.declared.Receiver.the-variants.{Listening, Readable, Col
 use Rattle.receiver.specs.declared.Received.{Received}
 use Rattle.receiver.specs.Receive.{addressed, deciding, decide, ended}
 use Rattle.trace.specs.Basic.{clash}
-use Rattle.trace.specs.World.{Net, Offer, freshStation, fresh, before}
-use Rattle.trace.specs.Gather.{on}
+use Rattle.meeting.specs.Net.{Net}
+use Rattle.trace.specs.World.{Offer, freshStation, fresh, before}
+use Rattle.meeting.specs.Gather.{on}
 use Rattle.trace.specs.Hear.{Only}
 use Rattle.trace.specs.Run.{state, frameIn, bufferIn, outAt, sig, emits, sees, Sound, Made, sees-clean, sees-nothing}
 use Rattle.trace.specs.Inv.{Whole}

@@ -19,8 +19,9 @@ use Rattle.receiver.specs.declared.Received.{Received}
 use Rattle.receiver.specs.declared.Stored.the-variants.{Store}
 use Rattle.receiver.specs.Receive.{nextRow, storedBit, hearing, seekBit, seek, collectBit, collect, hear}
 use Rattle.ready.specs.After.{storedIn}
-use Rattle.trace.specs.World.{Net, Offer}
-use Rattle.trace.specs.Gather.{on}
+use Rattle.meeting.specs.Net.{Net}
+use Rattle.trace.specs.World.{Offer}
+use Rattle.meeting.specs.Gather.{on}
 use Rattle.trace.specs.Run.{state, bufferIn, emits, sees, Sound}
 use Rattle.trace.specs.Inv.{Whole}
 use Rattle.trace.specs.Alone.{Passes, passes}

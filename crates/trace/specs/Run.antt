@@ -34,8 +34,9 @@ use Rattle.offer.specs.Offer.{holds, offeredStation}
 use Rattle.trace.specs.Basic.{either, clash}
 use Rattle.trace.specs.Trace.{Metric}
 use Rattle.ready.specs.After.{storedIn}
-use Rattle.trace.specs.World.{Net, Offer, frameFor, World, gathered, reaches, heard, outcome, symbol, grown, step, given, offer, offers, freshStation, fresh, before, ready}
-use Rattle.trace.specs.Gather.{on, gathered-same}
+use Rattle.meeting.specs.Net.{Net, gathered, reaches, heard, grown}
+use Rattle.trace.specs.World.{Offer, frameFor, World, outcome, symbol, step, given, offer, offers, freshStation, fresh, before, ready}
+use Rattle.meeting.specs.Gather.{on, gathered-same}
 use Rattle.trace.specs.Hear.{Only, Both, reaches-same, heard-clean, heard-jammed, only-heard, heard-several, both-heard, heard-nothing, nothing-heard}
 
 -- ---- an execution's words

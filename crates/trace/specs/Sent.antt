@@ -22,8 +22,9 @@ use Rattle.state.specs.declared.Station.{Station}
 use Rattle.station.specs.Step.{triesAfter}
 use Rattle.offer.specs.Offer.{holds, offeredStation}
 use Rattle.trace.specs.Basic.{either}
-use Rattle.trace.specs.World.{Net, Offer, before}
-use Rattle.trace.specs.Gather.{on, off-is}
+use Rattle.meeting.specs.Net.{Net}
+use Rattle.trace.specs.World.{Offer, before}
+use Rattle.meeting.specs.Gather.{on, off-is}
 use Rattle.trace.specs.Run.{state, frameIn, outAt, sig, emits, sees, deferAt, sendAt, Sound, ready-kept, out-sent, sig-is, next-transmitter}
 use Rattle.trace.specs.Inv.{Whole, TxInv, bit-sent}
 use Rattle.trace.specs.Keep.{says, says-before, emits-is, fresh-before, ended}

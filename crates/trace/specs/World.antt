@@ -1,18 +1,15 @@
 -- The pair in document 01's words: stations, their frames and buffers, and every symbol emitted so far. Numbers have no bound here.
--- The laws are in Gather, Run and Hear. Assumes nothing.
-use Prim.Native.Nat.{ℕ, zero, suc, _-_, _<_}
+-- The laws are in Run and Hear. Assumes nothing.
+use Prim.Native.Nat.{ℕ, zero, suc, _<_}
 use mathlib.Core.Path.{_≡_}
 use mathlib.Core.Bool.{false}
 use mathlib.Core.List.{List, [], _∷_}
-use lib.Dec.{leb, eqb}
+use lib.Dec.{eqb}
 use lib.ListN.{length}
 use Rattle.octets.specs.Base.{pick}
 use Rattle.octets.specs.NumberLaws.{Octets}
 use Rattle.frame.specs.Limits.{refusesData}
 use Rattle.frame.specs.Build.{frameOf}
-use Rattle.layout.specs.declared.Figures.{Figures}
-use Rattle.packet.specs.declared.Heard.{Heard}
-use Rattle.packet.specs.declared.Heard.the-variants.{Nothing}
 use Rattle.packet.specs.declared.Symbol.{Symbol}
 use Rattle.packet.specs.declared.Symbol.the-variants.{Silence}
 use Rattle.packet.specs.Packet.{symbolOf}
@@ -22,19 +19,9 @@ use Rattle.state.specs.declared.Receiver.the-variants.{Listening}
 use Rattle.state.specs.declared.Station.{Station}
 use Rattle.station.specs.declared.Stepped.{Stepped}
 use Rattle.station.specs.Step.{stepped}
-use Rattle.area.specs.Area.{joined}
 use Rattle.ready.specs.After.{storedIn}
 use Rattle.offer.specs.Offer.{holds, offeredStation}
-
--- What does not change: the layout, the draws (depth of them, draw i k is draw k of station i), and what the buffers hold at the start.
-pub record Net : Type 0 where
-  pub n : ℕ
-  pub fig : Figures
-  pub depth : ℕ
-  pub draw : ℕ → ℕ → ℕ
-  pub address : ℕ → List ℕ
-  pub d : ℕ → ℕ → ℕ
-  pub blank : ℕ → List ℕ
+use Rattle.meeting.specs.Net.{Net, heard, grown}
 
 -- An offer that is not refused for its data: its destination and data are octets, its value one of two octets.
 pub record Offer (P : Net) : Type 0 where
@@ -61,21 +48,6 @@ pub record World : Type 0 where
   pub buffer : ℕ → List ℕ
   pub past : ℕ → ℕ → Symbol
 
--- ---- hearing
-
--- what the symbols c 0, .., c (k - 1) come to where they meet
-unfoldable pub gathered : ℕ → (ℕ → Symbol) → Heard
-gathered zero c = Nothing
-gathered (suc k) c = joined (gathered k c) (c k)
-
--- what station i emitted that reaches station j in step u
-unfoldable pub reaches : (d : ℕ → ℕ → ℕ) (E : ℕ → ℕ → Symbol) (j u i : ℕ) → Symbol
-reaches d E j u i = pick (eqb i j) Silence (pick (leb (d i j) u) (E i (u - d i j)) Silence)
-
--- what station j hears in step u
-unfoldable pub heard : Net → (E : ℕ → ℕ → Symbol) (j u : ℕ) → Heard
-heard P E j u = gathered (P .n) (reaches (P .d) E j u)
-
 -- ---- a step
 
 unfoldable pub outcome : Net → World → ℕ → Stepped
@@ -83,10 +55,6 @@ outcome P w i = stepped (P .fig) (w .station i) (P .depth) (P .draw i (w .statio
 
 unfoldable pub symbol : Net → World → ℕ → Symbol
 symbol P w i = symbolOf (w .frame i) (outcome P w i .emission)
-
--- the history with what each station emits in step t
-unfoldable pub grown : ℕ → (ℕ → Symbol) → (ℕ → ℕ → Symbol) → ℕ → ℕ → Symbol
-grown t e E i s = pick (eqb s t) (e i) (E i s)
 
 unfoldable pub step : Net → World → World
 step P w =

@@ -1,0 +1,79 @@
+// Runs over many bit times, step by step: the reference for every faster run.
+
+use course::Course;
+use course::Ended;
+use course::RunAnswer;
+use octets::Done;
+use pair::Events;
+ghost use mathlib.Core.Path.{_≡_};
+ghost use Prim.Native.Nat.{_+_, _<_, _≤_};
+ghost use lib.ListN.{length};
+ghost use Rattle.course.specs.Run.{tallied, courseOf, runOf, runOutcome, ran};
+ghost use Rattle.course.specs.RunLaws.{Runnable};
+ghost use Rattle.tally.specs.TallyLaws.{Bounded};
+
+// The events of a step, counted into `words`. No word is past `top` yet.
+fn count_events(words: &mut [u32], events: [Events; 16], top: u32)
+    requires { ⌜ (length (now words) ≡ 9) × Bounded (now words) top × (top + 32 < 4294967295) ⌝ }
+    ensures { λ r. ⌜ now (words .exit) ≡ tallied events 16 (now (words .entry)) ⌝ }
+{
+    let mut i: usize = 0;
+    while i < 16 {
+        let high = top + 2 * i as u32;
+        let e = events[i];
+        let sent = e.sent;
+        let got = e.got;
+        tally::count_sent(words, sent, high);
+        tally::count_got(words, got, high + 1);
+        i += 1;
+    }
+}
+
+// At most n steps, on an area that is ready for them, counted into `words`.
+fn run_steps(area: &mut [u8], words: &mut [u32], n: u32) -> Course
+    requires { ⌜ Runnable n (now area) × (57344 ≤ length (now area)) × (n ≤ 16777216) ⌝ }
+    requires { ⌜ (length (now words) ≡ 9) × Bounded (now words) 0 ⌝ }
+    ensures { λ r. ⌜ courseOf r (now (words .exit)) (now (area .exit)) ≡ runOf n 0 (now (words .entry)) (now (area .entry)) ⌝ }
+{
+    let mut ended = Ended::All;
+    let mut t: u32 = 0;
+    'steps: while t < n {
+        let events = step::step(area);
+        count_events(words, events, 32 * t);
+        t += 1;
+        let mut i: usize = 0;
+        while i < 16 {
+            let e = events[i];
+            let sent = e.sent;
+            if tally::is_late(sent) {
+                ended = course::late_end(t, i as u32);
+                break 'steps;
+            }
+            i += 1;
+        }
+    }
+    Course { steps: t, ended }
+}
+
+// A run of n bit times. Refusals 1, 2, 13.
+pub fn run(area: &mut [u8], n: u32) -> RunAnswer
+    ensures { λ r. ⌜ runOutcome r (now (area .exit)) ≡ ran (now (area .entry)) n ⌝ }
+{
+    let number = ready::refusal(area);
+    if number != 0 {
+        return course::no_run(number);
+    }
+    let t = area::read_clock(area);
+    if 16777216 - t < n {
+        return course::no_run(13);
+    }
+    let mut words = [0u32; 9];
+    let c = run_steps(area, &mut words, n);
+    let ended = c.ended;
+    RunAnswer {
+        done: Done::Made,
+        steps: c.steps,
+        words,
+        ended,
+    }
+}

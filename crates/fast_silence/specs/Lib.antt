@@ -1,0 +1,3 @@
+pub mod Rested
+pub mod Jump
+pub mod Bound

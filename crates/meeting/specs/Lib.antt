@@ -1,0 +1,4 @@
+pub mod Net
+pub mod Gather
+pub mod Meet
+pub mod Lines
