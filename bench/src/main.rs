@@ -165,6 +165,38 @@ fn check_sequence_row() -> Row {
     }
 }
 
+/// Two stations that collide again and again, both with the draw 1023, until one backs off after its tenth attempt: the longest wait.
+fn longest_wait() -> Ours {
+    let load = Load { name: "wait", stations: 2, senders: 2, data: 46, chunk: 0, chunks: 0 };
+    let mut area = vec![0; AREA];
+    let draws = vec![0x03, 0xFF].repeat(2 * DEPTH as usize);
+    assert_eq!(ours::start(&mut area, &load.sheet(), DEPTH, &draws), Ok(0));
+    let mut pair = Ours { area };
+    for station in 0..2 {
+        pair.offer(station, 0x0200_0000_0002 - u64::from(station), 0x0800, &[0xA5; 46]).expect("an offer");
+    }
+    let mut collisions = 0;
+    while collisions < 20 {
+        collisions += pair.run(200).counts[0];
+    }
+    pair
+}
+
+/// A run by the engine and by the reference: seconds of each, once. They must leave the same.
+fn against_reference(name: &str, pair: &Ours, n: u32) {
+    let (mut area, mut out) = (pair.area.clone(), [0; 48]);
+    let began = Instant::now();
+    let answer = ours::run(&mut area, n, &mut out);
+    let engine = began.elapsed().as_secs_f64();
+    let (mut stepped_area, mut stepped_out) = (pair.area.clone(), [0; 48]);
+    let began = Instant::now();
+    let stepped = ours::run_stepwise(&mut stepped_area, n, &mut stepped_out);
+    let reference = began.elapsed().as_secs_f64();
+    assert_eq!(answer, stepped, "{name}");
+    assert!(area == stepped_area && out == stepped_out, "{name}: what is left");
+    println!("{name:<46} {engine:>10.6} s {reference:>10.3} s  {:>9.0} times", reference / engine);
+}
+
 struct Row {
     name: String,
     unit: &'static str,
@@ -187,4 +219,8 @@ fn main() {
         println!("{name:<30} {ours:>10.2} {other:>10.2} {ratio:>7.2}  {unit}");
     }
     println!("smallest ratio {smallest:.2}");
+    println!("{:<46} {:>12} {:>12}", "a run", "engine", "reference");
+    against_reference("16,777,216 bit times, no offers, 2 stations", &LOADS[0].ours(), 16_777_216);
+    against_reference("16,777,216 bit times, no offers, 16 stations", &LOADS[1].ours(), 16_777_216);
+    against_reference("the longest wait, 512 x 1,023 bit times", &longest_wait(), 512 * 1_023);
 }

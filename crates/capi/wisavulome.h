@@ -14,7 +14,8 @@
  * Refusals: 1 the work area is too short; 2 it holds what no call would leave; 3 the sheet is too short; 4 map bit 6 or 7 stands; 5 a field
  * is out of range, or the excess bits are over 7; 6 N is outside 2..16; 7 positions do not rise; 8 an address is a group's or repeats; 9 D
  * or the draws; 10 no such station; 11 the data or the length/type value; 12 the station still has a frame; 13 the clock would pass
- * 16,777,216; 14 no readable frame; 15 the lent output is too short. They are checked in this order.
+ * 16,777,216; 14 no readable frame; 15 the lent output is too short; 16 the plan is over 16,384 octets, is short, has octets left over,
+ * over 64 offers, or offer times that fall. They are checked in this order (a run input makes check 13 last).
  */
 #ifndef WISAVULOME_H
 #define WISAVULOME_H
@@ -37,6 +38,11 @@ extern "C" {
 #define WISAVULOME_RUN_OUT 48
 #define WISAVULOME_COUNTERS_OUT 64
 #define WISAVULOME_FRAME_OUT 1518
+#define WISAVULOME_PLAN_OUT 212
+#define WISAVULOME_PIECE_OUT 2048
+
+/* the octets of where a run stands */
+#define WISAVULOME_PROGRESS 16
 
 /* the statuses of a frame */
 #define WISAVULOME_FRAGMENT 0
@@ -69,6 +75,15 @@ uint32_t wisavulome_read_sheet(const uint8_t *sheet, size_t sheet_len, uint8_t *
 /* Whether the layout of a sheet fits. Answer: 0 or 1. Refusals 3 to 8. */
 uint32_t wisavulome_fits(const uint8_t *sheet, size_t sheet_len);
 
+/* Checks a layout, given as the octets that wisavulome_read_sheet writes. Answer: 0. Refusals 3 (under 192 octets), 5 to 8. Whether it fits
+ * (the eighth word) is not looked at. */
+uint32_t wisavulome_check_layout(const uint8_t *layout, size_t layout_len);
+
+/* Reads a run input: sheet, draws, offers, bit times. Answer: 0. Refusals 3 to 9, 13, 16, and after them 15 (under 212 octets).
+ * out: the layout as wisavulome_read_sheet writes it, 192 octets; then D, the octet at which the draws begin, the number of offers, the octet
+ * at which the first offer begins, the bit times. */
+uint32_t wisavulome_read_plan(const uint8_t *input, size_t input_len, uint8_t *out, size_t out_len);
+
 /* Builds a frame from destination, source, length/type value and data. Answer: the octets of the frame, 64 to 1518. Refusals 11, 15.
  * out: the frame with its check sequence. */
 uint32_t wisavulome_build(uint64_t destination, uint64_t source, uint16_t value, const uint8_t *payload, size_t payload_len,
@@ -77,6 +92,10 @@ uint32_t wisavulome_build(uint64_t destination, uint64_t source, uint16_t value,
 /* The status of a frame's octets and 0 to 7 excess bits. Answer: 0 fragment, 1 frameTooLong, 2 frameCheckError, 3 alignmentError,
  * 4 lengthError, 5 receiveOK. Refusal 5. */
 uint32_t wisavulome_status(const uint8_t *frame, size_t frame_len, uint32_t excess);
+
+/* The status of a reception: as wisavulome_status, but where spoiled is not 0 the check is wrong (a jam bit, or a symbol heard from two or
+ * more). Answer and refusal as there. */
+uint32_t wisavulome_reception_status(const uint8_t *frame, size_t frame_len, uint32_t excess, uint32_t spoiled);
 
 /* The status, and where the client data lie in the frame. Answer: the status. Refusals 5, 15 (under 8 octets).
  * out: the octet of the frame at which the client data begin, and how many octets they are; 14 and 0 for an empty part, 0 and 0 where the
@@ -87,6 +106,9 @@ uint32_t wisavulome_client_data(const uint8_t *frame, size_t frame_len, uint32_t
  * Refusals 1, 3 to 8, 9. draws: N x D numbers of 2 octets, high octet first, station by station; any other length is refused under 9. */
 uint32_t wisavulome_start(uint8_t *area, size_t area_len, const uint8_t *sheet, size_t sheet_len, uint32_t depth,
                           const uint8_t *draws, size_t draws_len);
+
+/* Checks a work area: whether the calls on it would refuse it under 1 or 2. Answer: 0. Refusals 1, 2. */
+uint32_t wisavulome_check_area(const uint8_t *area, size_t area_len);
 
 /* Offers a frame to a station (counted from 0): destination, length/type value, data. Answer: 0. Refusals 1, 2, 10, 11, 12. */
 uint32_t wisavulome_offer(uint8_t *area, size_t area_len, uint32_t station, uint64_t destination, uint16_t value,
@@ -114,6 +136,22 @@ uint32_t wisavulome_read_frame(const uint8_t *area, size_t area_len, uint32_t st
  * out: offered, attempts, collisions, late, sent, sent after one collision, sent after several, octets sent, deferred, excessive, received,
  * octets received, too-long, check, alignment, length. */
 uint32_t wisavulome_counters(const uint8_t *area, size_t area_len, uint32_t station, uint8_t *out, size_t out_len);
+
+/* What is printed for a run input, piece by piece: wisavulome_begin makes a fresh start and hands out the first piece, wisavulome_advance each
+ * piece after it, until the fourth word of progress is not 0. Answer: the octets of the piece, 0 to 2048. Refusals of begin: 1, 15 (out under
+ * 2048 octets, progress under 16); of advance: 1, 2, 13, 15, 16 (the next offer does not lie within the first 16,384 octets of the input); where
+ * progress is under 16 octets 13 and 16 are not asked.
+ * out: the piece. progress, written by begin, read and written by advance: the octet of the input at which the next offer begins, the offers
+ * left, the bit times left, 1 where the last line is handed out or 0; any octets are taken. */
+uint32_t wisavulome_begin(const uint8_t *input, size_t input_len, uint8_t *area, size_t area_len, uint8_t *progress, size_t progress_len,
+                          uint8_t *out, size_t out_len);
+uint32_t wisavulome_advance(const uint8_t *input, size_t input_len, uint8_t *area, size_t area_len, uint8_t *progress, size_t progress_len,
+                            uint8_t *out, size_t out_len);
+
+/* All that is printed for a run input. Answer: the octets of the text. Refusals 1, 15 (out is shorter than the text, or the text has more than
+ * 2,147,483,647 octets). The run is made twice: once on an area of the call's own, to know the text's octets.
+ * out: the text. area: what the run leaves; as it was where the text is `refused n`. */
+uint32_t wisavulome_print(const uint8_t *input, size_t input_len, uint8_t *area, size_t area_len, uint8_t *out, size_t out_len);
 
 /* The CRC-32 of octets: all 32 bits are the answer. That of "123456789" is 0xCBF43926. */
 uint32_t wisavulome_crc32(const uint8_t *payload, size_t payload_len);

@@ -44,10 +44,10 @@ use Rattle.calls.specs.Numbers.{sheet-low, sheet-few, fit-low, open-low,
 -- ---- a refusal that stands, and one that does not
 
 module _ {A : Type 0} (m n r : ℕ) (keep : ℕ → A) (x : A) where
-  refuses : r ≡ replied n 0 → m ≡ n → (n ≡ 0 → ⊥) → keep r ≡ unless m keep x
+  pub refuses : r ≡ replied n 0 → m ≡ n → (n ≡ 0 → ⊥) → keep r ≡ unless m keep x
   refuses p q h = rw (q, ne-eqb n 0 h, p)
 
-  passes : m ≡ 0 → x ≡ unless m keep x
+  pub passes : m ≡ 0 → x ≡ unless m keep x
   passes q = rw (eq-eqb m 0 q)
 
 short-so : (k : ℕ) (out : List ℕ) → length out < k → short k out ≡ 15
@@ -56,10 +56,10 @@ short-so k out h = rw (lt-ltb (length out) k h)
 long-so : (k : ℕ) (out : List ℕ) → k ≤ length out → short k out ≡ 0
 long-so k out h = rw (le-ltb (length out) k h)
 
-refuses-short : {A : Type 0} (k r : ℕ) (out : List ℕ) (keep : ℕ → A) (x : A) → r ≡ replied 15 0 → length out < k → keep r ≡ unless (short k out) keep x
+pub refuses-short : {A : Type 0} (k r : ℕ) (out : List ℕ) (keep : ℕ → A) (x : A) → r ≡ replied 15 0 → length out < k → keep r ≡ unless (short k out) keep x
 refuses-short k r out keep x p h = refuses (short k out) 15 r keep x p (short-so k out h) (λ z. omega arith)
 
-passes-long : {A : Type 0} (k : ℕ) (out : List ℕ) (keep : ℕ → A) (x : A) → k ≤ length out → x ≡ unless (short k out) keep x
+pub passes-long : {A : Type 0} (k : ℕ) (out : List ℕ) (keep : ℕ → A) (x : A) → k ≤ length out → x ≡ unless (short k out) keep x
 passes-long k out keep x h = passes (short k out) 0 0 keep x (long-so k out h)
 
 -- an answer and what is beside it

@@ -34,7 +34,7 @@ use Rattle.calls.specs.Calls.{timeRefusal}
 
 -- ---- sheets
 
-layout-low : (y : Layout) → refusalOf y ≤ 16
+pub layout-low : (y : Layout) → refusalOf y ≤ 16
 unfolding refusalOf
 layout-low y =
     by-test (figuresOut (y .figures)) (λ p. rw p (omega arith))
@@ -170,7 +170,7 @@ build-small l d s v x = omega (arith, build-size l (spelled 6 d) (spelled 6 s) v
 
 -- ---- work areas
 
-area-low : (a : List ℕ) → areaRefusal a ≤ 16
+pub area-low : (a : List ℕ) → areaRefusal a ≤ 16
 unfolding areaRefusal
 area-low a =
     by-test (ltb (length a) 57344) (λ p. rw p (omega arith))

@@ -6,6 +6,8 @@ ghost use mathlib.Core.Path.{_≡_};
 ghost use Prim.Native.Nat.{_<_};
 ghost use Rattle.crc32.specs.Crc.{crcOf};
 ghost use Rattle.calls.specs.Calls.{given, left, sheetGiven, fitsGiven, buildGiven, statusGiven, clientGiven, startGiven, offerGiven, stepLeft, runLeft, frameGiven, countersGiven};
+ghost use Rattle.check_calls.specs.CheckCalls.{receptionGiven, areaGiven, layoutGiven, planGiven};
+ghost use Rattle.text_calls.specs.TextCalls.{lent, begunLent, advancedLent, printLeft};
 
 // Reads a sheet: the octets used. Refusals 3 to 8, 15.
 #[no_mangle]
@@ -21,6 +23,22 @@ pub extern "C" fn wisavulome_fits(sheet: &[u8]) -> u32
     ensures { λ r. ⌜ r ≡ fitsGiven (now (sheet .entry)) ⌝ }
 {
     calls::fits(sheet)
+}
+
+// Checks a layout, as `wisavulome_read_sheet` writes one: 0. Refusals 3, 5 to 8.
+#[no_mangle]
+pub extern "C" fn wisavulome_check_layout(layout: &[u8]) -> u32
+    ensures { λ r. ⌜ r ≡ layoutGiven (now (layout .entry)) ⌝ }
+{
+    check_calls::check_layout(layout)
+}
+
+// Reads a run input: 0. Refusals 3 to 9, 13, 15, 16.
+#[no_mangle]
+pub extern "C" fn wisavulome_read_plan(input: &[u8], out: &mut [u8]) -> u32
+    ensures { λ r. ⌜ given r (now (out .exit)) ≡ planGiven (now (input .entry)) (now (out .entry)) ⌝ }
+{
+    check_calls::read_plan(input, out)
 }
 
 // Builds a frame: its octets. Refusals 11, 15.
@@ -45,6 +63,14 @@ pub extern "C" fn wisavulome_status(frame: &[u8], excess: u32) -> u32
     calls::status(frame, excess)
 }
 
+// The status of a reception, spoiled (not 0) or not: 0 to 5. Refusal 5.
+#[no_mangle]
+pub extern "C" fn wisavulome_reception_status(frame: &[u8], excess: u32, spoiled: u32) -> u32
+    ensures { λ r. ⌜ r ≡ receptionGiven (now (frame .entry)) excess spoiled ⌝ }
+{
+    check_calls::reception_status(frame, excess, spoiled)
+}
+
 // The status, and where the client data lie. Refusals 5, 15.
 #[no_mangle]
 pub extern "C" fn wisavulome_client_data(frame: &[u8], excess: u32, out: &mut [u8]) -> u32
@@ -59,6 +85,14 @@ pub extern "C" fn wisavulome_start(area: &mut [u8], sheet: &[u8], depth: u32, dr
     ensures { λ r. ⌜ given r (now (area .exit)) ≡ startGiven (now (area .entry)) (now (sheet .entry)) depth (now (draws .entry)) ⌝ }
 {
     calls::start(area, sheet, depth, draws)
+}
+
+// Checks a work area: 0. Refusals 1, 2.
+#[no_mangle]
+pub extern "C" fn wisavulome_check_area(area: &[u8]) -> u32
+    ensures { λ r. ⌜ r ≡ areaGiven (now (area .entry)) ⌝ }
+{
+    check_calls::check_area(area)
 }
 
 // Offers a frame to a station: 0. Refusals 1, 2, 10, 11, 12.
@@ -91,7 +125,7 @@ pub extern "C" fn wisavulome_run(area: &mut [u8], n: u32, out: &mut [u8]) -> u32
     if out.len() < 48 {
         return calls::refuse_short(area, n);
     }
-    let a = runs::run(area, n);
+    let a = fast_run::run(area, n);
     let done = a.done;
     let number = answers::numbers::done_number(done);
     if number != 0 {
@@ -137,6 +171,40 @@ pub extern "C" fn wisavulome_counters(area: &[u8], station: u32, out: &mut [u8])
     ensures { λ r. ⌜ given r (now (out .exit)) ≡ countersGiven (now (area .entry)) station (now (out .entry)) ⌝ }
 {
     calls::counters(area, station, out)
+}
+
+// The first piece of what is printed for a run input: its octets, and where the run stands. Refusals 1, 15.
+#[no_mangle]
+pub extern "C" fn wisavulome_begin(
+    input: &[u8],
+    area: &mut [u8],
+    progress: &mut [u8],
+    out: &mut [u8],
+) -> u32
+    ensures { λ r. ⌜ lent r (now (area .exit)) (now (progress .exit)) (now (out .exit)) ≡ begunLent (now (input .entry)) (now (area .entry)) (now (progress .entry)) (now (out .entry)) ⌝ }
+{
+    text_calls::begin(input, area, progress, out)
+}
+
+// The next piece: its octets, and where the run stands after it. Refusals 1, 2, 13, 15, 16.
+#[no_mangle]
+pub extern "C" fn wisavulome_advance(
+    input: &[u8],
+    area: &mut [u8],
+    progress: &mut [u8],
+    out: &mut [u8],
+) -> u32
+    ensures { λ r. ⌜ lent r (now (area .exit)) (now (progress .exit)) (now (out .exit)) ≡ advancedLent (now (input .entry)) (now (area .entry)) (now (progress .entry)) (now (out .entry)) ⌝ }
+{
+    text_calls::advance(input, area, progress, out)
+}
+
+// All that is printed for a run input: its octets. Refusals 1, 15.
+#[no_mangle]
+pub extern "C" fn wisavulome_print(input: &[u8], area: &mut [u8], out: &mut [u8]) -> u32
+    ensures { λ r. ⌜ left r (now (area .exit)) (now (out .exit)) ≡ printLeft (now (input .entry)) (now (area .entry)) (now (out .entry)) ⌝ }
+{
+    text_calls::print(input, area, out)
 }
 
 // The CRC-32 of the octets.

@@ -201,7 +201,7 @@ pub record Balanced (a : List ℕ) (i : ℕ) : Type 0 where
   pub even : getD (countersAt a i) offered 0 ≡ getD (countersAt a i) sent 0 + getD (countersAt a i) excessive 0 + digit (offers.holds (stationAt a i .transmitter))
   pub ended : getD (countersAt a i) sent 0 + getD (countersAt a i) excessive 0 ≤ clockAt a
 
-pub AllBalanced : List ℕ → Type 0
+abbrev pub AllBalanced : List ℕ → Type 0
 AllBalanced a = (i : ℕ) → i < countAt a → Balanced a i
 
 event-one : (e : TransmitEvent) → sentIn e + givenIn e ≤ 1
@@ -234,12 +234,11 @@ step-balanced a r i h v =
     }
 
 pub area-balanced : (a : List ℕ) → Passing a → AllBalanced a → AllBalanced (stepArea a)
-unfolding AllBalanced
 area-balanced a p v i h =
     let k : i < countAt a = omega (arith, count-by (stepArea a) a (step-layout a (p .ready))) in step-balanced a (p .ready) i k (v i k)
 
 pub stepped-balanced : (a : List ℕ) → Passing a → AllBalanced a → AllBalanced (steppedOnce a .octets)
-unfolding steppedOnce AllBalanced
+unfolding steppedOnce
 stepped-balanced a p v =
     rw (eq-eqb (areaRefusal a) 0 (ready-passes a p))
     (by-test (ltb 16777216 (clockAt a + 1)) (λ c. rw c v)
@@ -273,7 +272,6 @@ module _ (a f : List ℕ) (i : ℕ) (p : Passing a) (hi : i < countAt a) (low : 
       }
 
   all-balanced : AllBalanced a → AllBalanced (holding a f i)
-  unfolding AllBalanced
   all-balanced v j h =
       let few = p .ready .spread .few in
       let k : j < countAt a = omega (arith, count-by (holding a f i) a (offer-layout a f i p hi low high)) in
@@ -310,7 +308,6 @@ zero-counter at k h = word-at 16 [] at k h ∙ no-word (at + 4 * k)
 module _ (y : Layout) (d : ℕ) (ds : List (List ℕ)) (a : List ℕ) (big : 57344 ≤ length a) (ok : refusalOf y ≡ 0) (low : 1 ≤ d) (high : d ≤ 16)
     (formed : Formed (y .stations) (y .count)) where
   pub start-balanced : AllBalanced (fresh y d ds a)
-  unfolding AllBalanced
   start-balanced i h =
       let few = sound y ok .count .1 in
       let n : i < y .count = omega (arith, fresh-count y d ds a big few high formed (omega arith)) in

@@ -5,14 +5,17 @@ use Prim.Native.Nat.{ℕ, zero, suc, _+_, _<_}
 use mathlib.Core.Path.{_≡_}
 use mathlib.Core.Bool.{Bool}
 use mathlib.Core.List.{List, [], _∷_, _++_}
+use mathlib.Core.Logic.{_⊎_}
 use lib.Dec.{eqb}
 use lib.ListN.{length, getD}
 use Rattle.octets.specs.Base.{pick, some, numberOf}
 use Rattle.octets.specs.NumberLaws.{Octets}
 use Rattle.frame.specs.Build.{frameOf}
 use Rattle.packet.specs.declared.Heard.{Heard}
+use Rattle.packet.specs.declared.Heard.the-variants.{Nothing}
 use Rattle.receiver.specs.declared.ReceiveEvent.{ReceiveEvent}
 use Rattle.transmitter.specs.declared.TransmitEvent.{TransmitEvent}
+use Rattle.transmitter.specs.declared.TransmitEvent.the-variants.{Sent, GivenUp}
 use Rattle.area.specs.Area.{clockAt, addressAt, arrivalAt}
 use Rattle.pair.specs.BitTime.{actAt, eventsAt, stepArea, eventAt}
 use Rattle.offer.specs.Offer.{offered}
@@ -43,10 +46,12 @@ abbrev pub AllFair : List Call → Type 0
 AllFair [] = Unit {0}
 AllFair (c ∷ cs) = Fair c × AllFair cs
 
--- The area between two calls, and beside it, of each station, the frame of its last accepted offer ("what the builder makes of its
--- destination, value and data, with the offering station's own address as source") and the steps in which that frame has started.
+-- The area between two calls, and beside it, of each station: how many offers it has accepted, the frame of the last of them ("what the
+-- builder makes of its destination, value and data, with the offering station's own address as source"), and the steps in which that
+-- frame has started.
 pub record Moment : Type 0 where
   pub area : List ℕ
+  pub offers : ℕ → ℕ
   pub frame : ℕ → List ℕ
   pub starts : ℕ → ℕ
 
@@ -55,6 +60,7 @@ unfoldable pub next : Moment → Moment
 next m =
     record {
       area = stepArea (m .area);
+      offers = m .offers;
       frame = m .frame;
       starts = λ i. m .starts i + pick (actAt (m .area) i .outcome .start) 1 0;
     }
@@ -62,7 +68,12 @@ next m =
 -- an offer that is accepted
 unfoldable pub accept : (i : ℕ) (F : List ℕ) → List ℕ → Moment → Moment
 accept i F b m =
-    record { area = b; frame = λ j. pick (eqb j i) F (m .frame j); starts = λ j. pick (eqb j i) 0 (m .starts j) }
+    record {
+      area = b;
+      offers = λ j. m .offers j + pick (eqb j i) 1 0;
+      frame = λ j. pick (eqb j i) F (m .frame j);
+      starts = λ j. pick (eqb j i) 0 (m .starts j);
+    }
 
 -- whether any station has a late collision in the next step
 unfoldable pub late : Moment → Bool
@@ -109,7 +120,7 @@ end (c ∷ cs) m = end cs (leaves c m)
 
 -- "A fresh start": nothing offered yet
 abbrev pub begin : List ℕ → Moment
-begin b = record { area = b; frame = λ i. []; starts = λ i. 0 }
+begin b = record { area = b; offers = λ i. 0; frame = λ i. []; starts = λ i. 0 }
 
 -- ---- what a step reports: "Step t is the one made at clock t"
 
@@ -122,6 +133,14 @@ sentAt T u i = eventAt (eventsAt (momentAt T u .area)) i .sent
 abbrev pub gotAt : List Moment → (u j : ℕ) → ReceiveEvent
 gotAt T u j = eventAt (eventsAt (momentAt T u .area)) j .got
 
+-- an event that ends a frame, with the attempts that it carries
+abbrev pub Ends : TransmitEvent → ℕ → Type 0
+Ends v n = (v ≡ Sent n) ⊎ (v ≡ GivenUp n)
+
 -- what station j hears in it
 abbrev pub hearsAt : List Moment → (u j : ℕ) → Heard
 hearsAt T u j = arrivalAt (momentAt T u .area) j (clockAt (momentAt T u .area))
+
+-- "after u and before j next hears another": j has heard no other since step u
+abbrev pub QuietSince : List Moment → (u j : ℕ) → Type 0
+QuietSince T u j = (s : ℕ) → u < s → s < length T → hearsAt T s j ≡ Nothing

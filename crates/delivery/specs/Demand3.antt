@@ -4,25 +4,26 @@ use Prim.Native.Nat.{ℕ, suc, _+_, _≤_, _<_}
 use mathlib.Core.Path.{_≡_}
 use mathlib.Core.Bool.{true}
 use mathlib.Core.List.{List, [], _∷_}
-use mathlib.Core.Logic.{_⊎_}
 use lib.Dec.{ltb}
-use lib.ListN.{length, replicate}
+use lib.ListN.{length, getD, replicate}
 use lib.Seq.{sets}
-use Rattle.octets.specs.Base.{pick, refused, accepted, outcome}
-use Rattle.packet.specs.declared.Heard.the-variants.{Nothing}
-use Rattle.transmitter.specs.declared.TransmitEvent.{TransmitEvent}
-use Rattle.transmitter.specs.declared.TransmitEvent.the-variants.{Late, Sent, GivenUp}
+use Rattle.octets.specs.Base.{pick, refused, accepted, Outcome, outcome}
+use Rattle.octets.specs.Bits.{digit}
+use Rattle.layout.specs.declared.Layout.{Layout}
+use Rattle.layout.specs.Layout.{positionAt, addressAt}
+use Rattle.transmitter.specs.declared.TransmitEvent.the-variants.{Late, Sent}
 use Rattle.receiver.specs.declared.ReceiveEvent.the-variants.{GotOk}
 use Rattle.receiver.specs.Receive.{addressed}
-use Rattle.area.specs.Area.{clockAt, figuresAt, countAt, addressAt, spaceAt}
+use Rattle.station.specs.Count as counter
+use Rattle.area.specs.Area.{distance, clockAt, stationAt, countersAt}
 use Rattle.valid.specs.Valid.{areaRefusal}
 use Rattle.pair.specs.BitTime.{actAt, eventsAt}
-use Rattle.offer.specs.Offer.{offered}
+use Rattle.offer.specs.Offer.{holds, offered}
 use Rattle.bus.specs.Step.{steppedOnce}
+use Rattle.course.specs.declared.Ended.the-variants.{All}
 use Rattle.course.specs.Run.{tallied, ran}
 use Rattle.reading.specs.Read.{frameRead}
-use Rattle.delivery.specs.Calls.{Call, offer, step, run, read, Moment, made, leaves, log, end, begin, momentAt, sentAt, gotAt, hearsAt}
-use Rattle.delivery.specs.Balance.{AllBalanced}
+use Rattle.delivery.specs.Calls.{Call, offer, step, run, read, Moment, made, leaves, log, end, begin, momentAt, sentAt, gotAt, Ends, QuietSince}
 
 -- what a call leaves in the area, by its promise
 abbrev pub called : Call → List ℕ → List ℕ
@@ -36,51 +37,86 @@ abbrev pub counted : List Moment → List ℕ → List ℕ
 counted [] ws = ws
 counted (m ∷ T) ws = counted T (tallied (eventsAt (m .area)) 16 ws)
 
--- "some i reported sent, in step u − 1 − |p(i)−p(j)|, a frame addressed to j": of the steps T from a start with area b
-pub record Sender (b : List ℕ) (T : List Moment) (u j : ℕ) : Type 0 where
+-- |p(i)−p(j)|
+abbrev pub apart : Layout → (i j : ℕ) → ℕ
+apart y i j = distance (positionAt y i) (positionAt y j)
+
+-- "some i reported sent, in step u − 1 − |p(i)−p(j)|, a frame addressed to j": of the steps T on the layout y
+pub record Sender (y : Layout) (T : List Moment) (u j : ℕ) : Type 0 where
   pub from : ℕ
   pub at : ℕ
   pub attempts : ℕ
-  pub station : from < countAt b
+  pub station : from < y .count
   pub other : from ≡ j → ⊥
-  pub delay : u ≡ suc (at + spaceAt b from j)
+  pub delay : u ≡ suc (at + apart y from j)
   pub sent : sentAt T at from ≡ Sent attempts
   -- "A frame of station i is addressed to every j≠i whose address, or broadcast, is its destination."
-  pub for : addressed (addressAt b j) (momentAt T at .frame from) ≡ true
+  pub for : addressed (addressAt y j) (momentAt T at .frame from) ≡ true
 
--- an event that ends a frame, with the attempts that it carries
-abbrev pub Ends : TransmitEvent → ℕ → Type 0
-Ends v n = (v ≡ Sent n) ⊎ (v ≡ GivenUp n)
+-- what it sent: the frame of its last accepted offer, and which of its offers that is
+abbrev pub frameSent : {y : Layout} {u j : ℕ} (T : List Moment) → Sender y T u j → List ℕ
+frameSent T s = momentAt T (s .at) .frame (s .from)
 
--- From a fresh start that left the area b, the steps T were made, each written down with the moment before it, and m is the moment now.
-pub record Demand3 (b : List ℕ) (T : List Moment) (m : Moment) : Type 0 where
+abbrev pub offerSent : {y : Layout} {u j : ℕ} (T : List Moment) → Sender y T u j → ℕ
+offerSent T s = momentAt T (s .at) .offers (s .from)
+
+-- a reading that gives the frame F, "or is refused under 15 alone"
+abbrev pub readAs : (F out : List ℕ) → Outcome
+readAs F out = pick (ltb (length out) (length F)) (outcome (refused 15) out) (outcome (accepted (length F ∷ [])) (sets out 0 F))
+
+-- What a reading at station j gave: the frame of one sender, reported intact in step `at`, since which j heard no other.
+pub record ReadFrom (y : Layout) (T : List Moment) (m : Moment) (j : ℕ) (out : List ℕ) : Type 0 where
+  pub station : j < y .count
+  pub at : ℕ
+  pub step : at < length T
+  pub size : ℕ
+  pub got : gotAt T at j ≡ GotOk size
+  pub quiet : QuietSince T at j
+  pub sender : Sender y T at j
+  pub gives : frameRead (m .area) j out ≡ outcome (accepted (length (frameSent T sender) ∷ [])) (sets out 0 (frameSent T sender))
+
+-- From a fresh start on the layout y the steps T were made, each written down with the moment before it, and m is the moment now.
+pub record Demand3 (y : Layout) (T : List Moment) (m : Moment) : Type 0 where
   -- "Each call gets the area as the call before left it, .. so none of them is refused under 1 or 2."
   pub areas : (c : Call) → leaves c m .area ≡ called c (m .area)
   pub passes : areaRefusal (m .area) ≡ 0
-  -- "Step t is the one made at clock t."
+  -- "Step t is the one made at clock t." A step that is not refused answers the events of its moment.
   pub clocks : (u : ℕ) → u < length T → clockAt (momentAt T u .area) ≡ u
+  pub steps : steppedOnce (m .area) .answer ≡ accepted [] → (made step m ≡ m ∷ []) × (steppedOnce (m .area) .events ≡ eventsAt (m .area))
+  -- "A run stands for the steps it makes, and its answer counts their events." None ends early.
+  pub runs : (n : ℕ) → (ran (m .area) n .steps ≡ length (made (run n) m)) × (ran (m .area) n .words ≡ counted (made (run n) m) (replicate 9 0))
+  pub ends : (n : ℕ) → (ran (m .area) n .ended ≡ All) × (ran (m .area) n .answer ≡ accepted [] → ran (m .area) n .steps ≡ n)
   -- "no late collision"
-  pub never-late : (u i k : ℕ) → u < length T → i < countAt b → sentAt T u i ≡ Late k → ⊥
-  -- "no more attempts than the limit"; "A frame's attempts are the steps in which it starts; the event that ends it carries their number."
-  pub attempts : (u i n : ℕ) → u < length T → i < countAt b → Ends (sentAt T u i) n
-      → (n ≤ figuresAt b .limit) × (n ≡ momentAt T u .starts i + pick (actAt (momentAt T u .area) i .outcome .start) 1 0)
+  pub never-late : (u i k : ℕ) → u < length T → i < y .count → sentAt T u i ≡ Late k → ⊥
+  -- "no frame attempted more often than the limit": at every moment, and where it ends. "A frame's attempts are the steps in which it
+  -- starts; the event that ends it carries their number."
+  pub tries : (i : ℕ) → i < y .count → m .starts i ≤ y .figures .limit
+  pub tried : (u i : ℕ) → u < length T → i < y .count → momentAt T u .starts i ≤ y .figures .limit
+  pub attempts : (u i n : ℕ) → u < length T → i < y .count → Ends (sentAt T u i) n
+      → (n ≤ y .figures .limit) × (n ≡ momentAt T u .starts i + pick (actAt (momentAt T u .area) i .outcome .start) 1 0)
+  -- "A transmit event concerns the frame of its station's last accepted offer before it": one that ends a frame has an offer before it,
+  -- and two of one station have different ones.
+  pub offered : (u i n : ℕ) → u < length T → i < y .count → Ends (sentAt T u i) n → 0 < momentAt T u .offers i
+  pub apiece : (u v i n k : ℕ) → u < v → v < length T → i < y .count → Ends (sentAt T u i) n → Ends (sentAt T v i) k
+      → momentAt T u .offers i < momentAt T v .offers i
   -- "j reports receiveOK in u exactly when some i reported sent, in step u − 1 − |p(i)−p(j)|, a frame addressed to j."
-  pub received : (u j k : ℕ) → u < length T → j < countAt b → gotAt T u j ≡ GotOk k → Sender b T u j
-  pub delivered : (u j : ℕ) → u < length T → j < countAt b → Sender b T u j → (k : ℕ) × (gotAt T u j ≡ GotOk k)
+  pub received : (u j k : ℕ) → u < length T → j < y .count → gotAt T u j ≡ GotOk k → Sender y T u j
+  pub delivered : (u j : ℕ) → u < length T → j < y .count → Sender y T u j → (k : ℕ) × (gotAt T u j ≡ GotOk k)
   -- "There is then one such i"
-  pub one : (u j : ℕ) → u < length T → j < countAt b → (s r : Sender b T u j) → s .from ≡ r .from
+  pub one : (u j : ℕ) → u < length T → j < y .count → (s r : Sender y T u j) → s .from ≡ r .from
+  -- "no other step reports it there": of one offer, at one station, at most one step reports receiveOK
+  pub once : (u v j k l : ℕ) → u < length T → v < length T → j < y .count → gotAt T u j ≡ GotOk k → gotAt T v j ≡ GotOk l
+      → (s : Sender y T u j) (r : Sender y T v j) → s .from ≡ r .from → offerSent T s ≡ offerSent T r → u ≡ v
   -- "a reading at j after u and before j next hears another gives that frame octet for octet, or is refused under 15 alone"
-  pub reading : (u j k : ℕ) → u < length T → j < countAt b → gotAt T u j ≡ GotOk k
-      → ((s : ℕ) → u ≤ s → s < length T → hearsAt T s j ≡ Nothing) → (s : Sender b T u j) (out : List ℕ)
-      → frameRead (m .area) j out
-      ≡ pick (ltb (length out) (length (momentAt T (s .at) .frame (s .from)))) (outcome (refused 15) out)
-      (outcome (accepted (length (momentAt T (s .at) .frame (s .from)) ∷ [])) (sets out 0 (momentAt T (s .at) .frame (s .from))))
-  -- "A run stands for the steps it makes, and its answer counts their events."
-  pub runs : (n : ℕ) → (ran (m .area) n .steps ≡ length (made (run n) m))
-      × (ran (m .area) n .words ≡ counted (made (run n) m) (replicate 9 0))
+  pub reading : (u j k : ℕ) → u < length T → j < y .count → gotAt T u j ≡ GotOk k → QuietSince T u j
+      → (s : Sender y T u j) (out : List ℕ) → frameRead (m .area) j out ≡ readAs (frameSent T s) out
+  -- "what is read is, octet for octet, what was built": every reading that is accepted
+  pub readings : (j : ℕ) (out vs : List ℕ) → frameRead (m .area) j out .answer ≡ accepted vs → ReadFrom y T m j out
   -- "From a fresh start, offered equals sent plus excessive plus frames still held."
-  pub balance : AllBalanced (m .area)
+  pub balance : (i : ℕ) → i < y .count
+      → getD (countersAt (m .area) i) counter.offered 0
+      ≡ getD (countersAt (m .area) i) counter.sent 0 + getD (countersAt (m .area) i) counter.excessive 0 + digit (holds (stationAt (m .area) i .transmitter))
 
--- and that over a list of calls
-abbrev pub Demand3For : List ℕ → List Call → Type 0
-Demand3For b cs = Demand3 b (log cs (begin b)) (end cs (begin b))
+-- and that over a list of calls, from the area b that a fresh start on y left
+abbrev pub Demand3For : Layout → List ℕ → List Call → Type 0
+Demand3For y b cs = Demand3 y (log cs (begin b)) (end cs (begin b))

@@ -20,7 +20,7 @@ use Rattle.state.specs.declared.Transmitter.the-variants.{NoFrame}
 use Rattle.state.specs.declared.Station.{Station}
 use Rattle.area.specs.Area.{depthAt, drawAt, figuresAt, countAt, positionAt, addressAt, distance, spaceAt, bufferAt}
 use Rattle.start.specs.Fresh.{tapIn, fresh}
-use Rattle.start.specs.FreshLaws.{Formed, fresh-clock, fresh-count, fresh-position, fresh-address, fresh-arrival}
+use Rattle.start.specs.FreshLaws.{Formed, fresh-clock, fresh-count, fresh-figures, fresh-position, fresh-address, fresh-arrival}
 use Rattle.pair.specs.Ready.{Readiness}
 use Rattle.ready.specs.Passes.{Passing, rise}
 use Rattle.offer.specs.OfferLaws.{address-six}
@@ -48,6 +48,13 @@ netOf b =
 -- "The span S is last position less first."
 unfoldable pub spanAt : List ℕ → ℕ
 spanAt b = positionAt b (countAt b - 1) - positionAt b 0
+
+-- the area b holds the layout y
+pub record Laid (y : Layout) (b : List ℕ) : Type 0 where
+  pub count : countAt b ≡ y .count
+  pub figures : figuresAt b ≡ y .figures
+  pub address : (i : ℕ) → i < y .count → addressAt b i ≡ lay.addressAt y i
+  pub space : (i j : ℕ) → i < y .count → j < y .count → spaceAt b i j ≡ distance (lay.positionAt y i) (lay.positionAt y j)
 
 -- an address of six octets, in each place that is counted
 pub record Proper (y : Layout) : Type 0 where
@@ -142,6 +149,16 @@ module _ (y : Layout) (d : ℕ) (ds : List (List ℕ)) (a : List ℕ) (big : 573
       let two = sound y ok .count .0 in
       ap (λ (n : ℕ). positionAt (fresh y d ds a) (n - 1) - positionAt (fresh y d ds a) 0) count-there
       ∙ ap₂ (λ (p q : ℕ). p - q) (position-there (y .count - 1) (omega arith)) (position-there 0 (omega arith))
+
+  pub start-laid : Laid y (fresh y d ds a)
+  unfolding spaceAt
+  start-laid =
+      record {
+        count = count-there;
+        figures = fresh-figures y d ds a big few high (w .six) (sound y ok .figures);
+        address = address-there;
+        space = λ i j hi hj. ap₂ distance (position-there i hi) (position-there j hj);
+      }
 
   pub start-encodes : Encodes (netOf (fresh y d ds a)) (fresh y d ds a) (world.fresh (netOf (fresh y d ds a)))
   unfolding world.fresh world.freshStation freshStation

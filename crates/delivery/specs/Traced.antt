@@ -3,6 +3,8 @@ use Prim.Native.Nat.{ℕ, zero, suc, _+_, _-_, _≤_, _<_}
 use mathlib.Core.Path.{_≡_, refl, sym, _∙_, ap, ap₂, subst}
 use mathlib.Core.Bool.{Bool, true, false}
 use mathlib.Core.List.{List, [], _∷_, _++_, append-assoc, append-nil}
+use mathlib.Core.Logic.{_⊎_, inl, inr}
+use native.Mathlib.Nat.{add-zero}
 use native.Mathlib.Numerals.{add-one}
 use native.Mathlib.Omega.{arith}
 use borrow.Author.Tests.{eq-eqb, ne-eqb, eqb-true, ltb-false, leb-false}
@@ -11,10 +13,12 @@ use lib.ListN.{length, length-append, List·getD-append}
 use lib.Seq.{getD-append-seam}
 use Rattle.octets.specs.Base.{pick, numberOf}
 use Rattle.octets.specs.BaseLaws.{by-test, by-eq}
+use Rattle.octets.specs.Filled.{filled-at}
 use Rattle.octets.specs.NumberLaws.{Octets}
 use Rattle.frame.specs.Limits.{refusesData}
 use Rattle.frame.specs.Build.{frameOf}
 use Rattle.packet.specs.declared.Heard.{Heard}
+use Rattle.transmitter.specs.declared.TransmitEvent.{TransmitEvent}
 use Rattle.state.specs.declared.Transmitter.{Transmitter}
 use Rattle.state.specs.declared.Station.{Station}
 use Rattle.station.specs.declared.Stepped.{Stepped}
@@ -22,21 +26,25 @@ use Rattle.station.specs.Step.{triesAfter, stepped, nextStation}
 use Rattle.station.specs.StepLaws.{tries-more, tries-same}
 use Rattle.area.specs.Area.{clockAt, countAt, addressAt, stationAt}
 use Rattle.valid.specs.Valid.{areaRefusal}
+use Rattle.pair.specs.declared.Events.{Events}
+use Rattle.pair.specs.BitTime.{actAt, eventsOf, noEvents, eventsAt, eventAt}
 use Rattle.ready.specs.Passes.{Passing, ready-passes}
 use Rattle.ready.specs.Stays.{step-passing}
 use Rattle.offer.specs.Offer.{holds, offeredStation, withOffer, offered}
 use Rattle.offer.specs.OfferLaws.{address-six}
 use Rattle.bus.specs.Step.{steppedOnce}
 use Rattle.course.specs.Run.{ran}
+use Rattle.trace.specs.Basic.{either, clash}
 use Rattle.trace.specs.World as world
 use Rattle.meeting.specs.Net.{Net}
 use Rattle.trace.specs.World.{Offer, frameFor, World, outcome, given, offers, before, ready}
 use Rattle.trace.specs.Run.{before-suc, ready-clock}
 use Rattle.trace.specs.Keep.{held-back}
+use Rattle.trace.specs.Sent.{end-phase}
 use Rattle.delivery.specs.Passing.{frame-range, holding, offer-passing}
 use Rattle.delivery.specs.Encode.{Plan, Encodes, same-outcome, encodes-step}
 use Rattle.delivery.specs.Offered.{encodes-offer}
-use Rattle.delivery.specs.Calls.{Call, offer, step, run, read, FairOffer, Fair, AllFair, Moment, next, accept, late, runMade, runEnd, made, leaves, log, end, begin, momentAt}
+use Rattle.delivery.specs.Calls.{Call, offer, step, run, read, FairOffer, Fair, AllFair, Moment, next, accept, late, runMade, runEnd, made, leaves, log, end, begin, momentAt, sentAt, Ends}
 
 -- ---- inputs that agree make the same worlds
 
@@ -76,18 +84,29 @@ module _ (P : Net) (inp : ℕ → List (Offer P)) (o : Offer P) (t : ℕ) where
 
 -- ---- a step made, and where the list stands
 
--- the area before a step encodes the world before it; the frames and their starts are booked
+-- the area before a step encodes the world before it; the offers, the frames and their starts are booked
 pub record Row (P : Net) (m : Moment) (w : World) : Type 0 where
   pub coded : Encodes P (m .area) w
   pub passing : Passing (m .area)
   pub frames : (i : ℕ) → i < P .n → m .frame i ≡ w .frame i
-  pub tries : (i : ℕ) → i < P .n → holds (w .station i .transmitter) ≡ true → w .station i .attempts ≡ m .starts i
+  pub tries : (i : ℕ) → i < P .n → w .station i .attempts ≡ m .starts i
+  pub behind : (i : ℕ) → i < P .n → holds (w .station i .transmitter) ≡ true → 0 < m .offers i
+
+-- offer c of station i is over: a later one was accepted, or the station holds no frame
+abbrev pub Over : (c : ℕ) → Moment → World → ℕ → Type 0
+Over c m w i = (c < m .offers i) ⊎ ((c ≡ m .offers i) × (holds (w .station i .transmitter) ≡ false))
+
+-- every offer whose frame ended in one of the first v steps is over
+abbrev pub Since : (P : Net) → List Moment → (v : ℕ) → Moment → World → Type 0
+Since P T v m w = (u i n : ℕ) → u < v → i < P .n → Ends (sentAt T u i) n → Over (momentAt T u .offers i) m w i
 
 pub record Traced (P : Net) (m : Moment) (T : List Moment) : Type 0 where
   pub inp : ℕ → List (Offer P)
   pub later : (u : ℕ) → length T < u → inp u ≡ []
   pub here : Row P m (ready P inp (length T))
   pub rows : (u : ℕ) → u < length T → Row P (momentAt T u) (ready P inp u)
+  pub over : Since P T (length T) m (ready P inp (length T))
+  pub overs : (v : ℕ) → v < length T → Since P T v (momentAt T v) (ready P inp v)
 
 -- ---- a step
 
@@ -114,10 +133,46 @@ row-step P m w r early =
       coded = encodes-step P (m .area) w (r .coded) (r .passing .ready);
       passing = step-passing (m .area) (r .passing) early;
       frames = r .frames;
-      tries = λ i hi h.
+      tries = λ i hi.
           tries-step P w i ∙ tries-count (w .station i .attempts) (outcome P w i .start)
-          ∙ ap₂ (λ (x : ℕ) (b : Bool). x + pick b 1 0) (r .tries i hi (held-step P w i h)) (sym (ap (λ (o : Stepped). o .start) (same-outcome P (m .area) w (r .coded) (r .passing .ready) i hi)));
+          ∙ ap₂ (λ (x : ℕ) (b : Bool). x + pick b 1 0) (r .tries i hi) (sym (ap (λ (o : Stepped). o .start) (same-outcome P (m .area) w (r .coded) (r .passing .ready) i hi)));
+      behind = λ i hi h. r .behind i hi (held-step P w i h);
     }
+
+-- ---- offers that are over stay so
+
+-- an event that ends a frame leaves its station with none
+ended-free : (P : Net) (w : World) (i n : ℕ) → Ends (outcome P w i .sent) n → holds (outcome P w i .station .transmitter) ≡ false
+unfolding outcome stepped nextStation
+ended-free P w i n e = ap holds (end-phase (P .fig) (w .station i .transmitter) _ _ _ _ _ n e .0)
+
+pub event-is : (a : List ℕ) (i : ℕ) → i < countAt a → eventAt (eventsAt a) i ≡ eventsOf (actAt a i)
+unfolding eventsAt
+event-is a i h = filled-at noEvents (λ k. eventsOf (actAt a k)) (countAt a) i noEvents h
+
+-- what a station reports is its world's
+pub sent-in : (P : Net) (m : Moment) (w : World) → Row P m w → (i : ℕ) → i < P .n → eventAt (eventsAt (m .area)) i .sent ≡ outcome P w i .sent
+sent-in P m w r i hi =
+    ap (λ (e : Events). e .sent) (event-is (m .area) i (omega (arith, r .coded .plan .count)))
+    ∙ ap (λ (o : Stepped). o .sent) (same-outcome P (m .area) w (r .coded) (r .passing .ready) i hi)
+
+over-now : (P : Net) (m : Moment) (w : World) → Row P m w → (i n : ℕ) → i < P .n → Ends (eventAt (eventsAt (m .area)) i .sent) n
+    → Over (m .offers i) (next m) (world.step P w) i
+unfolding next world.step
+over-now P m w r i n hi e = inr (refl, ended-free P w i n (subst (λ (v : TransmitEvent). Ends v n) (sent-in P m w r i hi) e))
+
+over-step : (P : Net) (m : Moment) (w : World) (c i : ℕ) → Over c m w i → Over c (next m) (world.step P w) i
+unfolding next world.step
+over-step P m w c i (inl h) = inl h
+over-step P m w c i (inr x) =
+    inr (x .0, by-test (holds (outcome P w i .station .transmitter)) (λ h. clash (held-step P w i h) (x .1)) (λ h. h))
+
+over-offer : (P : Net) (o : Offer P) (m : Moment) (w : World) (F b : List ℕ) (c j : ℕ) → Over c m w j → Over c (accept (o .to) F b m) (given P o w) j
+unfolding accept given
+over-offer P o m w F b c j x =
+    by-eq j (o .to)
+    (λ z. rw (eq-eqb j (o .to) z) (inl (either x (λ h. omega arith) (λ h. omega (arith, h .0)))))
+    (λ ne. rw (ne-eqb j (o .to) ne, add-zero (m .offers j)) x)
 
 -- a list with one moment more
 last-is : (T : List Moment) (m : Moment) → momentAt (T ++ (m ∷ [])) (length T) ≡ m
@@ -129,6 +184,17 @@ front-is T m u h = List·getD-append T (m ∷ []) (begin []) u h
 long : (T : List Moment) (m : Moment) → length (T ++ (m ∷ [])) ≡ suc (length T)
 long T m = length-append T (m ∷ []) ∙ add-one (length T)
 
+since-longer : (P : Net) (T : List Moment) (y : Moment) (v : ℕ) (m : Moment) (w : World) → v ≤ length T → Since P T v m w → Since P (T ++ (y ∷ [])) v m w
+since-longer P T y v m w h s u i n hu hi =
+    subst (λ (x : Moment). Ends (eventAt (eventsAt (x .area)) i .sent) n → Over (x .offers i) m w i) (sym (front-is T y u (omega arith))) (s u i n hu hi)
+
+since-step : (P : Net) (T : List Moment) (m : Moment) (w : World) → Row P m w → Since P T (length T) m w
+    → Since P (T ++ (m ∷ [])) (suc (length T)) (next m) (world.step P w)
+since-step P T m w r s u i n hu hi =
+    by-eq u (length T)
+    (λ z. rw z (subst (λ (x : Moment). Ends (eventAt (eventsAt (x .area)) i .sent) n → Over (x .offers i) (next m) (world.step P w) i) (sym (last-is T m)) (over-now P m w r i n hi)))
+    (λ ne e. over-step P m w _ i (since-longer P T m (length T) m w (omega arith) s u i n (omega (arith, ne)) hi e))
+
 pub traced-step : (P : Net) (m : Moment) (T : List Moment) → Traced P m T → clockAt (m .area) < 16777216 → Traced P (next m) (T ++ (m ∷ []))
 traced-step P m T v early =
     record {
@@ -139,6 +205,17 @@ traced-step P m T v early =
           by-eq u (length T)
           (λ z. rw z (subst (λ (x : Moment). Row P x (ready P (v .inp) (length T))) (sym (last-is T m)) (v .here)))
           (λ ne. let l : u < length T = omega (arith, long T m, ne) in subst (λ (x : Moment). Row P x (ready P (v .inp) u)) (sym (front-is T m u l)) (v .rows u l));
+      over = let w = ready P (v .inp) (length T) in
+          subst (λ (x : World). Since P (T ++ (m ∷ [])) (length (T ++ (m ∷ []))) (next m) x)
+          (sym (ap (ready P (v .inp)) (long T m) ∙ step-world P (v .inp) (length T) (v .later (suc (length T)) (omega arith))))
+          (subst (λ (k : ℕ). Since P (T ++ (m ∷ [])) k (next m) (world.step P w)) (sym (long T m)) (since-step P T m w (v .here) (v .over)));
+      overs = λ x h.
+          by-eq x (length T)
+          (λ z. rw z (subst (λ (y : Moment). Since P (T ++ (m ∷ [])) (length T) y (ready P (v .inp) (length T))) (sym (last-is T m))
+          (since-longer P T m (length T) m (ready P (v .inp) (length T)) (omega arith) (v .over))))
+          (λ ne. let l : x < length T = omega (arith, long T m, ne) in
+          subst (λ (y : Moment). Since P (T ++ (m ∷ [])) x y (ready P (v .inp) x)) (sym (front-is T m x l))
+          (since-longer P T m x (momentAt T x) (ready P (v .inp) x) (omega arith) (v .overs x l)));
     }
 
 -- ---- a run
@@ -266,7 +343,8 @@ module _ (P : Net) (m : Moment) (w : World) (r : Row P m w) (i : ℕ) (d : List 
         coded = subst (λ (b : List ℕ). Encodes P b (given P asked w)) (sym (k .octets)) (encodes-offer P (m .area) w (r .coded) (r .passing) asked inside still-free built same-frame (sizes .0) (sizes .1));
         passing = subst Passing (sym (k .octets)) (offer-passing (m .area) built i (r .passing) (k .station) (sizes .0) (sizes .1));
         frames = λ j hj. by-eq j i (λ z. rw (eq-eqb j i z) same-frame) (λ ne. rw (ne-eqb j i ne) (r .frames j hj));
-        tries = λ j hj. by-eq j i (λ z. rw (eq-eqb j i z) (λ h. tried-none (w .station j) (length (frameFor P asked)))) (λ ne. rw (ne-eqb j i ne) (r .tries j hj));
+        tries = λ j hj. by-eq j i (λ z. rw (eq-eqb j i z) (tried-none (w .station j) (length (frameFor P asked)))) (λ ne. rw (ne-eqb j i ne) (r .tries j hj));
+        behind = λ j hj. by-eq j i (λ z. rw (eq-eqb j i z) (λ h. omega arith)) (λ ne. rw (ne-eqb j i ne, add-zero (m .offers j)) (r .behind j hj));
       }
 
 traced-offer : (P : Net) (m : Moment) (T : List Moment) → Traced P m T → (i : ℕ) (d : List ℕ) (v : ℕ) (x : List ℕ) → FairOffer d v x → Taken (m .area) i d v x
@@ -282,6 +360,11 @@ traced-offer P m T t i d v x q k =
           (sym (put-ready P (t .inp) o (length T) ∙ offer-world P o w (still-free P m w (t .here) i d v x q k))) (row-offer P m w (t .here) i d v x q k);
       rows = λ u h.
           subst (Row P (momentAt T u)) (sym (ready-agree P (put P (t .inp) o (length T)) (t .inp) u (λ s l. put-else P (t .inp) o (length T) s (λ z. omega arith)))) (t .rows u h);
+      over = subst (Since P T (length T) (accept i (frameOf d (addressAt (m .area) i) v x) (offered (m .area) i d v x .octets) m))
+          (sym (put-ready P (t .inp) o (length T) ∙ offer-world P o w (still-free P m w (t .here) i d v x q k)))
+          (λ u j n hu hj e. over-offer P o m w (frameOf d (addressAt (m .area) i) v x) (offered (m .area) i d v x .octets) _ j (t .over u j n hu hj e));
+      overs = λ u h.
+          subst (Since P T u (momentAt T u)) (sym (ready-agree P (put P (t .inp) o (length T)) (t .inp) u (λ s l. put-else P (t .inp) o (length T) s (λ z. omega arith)))) (t .overs u h);
     }
 
 -- ---- the calls
@@ -337,6 +420,10 @@ fresh-tries : (P : Net) (i : ℕ) → world.fresh P .station i .attempts ≡ 0
 unfolding world.fresh world.freshStation
 fresh-tries P i = refl
 
+fresh-free : (P : Net) (i : ℕ) → holds (world.fresh P .station i .transmitter) ≡ false
+unfolding world.fresh world.freshStation
+fresh-free P i = refl
+
 no-step : (u : ℕ) → u < 0 → ⊥
 no-step u h = omega arith
 
@@ -346,6 +433,8 @@ traced-begin P b e p =
     record {
       inp = λ u. [];
       later = λ u h. refl;
-      here = record { coded = e; passing = p; frames = λ i hi. fresh-frame P i; tries = λ i hi h. fresh-tries P i };
+      here = record { coded = e; passing = p; frames = λ i hi. fresh-frame P i; tries = λ i hi. fresh-tries P i; behind = λ i hi h. clash h (fresh-free P i) };
       rows = λ u h. absurd (no-step u h);
+      over = λ u i n h. absurd (no-step u h);
+      overs = λ v h. absurd (no-step v h);
     }

@@ -1,8 +1,9 @@
 -- Laws for the code of a jump. Assumes nothing.
 use Prim.Native.Nat.{ℕ, zero, suc, _+_, _≤_, _<_}
-use mathlib.Core.Path.{_≡_, sym, _∙_, ap, subst}
+use mathlib.Core.Path.{_≡_, refl, sym, _∙_, ap}
 use mathlib.Core.List.{List}
 use native.Mathlib.Omega.{arith}
+use borrow.Author.Tests.{ne-eqb}
 use lib.ListN.{length}
 use Rattle.octets.specs.Turns.{turns, turns-none, turns-more, turns-end, length-turns}
 use Rattle.layout.specs.declared.Figures.{Figures}
@@ -10,9 +11,9 @@ use Rattle.state.specs.declared.Station.{Station}
 use Rattle.area.specs.Places.{Part, layout, station, Off, Keeps}
 use Rattle.area.specs.Area.{clockAt, withClock, figuresAt, countAt, stationAt, withStation}
 use Rattle.area.specs.AreaLaws.{keeps-refl, keeps-trans, station-by, station-keeps, length-station}
-use Rattle.pair.specs.Ready.{Ready}
 use Rattle.fast_silence.specs.Rested.{rested}
 use Rattle.fast_silence.specs.Jump.{restedAll, jumped}
+use Rattle.fast_silence.specs.Bound.{silentFor, silent-most, skipped}
 
 module _ (a : List ℕ) (m : ℕ) where
   all-long : (k : ℕ) → length (restedAll a m k a) ≡ length a
@@ -49,10 +50,18 @@ module _ (a : List ℕ) (m : ℕ) where
   unfolding jumped
   jump-is n t x b en et ex eb = eb ∙ rw (ex, en, et)
 
-  pub ready-gap : (f : Figures) → f ≡ figuresAt a → Ready a → f .gap1 + f .gap2 < 65536
-  unfolding Ready
-  ready-gap f e r = subst (λ (g : Figures). g .gap1 + g .gap2 < 65536) (sym e) (omega (arith, r .figures .gap1, r .figures .gap2))
+  -- ---- a jump where it is worth it
 
-  pub ready-few : (n : ℕ) → n ≡ countAt a → Ready a → n ≤ 16
-  unfolding Ready
-  ready-few n e r = omega (arith, r .spread .few)
+  pub skip-none : (r : ℕ) → r ≡ silentFor m a → r ≡ 0 → 0 ≡ silentFor m a
+  skip-none r p e = sym e ∙ p
+
+  pub skipped-none : a ≡ skipped 0 a
+  unfolding skipped
+  skipped-none = refl
+
+  pub skipped-some : (r : ℕ) (b : List ℕ) → (r ≡ 0 → ⊥) → b ≡ jumped r a → b ≡ skipped r a
+  unfolding skipped
+  skipped-some r b ne e = rw (ne-eqb r 0 ne) e
+
+  pub skip-room : (r : ℕ) → r ≡ silentFor m a → clockAt a + m ≤ 16777216 → clockAt a + r ≤ 16777216
+  skip-room r p h = omega (arith, silent-most a m)

@@ -7,6 +7,7 @@ ghost use lib.ListN.{length};
 ghost use Rattle.area.specs.Area.{clockAt, figuresAt};
 ghost use Rattle.pair.specs.Ready.{Ready};
 ghost use Rattle.fast_silence.specs.Jump.{restedAll, jumped};
+ghost use Rattle.fast_silence.specs.Bound.{silentFor, skipped};
 
 // Each of n stations after m steps of silence.
 fn rest_all(area: &mut [u8], n: usize, m: u32, f: Figures)
@@ -23,7 +24,7 @@ fn rest_all(area: &mut [u8], n: usize, m: u32, f: Figures)
 }
 
 // m steps of a silence that lasts so long.
-pub fn jump(area: &mut [u8], m: u32)
+fn jump(area: &mut [u8], m: u32)
     requires { ⌜ (57344 ≤ length (now area)) × (clockAt (now area) + m ≤ 16777216) × Ready (now area) ⌝ }
     ensures { λ r. ⌜ now (area .exit) ≡ jumped m (now (area .entry)) ⌝ }
 {
@@ -32,4 +33,18 @@ pub fn jump(area: &mut [u8], m: u32)
     let f = area::read_figures(area);
     rest_all(area, n, m, f);
     area::write_clock(area, t + m);
+}
+
+// Of the next m steps those that are silence, where they are worth a jump: says how many.
+pub fn skip(area: &mut [u8], m: u32) -> u32
+    requires { ⌜ (57344 ≤ length (now area)) × (clockAt (now area) + m ≤ 16777216) × Ready (now area) ⌝ }
+    ensures steps { λ r. ⌜ r ≡ silentFor m (now (area .entry)) ⌝ }
+    ensures area { λ r. ⌜ now (area .exit) ≡ skipped r (now (area .entry)) ⌝ }
+{
+    let r = fast_search::silent_for(area, m);
+    if r == 0 {
+        return 0;
+    }
+    jump(area, r);
+    r
 }

@@ -1,11 +1,11 @@
 -- The events of K steps by a plan, and the run that makes them. Assumes nothing.
 use Prim.Native.Nat.{ℕ, zero, suc, _+_, _-_, _≤_, _<_}
-use mathlib.Core.Path.{_≡_, _∙_, ap, ap₂}
-use mathlib.Core.Bool.{false}
+use mathlib.Core.Path.{_≡_, sym, _∙_, ap, ap₂}
+use mathlib.Core.Bool.{Bool, false}
 use mathlib.Core.List.{List}
 use native.Mathlib.Omega.{arith}
 use lib.ListN.{getD}
-use Rattle.octets.specs.Base.{some}
+use Rattle.octets.specs.Base.{pick, some}
 use Rattle.octets.specs.BaseLaws.{by-test, below-none}
 use borrow.Author.Tests.{ltb-true, ltb-false}
 use lib.Dec.{ltb}
@@ -18,6 +18,8 @@ use Rattle.pair.specs.declared.Events.{Events}
 use Rattle.pair.specs.BitTime.{actAt, eventsOf, noEvents, eventsAt, stepArea}
 use Rattle.pair.specs.Ready.{Readiness}
 use Rattle.course.specs.Run.{tallied, lateAt, runOf}
+use Rattle.course.specs.Until.{eventful, Stretched, oneMore, untilEvent}
+use Rattle.course.specs.UntilLaws.{plus, stretch-first}
 use Rattle.fast_plan.specs.Plan.{Plan, actAfter, Holds, steps, Planned}
 use Rattle.fast_plan.specs.Happens.{plan-happens, plan-acts}
 use Rattle.fast_plan.specs.Exact.{planned, steps-planned}
@@ -78,3 +80,25 @@ run-steps a P (suc K) r m ws ready early h u =
 pub run-planned : (a : List ℕ) (P : Plan) (K r m : ℕ) (ws : List ℕ) → 0 < K → Readiness a → clockAt a + K ≤ 16777216 → Holds a P K → Unhurt a P K
     → runOf (K + r) m ws a ≡ runOf r (m + K) (talliedBy a P K ws) (planned a P K)
 run-planned a P K r m ws pos ready early h u = run-steps a P K r m ws ready early h u ∙ ap (runOf r (m + K) (talliedBy a P K ws)) (steps-planned a P K pos ready early h)
+
+-- K steps without an event
+pub until-steps : (a : List ℕ) (K k : ℕ) → ((s : ℕ) → s < K → eventful (eventsAt (steps s a)) ≡ false)
+    → untilEvent (K + k) a ≡ plus K (untilEvent k (steps K a))
+unfolding steps turns untilEvent
+until-steps a zero k h =
+    let e : 0 + k ≡ k = omega arith in
+    let z : k ≡ k - 0 = omega arith in
+    ap (λ (m : ℕ). untilEvent m a) e ∙ sym (ap (λ (m : ℕ). plus 0 (untilEvent m a)) z ∙ stretch-first k a)
+until-steps a (suc K) k h =
+    let e : suc K + k ≡ K + suc k = omega arith in
+    let x = steps K a in
+    ap (λ (m : ℕ). untilEvent m a) e
+    ∙ until-steps a K (suc k) (λ s l. h s (omega arith))
+    ∙ ap (λ (b : Bool). plus K (pick b (record { steps = 1; events = eventsAt x; octets = stepArea x }) (oneMore (untilEvent k (stepArea x))))) (h K (omega arith))
+    ∙ one (untilEvent k (stepArea x))
+  where
+    one : (s : Stretched) → plus K (oneMore s) ≡ plus (suc K) s
+    one s = λ i. record { steps = z (s .steps) i; events = s .events; octets = s .octets }
+      where
+        z : (j : ℕ) → K + (j + 1) ≡ suc K + j
+        z j = omega arith

@@ -1,7 +1,7 @@
 -- A law for each way through the code. Assumes nothing.
 use Prim.Native.Nat.{ℕ, _+_, _-_, _≤_, _<_, max}
 use mathlib.Core.Path.{_≡_, _∙_, ap}
-use mathlib.Core.Bool.{Bool, false, _||_, _&&_}
+use mathlib.Core.Bool.{Bool, true, false, _||_, _&&_}
 use native.Mathlib.Omega.{arith}
 use Rattle.layout.specs.declared.Figures.{Figures}
 use Rattle.layout.specs.Layout.{gapOf}
@@ -9,11 +9,13 @@ use Rattle.state.specs.declared.Deference.{Deference}
 use Rattle.state.specs.declared.Deference.the-variants.{Quiet, Busy, Gap}
 use Rattle.state.specs.declared.Transmitter.{Transmitter}
 use Rattle.state.specs.declared.Transmitter.the-variants.{NoFrame, Waiting, BackingOff, Sending, Heading, Jamming}
+use Rattle.state.specs.declared.Receiver.{Receiver}
+use Rattle.state.specs.declared.Receiver.the-variants.{Listening, Readable, Seeking, Collecting}
 use Rattle.state.specs.declared.Station.{Station}
 use borrow.Author.Tests.{eq-eqb, ne-eqb, lt-ltb, le-ltb, le-leb, lt-leb}
 use lib.Dec.{eqb, ltb}
 use Rattle.fast_silence.specs.Rested.{restsFor, gapTo, restedDeference, restedTransmitter, hasWaited, rested}
-use Rattle.fast_silence.specs.Bound.{framesRest}
+use Rattle.fast_silence.specs.Bound.{framesRest, idle, stationRests}
 
 module _ (f : Figures) (d : Deference) where
   pub rest-quiet : d ≡ Quiet → 0 ≡ restsFor f d
@@ -56,6 +58,39 @@ module _ (f : Figures) (m : ℕ) (d : Deference) (x : Transmitter) where
   pub frame-jams : (k : ℕ) → x ≡ Jamming k → 0 ≡ framesRest f m d x
   unfolding framesRest
   frame-jams k e = rw e
+
+-- ---- a station
+
+module _ (x : Receiver) where
+  pub idle-listening : x ≡ Listening → true ≡ idle x
+  unfolding idle
+  idle-listening e = rw e
+
+  pub idle-readable : (n : ℕ) → x ≡ Readable n → true ≡ idle x
+  unfolding idle
+  idle-readable n e = rw e
+
+  pub idle-seeking : (n : ℕ) (sp own : Bool) → x ≡ Seeking n sp own → false ≡ idle x
+  unfolding idle
+  idle-seeking n sp own e = rw e
+
+  pub idle-collecting : (n : ℕ) (sp own : Bool) → x ≡ Collecting n sp own → false ≡ idle x
+  unfolding idle
+  idle-collecting n sp own e = rw e
+
+module _ (f : Figures) (m : ℕ) (s : Station) where
+  pub station-emitted : s .emitted ≡ true → 0 ≡ stationRests f m s
+  unfolding stationRests
+  station-emitted e = rw e
+
+  pub station-frames : (b : Bool) (r : ℕ) → s .emitted ≡ false → b ≡ idle (s .receiver) → b ≡ true
+      → r ≡ framesRest f m (s .deference) (s .transmitter) → r ≡ stationRests f m s
+  unfolding stationRests
+  station-frames b r e p q w = rw (e, ← p, q) w
+
+  pub station-receives : (b : Bool) → s .emitted ≡ false → b ≡ idle (s .receiver) → b ≡ false → 0 ≡ stationRests f m s
+  unfolding stationRests
+  station-receives b e p q = rw (e, ← p, q)
 
 -- ---- the closed form
 

@@ -6,9 +6,9 @@ use state::Receiver;
 use state::Station;
 use state::Transmitter;
 ghost use mathlib.Core.Path.{_≡_};
-ghost use Prim.Native.Nat.{_+_, _<_, max};
+ghost use Prim.Native.Nat.{_+_, _<_, min, max};
 ghost use Rattle.fast_silence.specs.Rested.{restsFor, gapTo, restedDeference, restedTransmitter, hasWaited, rested};
-ghost use Rattle.fast_silence.specs.Bound.{framesRest};
+ghost use Rattle.fast_silence.specs.Bound.{framesRest, idle, stationRests};
 
 // The steps in which a frame that waits does not start.
 pub fn rests_for(f: Figures, d: Deference) -> u32
@@ -31,10 +31,7 @@ pub fn rests_for(f: Figures, d: Deference) -> u32
 pub fn larger(x: u32, y: u32) -> u32
     ensures { λ r. ⌜ r ≡ max x y ⌝ }
 {
-    if x < y {
-        return y;
-    }
-    x
+    if x < y { y } else { x }
 }
 
 // The steps in which no frame starts, of m asked.
@@ -50,6 +47,57 @@ pub fn frames_rest(f: Figures, m: u32, d: Deference, x: Transmitter) -> u32
         Transmitter::Heading(_) => 0,
         Transmitter::Jamming(_) => 0,
     }
+}
+
+// Whether nothing is being received.
+fn is_idle(x: Receiver) -> bool
+    ensures { λ r. ⌜ r ≡ idle x ⌝ }
+{
+    match x {
+        Receiver::Listening => true,
+        Receiver::Readable(_) => true,
+        Receiver::Seeking {
+            row: _,
+            spoiled: _,
+            own: _,
+        } => false,
+        Receiver::Collecting {
+            bits: _,
+            spoiled: _,
+            own: _,
+        } => false,
+    }
+}
+
+// What a station allows of m steps.
+fn station_rests(f: Figures, m: u32, s: Station) -> u32
+    requires { ⌜ f .gap1 + f .gap2 < 65536 ⌝ }
+    ensures { λ r. ⌜ r ≡ stationRests f m s ⌝ }
+{
+    if s.emitted {
+        return 0;
+    }
+    let receiver = s.receiver;
+    if is_idle(receiver) {
+        let d = s.deference;
+        let x = s.transmitter;
+        return frames_rest(f, m, d, x);
+    }
+    0
+}
+
+pub fn smaller(x: u32, y: u32) -> u32
+    ensures { λ r. ⌜ r ≡ min x y ⌝ }
+{
+    if x < y { x } else { y }
+}
+
+// The same, and no more than m.
+pub fn least_rest(f: Figures, m: u32, s: Station) -> u32
+    requires { ⌜ f .gap1 + f .gap2 < 65536 ⌝ }
+    ensures { λ r. ⌜ r ≡ min (stationRests f m s) m ⌝ }
+{
+    smaller(station_rests(f, m, s), m)
 }
 
 // A gap that has come to `count` + m bit times, or is over.

@@ -18,8 +18,11 @@ use Rattle.state.specs.declared.Station.{Station}
 use Rattle.area.specs.Area.{clockAt, figuresAt, countAt, stationAt, symbolAt}
 use Rattle.pair.specs.Ready.{Readiness}
 use Rattle.course.specs.Run.{first, runOf}
+use Rattle.course.specs.Until.{untilEvent}
+use Rattle.course.specs.UntilLaws.{plus}
+use Rattle.fast_plan.specs.Plan.{Holds, Planned, steps}
 use Rattle.fast_silence.specs.Rested.{restsFor, Lasts, Idle, Rests}
-use Rattle.fast_silence.specs.Jump.{Silent, jumped, run-jumps}
+use Rattle.fast_silence.specs.Jump.{Silent, silentPlan, jumped, silence-holds, silence-jumps, jump-planned, run-jumps, until-jumps}
 
 -- ---- a station, of m steps asked
 
@@ -132,6 +135,10 @@ worth m = pick (ltb m 5) 0 m
 unfoldable pub silentFor : (m : ℕ) → List ℕ → ℕ
 silentFor m a = worth (linesRest a (worth (stationsRest a m (countAt a))) (countAt a))
 
+-- what a jump of r steps leaves, none for 0
+unfoldable pub skipped : (r : ℕ) → List ℕ → List ℕ
+skipped r a = pick (eqb r 0) a (jumped r a)
+
 pub worth-most : (m : ℕ) → worth m ≤ m
 unfolding worth
 worth-most m = by-test (ltb m 5) (λ e. rw e (omega arith)) (λ e. rw e (omega arith))
@@ -191,3 +198,16 @@ module _ (a : List ℕ) (m : ℕ) where
   pub silence-run : (K k r : ℕ) (ws : List ℕ) → Readiness a → 0 < K → K ≤ silentFor m a → clockAt a + K ≤ 16777216
       → runOf (K + k) r ws a ≡ runOf k (r + K) ws (jumped K a)
   silence-run K k r ws ready pos h early = run-jumps a K ready (silent-for K pos h) k r ws pos early
+
+  pub silence-until : (K k : ℕ) → Readiness a → 0 < K → K ≤ silentFor m a → clockAt a + K ≤ 16777216
+      → untilEvent (K + k) a ≡ plus K (untilEvent k (jumped K a))
+  silence-until K k ready pos h early = until-jumps a K ready (silent-for K pos h) k pos early
+
+  pub silence-plans : (K : ℕ) → Readiness a → 0 < K → K ≤ silentFor m a → clockAt a + K ≤ 16777216
+      → Planned a silentPlan K (jumped K a)
+  silence-plans K ready pos h early = jump-planned a K ready (silent-for K pos h) pos early
+
+  pub silence-steps : (K : ℕ) → Readiness a → 0 < K → K ≤ silentFor m a → clockAt a + K ≤ 16777216
+      → (steps K a ≡ jumped K a) × Holds a silentPlan K
+  silence-steps K ready pos h early =
+      (silence-jumps a K ready (silent-for K pos h) pos early, silence-holds a K ready (silent-for K pos h))

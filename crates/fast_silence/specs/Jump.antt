@@ -2,12 +2,13 @@
 -- all else as it was. Assumes nothing.
 use Prim.Native.Nat.{ℕ, zero, suc, _+_, _-_, _%_, _≤_, _<_}
 use mathlib.Core.Path.{_≡_, refl, sym, _∙_, ap, ap₂, subst}
+use mathlib.Core.Bool.{false}
 use mathlib.Core.List.{List}
 use native.Mathlib.Omega.{arith}
 use borrow.Author.Tests.{ltb-true, ltb-false}
 use lib.Dec.{ltb}
 use lib.ListN.{length, getD}
-use Rattle.octets.specs.BaseLaws.{by-test, by-eq}
+use Rattle.octets.specs.BaseLaws.{by-test, by-eq, below-none}
 use Rattle.octets.specs.Filled.{filled, filled-same, filled-at, filled-past}
 use Rattle.octets.specs.Turns.{turns, length-turns}
 use Rattle.layout.specs.declared.Figures.{Figures}
@@ -31,19 +32,21 @@ use Rattle.area.specs.Area.{clockAt, withClock, depthAt, drawAt, figuresAt, cou
 use Rattle.area.specs.AreaLaws.{keeps-refl, keeps-trans, station-keeps, clock-keeps, symbol-by, symbol-turn, station-same, length-station, length-clock}
 use Rattle.area.specs.Written.{station-over}
 use Rattle.pair.specs.declared.Events.{Events}
-use Rattle.pair.specs.BitTime.{happened, withCounted, eventsOf, noEvents}
+use Rattle.pair.specs.BitTime.{happened, withCounted, eventsOf, noEvents, eventAt, eventsAt}
 use Rattle.pair.specs.Range.{Fine, fine-fit}
 use Rattle.pair.specs.Ready.{Readiness}
 use Rattle.course.specs.Run.{tallied, runOf}
+use Rattle.course.specs.Until.{hasEvent, eventful, untilEvent}
+use Rattle.course.specs.UntilLaws.{plus}
 use Rattle.meeting.specs.Net.{heard}
 use Rattle.meeting.specs.Meet.{met, met-none}
 use Rattle.quick.specs.Quick.{quietly}
 use Rattle.fast_plan.specs.Own.{outcomeOn, actOn, ownLeft, ownTurn, byItself, itself-heard, OwnSame, own-trans, keeps-sym, station-on}
-use Rattle.fast_plan.specs.Plan.{Plan, cut, netOf, lineNow, hears, lineAfter, ownAfter, actAfter, Holds, steps, Still}
+use Rattle.fast_plan.specs.Plan.{Plan, cut, netOf, lineNow, hears, lineAfter, ownAfter, actAfter, Holds, steps, Still, Planned}
 use Rattle.fast_plan.specs.Happens.{heard-none, stamped, station-still, plan-happens}
 use Rattle.fast_plan.specs.Exact.{Left, symbol-code, clock-still, left-same-area, planned-left}
 use Rattle.fast_plan.specs.Prefix.{Unhurt}
-use Rattle.fast_plan.specs.Runs.{eventsBy, talliedBy, run-steps}
+use Rattle.fast_plan.specs.Runs.{eventsBy, plan-events, talliedBy, run-steps, until-steps}
 use Rattle.fast_silence.specs.Rested.{rested, Rests, rested-step, rested-none, rested-fit, rested-address}
 
 -- ---- what a silence is
@@ -130,6 +133,11 @@ nothing-tallied : (n m : ℕ) (ws : List ℕ) → tallied (filled noEvents (λ i
 unfolding tallied turns sentCounted gotCounted
 nothing-tallied n zero ws = refl
 nothing-tallied n (suc m) ws = rw (none-at n m) (nothing-tallied n m ws)
+
+nothing-eventful : (n : ℕ) → eventful (filled noEvents (λ i. noEvents) n) ≡ false
+unfolding eventful hasEvent
+nothing-eventful n =
+    below-none (λ i. hasEvent (eventAt (filled noEvents (λ i. noEvents) n) i)) 16 (λ i h. ap hasEvent (none-at n i))
 
 -- ---- the plan of silence
 
@@ -266,3 +274,16 @@ module _ (a : List ℕ) (K : ℕ) (r : Readiness a) (s : Silent a K) where
   pub run-jumps : (k m : ℕ) (ws : List ℕ) → 0 < K → clockAt a + K ≤ 16777216 → runOf (K + k) m ws a ≡ runOf k (m + K) ws (jumped K a)
   run-jumps k m ws pos early =
       run-steps a silentPlan K k m ws r early silence-holds silence-unhurt ∙ ap₂ (runOf k (m + K)) (quiet-words K ws (omega arith)) (silence-jumps pos early)
+
+  quiet-step : (u : ℕ) → u < K → clockAt a + K ≤ 16777216 → eventful (eventsAt (steps u a)) ≡ false
+  quiet-step u h early =
+      ap eventful (plan-events a silentPlan K u r early silence-holds (omega arith) ∙ quiet-events u h) ∙ nothing-eventful (countAt a)
+
+  pub until-jumps : (k : ℕ) → 0 < K → clockAt a + K ≤ 16777216
+      → untilEvent (K + k) a ≡ plus K (untilEvent k (jumped K a))
+  until-jumps k pos early =
+      until-steps a K k (λ u h. quiet-step u h early) ∙ ap (λ (x : List ℕ). plus K (untilEvent k x)) (silence-jumps pos early)
+
+  pub jump-planned : 0 < K → clockAt a + K ≤ 16777216 → Planned a silentPlan K (jumped K a)
+  jump-planned pos early =
+      subst (Planned a silentPlan K) (silence-jumps pos early) (plan-happens a silentPlan K r early silence-holds)

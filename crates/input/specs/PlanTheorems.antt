@@ -10,15 +10,13 @@ use lib.Dec.{ltb, eqb}
 use lib.ListN.{length, getD}
 use Rattle.octets.specs.Base.{pick, some, outside, accepted, numberOf}
 use Rattle.octets.specs.BaseLaws.{neither, none-below, within}
-use Rattle.octets.specs.Store.{length-part}
-use Rattle.octets.specs.Filled.{filled-at}
 use Rattle.layout.specs.declared.Tap.{Tap}
 use Rattle.layout.specs.declared.Layout.{Layout}
 use Rattle.layout.specs.Layout.{blankTap}
 use Rattle.layout.specs.Check.{refusalOf}
 use Rattle.layout.specs.CheckLaws.{Sound}
 use Rattle.sheet.specs.Sheet.{mapOf, stands, countPlace, countIn, tapIn, tapsFrom, layoutIn, sheetSize, unread, readSheet}
-use Rattle.sheet.specs.SheetTheorems.{read-sound}
+use Rattle.sheet.specs.SheetTheorems.{read-sound, layout-formed}
 use Rattle.input.specs.Plan.{depthIn, offersPlace, offersIn, offerTime, offerSize, offerPlace, timesIn, drawsWrong, timeBefore, timeFalls, offersWrong, planWrong, lastRefusal, afterSheet, sheetRefusal, planRefusal, Planned, unplanned, wholeFrom, unless, planRead, planReading}
 use Rattle.input.specs.declared.Plan.{Plan}
 use Rattle.input.specs.PlanLaws.{past, offer-next}
@@ -177,12 +175,6 @@ plan-accepts l h = both-right l (accepts (planRefusal l) (wholeFrom l (layoutIn 
 pub read-passes : (l : List ℕ) → numberOf (planRead l .answer) ≡ 0 → refusalOf (planRead l .layout) ≡ 0
 read-passes l h = ap refusalOf (read-layout l h) ∙ sheet-passes l (plan-accepts l h)
 
-sheet-formed : (l : List ℕ) → sheetSize l ≤ length l → (i : ℕ) → i < layoutIn l .count → i < 16 → length (getD (layoutIn l .stations) i (record { position = 0; address = [] }) .address) ≡ 6
-unfolding layoutIn sheetSize tapIn
-sheet-formed l h i g f =
-    ap (λ (t : Tap). length (t .address)) (filled-at blankTap (tapsFrom l (countPlace l + 1)) (min (countIn l) 16) i (record { position = 0; address = [] }) (omega arith))
-    ∙ length-part l (countPlace l + 1 + 7 * i + 1) 6 (omega arith)
-
 -- each address has six octets
 pub read-formed : (l : List ℕ) → numberOf (planRead l .answer) ≡ 0 → (i : ℕ) → i < planRead l .layout .count
     → length (getD (planRead l .layout .stations) i (record { position = 0; address = [] }) .address) ≡ 6
@@ -191,7 +183,7 @@ read-formed l h i g =
     let w = read-sound l (sheetSize l) (sheet-accepts l (plan-accepts l h)) .within in
     let k : i < layoutIn l .count = omega (arith, ap (λ (y : Layout). y .count) e) in
     ap (λ (y : Layout). length (getD (y .stations) i (record { position = 0; address = [] }) .address)) e
-    ∙ sheet-formed l w i k (let n = read-right l h .sound .count .1 in omega arith)
+    ∙ layout-formed l w i k (let n = read-right l h .sound .count .1 in omega arith)
 
 -- ---- the same of the code's answer, as its callers meet it
 

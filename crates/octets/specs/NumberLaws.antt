@@ -6,8 +6,8 @@ use mathlib.Core.List.{List, [], _∷_, _++_}
 use native.Mathlib.Nat.{pow-suc, add-zero}
 use native.Mathlib.Numerals.{add-one}
 use native.Mathlib.Omega.{arith}
-use lib.ListN.{length, getD, set, length-append, List·getD-append}
-use lib.Seq.{sets, length-sets, getD-append-add, getD-append-seam}
+use lib.ListN.{length, getD, set, take, drop, length-append, List·getD-append}
+use lib.Seq.{sets, length-sets, getD-append-add, getD-append-seam, getD-drop}
 use Rattle.octets.specs.Store.{Apart, octet-same, octet-other}
 use Rattle.octets.specs.Number.{get, spelled, put}
 
@@ -26,6 +26,21 @@ Octets l = (k : ℕ) → getD l k 0 < 256
 pub octets-by : (l : List ℕ) → ((k : ℕ) → getD l k 0 < 256) → Octets l
 unfolding Octets
 octets-by l h = h
+
+take-octets : (n : ℕ) (l : List ℕ) → ((k : ℕ) → getD l k 0 < 256) → (k : ℕ) → getD (take n l) k 0 < 256
+take-octets zero l h k = omega arith
+take-octets (suc n) [] h k = omega arith
+take-octets (suc n) (x ∷ l) h zero = h zero
+take-octets (suc n) (x ∷ l) h (suc k) = take-octets n l (λ j. h (suc j)) k
+
+-- a front and a rest of octets are octets
+pub octets-take : (n : ℕ) (l : List ℕ) → Octets l → Octets (take n l)
+unfolding Octets
+octets-take n l o = take-octets n l o
+
+pub octets-drop : (n : ℕ) (l : List ℕ) → Octets l → Octets (drop n l)
+unfolding Octets
+octets-drop n l o k = rw (getD-drop n l k 0) (o (n + k))
 
 pub get-small : (w : ℕ) (l : List ℕ) (at : ℕ) → Octets l → get w l at < 256 ^ w
 unfolding get Octets

@@ -1,4 +1,3 @@
 pub mod Open
 pub mod OpenLaws
 pub mod RoundTrip
-pub mod Cases

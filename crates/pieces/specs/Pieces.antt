@@ -19,7 +19,7 @@ use Rattle.pieces.specs.declared.Progress.{Progress}
 use Rattle.pieces.specs.declared.Piece.{Piece}
 use Rattle.pieces.specs.declared.Piece.the-variants.{Refused, Text}
 use Rattle.pieces.specs.declared.Handed.{Handed}
-use Rattle.pieces.specs.Printed.{nextOffer, lies, made, offerText, runText, firstText, startArea}
+use Rattle.pieces.specs.Printed.{nextOffer, lies, made, offerText, Course, course, runOn, firstText, startArea}
 
 -- ---- the next piece
 
@@ -138,8 +138,8 @@ begun l a o =
 
 -- ---- what is still to come
 
-unfoldable pub remaining : List ℕ → Progress → List ℕ → List ℕ
-remaining l g a = pick (g .ended) [] (runText l (g .times) (g .offers) (g .at) a)
+unfoldable pub remaining : List ℕ → Progress → List ℕ → Course
+remaining l g a = pick (g .ended) (course [] a) (runOn l (g .times) (g .offers) (g .at) a)
 
 -- ---- what a caller gets who goes on to the end, each call on the area and the output as the call before left them
 

@@ -1,4 +1,5 @@
--- What the run program prints for an input (document 01, "The run program"): one function from octets to octets. l is the input.
+-- What the run program prints for an input (document 01, "The run program"): one function from octets to octets, and the area that the
+-- run leaves. l is the input.
 -- Assumes nothing.
 use Prim.Native.Nat.{ℕ, zero, suc, _+_}
 use mathlib.Core.Bool.{Bool, _&&_}
@@ -61,17 +62,33 @@ dueOffers l (suc m) p a =
 
 -- ---- the run
 
--- the lines of the step that area a makes, "ahead" of which the offers' lines stand; then the rest, or where a station has a late
--- collision the end
-abbrev pub stepThen : List ℕ → List ℕ → List ℕ
-stepThen a rest =
-    stepLines (clockAt a) (eventsAt a) 16 ++ pick (some (lateAt (eventsAt a)) 16) (endLine (clockAt (stepArea a))) rest
+-- what a run comes to: its lines, and the area that it leaves
+pub record Course : Type 0 where
+  pub text : List ℕ
+  pub octets : List ℕ
 
--- n bit times on area a, with m offers from octet p on. "An offer whose step never runs is not made." "`end` gives the clock."
-unfoldable pub runText : List ℕ → (n m p : ℕ) → List ℕ → List ℕ
-runText l zero m p a = endLine (clockAt a)
-runText l (suc n) m p a =
-    dueOffers l m p a .text ++ stepThen (dueOffers l m p a .octets) (runText l n (dueOffers l m p a .left) (dueOffers l m p a .at) (stepArea (dueOffers l m p a .octets)))
+abbrev pub course : List ℕ → List ℕ → Course
+course s a = record { text = s; octets = a }
+
+-- more lines ahead of it
+abbrev pub before : List ℕ → Course → Course
+before s c = record { text = s ++ c .text; octets = c .octets }
+
+-- "`end` gives the clock."
+abbrev pub atEnd : List ℕ → Course
+atEnd a = course (endLine (clockAt a)) a
+
+-- the step that area a makes: its lines, "ahead" of which the offers' lines stand; then the rest, or where a station has a late
+-- collision the end
+abbrev pub stepThen : List ℕ → Course → Course
+stepThen a rest = before (stepLines (clockAt a) (eventsAt a) 16) (pick (some (lateAt (eventsAt a)) 16) (atEnd (stepArea a)) rest)
+
+-- n bit times on area a, with m offers from octet p on. "An offer whose step never runs is not made."
+unfoldable pub runOn : List ℕ → (n m p : ℕ) → List ℕ → Course
+runOn l zero m p a = atEnd a
+runOn l (suc n) m p a =
+    before (dueOffers l m p a .text)
+    (stepThen (dueOffers l m p a .octets) (runOn l n (dueOffers l m p a .left) (dueOffers l m p a .at) (stepArea (dueOffers l m p a .octets))))
 
 -- ---- the whole
 
@@ -83,13 +100,19 @@ firstText y = firstLine (y .count) (pick (fitsWell y) fitYes fitNo)
 unfoldable pub startArea : List ℕ → Planned → List ℕ → List ℕ
 startArea l r a = fresh (r .layout) (r .depth) (drawsIn l (r .drawn) (r .layout .count) (r .depth)) a
 
+-- the plan r, from a fresh start over area a on
+unfoldable pub planCourse : List ℕ → Planned → List ℕ → Course
+planCourse l r a = before (firstText (r .layout)) (runOn l (r .times) (r .offers) (r .first) (startArea l r a))
+
+-- "A refused input prints `refused n`." The area is then as it was.
+unfoldable pub inputCourse : List ℕ → List ℕ → Course
+inputCourse l a =
+    pick (eqb (numberOf (planRead l .answer)) 0) (planCourse l (planRead l) a) (course (refusedLine (numberOf (planRead l .answer))) a)
+
 -- an area of zeros, as long as one must be
 abbrev pub zeros : List ℕ
 zeros = replicate areaSize 0
 
-unfoldable pub planText : List ℕ → Planned → List ℕ
-planText l r = firstText (r .layout) ++ runText l (r .times) (r .offers) (r .first) (startArea l r zeros)
-
--- "A refused input prints `refused n`."
+-- what is printed: the same whatever area of that length the run is made on (Whole)
 unfoldable pub printed : List ℕ → List ℕ
-printed l = pick (eqb (numberOf (planRead l .answer)) 0) (planText l (planRead l)) (refusedLine (numberOf (planRead l .answer)))
+printed l = inputCourse l zeros .text

@@ -1,21 +1,16 @@
 // The run program on lent octets: what it prints for an input, handed out piece by piece (document 01, "The run program"). The first piece
 // is `begin::begin`'s.
 
-use course::Stretch;
 use octets::Done;
-use pair::Events;
 use pieces::Handed;
 use pieces::Piece;
 use pieces::Progress;
-use receiver::ReceiveEvent;
-use transmitter::TransmitEvent;
 ghost use mathlib.Core.Path.{_≡_};
 ghost use mathlib.Core.Bool.{true, false};
 ghost use Prim.Native.Nat.{_<_, _≤_};
 ghost use lib.ListN.{length};
 ghost use Rattle.octets.specs.Base.{outcome, doneAnswer, numberOf};
 ghost use Rattle.course.specs.RunLaws.{Runnable};
-ghost use Rattle.course.specs.Until.{hasEvent, eventful, untilEvent, stretchOf};
 ghost use Rattle.text.specs.Text.{written, puts};
 ghost use Rattle.pieces.specs.Printed.{lies, made, offerLine};
 ghost use Rattle.pieces.specs.Pieces.{lastPiece, offerPiece, stepPiece, handing, given, offerShort, advancedOn, advanced};
@@ -92,52 +87,6 @@ fn offer_piece(input: &[u8], area: &mut [u8], out: &mut [u8], g: Progress) -> Ha
     }
 }
 
-fn has_event(e: Events) -> bool
-    ensures { λ r. ⌜ r ≡ hasEvent e ⌝ }
-{
-    let sent = e.sent;
-    let got = e.got;
-    octets::either(turn::is_transmit(sent), turn::is_receive(got))
-}
-
-// Whether some station has an event.
-fn is_eventful(events: [Events; 16]) -> bool
-    ensures { λ r. ⌜ r ≡ eventful events ⌝ }
-{
-    let mut i: usize = 0;
-    while i < 16 {
-        let e = events[i];
-        if has_event(e) {
-            return true;
-        }
-        i += 1;
-    }
-    false
-}
-
-// At most n steps, until one has an event.
-fn until_event(area: &mut [u8], n: u32) -> Stretch
-    requires { ⌜ Runnable n (now area) × (57344 ≤ length (now area)) ⌝ }
-    ensures { λ r. ⌜ stretchOf r (now (area .exit)) ≡ untilEvent n (now (area .entry)) ⌝ }
-{
-    let mut t: u32 = 0;
-    while t < n {
-        let events = step::step(area);
-        t += 1;
-        if is_eventful(events) {
-            return Stretch { steps: t, events };
-        }
-    }
-    let none = Events {
-        sent: TransmitEvent::NoTransmit,
-        got: ReceiveEvent::NoReceive,
-    };
-    Stretch {
-        steps: t,
-        events: [none; 16],
-    }
-}
-
 // Steps are made until one has an event or an offer is due, and the last one's lines handed out.
 fn step_piece(input: &[u8], area: &mut [u8], out: &mut [u8], g: Progress) -> Handed
     requires { ⌜ (57344 ≤ length (now area)) × Runnable (g .times) (now area) × (0 < g .times) ⌝ }
@@ -145,7 +94,7 @@ fn step_piece(input: &[u8], area: &mut [u8], out: &mut [u8], g: Progress) -> Han
     ensures { λ r. ⌜ handing r (now (area .exit)) (now (out .exit)) ≡ given (now (out .entry)) (stepPiece (now (input .entry)) g (now (area .entry))) ⌝ }
 {
     let n = pieces::span(input, area, g);
-    let s = until_event(area, n);
+    let s = fast_until::until_event(area, n);
     let events = s.events;
     let end = lines::put_step(out, area::read_clock(area) - 1, events);
     let times = pieces::times_left(events, s.steps, g.times);

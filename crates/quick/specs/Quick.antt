@@ -1,5 +1,6 @@
 -- Turns that change little: a station that rests, one in the middle of its frame, one whose reception goes on, one whose gap or backoff goes
--- on. They are found by a few words of the record, and write only what changes. Assumes nothing.
+-- on. They are found by a few words of the record, and write only what changes; the code that takes them is in `heard`, `collecting`, `sending`
+-- and `silence`. Assumes nothing.
 use Prim.Native.Nat.{ℕ, _+_, _-_, _*_, _%_, _≤_, _<_, min}
 use mathlib.Core.Path.{_≡_, refl, sym, _∙_, ap, subst}
 use mathlib.Core.Bool.{Bool, true, false, not, _||_, _&&_, true≢false}

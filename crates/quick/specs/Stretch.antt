@@ -1,5 +1,6 @@
--- Many turns of one station, one after the other, in which nothing happens. The laws: StretchLaws (a turn from a state that is written later,
--- collecting), OctetLaws (collecting by octets), SendLaws, SilenceLaws, and EntryLaws (what the ranges give). Assumes nothing.
+-- Many turns of one station, one after the other, in which nothing happens. The laws: StretchLaws here (a turn from a state that is written
+-- later, collecting), OctetLaws of `collecting` (by octets), SendLaws of `sending`, SilenceLaws of `silence`, and EntryLaws of `window` (what
+-- the ranges give). Assumes nothing.
 use Prim.Native.Nat.{ℕ, _+_, _-_, _*_, _^_, _≤_, _<_}
 use mathlib.Core.Path.{_≡_}
 use mathlib.Core.List.{List}

@@ -1,5 +1,6 @@
-// Turns that change little: whether a station rests, sends, hears, is in a gap or in backoff; and the turn of one whose reception goes on, in
-// place. It is the general turn (`turn::turn`), made by the few words that it changes. Other such turns are taken many at once (`stretch`).
+// Turns that change little: whether a station rests, sends, hears, is in a gap or in backoff, by a few words of its record; how many turns a
+// backoff lasts, and how a count is written. The turns are taken by other crates: one of a reception that goes on by `heard`, many at once by
+// `collecting`, `sending` and `silence`.
 
 ghost use mathlib.Core.Path.{_≡_};
 ghost use mathlib.Core.Bool.{true};

@@ -1,4 +1,3 @@
 pub mod Sheet
 pub mod SheetLaws
 pub mod SheetTheorems
-pub mod Cases

@@ -13,13 +13,13 @@ use lib.Seq.{take-append-le, drop-append-le, length-take-le}
 use Rattle.octets.specs.BaseLaws.{refused-none}
 use Rattle.octets.specs.Base.{pick, Answer, refused, accepted, valuesOf}
 use Rattle.octets.specs.Number.{get}
-use Rattle.octets.specs.NumberLaws.{get-front}
-use Rattle.octets.specs.Store.{part}
+use Rattle.octets.specs.NumberLaws.{Octets, octets-take, octets-drop, get-front}
+use Rattle.octets.specs.Store.{part, length-part}
 use Rattle.layout.specs.declared.Figures.{Figures}
 use Rattle.layout.specs.declared.Tap.{Tap}
 use Rattle.layout.specs.declared.Layout.{Layout}
 use Rattle.layout.specs.Check.{refusalOf}
-use Rattle.octets.specs.Filled.{filled-same}
+use Rattle.octets.specs.Filled.{filled-at, filled-same}
 use Rattle.layout.specs.Layout.{placesOf, blankTap}
 use Rattle.layout.specs.CheckLaws.{Sound, sound}
 use Rattle.sheet.specs.Sheet.{mapOf, stands, width, fieldAt, field, figuresIn, countPlace, countIn, tapIn, tapsFrom, layoutIn, sheetSize, Reading, unread, readSheet}
@@ -51,6 +51,42 @@ read-sound l n =
           sound = sound (layoutIn l) (eqb-true (refusalOf (layoutIn l)) 0 q);
         }
     go false false false p q h = refused-none (refusalOf (layoutIn l)) (n ∷ []) h
+
+-- ---- its stations
+
+station-is : (l : List ℕ) (i : ℕ) → i < countIn l → i < 16 → getD (layoutIn l .stations) i (record { position = 0; address = [] }) ≡ tapsFrom l (countPlace l + 1) i
+unfolding layoutIn
+station-is l i g f =
+    filled-at blankTap (tapsFrom l (countPlace l + 1)) (min (countIn l) 16) i (record { position = 0; address = [] }) (omega arith)
+
+-- each address is six octets
+pub layout-formed : (l : List ℕ) → sheetSize l ≤ length l → (i : ℕ) → i < layoutIn l .count → i < 16
+    → length (getD (layoutIn l .stations) i (record { position = 0; address = [] }) .address) ≡ 6
+unfolding layoutIn sheetSize tapIn
+layout-formed l h i g f =
+    ap (λ (t : Tap). length (t .address)) (station-is l i g f) ∙ length-part l (countPlace l + 1 + 7 * i + 1) 6 (omega arith)
+
+layout-octets : (l : List ℕ) → Octets l → (i : ℕ) → i < layoutIn l .count → i < 16
+    → Octets (getD (layoutIn l .stations) i (record { position = 0; address = [] }) .address)
+unfolding layoutIn tapIn
+layout-octets l o i g f =
+    subst Octets (sym (ap (λ (t : Tap). t .address) (station-is l i g f))) (octets-take 6 _ (octets-drop (countPlace l + 1 + 7 * i + 1) l o))
+
+-- the same of a sheet that is read
+module _ (l : List ℕ) (n : ℕ) (h : readSheet l .answer ≡ accepted (n ∷ [])) where
+  pub read-formed : (i : ℕ) → i < readSheet l .layout .count → length (getD (readSheet l .layout .stations) i (record { position = 0; address = [] }) .address) ≡ 6
+  read-formed i g =
+      let r = read-sound l n h in
+      let e = r .layout in
+      ap (λ (y : Layout). length (getD (y .stations) i (record { position = 0; address = [] }) .address)) e
+      ∙ layout-formed l (omega (arith, r .used, r .within)) i (omega (arith, ap (λ (y : Layout). y .count) e)) (omega (arith, r .sound .count .1))
+
+  pub read-octets : Octets l → (i : ℕ) → i < readSheet l .layout .count → Octets (getD (readSheet l .layout .stations) i (record { position = 0; address = [] }) .address)
+  read-octets o i g =
+      let r = read-sound l n h in
+      let e = r .layout in
+      subst (λ (y : Layout). Octets (getD (y .stations) i (record { position = 0; address = [] }) .address)) (sym e)
+      (layout-octets l o i (omega (arith, ap (λ (y : Layout). y .count) e)) (omega (arith, r .sound .count .1)))
 
 -- ---- octets after the sheet do not matter: a reader that stays within a reads the same of a and of a with more behind it
 

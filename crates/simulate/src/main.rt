@@ -1,50 +1,79 @@
-// The run program: a run input on standard input, what is printed for it on standard output. All that matters is in `plan`.
+// The run program: a run input on standard input, what is printed for it on standard output. The pieces are made by `begin` and `plan`;
+// what is handed to the write calls here, one behind the other, is just what is printed.
 
 use libc::STDIN_FILENO;
 use libc::STDOUT_FILENO;
-use pieces::Piece;
+use pieces::Progress;
+ghost use mathlib.Core.Path.{_≡_};
+ghost use mathlib.Core.Bool.{true};
+ghost use Prim.Native.Nat.{_+_, _*_, _≤_};
+ghost use lib.ListN.{length};
+ghost use Rattle.octets.specs.Store.{part};
+ghost use Rattle.pieces.specs.Printed.{printed};
+ghost use Rattle.told.specs.Whole.{pieces};
+ghost use Rattle.told.specs.Along.{Along};
+ghost use Rattle.simulate.specs.Written.{most};
 
-// Writes a piece, and answers whether there was one.
-fn write_piece(piece: Piece, out: &[u8]) -> bool {
-    match piece {
-        Piece::Refused(_) => false,
-        Piece::Text(n) => {
-            if out.len() < n {
-                return false;
-            }
-            io::write_all(STDOUT_FILENO, &out[0..n])
-        }
+// How many octets of the text were handed to the write calls, and whether every call answered that it wrote them.
+struct Written {
+    at: usize,
+    done: bool,
+}
+
+// The one call that writes. It is handed the octets of what is printed for the input from `at` on, and answers where they end.
+fn write_piece(input: &[u8], at: usize, piece: &[u8]) -> Written
+    requires { ⌜ part (printed (now input)) at (length (now piece)) ≡ now piece ⌝ }
+    requires { ⌜ at + length (now piece) ≤ most ⌝ }
+    ensures { λ r. ⌜ r .at ≡ at + length (now (piece .entry)) ⌝ }
+{
+    let done = io::write_all(STDOUT_FILENO, piece);
+    Written {
+        at: at + piece.len(),
+        done,
     }
 }
 
-// Writes piece after piece, each as soon as it is handed out. A run of 16,777,216 bit times and 64 offers has no more pieces than that.
-fn write_run(input: &[u8], area: &mut [u8], out: &mut [u8]) {
-    let first = begin::begin(input, area, out);
-    let start = first.piece;
-    if !write_piece(start, out) {
-        return;
-    }
-    let mut g = first.progress;
-    let mut k: u32 = 0;
-    while k < 16777281 {
-        if g.ended {
-            return;
+// Writes the pieces that are still to come, each as soon as it is made, until a write call fails.
+fn write_rest(input: &[u8], area: &mut [u8], at: usize, g: Progress) -> Written
+    requires { ⌜ (Along (now input) at g (now area)) × (at + 2048 * pieces g ≤ most) ⌝ }
+    ensures { λ r. ⌜ (r .done ≡ true → r .at ≡ length (printed (now (input .entry)))) ⌝ }
+{
+    let mut buf = [0u8; 2048];
+    let mut at = at;
+    let mut g = g;
+    while !g.ended {
+        let p = parts::next(input, area, &mut buf, g);
+        let size = p.size;
+        let w = write_piece(input, at, &buf[0..size]);
+        if !w.done {
+            return w;
         }
-        let next = plan::advance(input, area, out, g);
-        let piece = next.piece;
-        if !write_piece(piece, out) {
-            return;
-        }
-        g = next.progress;
-        k += 1;
+        at = w.at;
+        g = p.progress;
     }
+    Written { at, done: true }
+}
+
+// Writes all that is printed for the input: where every write call answered true, what was handed to them is the whole text.
+fn write_run(input: &[u8], area: &mut [u8]) -> Written
+    requires { ⌜ length (now area) ≡ 57344 ⌝ }
+    ensures { λ r. ⌜ (r .done ≡ true → r .at ≡ length (printed (now (input .entry)))) ⌝ }
+{
+    let mut buf = [0u8; 2048];
+    let p = parts::first(input, area, &mut buf);
+    let size = p.size;
+    let w = write_piece(input, 0, &buf[0..size]);
+    if !w.done {
+        return w;
+    }
+    let g = p.progress;
+    write_rest(input, area, w.at, g)
 }
 
 // One octet more than an input may have is read: a longer one is refused without keeping it.
 fn main() {
     let mut input = [0u8; 16385];
     let mut area = [0u8; 57344];
-    let mut out = [0u8; 2048];
     let n = io::read_full(STDIN_FILENO, &mut input);
-    write_run(&input[0..n], &mut area, &mut out);
+    write_run(&input[0..n], &mut area);
 }

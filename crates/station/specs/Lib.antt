@@ -1,6 +1,5 @@
 pub mod Step
 pub mod StepLaws
 pub mod Events
-pub mod Cases
 pub mod Count
 pub mod CountLaws

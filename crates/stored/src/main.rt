@@ -3,9 +3,7 @@
 
 use libc::STDIN_FILENO;
 use libc::STDOUT_FILENO;
-use pieces::Handed;
 use pieces::Piece;
-use pieces::Progress;
 ghost use Prim.Native.Nat.{_+_, _<_, _≤_};
 ghost use lib.ListN.{length};
 
@@ -22,55 +20,24 @@ fn read_file(path: &[u8], buf: &mut [u8]) -> usize
     n
 }
 
-// Puts a piece behind the first `at` octets of text, and answers where it ends; a refusal or a piece that does not fit ends at `at`.
-fn keep_piece(piece: Piece, out: &[u8], text: &mut [u8], at: usize) -> usize
-    requires { ⌜ at ≤ length (now text) ⌝ }
-    ensures { λ r. ⌜ r ≤ length (now (text .exit)) ⌝ }
+// The whole text of the input, with no more said of it than that it is made.
+fn print_run(input: &[u8], area: &mut [u8], text: &mut [u8]) -> Piece {
+    whole::print(input, area, text)
+}
+
+// The octets of the text, none where there is a refusal.
+fn size_in(piece: Piece, text: &[u8]) -> usize
+    ensures { λ r. ⌜ r ≤ length (now (text .entry)) ⌝ }
 {
     match piece {
-        Piece::Refused(_) => at,
+        Piece::Refused(_) => 0,
         Piece::Text(n) => {
-            if out.len() < n {
-                return at;
+            if text.len() < n {
+                return 0;
             }
-            if text.len() - at < n {
-                return at;
-            }
-            copies::store(text, at, &out[0..n]);
-            at + n
+            n
         }
     }
-}
-
-// The first piece, and those after it, with no more said of them than that they are handed out.
-fn first_piece(input: &[u8], area: &mut [u8], out: &mut [u8]) -> Handed {
-    begin::begin(input, area, out)
-}
-
-fn next_piece(input: &[u8], area: &mut [u8], out: &mut [u8], g: Progress) -> Handed {
-    plan::advance(input, area, out, g)
-}
-
-// Puts all that is printed for the input into text, and answers how many octets that are.
-fn keep_run(input: &[u8], area: &mut [u8], out: &mut [u8], text: &mut [u8]) -> usize
-    ensures { λ r. ⌜ r ≤ length (now (text .exit)) ⌝ }
-{
-    let first = first_piece(input, area, out);
-    let start = first.piece;
-    let mut at = keep_piece(start, out, text, 0);
-    let mut g = first.progress;
-    let mut k: u32 = 0;
-    while k < 16777281 {
-        if g.ended {
-            return at;
-        }
-        let next = next_piece(input, area, out, g);
-        let piece = next.piece;
-        at = keep_piece(piece, out, text, at);
-        g = next.progress;
-        k += 1;
-    }
-    at
 }
 
 // Reads the file of this name and ending.
@@ -100,11 +67,11 @@ fn print_number(n: usize) {
 fn print_case(name: &[u8]) {
     let mut input = [0u8; 16385];
     let mut area = [0u8; 57344];
-    let mut out = [0u8; 2048];
     let mut text = [0u8; 65536];
     let mut expected = [0u8; 65536];
     let n = read_case(name, b".in", &mut input);
-    let m = keep_run(&input[0..n], &mut area, &mut out, &mut text);
+    let printed = print_run(&input[0..n], &mut area, &mut text);
+    let m = size_in(printed, &text);
     let e = read_case(name, b".out", &mut expected);
     io::write_all(STDOUT_FILENO, name);
     print_number(n);

@@ -12,23 +12,24 @@ use lib.ListN.{length, getD, take, drop, length-append, take-append-drop, List·
 use lib.Seq.{take-all, length-take-le}
 use Rattle.octets.specs.Base.{pick, outside, numberOf}
 use Rattle.octets.specs.BaseLaws.{by-test, within}
-use Rattle.octets.specs.NumberLaws.{Octets, octets-by}
+use Rattle.octets.specs.NumberLaws.{Octets, octets-take}
 use Rattle.sheet.specs.Sheet.{stands, width, fieldAt, countPlace, countIn, layoutIn, sheetSize, Reading}
 use Rattle.sheet.specs.SheetTheorems.{sheet-front, size-front, count-front}
 use Rattle.text.specs.Text.{refusedLine}
 use Rattle.input.specs.Plan.{depthIn, offersPlace, drawsWrong, planWrong, lastRefusal, afterSheet, sheetRefusal, planRefusal, Planned, unplanned, wholeFrom, unless, planRead}
 use Rattle.pieces.specs.Printed.{printed}
+use Rattle.told.specs.Whole.{refused-print}
 
 -- ---- a refused input prints its number
 
 unless-number : (n : ℕ) (r : Planned) → (n ≡ 0 → ⊥) → numberOf (unless n r .answer) ≡ n
 unless-number n r h = ap (λ (b : Bool). numberOf (pick b r (unplanned n) .answer)) (ne-eqb n 0 h)
 
-refused-print : (l : List ℕ) → (planRefusal l ≡ 0 → ⊥) → printed l ≡ refusedLine (planRefusal l)
-unfolding printed planRead
-refused-print l h =
+refusal-print : (l : List ℕ) → (planRefusal l ≡ 0 → ⊥) → printed l ≡ refusedLine (planRefusal l)
+unfolding planRead
+refusal-print l h =
     let e : numberOf (unless (planRefusal l) (wholeFrom l (layoutIn l) (sheetSize l)) .answer) ≡ planRefusal l = unless-number (planRefusal l) (wholeFrom l (layoutIn l) (sheetSize l)) h in
-    rw (e, ne-eqb (planRefusal l) 0 h)
+    refused-print l (λ z. h (sym e ∙ z)) ∙ ap refusedLine e
 
 -- ---- what is refused of more than 16,384 octets
 
@@ -104,21 +105,15 @@ module _ (a z : List ℕ) (h : length a ≡ 16385) (o : Octets a) where
   print-same : printed (a ++ z) ≡ printed a
   print-same =
       let w = length-append a z in
-      refused-print (a ++ z) (long-some (a ++ z) (omega arith))
+      refusal-print (a ++ z) (long-some (a ++ z) (omega arith))
       ∙ ap refusedLine refusal-same
-      ∙ sym (refused-print a (long-some a (omega arith)))
-
-take-octets : (n : ℕ) (l : List ℕ) → ((k : ℕ) → getD l k 0 < 256) → (k : ℕ) → getD (take n l) k 0 < 256
-take-octets zero l h k = omega arith
-take-octets (suc n) [] h k = omega arith
-take-octets (suc n) (x ∷ l) h zero = h zero
-take-octets (suc n) (x ∷ l) h (suc k) = take-octets n l (λ j. h (suc j)) k
+      ∙ sym (refusal-print a (long-some a (omega arith)))
 
 -- Any octets print what their first 16,385 print.
 pub cut-same : (l : List ℕ) → Octets l → printed (take 16385 l) ≡ printed l
 cut-same l o =
     by-test (ltb 16385 (length l))
     (λ b. let p = ltb-true 16385 (length l) b in
-    sym (print-same (take 16385 l) (drop 16385 l) (length-take-le 16385 l (omega arith)) (octets-by (take 16385 l) (take-octets 16385 l (octet l o))))
+    sym (print-same (take 16385 l) (drop 16385 l) (length-take-le 16385 l (omega arith)) (octets-take 16385 l o))
     ∙ ap printed (take-append-drop 16385 l))
     (λ b. let p = ltb-false 16385 (length l) b in ap printed (take-all 16385 l (omega arith)))

@@ -38,7 +38,7 @@ use Rattle.draws.specs.Draws.{drawsIn}
 use Rattle.input.specs.Plan.{offerTime, offerStation, offerDestination, offerValue, offerSize, offerData, offerPlace, Planned, planRead}
 use Rattle.input.specs.PlanTheorems.{Right, read-right, read-passes, read-formed}
 use Rattle.pieces.specs.declared.Progress.{Progress}
-use Rattle.pieces.specs.Printed.{nextOffer, lies, made, offerLine, offerText, none, after, dueOffers, stepThen, runText, firstText, startArea, zeros, planText, printed}
+use Rattle.pieces.specs.Printed.{nextOffer, lies, made, offerLine, offerText, none, after, dueOffers, Course, course, before, atEnd, stepThen, runOn, firstText, startArea, planCourse, inputCourse, zeros, printed}
 use Rattle.pieces.specs.Pieces.{Moved, moved, standing, isDue, spanOf, lastPiece, offerPiece, timesLeft, stretchPiece, stepPiece, move, given, offerShort, moveRefusal, advancedOn, onFront, advanced, noProgress, startPiece, firstPiece, begun, remaining, told}
 use Rattle.pieces.specs.PieceLaws.{move-last, move-offer, move-step, due-offers, span-most, span-some, lies-room, short-none, short-is}
 
@@ -124,16 +124,16 @@ one-due l m p a h = let e : eqb (offerTime l p) (clockAt a) ≡ true = due-more 
 
 -- ---- a stretch of steps
 
-run-step : (l : List ℕ) (n m p : ℕ) (a : List ℕ) → dueAt l m p (clockAt a) ≡ false → runText l (suc n) m p a ≡ stepThen a (runText l n m p (stepArea a))
-unfolding runText
+run-step : (l : List ℕ) (n m p : ℕ) (a : List ℕ) → dueAt l m p (clockAt a) ≡ false → runOn l (suc n) m p a ≡ stepThen a (runOn l n m p (stepArea a))
+unfolding runOn
 run-step l n m p a h = rw (none-due l m p a h)
 
-run-none : (l : List ℕ) (m p : ℕ) (a : List ℕ) → runText l 0 m p a ≡ endLine (clockAt a)
-unfolding runText
+run-none : (l : List ℕ) (m p : ℕ) (a : List ℕ) → runOn l 0 m p a ≡ atEnd a
+unfolding runOn
 run-none l m p a = refl
 
 abbrev Stretches : (l : List ℕ) (n m p : ℕ) (a : List ℕ) → Stretched → Type 0
-Stretches l n m p a s = runText l n m p a ≡ stepLines (clockAt (s .octets) - 1) (s .events) 16 ++ runText l (timesLeft n s) m p (s .octets)
+Stretches l n m p a s = runOn l n m p a ≡ before (stepLines (clockAt (s .octets) - 1) (s .events) 16) (runOn l (timesLeft n s) m p (s .octets))
 
 first-calm : (l : List ℕ) (n m p : ℕ) (a : List ℕ) → Stretches l n m p a (untilEvent 0 a)
 unfolding untilEvent timesLeft
@@ -151,7 +151,7 @@ module _ (l : List ℕ) (n m p : ℕ) (a : List ℕ) (h : dueAt l m p (clockAt a
       run-step l n m p a h
       ∙ rw (c, k)
       (by-test (some (lateAt (eventsAt a)) 16)
-      (λ b. rw b (ap (λ (x : List ℕ). stepLines (clockAt a) (eventsAt a) 16 ++ x) (sym (run-none l m p (stepArea a)))))
+      (λ b. rw b (ap (before (stepLines (clockAt a) (eventsAt a) 16)) (sym (run-none l m p (stepArea a)))))
       (λ b. rw b))
 
   -- it has none: the rest alone
@@ -199,17 +199,17 @@ unfolding offerPlace
 place-first l p = refl
 
 module _ (l : List ℕ) (g : Progress) (a : List ℕ) where
-  remaining-on : g .ended ≡ false → remaining l g a ≡ runText l (g .times) (g .offers) (g .at) a
+  remaining-on : g .ended ≡ false → remaining l g a ≡ runOn l (g .times) (g .offers) (g .at) a
   unfolding remaining
-  remaining-on h = ap (λ (b : Bool). pick b [] (runText l (g .times) (g .offers) (g .at) a)) h
+  remaining-on h = ap (λ (b : Bool). pick b (course [] a) (runOn l (g .times) (g .offers) (g .at) a)) h
 
-  remaining-off : g .ended ≡ true → remaining l g a ≡ []
+  pub remaining-off : g .ended ≡ true → remaining l g a ≡ course [] a
   unfolding remaining
-  remaining-off h = ap (λ (b : Bool). pick b [] (runText l (g .times) (g .offers) (g .at) a)) h
+  remaining-off h = ap (λ (b : Bool). pick b (course [] a) (runOn l (g .times) (g .offers) (g .at) a)) h
 
 -- what a piece hands out comes first in what is still to come
-abbrev Onward : (l : List ℕ) (g : Progress) (a : List ℕ) → Moved → Type 0
-Onward l g a m = remaining l g a ≡ m .text ++ remaining l (m .progress) (m .octets)
+abbrev pub Onward : (l : List ℕ) (g : Progress) (a : List ℕ) → Moved → Type 0
+Onward l g a m = remaining l g a ≡ before (m .text) (remaining l (m .progress) (m .octets))
 
 -- ---- the last line
 
@@ -217,10 +217,10 @@ last-on : (l : List ℕ) (g : Progress) (a : List ℕ) → g .ended ≡ false �
 unfolding lastPiece
 last-on l g a h t =
     remaining-on l g a h
-    ∙ ap (λ (n : ℕ). runText l n (g .offers) (g .at) a) t
+    ∙ ap (λ (n : ℕ). runOn l n (g .offers) (g .at) a) t
     ∙ run-none l (g .offers) (g .at) a
-    ∙ sym (append-nil (endLine (clockAt a)))
-    ∙ ap (λ (r : List ℕ). endLine (clockAt a) ++ r) (sym (remaining-off l (standing (g .at) (g .offers) 0 true) a refl))
+    ∙ ap (λ (s : List ℕ). course s a) (sym (append-nil (endLine (clockAt a))))
+    ∙ ap (before (endLine (clockAt a))) (sym (remaining-off l (standing (g .at) (g .offers) 0 true) a refl))
 
 last-going : (l : List ℕ) (g : Progress) (a : List ℕ) → Going l g a → Going l (lastPiece g a .progress) (lastPiece g a .octets)
 unfolding lastPiece
@@ -229,12 +229,15 @@ last-going l g a w =
 
 -- ---- an offer
 
+before-both : (s t : List ℕ) (c : Course) → before (s ++ t) c ≡ before s (before t c)
+before-both s t c = ap (λ (x : List ℕ). course x (c .octets)) (append-assoc s t (c .text))
+
 offer-text : (l : List ℕ) (n m p : ℕ) (a : List ℕ) → dueAt l (suc m) p (clockAt a) ≡ true
-    → runText l (suc n) (suc m) p a ≡ offerText l p a ++ runText l (suc n) m (nextOffer l p) (made l p a .octets)
-unfolding runText
+    → runOn l (suc n) (suc m) p a ≡ before (offerText l p a) (runOn l (suc n) m (nextOffer l p) (made l p a .octets))
+unfolding runOn
 offer-text l n m p a h =
     rw (one-due l m p a h)
-    (append-assoc (offerText l p a) (dueOffers l m (nextOffer l p) (made l p a .octets) .text) _)
+    (before-both (offerText l p a) (dueOffers l m (nextOffer l p) (made l p a .octets) .text) _)
 
 module _ (l : List ℕ) (g : Progress) (a : List ℕ) (w : Going l g a) (n m : ℕ) (t : g .times ≡ suc n) (o : g .offers ≡ suc m) where
   offer-on : g .ended ≡ false → isDue l g a ≡ true → Onward l g a (offerPiece l g a)
@@ -243,10 +246,10 @@ module _ (l : List ℕ) (g : Progress) (a : List ℕ) (w : Going l g a) (n m : �
       let e : dueAt l (suc m) (g .at) (clockAt a) ≡ true = ap (λ (k : ℕ). dueAt l k (g .at) (clockAt a)) (sym o) ∙ sym (due-is-due l g a) ∙ d in
       let z : g .offers - 1 ≡ m = omega arith in
       remaining-on l g a h
-      ∙ ap₂ (λ (x y : ℕ). runText l x y (g .at) a) t o
+      ∙ ap₂ (λ (x y : ℕ). runOn l x y (g .at) a) t o
       ∙ offer-text l n m (g .at) a e
-      ∙ ap (λ (r : List ℕ). offerText l (g .at) a ++ r)
-      (ap₂ (λ (x y : ℕ). runText l x y (nextOffer l (g .at)) (made l (g .at) a .octets)) (sym t) (sym z)
+      ∙ ap (before (offerText l (g .at) a))
+      (ap₂ (λ (x y : ℕ). runOn l x y (nextOffer l (g .at)) (made l (g .at) a .octets)) (sym t) (sym z)
       ∙ sym (remaining-on l (standing (nextOffer l (g .at)) (g .offers - 1) (g .times) false) (made l (g .at) a .octets) refl))
 
   inside : lies l (g .at) ≡ true
@@ -311,7 +314,7 @@ module _ (l : List ℕ) (g : Progress) (a : List ℕ) (w : Going l g a) where
       let s = untilEvent (spanOf l g a) a in
       remaining-on l g a h
       ∙ stretch-text l (spanOf l g a) (g .times) (g .offers) (g .at) a (w .passing) few (span-most l g a) (far l g a d)
-      ∙ ap (λ (r : List ℕ). stepLines (clockAt (untilEvent (spanOf l g a) a .octets) - 1) (untilEvent (spanOf l g a) a .events) 16 ++ r)
+      ∙ ap (before (stepLines (clockAt (untilEvent (spanOf l g a) a .octets) - 1) (untilEvent (spanOf l g a) a .events) 16))
       (sym (remaining-on l (standing (g .at) (g .offers) (timesLeft (g .times) (untilEvent (spanOf l g a) a)) false) (untilEvent (spanOf l g a) a .octets) refl))
 
   left-most : (s : Stretched) → timesLeft (g .times) s ≤ g .times - s .steps
@@ -349,10 +352,10 @@ pieces-off g h = ap (λ (b : Bool). pick b 0 (g .times + g .offers + 1)) h
 
 -- what holds of a piece m handed out where the run stands at g on area a: it comes first in what is still to come, the run goes on, and
 -- there are fewer pieces left
-record Next (l : List ℕ) (g : Progress) (a : List ℕ) (m : Moved) : Type 0 where
-  onward : Onward l g a m
-  going : Going l (m .progress) (m .octets)
-  fewer : pieces (m .progress) < pieces g
+pub record Next (l : List ℕ) (g : Progress) (a : List ℕ) (m : Moved) : Type 0 where
+  pub onward : Onward l g a m
+  pub going : Going l (m .progress) (m .octets)
+  pub fewer : pieces (m .progress) < pieces g
 
 module _ (l : List ℕ) (g : Progress) (a : List ℕ) (w : Going l g a) (h : g .ended ≡ false) where
   last-next : g .times ≡ 0 → Next l g a (lastPiece g a)
@@ -388,7 +391,7 @@ module _ (l : List ℕ) (g : Progress) (a : List ℕ) (w : Going l g a) (h : g .
         fewer = omega (arith, pieces-on (standing (g .at) (g .offers) (timesLeft (g .times) (untilEvent (spanOf l g a) a)) false) refl, pieces-on g h, left-most l g a w (untilEvent (spanOf l g a) a), stretch-some (spanOf l g a) a s);
       }
 
-  next : Next l g a (move l g a)
+  pub next : Next l g a (move l g a)
   next =
       by-eq (g .times) 0
       (λ t. subst (Next l g a) (move-last l g a h t) (last-next t))
@@ -433,7 +436,7 @@ start-size l r a =
     (λ b. rw b (omega (arith, first-size (r .layout .count) fitYes)))
     (λ b. rw b (omega (arith, first-size (r .layout .count) fitNo)))
 
-move-size : (l : List ℕ) (g : Progress) (a : List ℕ) → length (move l g a .text) ≤ 2048
+pub move-size : (l : List ℕ) (g : Progress) (a : List ℕ) → length (move l g a .text) ≤ 2048
 unfolding move
 move-size l g a = go (g .ended) (eqb (g .times) 0) (isDue l g a)
   where
@@ -443,7 +446,7 @@ move-size l g a = go (g .ended) (eqb (g .times) 0) (isDue l g a)
     go false false true = offer-size l g a
     go false false false = stretch-size g (untilEvent (spanOf l g a) a)
 
-first-room : (l a : List ℕ) → length (firstPiece l a .text) ≤ 2048
+pub first-room : (l a : List ℕ) → length (firstPiece l a .text) ≤ 2048
 unfolding firstPiece
 first-room l a = go (eqb (numberOf (planRead l .answer)) 0)
   where
@@ -464,26 +467,51 @@ unfolding startArea fresh
 start-same l r a b h k =
     ap (withPlan (r .layout) (r .depth) (drawsIn l (r .drawn) (r .layout .count) (r .depth))) (zeros-same 57344 a h ∙ sym (zeros-same 57344 b k))
 
+zeros-long : length zeros ≡ 57344
+zeros-long = length-replicate {A = ℕ} 57344 0
+
+pub read-course : (l a : List ℕ) → numberOf (planRead l .answer) ≡ 0 → inputCourse l a ≡ planCourse l (planRead l) a
+unfolding inputCourse
+read-course l a e = ap (λ (b : Bool). pick b (planCourse l (planRead l) a) (course (refusedLine (numberOf (planRead l .answer))) a)) (eq-eqb (numberOf (planRead l .answer)) 0 e)
+
+pub refused-course : (l a : List ℕ) → (numberOf (planRead l .answer) ≡ 0 → ⊥) → inputCourse l a ≡ course (refusedLine (numberOf (planRead l .answer))) a
+unfolding inputCourse
+refused-course l a e = ap (λ (b : Bool). pick b (planCourse l (planRead l) a) (course (refusedLine (numberOf (planRead l .answer))) a)) (ne-eqb (numberOf (planRead l .answer)) 0 e)
+
+pub refused-print : (l : List ℕ) → (numberOf (planRead l .answer) ≡ 0 → ⊥) → printed l ≡ refusedLine (numberOf (planRead l .answer))
+unfolding printed
+refused-print l e = ap (λ (c : Course). c .text) (refused-course l zeros e)
+
+plan-same : (l a : List ℕ) → length a ≡ 57344 → planCourse l (planRead l) a .text ≡ planCourse l (planRead l) zeros .text
+unfolding planCourse
+plan-same l a h =
+    ap (λ (x : List ℕ). firstText (planRead l .layout) ++ runOn l (planRead l .times) (planRead l .offers) (planRead l .first) x .text)
+    (start-same l (planRead l) a zeros h zeros-long)
+
+-- so the text is too
+pub course-same : (l a : List ℕ) → length a ≡ 57344 → inputCourse l a .text ≡ printed l
+unfolding printed
+course-same l a h =
+    by-eq (numberOf (planRead l .answer)) 0
+    (λ e. ap (λ (c : Course). c .text) (read-course l a e) ∙ plan-same l a h ∙ ap (λ (c : Course). c .text) (sym (read-course l zeros e)))
+    (λ e. ap (λ (c : Course). c .text) (refused-course l a e) ∙ ap (λ (c : Course). c .text) (sym (refused-course l zeros e)))
+
 inside-lies : (l : List ℕ) (p : ℕ) → p + 15 + offerSize l p ≤ length l → lies l p ≡ true
 unfolding lies
 inside-lies l p h = rw (le-leb (p + 15) (length l) (omega arith), le-leb (p + 15 + offerSize l p) (length l) h)
-
-zeros-long : length zeros ≡ 57344
-zeros-long = length-replicate {A = ℕ} 57344 0
 
 module _ (l a : List ℕ) (h : length a ≡ 57344) (n : numberOf (planRead l .answer) ≡ 0) where
   y : Right l (planRead l)
   y = read-right l n
 
-  start-on : printed l ≡ startPiece l (planRead l) a .text ++ remaining l (startPiece l (planRead l) a .progress) (startPiece l (planRead l) a .octets)
-  unfolding printed planText startPiece
+  pub start-on : inputCourse l a ≡ before (startPiece l (planRead l) a .text) (remaining l (startPiece l (planRead l) a .progress) (startPiece l (planRead l) a .octets))
+  unfolding planCourse startPiece
   start-on =
-      rw (eq-eqb (numberOf (planRead l .answer)) 0 n)
-      (ap (λ (x : List ℕ). firstText (planRead l .layout) ++ x)
-      (ap (runText l (planRead l .times) (planRead l .offers) (planRead l .first)) (start-same l (planRead l) zeros a zeros-long h)
-      ∙ sym (remaining-on l (standing (planRead l .first) (planRead l .offers) (planRead l .times) false) (startArea l (planRead l) a) refl)))
+      read-course l a n
+      ∙ (ap (before (firstText (planRead l .layout)))
+      (sym (remaining-on l (standing (planRead l .first) (planRead l .offers) (planRead l .times) false) (startArea l (planRead l) a) refl)))
 
-  start-going : Going l (startPiece l (planRead l) a .progress) (startPiece l (planRead l) a .octets)
+  pub start-going : Going l (startPiece l (planRead l) a .progress) (startPiece l (planRead l) a .octets)
   unfolding startPiece startArea
   start-going =
       let big : 57344 ≤ length a = omega arith in
@@ -515,13 +543,13 @@ module _ (l b z o : List ℕ) (g : Progress) (w : Going l g b) (h : 2048 ≤ len
   unfolding advancedOn
   given-on = rw (not-refused l g b (length o) w h)
 
-  advance-on : advanced l (b ++ z) o g ≡ record { answer = accepted (length (move l g b .text) ∷ []); progress = move l g b .progress; octets = move l g b .octets ++ z; out = sets o 0 (move l g b .text) }
+  pub advance-on : advanced l (b ++ z) o g ≡ record { answer = accepted (length (move l g b .text) ∷ []); progress = move l g b .progress; octets = move l g b .octets ++ z; out = sets o 0 (move l g b .text) }
   unfolding advanced
   advance-on =
       let k : 57344 ≤ length (b ++ z) = omega (arith, length-append b z, w .long) in
       rw (le-ltb (length (b ++ z)) 57344 k, front, back, given-on)
 
-told-on : (n : ℕ) (l b z o : List ℕ) (g : Progress) → Going l g b → g .ended ≡ false → 2048 ≤ length o → pieces g ≤ n → told n l (advanced l (b ++ z) o g) ≡ remaining l g b
+told-on : (n : ℕ) (l b z o : List ℕ) (g : Progress) → Going l g b → g .ended ≡ false → 2048 ≤ length o → pieces g ≤ n → told n l (advanced l (b ++ z) o g) ≡ remaining l g b .text
 unfolding told
 told-on zero l b z o g w e h p = absurd (omega (arith, pieces-on g e))
 told-on (suc n) l b z o g w e h p =
@@ -530,33 +558,42 @@ told-on (suc n) l b z o g w e h p =
     rw (advance-on l b z o g w h)
     (ap₂ (λ (x y : List ℕ). x ++ y) (take-sets (move l g b .text) o (length (move l g b .text)) refl (omega (arith, move-size l g b)))
     (by-test (move l g b .progress .ended)
-    (λ q. rw q (sym (remaining-off l (move l g b .progress) (move l g b .octets) q)))
+    (λ q. rw q (ap (λ (c : Course). c .text) (sym (remaining-off l (move l g b .progress) (move l g b .octets) q))))
     (λ q. rw q (told-on n l (move l g b .octets) z (sets o 0 (move l g b .text)) (move l g b .progress) (m .going) q k (let f = m .fewer in omega arith))))
-    ∙ sym (m .onward))
+    ∙ ap (λ (c : Course). c .text) (sym (m .onward)))
 
-started-first : (l a : List ℕ) → numberOf (planRead l .answer) ≡ 0 → firstPiece l a ≡ startPiece l (planRead l) a
+pub started-first : (l a : List ℕ) → numberOf (planRead l .answer) ≡ 0 → firstPiece l a ≡ startPiece l (planRead l) a
 unfolding firstPiece
 started-first l a e = rw (eq-eqb (numberOf (planRead l .answer)) 0 e)
 
-refused-first : (l a : List ℕ) → (numberOf (planRead l .answer) ≡ 0 → ⊥) → firstPiece l a ≡ moved (refusedLine (numberOf (planRead l .answer))) noProgress a
+pub refused-first : (l a : List ℕ) → (numberOf (planRead l .answer) ≡ 0 → ⊥) → firstPiece l a ≡ moved (refusedLine (numberOf (planRead l .answer))) noProgress a
 unfolding firstPiece
 refused-first l a e = rw (ne-eqb (numberOf (planRead l .answer)) 0 e)
+
+-- After the first piece there are no more than 16,777,281.
+pub first-pieces : (l a : List ℕ) → length a ≡ 57344 → pieces (firstPiece l a .progress) ≤ 16777281
+first-pieces l a h =
+    by-eq (numberOf (planRead l .answer)) 0
+    (λ e. subst (λ (m : Moved). pieces (m .progress) ≤ 16777281) (sym (started-first l a e)) (start-pieces l a h e))
+    (λ e. subst (λ (m : Moved). pieces (m .progress) ≤ 16777281) (sym (refused-first l a e)) (omega (arith, pieces-off noProgress refl)))
 
 module _ (n : ℕ) (l a o : List ℕ) (h : 57344 ≤ length a) (k : 2048 ≤ length o) where
   cut : length (take 57344 a) ≡ 57344
   cut = length-take-le 57344 a h
 
-  begin-on : begun l a o ≡ onFront a (given o (firstPiece l (take 57344 a)))
+  pub begin-on : begun l a o ≡ onFront a (given o (firstPiece l (take 57344 a)))
   unfolding begun
   begin-on = rw (le-ltb (length a) 57344 h, le-ltb (length o) 2048 k)
 
   -- an input that is refused has one piece
   told-refused : (numberOf (planRead l .answer) ≡ 0 → ⊥) → told (suc n) l (begun l a o) ≡ printed l
-  unfolding told printed
+  unfolding told
   told-refused e =
       let f : firstPiece l (take 57344 a) ≡ moved (refusedLine (numberOf (planRead l .answer))) noProgress (take 57344 a) = refused-first l (take 57344 a) e in
-      rw (begin-on, f, ne-eqb (numberOf (planRead l .answer)) 0 e)
-      (append-nil _ ∙ take-sets (refusedLine (numberOf (planRead l .answer))) o (length (refusedLine (numberOf (planRead l .answer)))) refl (omega (arith, refused-size (numberOf (planRead l .answer)))))
+      rw (begin-on, f)
+      (append-nil _
+      ∙ take-sets (refusedLine (numberOf (planRead l .answer))) o (length (refusedLine (numberOf (planRead l .answer)))) refl (omega (arith, refused-size (numberOf (planRead l .answer))))
+      ∙ sym (refused-print l e))
 
   told-whole : 16777281 ≤ n → numberOf (planRead l .answer) ≡ 0 → told (suc n) l (begun l a o) ≡ printed l
   unfolding told startPiece
@@ -569,7 +606,8 @@ module _ (n : ℕ) (l a o : List ℕ) (h : 57344 ≤ length a) (k : 2048 ≤ len
       (told-on n l (startArea l (planRead l) (take 57344 a)) (drop 57344 a) (sets o 0 (firstText (planRead l .layout)))
       (standing (planRead l .first) (planRead l .offers) (planRead l .times) false)
       (start-going l (take 57344 a) cut e) refl (omega (arith, length-sets o 0 (firstText (planRead l .layout)))) (omega (arith, start-pieces l (take 57344 a) cut e)))
-      ∙ sym (start-on l (take 57344 a) cut e))
+      ∙ ap (λ (c : Course). c .text) (sym (start-on l (take 57344 a) cut e))
+      ∙ course-same l (take 57344 a) cut)
 
 -- From `begin` on, over any work area and any output that are long enough, the pieces are just what is printed. Of the calls none is
 -- refused, and there are no more than 16,777,282.

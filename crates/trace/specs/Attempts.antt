@@ -23,7 +23,7 @@ use Rattle.offer.specs.Offer.{holds, offeredStation}
 use Rattle.trace.specs.Basic.{either, clash}
 use Rattle.meeting.specs.Net.{Net}
 use Rattle.trace.specs.World.{Offer, freshStation, fresh, before}
-use Rattle.trace.specs.Run.{state, frameIn, outAt, sees, deferAt, sendAt, Sound, Made, Kept, ready-kept, frame-suc, out-start, out-sent, next-transmitter, next-attempts, fine-before}
+use Rattle.trace.specs.Run.{state, frameIn, outAt, sees, deferAt, sendAt, Sound, Made, Kept, ready-kept, frame-suc, out-start, out-sent, next-transmitter, next-attempts, fine-before, fine}
 use Rattle.trace.specs.Keep.{held-back}
 use Rattle.trace.specs.Sent.{Ends, end-next}
 
@@ -54,6 +54,15 @@ up-limit f (BackingOff w) z n draw start h m e =
 up-limit f (Sending k) z n draw start h m e = absurd (bit-not-up f z n k h m e)
 up-limit f (Heading k) z n draw start h m e = absurd (let z : _≡_ {A = ℕ} 0 1 = cc in omega arith)
 up-limit f (Jamming left) z n draw start h m e = jam-up f n draw left m e
+
+-- "attempts 0..limit (below it while a frame waits ..)": no more than the limit in any case
+in-limit : (limit : ℕ) (x : Transmitter) (n : ℕ) → AttemptsIn limit x n → n ≤ limit
+in-limit limit NoFrame n h = h
+in-limit limit Waiting n h = omega arith
+in-limit limit (BackingOff w) n h = omega arith
+in-limit limit (Sending k) n h = h .1
+in-limit limit (Heading k) n h = h .1
+in-limit limit (Jamming m) n h = h .1
 
 -- the starts of station i in the k steps from step a on
 unfoldable pub starts : (P : Net) → (ℕ → List (Offer P)) → (i a k : ℕ) → ℕ
@@ -150,12 +159,15 @@ module _ (P : Net) (inp : ℕ → List (Offer P)) (span : ℕ) (L : Sound P span
       let q = end-next P inp span L i e m hi v in
       subst (λ (n : ℕ). Tries P inp i (suc e) n (frameIn P inp i e)) (sym (q .1)) (tried e (q .2) (tries e (q .2)))
 
-  -- no more than the limit
+  -- no more than the limit, before every step and of every frame that ends
+  pub tried-within : (t : ℕ) → state P inp t i .attempts ≤ P .fig .limit
+  tried-within t = in-limit (P .fig .limit) (state P inp t i .transmitter) (state P inp t i .attempts) (fine P inp span L t i hi .attempts)
+
   pub within-limit : (e m : ℕ) → Ends (outAt P inp i e .sent) m → m ≤ P .fig .limit
   within-limit e m v =
       let q = end-next P inp span L i e m hi v in
-      let a : before P inp (suc e) .station i .attempts ≤ P .fig .limit =
-      subst (λ (x : Transmitter). AttemptsIn (P .fig .limit) x (before P inp (suc e) .station i .attempts)) (q .0) (fine-before P inp span L (suc e) i hi .attempts) in
+      let s = before P inp (suc e) .station i in
+      let a = in-limit (P .fig .limit) (s .transmitter) (s .attempts) (fine-before P inp span L (suc e) i hi .attempts) in
       omega (arith, q .1, next-attempts P inp span L i hi e)
 
   pub given-up : (e m : ℕ) → outAt P inp i e .sent ≡ GivenUp m → m ≡ P .fig .limit

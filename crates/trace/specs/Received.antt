@@ -65,6 +65,10 @@ module _ (P : Net) (inp : ℕ → List (Offer P)) (span : ℕ) (L : Sound P span
   ok-now j u m hj e =
       receive-ok (P .address j) (bufferIn P inp j u) (state P inp u j .receiver) (sees P inp j u) (emits P inp j u) m (sym (got-is P inp span L j hj u) ∙ e)
 
+  -- the step that reports it hears nothing
+  pub got-silent : (j u m : ℕ) → j < P .n → outAt P inp j u .got ≡ GotOk m → sees P inp j u ≡ Nothing
+  got-silent j u m hj e = ok-now j u m hj e .silence
+
   clean-last : (j t n : ℕ) (o : Bool) → j < P .n → state P inp (suc t) j .receiver ≡ Collecting n false o → (b : Bool) × (sees P inp j t ≡ Clean b)
   unfolding receptionAt
   clean-last j t n o hj e =

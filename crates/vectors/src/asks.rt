@@ -151,7 +151,7 @@ fn run(area: &mut [u8], a: &[u8], out: &mut [u8]) -> u32 {
     if out.len() < 48 {
         return 0;
     }
-    let r = runs::run(area, words::get32(a, 0));
+    let r = fast_run::run(area, words::get32(a, 0));
     let done = r.done;
     let words = r.words;
     let ended = r.ended;

@@ -1,4 +1,5 @@
--- What the ranges of a station's fields say of its record's words, and what the kinds of turns say of the station's figures. Assumes nothing.
+-- What the ranges of a station's fields say of its record's words; and a promise over all figures (`Alike`), for the figures of the area. Assumes
+-- nothing.
 use Prim.Native.Nat.{ℕ, _+_, _*_, _≤_}
 use mathlib.Core.Path.{_≡_, sym, _∙_, subst}
 use mathlib.Core.Bool.{Bool, true}

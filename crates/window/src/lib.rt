@@ -1,5 +1,5 @@
 // Windows: so few steps that nothing which a station emits in them reaches another in them. The stations take their turns of a window one
-// station after the other, which leaves what the steps leave (specs/Window: `either-order`).
+// station after the other, which leaves what the steps leave (`order`, specs/Window: `either-order`).
 
 use layout::Figures;
 ghost use mathlib.Core.Path.{_≡_};

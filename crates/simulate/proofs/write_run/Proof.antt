@@ -1,101 +1,55 @@
 -- `simulate::write_run` meets its contract. Assumes nothing.
+use Rattle.parts.specs.PartLaws.{begun-part}
+use Rattle.simulate.specs.Written.{first-fits, first-end, first-most, not-done}
 use borrow.Author.Needs.{needs}
-use native.Mathlib.Omega.{arith}
-use Prim.Native.Nat.{_≤_, _-_}
-use mathlib.Core.Path.{_≡_}
-use lib.ListN.{length}
 use Rattle.simulate.proofs.write_run.Statement.{statement}
 use Rattle.simulate.proofs.write_run.Tie as tie
 
-abbrev Inv-loop : tie.InvT-loop
-Inv-loop input area₀ out₀ g₀ k₀ area out g k = (length area ≡ length area₀) × (length out ≡ length out₀) × (k ≤ 16777281)
+slice-aggregate-first : tie.Need-slice-aggregate-first
+slice-aggregate-first c = search needs
 
-abbrev μ-loop : tie.MeasureT-loop
-μ-loop input area₀ out₀ g₀ k₀ area out g k = 16777281 - k
+first-requires : tie.Need-first-requires
+first-requires c κs = search needs
 
-begin-requires : tie.Need-begin-requires Inv-loop μ-loop
-begin-requires c κs = search needs
+sub-write-piece : tie.Need-sub-write-piece
+sub-write-piece c = search needs
 
-write-piece-requires : tie.Need-write-piece-requires Inv-loop μ-loop
-write-piece-requires c κs = search needs
+part-write-piece-start : tie.Need-part-write-piece-start
+part-write-piece-start c = search needs
 
-same-length : tie.Need-same-length Inv-loop μ-loop
-same-length c = omega arith
+part-write-piece-end : tie.Need-part-write-piece-end
+part-write-piece-end c = search needs
 
-same-length-2 : tie.Need-same-length-2 Inv-loop μ-loop
-same-length-2 c = omega arith
+write-piece-requires : tie.Need-write-piece-requires
+write-piece-requires c κs = (begun-part _ _ _ _ _ _ (c .before .before .before .before .before .first .ensures .1) (c .before .before .before .before .before .before .before .before .before .before .pre) (c .before .before .before .before .before .first .ensures .0), search first-fits)
 
-returns : tie.Need-returns Inv-loop μ-loop
-returns c = tt
+same-length : tie.Need-same-length
+same-length c = search needs
 
-loop-holds : tie.Need-loop-holds Inv-loop μ-loop
-loop-holds c = (omega arith, omega arith, omega arith)
+returns : tie.Need-returns
+returns c = search not-done
 
-same-length-3 : tie.Need-same-length-3 Inv-loop μ-loop
-same-length-3 c = omega arith
+write-rest-requires : tie.Need-write-rest-requires
+write-rest-requires c κs = (search first-end, search first-most)
 
-same-length-4 : tie.Need-same-length-4 Inv-loop μ-loop
-same-length-4 c = omega arith
+same-length-2 : tie.Need-same-length-2
+same-length-2 c = search needs
 
-returns-2 : tie.Need-returns-2 Inv-loop μ-loop
-returns-2 c = tt
-
-advance-requires : tie.Need-advance-requires Inv-loop μ-loop
-advance-requires c κs = search needs
-
-write-piece-requires-2 : tie.Need-write-piece-requires-2 Inv-loop μ-loop
-write-piece-requires-2 c κs = search needs
-
-same-length-5 : tie.Need-same-length-5 Inv-loop μ-loop
-same-length-5 c = omega arith
-
-same-length-6 : tie.Need-same-length-6 Inv-loop μ-loop
-same-length-6 c = omega arith
-
-returns-3 : tie.Need-returns-3 Inv-loop μ-loop
-returns-3 c = tt
-
-add-k : tie.Need-add-k Inv-loop μ-loop
-add-k c = omega arith
-
-loop-less : tie.Need-loop-less Inv-loop μ-loop
-loop-less c = omega arith
-
-loop-again : tie.Need-loop-again Inv-loop μ-loop
-loop-again c = (omega arith, omega arith, omega arith)
-
-same-length-7 : tie.Need-same-length-7 Inv-loop μ-loop
-same-length-7 c = omega arith
-
-same-length-8 : tie.Need-same-length-8 Inv-loop μ-loop
-same-length-8 c = omega arith
-
-returns-4 : tie.Need-returns-4 Inv-loop μ-loop
-returns-4 c = tt
+returns-2 : tie.Need-returns-2
+returns-2 c = search needs
 
 pub write-run-spec : {M : Type 1} → statement M
 write-run-spec =
     tie.close
     (tie.spec
-    Inv-loop
-    μ-loop
-    begin-requires
+    slice-aggregate-first
+    first-requires
+    sub-write-piece
+    part-write-piece-start
+    part-write-piece-end
     write-piece-requires
     same-length
-    same-length-2
     returns
-    loop-holds
-    same-length-3
-    same-length-4
-    returns-2
-    advance-requires
-    write-piece-requires-2
-    same-length-5
-    same-length-6
-    returns-3
-    add-k
-    loop-less
-    loop-again
-    same-length-7
-    same-length-8
-    returns-4)
+    write-rest-requires
+    same-length-2
+    returns-2)

@@ -1,0 +1,3 @@
+pub mod CheckCalls
+pub mod CheckCallLaws
+pub mod CheckCallTheorems

@@ -1,0 +1,3 @@
+pub mod OnLaws
+pub mod Clock
+pub mod Windows

@@ -1,0 +1,108 @@
+// How many of the next steps are silence, on the area: no station starts, and nothing is on its way.
+
+use layout::Figures;
+ghost use mathlib.Core.Path.{_≡_};
+ghost use Prim.Native.Nat.{_+_, _<_, _≤_};
+ghost use lib.ListN.{length};
+ghost use Rattle.octets.specs.Base.{some};
+ghost use Rattle.area.specs.Area.{clockAt, figuresAt};
+ghost use Rattle.pair.specs.Ready.{Ready};
+ghost use Rattle.fast_silence.specs.Bound.{stationsRest, linesRest, lineRests, worth, silentFor};
+ghost use Rattle.fast_search.specs.SearchLaws.{emittedAt};
+
+// Whether station i emitted in the step before.
+fn emitted(area: &[u8], i: usize) -> bool
+    requires { ⌜ (i < 16) × (57344 ≤ length (now area)) ⌝ }
+    ensures { λ r. ⌜ r ≡ emittedAt (now (area .entry)) i ⌝ }
+{
+    area::read_word(area, i, 13) == 1
+}
+
+// Whether one of n stations did.
+fn any_emitted(area: &[u8], n: usize) -> bool
+    requires { ⌜ (n ≤ 16) × (57344 ≤ length (now area)) ⌝ }
+    ensures { λ r. ⌜ r ≡ some (emittedAt (now (area .entry))) n ⌝ }
+{
+    let mut i: usize = 0;
+    while i < n {
+        if emitted(area, i) {
+            return true;
+        }
+        i += 1;
+    }
+    false
+}
+
+// What n stations allow of m steps.
+fn stations_rest(area: &[u8], n: usize, f: Figures, m: u32) -> u32
+    requires { ⌜ (n ≤ 16) × (57344 ≤ length (now area)) × (f .gap1 + f .gap2 < 65536) × (f ≡ figuresAt (now area)) ⌝ }
+    ensures { λ r. ⌜ r ≡ worth (stationsRest (now (area .entry)) m n) ⌝ }
+{
+    let mut left = m;
+    let mut i: usize = 0;
+    while i < n {
+        if left < 5 {
+            return 0;
+        }
+        let s = area::read_station(area, i);
+        left = fast_rest::least_rest(f, left, s);
+        i += 1;
+    }
+    if left < 5 {
+        return 0;
+    }
+    left
+}
+
+// The steps of m before something reaches station i.
+fn line_rests(area: &[u8], i: usize, t: u32, m: u32) -> u32
+    requires { ⌜ (i < 16) × (57344 ≤ length (now area)) × (t + m ≤ 16777216) × (t ≡ clockAt (now area)) ⌝ }
+    ensures { λ r. ⌜ r ≡ lineRests (now (area .entry)) m i ⌝ }
+{
+    let most = fast_rest::smaller(m, 256);
+    let mut s: u32 = 0;
+    while s < most {
+        if delay::read_symbol(area, i, (t + s) as usize) != 0 {
+            return s;
+        }
+        s += 1;
+    }
+    m
+}
+
+// What the lines to n stations allow of m steps.
+fn lines_rest(area: &[u8], n: usize, t: u32, m: u32) -> u32
+    requires { ⌜ (n ≤ 16) × (57344 ≤ length (now area)) × (t + m ≤ 16777216) × (t ≡ clockAt (now area)) ⌝ }
+    ensures { λ r. ⌜ r ≡ worth (linesRest (now (area .entry)) m n) ⌝ }
+{
+    let mut left = m;
+    let mut i: usize = 0;
+    while i < n {
+        if left < 5 {
+            return 0;
+        }
+        left = line_rests(area, i, t, left);
+        i += 1;
+    }
+    if left < 5 {
+        return 0;
+    }
+    left
+}
+
+// How many of the next m steps may be made as one jump; 0 where none.
+pub fn silent_for(area: &[u8], m: u32) -> u32
+    requires { ⌜ (57344 ≤ length (now area)) × (clockAt (now area) + m ≤ 16777216) × Ready (now area) ⌝ }
+    ensures { λ r. ⌜ r ≡ silentFor m (now (area .entry)) ⌝ }
+{
+    if m < 5 {
+        return 0;
+    }
+    let n = area::read_count(area) as usize;
+    if any_emitted(area, n) {
+        return 0;
+    }
+    let f = area::read_figures(area);
+    let left = stations_rest(area, n, f, m);
+    lines_rest(area, n, area::read_clock(area), left)
+}

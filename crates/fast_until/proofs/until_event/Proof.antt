@@ -1,0 +1,73 @@
+-- `fast_until::until_event` meets its contract. Assumes nothing.
+use native.Mathlib.Omega.{arith}
+use borrow.Author.Needs.{needs}
+use Prim.Native.Nat.{_≤_, _-_}
+use mathlib.Core.Path.{_≡_, refl}
+use lib.ListN.{length}
+use Rattle.course.specs.RunLaws.{Runnable, run-first}
+use Rattle.course.specs.Until.{untilEvent}
+use Rattle.course.specs.UntilLaws.{plus, stretch-first}
+use Rattle.fast_until.specs.OnwardLaws.{onward-some, onward-within, onward-runs, onward-hit, onward-on, onward-end}
+use Rattle.fast_until.proofs.until_event.Statement.{statement}
+use Rattle.fast_until.proofs.until_event.Tie as tie
+
+abbrev Inv-loop : tie.InvT-loop
+Inv-loop area₀ n t₀ area t = (t ≤ n) × (length area ≡ length area₀) × Runnable (n - t) area × (plus t (untilEvent (n - t) area) ≡ untilEvent n area₀)
+
+abbrev μ-loop : tie.MeasureT-loop
+μ-loop area₀ n t₀ area t = n - t
+
+loop-holds : tie.Need-loop-holds Inv-loop μ-loop
+loop-holds c = (omega arith, refl, search run-first, search stretch-first)
+
+sub-advance : tie.Need-sub-advance Inv-loop μ-loop
+sub-advance c = omega arith
+
+advance-requires : tie.Need-advance-requires Inv-loop μ-loop
+advance-requires c κs = (search needs, omega arith, omega arith)
+
+add-t : tie.Need-add-t Inv-loop μ-loop
+add-t c = omega (arith, onward-within _ _ _ _ _ _ _ (c .before .before .before .before .advance .ensures) (c .before .before .before .before .before .before .before .loop .inv .3) (c .before .before .before .before .before .before .loop-test .taken))
+
+is-eventful-requires : tie.Need-is-eventful-requires Inv-loop μ-loop
+is-eventful-requires c κs = tt
+
+same-length : tie.Need-same-length Inv-loop μ-loop
+same-length c = omega arith
+
+returns : tie.Need-returns Inv-loop μ-loop
+returns c = onward-hit _ _ _ _ _ _ _ (c .before .before .before .before .before .before .advance .ensures) (c .before .before .before .before .before .before .before .before .before .loop .inv .3) _ (c .before .is-eventful .ensures) (c .if1 .taken)
+
+loop-less : tie.Need-loop-less Inv-loop μ-loop
+loop-less c = omega (arith, onward-some _ _ _ _ _ _ _ (c .before .before .before .before .before .before .advance .ensures) (c .before .before .before .before .before .before .before .before .before .loop .inv .3), onward-within _ _ _ _ _ _ _ (c .before .before .before .before .before .before .advance .ensures) (c .before .before .before .before .before .before .before .before .before .loop .inv .3) (c .before .before .before .before .before .before .before .before .loop-test .taken))
+
+loop-again : tie.Need-loop-again Inv-loop μ-loop
+loop-again c = (onward-within _ _ _ _ _ _ _ (c .before .before .before .before .before .before .advance .ensures) (c .before .before .before .before .before .before .before .before .before .loop .inv .3) (c .before .before .before .before .before .before .before .before .loop-test .taken), omega arith, onward-runs _ _ _ _ _ _ _ (c .before .before .before .before .before .before .advance .ensures) (c .before .before .before .before .before .before .before .before .before .loop .inv .3), onward-on _ _ _ _ _ _ _ (c .before .before .before .before .before .before .advance .ensures) (c .before .before .before .before .before .before .before .before .before .loop .inv .3) _ (c .before .is-eventful .ensures) (c .if1 .left))
+
+calmly-requires : tie.Need-calmly-requires Inv-loop μ-loop
+calmly-requires c κs = tt
+
+same-length-2 : tie.Need-same-length-2 Inv-loop μ-loop
+same-length-2 c = omega arith
+
+returns-2 : tie.Need-returns-2 Inv-loop μ-loop
+returns-2 c = onward-end _ _ _ _ _ _ (c .before .before .loop .inv .3) (c .before .loop-test .left) (c .calmly .ensures .0) (c .calmly .ensures .1)
+
+pub until-event-spec : {M : Type 1} → statement M
+until-event-spec =
+    tie.close
+    (tie.spec
+    Inv-loop
+    μ-loop
+    loop-holds
+    sub-advance
+    advance-requires
+    add-t
+    is-eventful-requires
+    same-length
+    returns
+    loop-less
+    loop-again
+    calmly-requires
+    same-length-2
+    returns-2)

@@ -1,3 +1,0 @@
-pub mod OnLaws
-pub mod Still
-pub mod Windows
