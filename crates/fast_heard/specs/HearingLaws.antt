@@ -2,7 +2,7 @@
 use Prim.Native.Nat.{ℕ, _+_, _-_, _≤_, _<_, min}
 use mathlib.Core.Path.{_≡_, refl, sym, _∙_, ap, ap₂, subst}
 use mathlib.Core.Bool.{Bool, true, false, _&&_, true≢false}
-use mathlib.Core.List.{List}
+use mathlib.Core.List.{List, []}
 use native.Mathlib.Omega.{arith}
 use borrow.Author.Tests.{eq-eqb, ne-eqb, lt-ltb, le-ltb, ltb-true, ltb-false, le-leb, lt-leb, leb-true, leb-false}
 use lib.Dec.{eqb, ltb, leb}
@@ -85,6 +85,13 @@ module _ (a x : List ℕ) (j t : ℕ) (w : Near) (k : ℕ) (r : Readiness a) (hj
   segment-hears s g h =
       says-same (mixed (lineFrom x j t) w (sends (heldAt a (w .from)) k)) (hears a (planOf a) j) (λ v. arrivalAt x j (t + v)) (λ v. arrivalAt a j (clockAt a + v)) (heldAt a (w .from)) k (w .d1) s (g .kind)
       (g .len) hears-mixed (λ v. same (t + v) ∙ ap (λ (c : ℕ). arrivalAt a j (c + v)) et) (h (heldAt a (w .from)))
+
+-- packet bits come from an emitter that is heard and sends
+pub segment-from : (x : List ℕ) (j t : ℕ) (w : Near) (k s : ℕ) (g : Segment) → Segmented x j t w k s g → g .kind ≡ From → (0 < k) × (w .d1 ≤ s)
+unfolding Segmented
+segment-from x j t w k s g h e =
+    let q = subst (λ (K : Kind). Says (mixed (lineFrom x j t) w (sends [] k)) (λ v. arrivalAt x j (t + v)) [] k (w .d1) s K (g .len)) e (h []) in
+    (q .0, q .1)
 
 -- ---- the code: when an emitter is heard
 

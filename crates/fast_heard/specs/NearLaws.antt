@@ -22,6 +22,7 @@ use Rattle.meeting.specs.Net.{reaches, heard}
 use Rattle.meeting.specs.Gather.{on, gathered-none, gathered-one, gathered-two}
 use Rattle.meeting.specs.Reach.{reach-at, reach-none}
 use Rattle.fast_plan.specs.Plan.{netOf}
+use Rattle.fast_line.specs.Line.{bitsFrom, jams}
 use Rattle.fast_heard.specs.declared.Near.{Near}
 use Rattle.fast_heard.specs.Hearing.{goesOn, heldAt, planOf, emits, emitsAt, bitOf, noNear, nearer, noted, spaceTo, nearestOf, nearBit, begun, brought}
 
@@ -140,6 +141,9 @@ pub nearest-is : (a : List ℕ) (n j : ℕ) → Nearest n j (emitsAt a) (spaceTo
 unfolding nearestOf
 nearest-is a n j = all-nearest j (emitsAt a) (spaceTo a j) n
 
+pub near-station : (a : List ℕ) (n j : ℕ) (w : Near) → w ≡ nearestOf a n j → w .d1 < 256 → w .from < n
+near-station a n j w e h = subst (Nearest n j (emitsAt a) (spaceTo a j)) (sym e) (nearest-is a n j) .one h .station
+
 -- ---- what they bring
 
 plan-on : (f : List ℕ) (x : Transmitter) (s : ℕ) → emits x ≡ true → on (symbolOf f (goesOn x s)) ≡ true
@@ -166,6 +170,20 @@ module _ (a : List ℕ) (i s : ℕ) where
   pub silent-off : emitsAt a i ≡ false → planOf a i s ≡ Silence
   unfolding emitsAt planOf
   silent-off e = plan-off (heldAt a i) (stationAt a i .transmitter) s e
+
+-- the plan of an emitter, as it is put on the lines
+module _ (a : List ℕ) (i k s : ℕ) where
+  pub plan-sending : stationAt a i .transmitter ≡ Sending k → planOf a i s ≡ bitsFrom (heldAt a i) k s
+  unfolding planOf bitsFrom
+  plan-sending e = ap (λ (x : Transmitter). symbolOf (heldAt a i) (goesOn x s)) e
+
+  pub plan-heading : stationAt a i .transmitter ≡ Heading k → planOf a i s ≡ bitsFrom (heldAt a i) k s
+  unfolding planOf bitsFrom
+  plan-heading e = ap (λ (x : Transmitter). symbolOf (heldAt a i) (goesOn x s)) e
+
+  pub plan-jamming : stationAt a i .transmitter ≡ Jamming k → planOf a i s ≡ jams s
+  unfolding planOf jams
+  plan-jamming e = ap (λ (x : Transmitter). symbolOf (heldAt a i) (goesOn x s)) e
 
 pub begun-yes : (d s : ℕ) → begun d s ≡ true → (d < 256) × (d ≤ s)
 unfolding begun

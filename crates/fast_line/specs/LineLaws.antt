@@ -9,19 +9,21 @@ use native.Mathlib.Omega.{arith}
 use borrow.Author.Tests.{eq-eqb, ne-eqb, eqb-true, eqb-false, not-true, not-false}
 use lib.Dec.{eqb}
 use lib.Bits.{bitOr, or-add-and, and-le-l, and-le-r}
-use lib.ListN.{length, getD}
+use lib.ListN.{length, getD, set}
+use lib.Seq.{set-getD}
 use Rattle.octets.specs.Base.{some}
 use Rattle.octets.specs.BaseLaws.{by-test, by-eq, neither, none-below, some-hit}
 use Rattle.octets.specs.Turns.{turns, turns-none, turns-more, turns-end}
 use Rattle.packet.specs.declared.Heard.{Heard}
 use Rattle.packet.specs.declared.Heard.the-variants.{Nothing, Clean, Jammed, Several}
 use Rattle.packet.specs.declared.Symbol.{Symbol}
-use Rattle.packet.specs.declared.Symbol.the-variants.{Bit}
+use Rattle.packet.specs.declared.Symbol.the-variants.{Silence, Bit}
 use Rattle.packet.specs.Packet.{hearsAny, packetBit}
 use Rattle.packet.specs.PacketLaws.{frame-bit, bit-alternates, bit-delimits, bit-of-frame}
 use Rattle.area.specs.Area.{heardOf, heardCode, symbolAt, arrivalAt, withArrival, alone, withSymbol}
 use Rattle.area.specs.AreaLaws.{arrival-turn}
 use Rattle.area.specs.CodeLaws.{heard-nothing, heard-zero, heard-one, heard-jam, heard-several, joined-code}
+use Rattle.meeting.specs.Gather.{joined-none}
 use Rattle.fast_plan.specs.Push.{cleared, joinedAt, onWay}
 use Rattle.fast_line.specs.Line.{kindOf, kindAt, firstOf, otherKind, lasts, runAt, inUse, isClear, bitsFrom, jams}
 
@@ -89,6 +91,18 @@ kind-nothing Nothing e = refl
 kind-nothing (Clean b) e = absurd (omega (arith, e))
 kind-nothing Jammed e = absurd (omega (arith, e))
 kind-nothing Several e = absurd (omega (arith, e))
+
+pub by-clean : {C : Type 0} (h : Heard) → kindOf h ≡ 1 → ((b : Bool) → h ≡ Clean b → C) → C
+by-clean Nothing e f = absurd (omega (arith, e))
+by-clean (Clean b) e f = f b refl
+by-clean Jammed e f = absurd (omega (arith, e))
+by-clean Several e f = absurd (omega (arith, e))
+
+pub by-spoiled : {C : Type 0} (h : Heard) → kindOf h ≡ 2 → (h ≡ Jammed → C) → (h ≡ Several → C) → C
+by-spoiled Nothing e f g = absurd (omega (arith, e))
+by-spoiled (Clean b) e f g = absurd (omega (arith, e))
+by-spoiled Jammed e f g = f refl
+by-spoiled Several e f g = g refl
 
 -- ---- how long a kind lasts
 
@@ -260,3 +274,40 @@ unfolding onWay turns
 way-same t d K Q R j zero x h e = refl
 way-same t d K Q R j (suc m) x h e =
     ap₂ (λ (q : Symbol) (y : List ℕ). joinedAt j (t + (K - d + m + d)) q y) (e (K - d + m) (omega arith)) (way-same t d K Q R j m x (omega arith) e)
+
+-- ---- what changes nothing, where the codes are those of what is heard
+
+code-back : (c : ℕ) → c ≤ 4 → heardCode (heardOf c) ≡ c
+code-back c h =
+    by-eq c 0 (λ p. ap heardCode (sym (heard-nothing c p)) ∙ sym p)
+    (λ p. by-eq c 1 (λ q. ap heardCode (sym (heard-zero c p q)) ∙ sym q)
+    (λ q. by-eq c 2 (λ r. ap heardCode (sym (heard-one c p q r)) ∙ sym r)
+    (λ r. by-eq c 3 (λ z. ap heardCode (sym (heard-jam c p q r z)) ∙ sym z) (λ z. ap heardCode (sym (heard-several c p q r z)) ∙ sym (last c h (p, q, r, z))))))
+  where
+    last : (c : ℕ) → c ≤ 4 → (c ≡ 0 → ⊥) × (c ≡ 1 → ⊥) × (c ≡ 2 → ⊥) × (c ≡ 3 → ⊥) → c ≡ 4
+    last c h n = omega (arith, n .0, n .1, n .2, n .3)
+
+-- what is there, put again
+put-back : (x : List ℕ) (j u : ℕ) → symbolAt x j u ≤ 4 → withArrival x j u (arrivalAt x j u) ≡ x
+unfolding withArrival arrivalAt symbolAt
+put-back x j u h = ap (set x (4096 + 256 * j + u % 256)) (code-back (getD x (4096 + 256 * j + u % 256) 0) h) ∙ set-getD x (4096 + 256 * j + u % 256) 0
+
+-- silence
+pub way-silent : (t d K : ℕ) (Q : ℕ → Symbol) (j m : ℕ) (x : List ℕ) → m ≤ min d K → ((s : ℕ) → s < K → Q s ≡ Silence) → ((u : ℕ) → symbolAt x j u ≤ 4) → onWay t d K Q j m x ≡ x
+unfolding onWay turns joinedAt
+way-silent t d K Q j zero x h e codes = refl
+way-silent t d K Q j (suc m) x h e codes =
+    let u = t + (K - d + m + d) in
+    ap (λ (y : List ℕ). joinedAt j u (Q (K - d + m)) y) (way-silent t d K Q j m x (omega arith) e codes)
+    ∙ ap (λ (q : Symbol). joinedAt j u q x) (e (K - d + m) (omega arith))
+    ∙ ap (withArrival x j u) (joined-none (arrivalAt x j u))
+    ∙ put-back x j u (codes u)
+
+-- places that hold nothing, cleared
+pub cleared-same : (t j m : ℕ) (x : List ℕ) → ((s : ℕ) → s < m → arrivalAt x j (t + s) ≡ Nothing) → ((u : ℕ) → symbolAt x j u ≤ 4) → cleared t j m x ≡ x
+unfolding cleared turns
+cleared-same t j zero x e codes = refl
+cleared-same t j (suc m) x e codes =
+    ap (λ (y : List ℕ). withArrival y j (t + m) Nothing) (cleared-same t j m x (λ s h. e s (omega arith)) codes)
+    ∙ ap (withArrival x j (t + m)) (sym (e m (omega arith)))
+    ∙ put-back x j (t + m) (codes (t + m))
