@@ -101,6 +101,11 @@ module _ (f : Figures) (d i : ℕ) (a : List ℕ) (K : ℕ) (hi : i < 16) (room 
       (station-all i st (suc m) (on (suc (suc m))) (withStation a i (on (suc m))) hi
       ∙ ap (storedAll i st (suc m)) (station-over a i hi (on (suc (suc m))) (on (suc m)) room))
 
+  -- the station then
+  pub goes-there : (m : ℕ) → suc m ≤ K → stationAt (byItself f d i H (suc m) a) i ≡ on (suc m)
+  unfolding wentTo after
+  goes-there m h = ap (λ (x : List ℕ). stationAt x i) (goes-on m h) ∙ there (suc m) h
+
   pub goes-act : (m : ℕ) → m < K → actOn f d i (H m) (byItself f d i H m a) .outcome ≡ quietly (on (suc m)) (em m) (st m)
   unfolding byItself turns after wentTo
   goes-act zero h = outcome-by 0 a h begins is-first

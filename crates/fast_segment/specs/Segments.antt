@@ -36,7 +36,7 @@ use Rattle.pair.specs.InPlace.{Kept}
 use Rattle.pair.specs.Range.{Fine, fine-fit, held-small}
 use Rattle.quick.specs.Quick.{quietly}
 use Rattle.fast_plan.specs.Own.{actOn, byItself}
-use Rattle.fast_plan.specs.Goes.{wentTo, goes-on, goes-act, goes-symbol}
+use Rattle.fast_plan.specs.Goes.{wentTo, goes-on, goes-there, goes-act, goes-symbol}
 use Rattle.fast_plan.specs.Does.{quiet-events, rest-symbol}
 use Rattle.fast_plan.specs.Calm.{Calm}
 use Rattle.fast_silence.specs.Rested.{Lasts}
@@ -47,6 +47,7 @@ use Rattle.fast_segment.specs.Alone.{Moves, address-in}
 -- what a segment comes to: K turns by itself leave the station q, and the bits st; it emits Q and has no event
 pub record Segment (f : Figures) (D i : ℕ) (H : ℕ → Heard) (Q : ℕ → Symbol) (K : ℕ) (x : List ℕ) (st : ℕ → Stored) (q : Station) : Type 0 where
   pub leaves : byItself f D i H K x ≡ wentTo i st K q x
+  pub there : stationAt (byItself f D i H K x) i ≡ q
   pub calm : Calm f D i H Q K x
 
 -- ---- any closed form
@@ -60,6 +61,11 @@ module _ (f : Figures) (D i : ℕ) (x : List ℕ) (K : ℕ) (pos : 0 < K) (hi : 
       ap (λ (k : ℕ). byItself f D i H k x) z ∙ goes-on f D i x K hi room on H em st begins fit address kept step (K - 1) (omega arith)
       ∙ ap (λ (k : ℕ). wentTo i st k (on k) x) (sym z)
 
+  form-there : stationAt (byItself f D i H K x) i ≡ on K
+  form-there =
+      let z : K ≡ suc (K - 1) = omega arith in
+      ap (λ (k : ℕ). stationAt (byItself f D i H k x) i) z ∙ goes-there f D i x K hi room on H em st begins fit address kept step (K - 1) (omega arith) ∙ ap on (sym z)
+
   form-quiet : (s : ℕ) → s < K → eventsOf (actOn f D i (H s) (byItself f D i H s x)) ≡ noEvents
   form-quiet s h =
       quiet-events (actOn f D i (H s) (byItself f D i H s x)) (on (suc s)) (em s) (st s) (goes-act f D i x K hi room on H em st begins fit address kept step s h)
@@ -69,6 +75,7 @@ module _ (f : Figures) (D i : ℕ) (x : List ℕ) (K : ℕ) (pos : 0 < K) (hi : 
   form-rests e =
       record {
         leaves = form-leaves;
+        there = form-there;
         calm = record {
           emits = λ s h.
               rest-symbol f D i (H s) (byItself f D i H s x) (on (suc s)) (st s)
@@ -82,6 +89,7 @@ module _ (f : Figures) (D i : ℕ) (x : List ℕ) (K : ℕ) (pos : 0 < K) (hi : 
   form-emits z hz held =
       record {
         leaves = form-leaves;
+        there = form-there;
         calm = record {
           emits = λ s h. goes-symbol f D i x K hi room on H em st begins fit address kept step s z h hz (held s h);
           quiet = form-quiet;

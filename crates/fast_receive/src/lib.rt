@@ -1,0 +1,1 @@
+// A receiver over many steps.
