@@ -1,1 +1,0 @@
-// A receiver over many steps.
