@@ -3,3 +3,4 @@ pub mod ReceivedLaws
 pub mod Copy
 pub mod Zeros
 pub mod CodeLaws
+pub mod EndLaws

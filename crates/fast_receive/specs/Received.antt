@@ -2,9 +2,9 @@
 -- unbroken stretch of steps in which others are heard."). Each is the fold of the receiver's steps. Assumes nothing.
 use Prim.Native.Nat.{ℕ, _+_, _-_, _*_, _<_, _≤_}
 use mathlib.Core.Path.{_≡_}
-use mathlib.Core.Bool.{Bool, true, false, not, _&&_}
+use mathlib.Core.Bool.{Bool, true, false, not, _||_, _&&_}
 use mathlib.Core.List.{List, []}
-use lib.Dec.{leb}
+use lib.Dec.{leb, ltb}
 use lib.ListN.{getD}
 use Rattle.octets.specs.Turns.{turns}
 use Rattle.packet.specs.declared.Heard.{Heard}
@@ -70,9 +70,10 @@ copied j q p m F x = turns (λ u y. withOctet y j (q + u) (getD F (p + u) 0)) m 
 -- ---- the end of a reception
 
 -- "under 512 collected bits, or the station emitted during it, nothing; destination neither own nor broadcast, nothing; else the opening rules":
--- whether a reception, if it ended now, would be opened
-unfoldable pub mayReport : (address buffer : List ℕ) → Receiver → Bool
-mayReport address buffer Listening = false
-mayReport address buffer (Readable n) = false
-mayReport address buffer (Seeking row spoiled own) = false
-mayReport address buffer (Collecting n spoiled own) = leb 512 n && (not own && addressed address buffer)
+-- whether a reception that others are heard in for at most `more` steps from now on could be opened when it ends. Its destination is known
+-- from 48 bits on
+unfoldable pub mayReport : (address buffer : List ℕ) → (more : ℕ) → Receiver → Bool
+mayReport address buffer more Listening = leb 512 more
+mayReport address buffer more (Readable n) = leb 512 more
+mayReport address buffer more (Seeking row spoiled own) = leb 512 more && not own
+mayReport address buffer more (Collecting n spoiled own) = leb 512 (n + more) && (not own && (ltb n 48 || addressed address buffer))

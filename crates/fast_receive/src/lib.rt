@@ -4,9 +4,10 @@ use state::Receiver;
 ghost use mathlib.Core.Path.{_≡_};
 ghost use Prim.Native.Nat.{_+_, _-_, _*_, _/_, _%_, _<_, _≤_};
 ghost use lib.ListN.{length};
-ghost use Rattle.receiver.specs.Receive.{rowIn, bitsIn, hear};
+ghost use Rattle.receiver.specs.Receive.{rowIn, bitsIn, hear, addressed};
+ghost use Rattle.area.specs.Area.{addressAt, bufferAt};
 ghost use Rattle.state.specs.declared.Receiver.the-variants.{Collecting};
-ghost use Rattle.fast_receive.specs.Received.{taken, stepTaken, heardAll, spoils, lineFrom, bitsFrom, AllHeard, copied};
+ghost use Rattle.fast_receive.specs.Received.{taken, stepTaken, heardAll, spoils, lineFrom, bitsFrom, AllHeard, copied, mayReport};
 ghost use Rattle.fast_receive.specs.Zeros.{lowKept, blanks, zeroedUpTo};
 
 // A receiver after so many steps.
@@ -326,6 +327,50 @@ pub fn hear_spoiled(area: &mut [u8], j: usize, e: bool, r: Receiver, m: u32) -> 
                 spoiled: true,
                 own: octets::either(own, e),
             }
+        }
+    }
+}
+
+// ---- the end of a reception
+
+// Whether the destination that station j collected is its own address or broadcast.
+fn has_destination(area: &[u8], j: usize) -> bool
+    requires { ⌜ (j < 16) × (57344 ≤ length (now area)) ⌝ }
+    ensures { λ b. ⌜ b ≡ addressed (addressAt (now (area .entry)) j) (bufferAt (now (area .entry)) j) ⌝ }
+{
+    let address = area::read_address(area, j);
+    let b = buffers::buffer(area, j);
+    reception::is_addressed(address, b)
+}
+
+// Whether the reception of station j, in which others are heard for at most `more` steps from now on, could be opened when it ends.
+pub fn may_report(area: &[u8], j: usize, r: Receiver, more: u32) -> bool
+    requires { ⌜ (j < 16) × (57344 ≤ length (now area)) × (bitsIn r + more < 4294967296) ⌝ }
+    ensures { λ b. ⌜ b ≡ mayReport (addressAt (now (area .entry)) j) (bufferAt (now (area .entry)) j) more r ⌝ }
+{
+    match r {
+        Receiver::Listening => 512 <= more,
+        Receiver::Readable(_) => 512 <= more,
+        Receiver::Seeking {
+            row: _,
+            spoiled: _,
+            own,
+        } => octets::both(512 <= more, !own),
+        Receiver::Collecting {
+            bits,
+            spoiled: _,
+            own,
+        } => {
+            if bits + more < 512 {
+                return false;
+            }
+            if own {
+                return false;
+            }
+            if bits < 48 {
+                return true;
+            }
+            has_destination(area, j)
         }
     }
 }
