@@ -1,5 +1,5 @@
--- What a station hears while every emitter goes on emitting: what was on its way, and what the nearest other emitters bring.
--- The laws are in NearLaws and HearingLaws. Assumes nothing.
+-- What a station hears while every emitter goes on emitting: what was on its way, and what the nearest other emitters
+-- bring. The laws are in NearLaws and HearingLaws. Assumes nothing.
 use Prim.Native.Nat.{ℕ, _+_, _-_, _≤_, _<_}
 use mathlib.Core.Path.{_≡_}
 use mathlib.Core.Bool.{Bool, true, false, _&&_}
@@ -86,7 +86,8 @@ noted emitter d j i w = pick (eqb i j) w (pick (emitter i) (nearer w i (d i)) w)
 unfoldable pub spaceTo : List ℕ → (j i : ℕ) → ℕ
 spaceTo a j i = spaceAt a i j
 
--- of n stations but j: the nearest emitter, its distance, and the distance of the second nearest; 256 where there is none
+-- of n stations but j: the nearest emitter, its distance, and the distance of the second nearest; 256 where there is
+-- none
 unfoldable pub nearestOf : List ℕ → (n j : ℕ) → Near
 nearestOf a n j = turns (noted (emitsAt a) (spaceTo a j) j) n noNear
 
@@ -125,22 +126,23 @@ before d s m = pick (leb d s) m (pick (ltb (d - s) m) (d - s) m)
 unfoldable pub RunOf : (ℕ → Heard) → ℕ → LineRun → Type 0
 RunOf L s r = (v : ℕ) → v < r .len → kindOf (L (s + v)) ≡ r .kind
 
--- the kind of what is heard, by the kind of the line: where the nearest emitter is heard, with its next packet bit; and where it may not be
+-- the kind of what is heard, by the kind of the line: where the nearest emitter is heard, with its next packet bit; and
+-- where it may not be
 unfoldable pub kindNear : (c k : ℕ) → Kind
 kindNear c k = pick (eqb c 0) (pick (eqb k 0) Spoiled From) Spoiled
 
 unfoldable pub kindHeard : ℕ → Bool → ℕ → Kind
 kindHeard c near k = pick near (kindNear c k) (pick (eqb c 0) Silent (pick (eqb c 1) Line Spoiled))
 
--- What m steps of a kind say, from step s on, of what a station hears, H: nothing; the clean bits of its line, L; bits of the packet that
--- carries F, where the emitter at distance d began with bit k; jam or several
+-- What m steps of a kind say, from step s on, of what a station hears, H: nothing; the clean bits of its line, L; bits
+-- of the packet that carries F, where the emitter at distance d began with bit k; jam or several
 abbrev pub Says : (H L : ℕ → Heard) (F : List ℕ) (k d s : ℕ) → Kind → ℕ → Type 0
 Says H L F k d s Silent m = (v : ℕ) → v < m → H (s + v) ≡ Nothing
 Says H L F k d s Line m = (v : ℕ) → v < m → (H (s + v) ≡ L (s + v)) × (kindOf (L (s + v)) ≡ 1)
 Says H L F k d s From m = (0 < k) × (d ≤ s) × ((v : ℕ) → v < m → H (s + v) ≡ Clean (packetBit F (k + (s - d) + v)))
 Says H L F k d s Spoiled m = (v : ℕ) → v < m → kindOf (H (s + v)) ≡ 2
 
--- what a segment says, whatever frame the nearest emitter sends: of what was on its way in area x to station j at step t, joined with what
--- the emitters bring. It goes by the line and by the nearest alone
+-- what a segment says, whatever frame the nearest emitter sends: of what was on its way in area x to station j at step
+-- t, joined with what the emitters bring. It goes by the line and by the nearest alone
 unfoldable pub Segmented : List ℕ → (j t : ℕ) → Near → (k s : ℕ) → Segment → Type 0
 Segmented x j t w k s r = (F : List ℕ) → Says (mixed (lineFrom x j t) w (sends F k)) (λ v. arrivalAt x j (t + v)) F k (w .d1) s (r .kind) (r .len)

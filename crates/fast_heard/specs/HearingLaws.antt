@@ -1,4 +1,5 @@
--- Laws of what is heard in runs of one kind: what a segment says of the plan, and one law for each way through the code. Assumes nothing.
+-- Laws of what is heard in runs of one kind: what a segment says of the plan, and one law for each way through the
+-- code. Assumes nothing.
 use Prim.Native.Nat.{ℕ, _+_, _-_, _≤_, _<_, min}
 use mathlib.Core.Path.{_≡_, refl, sym, _∙_, ap, ap₂, subst}
 use mathlib.Core.Bool.{Bool, true, false, _&&_, true≢false}

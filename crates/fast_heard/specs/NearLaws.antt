@@ -1,4 +1,5 @@
--- Laws of the nearest emitters: what they are, what they bring, and one law for each way through the code that finds them. Assumes nothing.
+-- Laws of the nearest emitters: what they are, what they bring, and one law for each way through the code that finds
+-- them. Assumes nothing.
 use Prim.Native.Nat.{ℕ, zero, suc, _-_, _≤_, _<_}
 use mathlib.Core.Path.{_≡_, refl, sym, _∙_, ap, subst}
 use mathlib.Core.Bool.{Bool, true, false, true≢false}

@@ -1,5 +1,5 @@
-// What a station hears in the steps ahead while every emitter goes on: the nearest other emitters, and runs of steps in which what it
-// hears is of one kind.
+// What a station hears in the steps ahead while every emitter goes on: the nearest other emitters, and runs of steps in
+// which what it hears is of one kind.
 
 use fast_line::LineRun;
 ghost use mathlib.Core.Path.{_≡_};
@@ -15,7 +15,8 @@ pub struct Near {
     pub d2: usize,
 }
 
-// What a station hears in a run of steps: nothing; clean bits of its line; packet bits of the nearest emitter; jam or several.
+// What a station hears in a run of steps: nothing; clean bits of its line; packet bits of the nearest emitter; jam or
+// several.
 pub enum Kind {
     Silent,
     Line,
@@ -166,8 +167,8 @@ fn kind_heard(line: u8, near: bool, bit: u32) -> Kind
     Kind::Spoiled
 }
 
-// What station j hears from step s on, counted from step t, where its line stands in the area as it was at t: a run of steps of one kind, at
-// most m. It goes by the line and by the nearest emitters, found at step t, alone.
+// What station j hears from step s on, counted from step t, where its line stands in the area as it was at t: a run of
+// steps of one kind, at most m. It goes by the line and by the nearest emitters, found at step t, alone.
 pub fn heard_run(
     area: &[u8],
     j: usize,

@@ -1,5 +1,5 @@
--- A station's delay line over many places: of what kind they are, how long a kind lasts, whether nothing is there; and the symbols of a
--- station that sends. The laws are in LineLaws. Assumes nothing.
+-- A station's delay line over many places: of what kind they are, how long a kind lasts, whether nothing is there; and
+-- the symbols of a station that sends. The laws are in LineLaws. Assumes nothing.
 use Prim.Native.Nat.{ℕ, zero, suc, _+_}
 use mathlib.Core.Bool.{Bool, not}
 use mathlib.Core.List.{List}

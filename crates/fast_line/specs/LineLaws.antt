@@ -1,4 +1,5 @@
--- Laws of a line over many places: what a kind that lasts says of each place, and one law for each way through the code. Assumes nothing.
+-- Laws of a line over many places: what a kind that lasts says of each place, and one law for each way through the
+-- code. Assumes nothing.
 use Prim.Native.Nat.{ℕ, zero, suc, _+_, _-_, _*_, _/_, _%_, _^_, _≤_, _<_, min}
 use mathlib.Core.Path.{_≡_, refl, sym, _∙_, ap, ap₂}
 use mathlib.Core.Bool.{Bool, true, false, not, _||_, true≢false}

@@ -110,8 +110,8 @@ fn bit_code(frame: &[u8], k: usize) -> u8
     ((x >> place) % 2 + 1) as u8
 }
 
-// A station at distance d sends its packet's bits from bit k on, in `steps` steps from t on: those that are still on their
-// way then are put on the line of station j.
+// A station at distance d sends its packet's bits from bit k on, in `steps` steps from t on: those that are still on
+// their way then are put on the line of station j.
 pub fn push_bits(
     area: &mut [u8],
     j: usize,
