@@ -41,7 +41,8 @@ module _ (f : Figures) (m : ℕ) (s : Station) where
   unfolding movedOn
   moved-hears e r q p h = h ∙ sym (ap (λ (b : Bool). pick b (emitOn f m r s) (hearOn f m r s)) p)
 
-  pub quiet-emits : (e : Bool) (r : Receiver) (q : Station) → e ≡ true → r ≡ calmed m (s .receiver) → q ≡ emitOn f m r s → q ≡ quietOn f e m s
+  pub quiet-emits : (e : Bool) (r : Receiver) (q : Station) → e ≡ true → r ≡ calmed m (s .receiver)
+      → q ≡ emitOn f m r s → q ≡ quietOn f e m s
   unfolding quietOn
   quiet-emits e r q p c h =
       h ∙ ap (λ (t : Receiver). emitOn f m t s) c ∙ sym (ap (λ (b : Bool). pick b (emitOn f m (calmed m (s .receiver)) s) (restOn f m s)) p)
@@ -51,7 +52,8 @@ module _ (f : Figures) (m : ℕ) (s : Station) where
   quiet-rests e q p h = h ∙ sym (ap (λ (b : Bool). pick b (emitOn f m (calmed m (s .receiver)) s) (restOn f m s)) p)
 
 -- the bits first, then the record
-pub stretch-heard : (f : Figures) (e : Bool) (H : ℕ → Heard) (m j : ℕ) (x y z : List ℕ) (s t : Station) (q : Receiver) → j < 16 → s ≡ stationAt x j → taken q y ≡ heardAll j e H m (taken (s .receiver) x)
+pub stretch-heard : (f : Figures) (e : Bool) (H : ℕ → Heard) (m j : ℕ) (x y z : List ℕ) (s t : Station) (q : Receiver)
+    → j < 16 → s ≡ stationAt x j → taken q y ≡ heardAll j e H m (taken (s .receiver) x)
     → t ≡ movedOn f e m q s → z ≡ withStation y j t → z ≡ heardStretch f e H m j x
 unfolding heardStretch wentTo
 stretch-heard f e H m j x y z s t q hj a h b c =
@@ -67,7 +69,8 @@ unfolding storedAll turns
 none-stored j zero x = refl
 none-stored j (suc m) x = none-stored j m x
 
-pub stretch-quiet : (f : Figures) (e : Bool) (m j : ℕ) (x z : List ℕ) (s t : Station) → s ≡ stationAt x j → t ≡ quietOn f e m s → z ≡ withStation x j t → z ≡ quietStretch f e m j x
+pub stretch-quiet : (f : Figures) (e : Bool) (m j : ℕ) (x z : List ℕ) (s t : Station) → s ≡ stationAt x j
+    → t ≡ quietOn f e m s → z ≡ withStation x j t → z ≡ quietStretch f e m j x
 unfolding quietStretch wentTo
 stretch-quiet f e m j x z s t a b c =
     c ∙ ap (withStation x j) (b ∙ ap (quietOn f e m) a) ∙ sym (none-stored j m (withStation x j (quietOn f e m (stationAt x j))))
@@ -112,7 +115,8 @@ bits-fine t (Seeking row sp own) v = omega arith
 bits-fine t (Collecting n sp own) v = v
 
 -- a station whose record is in range can move
-pub fine-movable : (f : Figures) (d t m j : ℕ) (x : List ℕ) → Figured f → Fine f d t (stationAt x j) → t + m ≤ 16777216 → Movable f m x j
+pub fine-movable : (f : Figures) (d t m j : ℕ) (x : List ℕ) → Figured f → Fine f d t (stationAt x j)
+    → t + m ≤ 16777216 → Movable f m x j
 unfolding Movable
 fine-movable f d t m j x g v early =
     record {
