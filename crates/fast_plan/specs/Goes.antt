@@ -52,7 +52,7 @@ station-stored : (i : ℕ) (o : Stored) (s : Station) (x : List ℕ) → i < 16 
 station-stored i NoStore s x hi = refl
 station-stored i (Store k b) s x hi = station-bit x i hi s k b
 
-station-all : (i : ℕ) (st : ℕ → Stored) (m : ℕ) (s : Station) (x : List ℕ) → i < 16 → withStation (storedAll i st m x) i s ≡ storedAll i st m (withStation x i s)
+pub station-all : (i : ℕ) (st : ℕ → Stored) (m : ℕ) (s : Station) (x : List ℕ) → i < 16 → withStation (storedAll i st m x) i s ≡ storedAll i st m (withStation x i s)
 unfolding storedAll turns
 station-all i st zero s x hi = refl
 station-all i st (suc m) s x hi = station-stored i (st m) s (storedAll i st m x) hi ∙ ap (withStored i (st m)) (station-all i st m s x hi)

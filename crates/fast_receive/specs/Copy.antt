@@ -50,7 +50,8 @@ module _ (i q : ℕ) (x : List ℕ) (hi : i < 16) (hq : q < 1518) (room : 57344 
   abbrev pub st : ℕ → Stored
   st s = storedBit (8 * q + s) (bit s)
 
-  one-bit : (s : ℕ) (y : List ℕ) → s < 8 → withStored i (st s) y ≡ withOctet y i q (octetWith (getD y (32768 + 1536 * i + q) 0) s (eqb (v / 2 ^ s % 2) 1))
+  one-bit : (s : ℕ) (y : List ℕ) → s < 8
+      → withStored i (st s) y ≡ withOctet y i q (octetWith (getD y (32768 + 1536 * i + q) 0) s (eqb (v / 2 ^ s % 2) 1))
   unfolding storedBit withBit withOctet
   one-bit s y h =
       let e : (8 * q + s) / 8 ≡ q = omega arith in
@@ -79,7 +80,8 @@ module _ (i q : ℕ) (x : List ℕ) (hi : i < 16) (hq : q < 1518) (room : 57344 
 
 -- ---- an octet of a frame, and many
 
-frame-octet : (F : List ℕ) (p s : ℕ) → s < 8 → p < length F → packetBit F (65 + (8 * p + s)) ≡ eqb (getD F p 0 / 2 ^ s % 2) 1
+frame-octet : (F : List ℕ) (p s : ℕ) → s < 8 → p < length F
+    → packetBit F (65 + (8 * p + s)) ≡ eqb (getD F p 0 / 2 ^ s % 2) 1
 frame-octet F p s h hp =
     let e : 65 + (8 * p + s) - 65 ≡ 8 * p + s = omega arith in
     let d : (8 * p + s) / 8 ≡ p = omega arith in
@@ -92,7 +94,8 @@ length-copied : (j q p m : ℕ) (F x : List ℕ) → length (copied j q p m F x)
 unfolding copied withOctet
 length-copied j q p m F x = length-turns _ m x (λ u y. length-set y _ _)
 
-pub copied-bits : (j q p m : ℕ) (F x : List ℕ) → j < 16 → 57344 ≤ length x → q + m ≤ 1518 → p + m ≤ length F → ((k : ℕ) → getD F k 0 < 256)
+pub copied-bits : (j q p m : ℕ) (F x : List ℕ) → j < 16 → 57344 ≤ length x → q + m ≤ 1518 → p + m ≤ length F
+    → ((k : ℕ) → getD F k 0 < 256)
     → storedAll j (λ s. storedBit (8 * q + s) (packetBit F (65 + (8 * p + s)))) (8 * m) x ≡ copied j q p m F x
 unfolding storedAll turns copied
 copied-bits j q p zero F x hj room h g o = refl
@@ -106,7 +109,8 @@ copied-bits j q p (suc m) F x hj room h g o =
     ∙ shifted y
     ∙ eight-bits j (q + m) y hj (omega arith) (omega (arith, length-copied j q p m F x)) (getD F (p + m) 0) (o (p + m)) (λ s. packetBit F (65 + (8 * (p + m) + s))) (λ s l. frame-octet F (p + m) s l (omega arith))
   where
-    shifted : (y : List ℕ) → turns (λ s z. withStored j (storedBit (8 * q + (8 * m + s)) (packetBit F (65 + (8 * p + (8 * m + s))))) z) 8 y
+    shifted : (y : List ℕ)
+        → turns (λ s z. withStored j (storedBit (8 * q + (8 * m + s)) (packetBit F (65 + (8 * p + (8 * m + s))))) z) 8 y
         ≡ turns (λ s z. withStored j (storedBit (8 * (q + m) + s) (packetBit F (65 + (8 * (p + m) + s)))) z) 8 y
     shifted y =
         let e : (s : ℕ) → 8 * q + (8 * m + s) ≡ 8 * (q + m) + s = λ s. omega arith in
@@ -127,7 +131,8 @@ unfolding stepTaken receive hear collect collectBit
 collect-one c sp own b e j x = ap (λ (t : Bool). taken (Collecting (c + 1) t (own || e)) (withStored j (storedBit c b) x)) (or-false sp)
 
 module _ (j : ℕ) (e : Bool) (bit : ℕ → Bool) (c : ℕ) (sp own : Bool) (x : List ℕ) where
-  pub collect-clean : (m : ℕ) → heardAll j e (λ s. Clean (bit s)) (suc m) (taken (Collecting c sp own) x) ≡ taken (Collecting (c + suc m) sp (own || e)) (storedAll j (λ s. storedBit (c + s) (bit s)) (suc m) x)
+  pub collect-clean : (m : ℕ)
+      → heardAll j e (λ s. Clean (bit s)) (suc m) (taken (Collecting c sp own) x) ≡ taken (Collecting (c + suc m) sp (own || e)) (storedAll j (λ s. storedBit (c + s) (bit s)) (suc m) x)
   unfolding heardAll storedAll turns
   collect-clean zero =
       let z : c + 0 ≡ c = omega arith in
@@ -141,8 +146,10 @@ module _ (j : ℕ) (e : Bool) (bit : ℕ → Bool) (c : ℕ) (sp own : Bool) (x 
       ∙ ap (λ (k : ℕ). taken (Collecting k sp (own || e)) (withStored j (storedBit (c + suc m) (bit (suc m))) y)) z
 
 -- whole octets of a packet: collected bit c and packet bit a both begin one
-pub octets-copied : (j : ℕ) (e : Bool) (F : List ℕ) (c a q p n : ℕ) (sp own : Bool) (x : List ℕ) → j < 16 → 57344 ≤ length x → ((k : ℕ) → getD F k 0 < 256) → c ≡ 8 * q → a ≡ 65 + 8 * p → 0 < n → q + n ≤ 1518
-    → p + n ≤ length F → heardAll j e (bitsFrom F a) (8 * n) (taken (Collecting c sp own) x) ≡ taken (Collecting (c + 8 * n) sp (own || e)) (copied j q p n F x)
+pub octets-copied : (j : ℕ) (e : Bool) (F : List ℕ) (c a q p n : ℕ) (sp own : Bool) (x : List ℕ) → j < 16
+    → 57344 ≤ length x → ((k : ℕ) → getD F k 0 < 256) → c ≡ 8 * q → a ≡ 65 + 8 * p → 0 < n → q + n ≤ 1518
+    → p + n ≤ length F
+    → heardAll j e (bitsFrom F a) (8 * n) (taken (Collecting c sp own) x) ≡ taken (Collecting (c + 8 * n) sp (own || e)) (copied j q p n F x)
 unfolding bitsFrom
 octets-copied j e F c a q p n sp own x hj room o u v pos h g =
     let z : 8 * n ≡ suc (8 * n - 1) = omega arith in

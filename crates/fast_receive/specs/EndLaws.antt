@@ -42,7 +42,8 @@ module _ (address buffer : List ℕ) (more : ℕ) (r : Receiver) where
   unfolding mayReport
   may-readable n e = rw e
 
-  pub may-seeking : (row : ℕ) (sp own b : Bool) → r ≡ Seeking row sp own → b ≡ (leb 512 more && not own) → b ≡ mayReport address buffer more r
+  pub may-seeking : (row : ℕ) (sp own b : Bool) → r ≡ Seeking row sp own → b ≡ (leb 512 more && not own)
+      → b ≡ mayReport address buffer more r
   unfolding mayReport
   may-seeking row sp own b e p = rw e p
 
@@ -59,7 +60,8 @@ module _ (address buffer : List ℕ) (more : ℕ) (r : Receiver) where
     unfolding mayReport
     may-early h o l = rw (e, le-leb 512 (n + more) h, o, lt-ltb n 48 l)
 
-    pub may-addressed : (b : Bool) → 512 ≤ n + more → own ≡ false → 48 ≤ n → b ≡ addressed address buffer → b ≡ mayReport address buffer more r
+    pub may-addressed : (b : Bool) → 512 ≤ n + more → own ≡ false → 48 ≤ n → b ≡ addressed address buffer
+        → b ≡ mayReport address buffer more r
     unfolding mayReport
     may-addressed b h o l p = rw (e, le-leb 512 (n + more) h, o, le-ltb n 48 l) p
 
@@ -80,7 +82,8 @@ stored-past : (n : ℕ) (b : Bool) → 48 ≤ n → Past (storedBit n b)
 unfolding storedBit
 stored-past n b h = by-test (ltb n 12144) (λ c. rw c h) (λ c. rw c tt)
 
-far-step : (q : Receiver) (h : Heard) (e : Bool) → hearsAny h ≡ true → Far q → Far (receive [] [] q h e .receiver) × Past (receive [] [] q h e .stored)
+far-step : (q : Receiver) (h : Heard) (e : Bool) → hearsAny h ≡ true → Far q
+    → Far (receive [] [] q h e .receiver) × Past (receive [] [] q h e .stored)
 unfolding receive hear collect collectBit
 far-step Listening h e p v = absurd v
 far-step (Readable n) h e p v = absurd v
@@ -90,7 +93,8 @@ far-step (Collecting n sp own) (Clean b) e p v = (omega arith, stored-past n b v
 far-step (Collecting n sp own) Jammed e p v = (omega arith, stored-past n false v)
 far-step (Collecting n sp own) Several e p v = (omega arith, stored-past n false v)
 
-past-kept : (j k : ℕ) (o : Stored) (x : List ℕ) → Past o → k < 6 → getD (withStored j o x) (32768 + 1536 * j + k) 0 ≡ getD x (32768 + 1536 * j + k) 0
+past-kept : (j k : ℕ) (o : Stored) (x : List ℕ) → Past o → k < 6
+    → getD (withStored j o x) (32768 + 1536 * j + k) 0 ≡ getD x (32768 + 1536 * j + k) 0
 unfolding withBit
 past-kept j k NoStore x p h = refl
 past-kept j k (Store n b) x p h = getD-set-other x (32768 + 1536 * j + n / 8) (32768 + 1536 * j + k) _ 0 (λ z. omega arith)
@@ -101,14 +105,16 @@ module _ (e : Bool) (H : ℕ → Heard) (r : Receiver) (v : Far r) where
   far-all zero a = v
   far-all (suc m) a = far-step (receivedBy e H m r) (H m) e (a m (omega arith)) (far-all m (λ s l. a s (omega arith))) .0
 
-  first-six : (j k m : ℕ) (x : List ℕ) → AllHeard H m → k < 6 → getD (storedAll j (keptBy e H r) m x) (32768 + 1536 * j + k) 0 ≡ getD x (32768 + 1536 * j + k) 0
+  first-six : (j k m : ℕ) (x : List ℕ) → AllHeard H m → k < 6
+      → getD (storedAll j (keptBy e H r) m x) (32768 + 1536 * j + k) 0 ≡ getD x (32768 + 1536 * j + k) 0
   unfolding storedAll turns keptBy AllHeard
   first-six j k zero x a h = refl
   first-six j k (suc m) x a h =
       past-kept j k (keptBy e H r m) (storedAll j (keptBy e H r) m x) (far-step (receivedBy e H m r) (H m) e (a m (omega arith)) (far-all m (λ s l. a s (omega arith))) .1) h
       ∙ first-six j k m x (λ s l. a s (omega arith)) h
 
-  destination-stays : (address : List ℕ) (j m : ℕ) (x : List ℕ) → j < 16 → 57344 ≤ length x → AllHeard H m → addressed address (bufferAt (storedAll j (keptBy e H r) m x) j) ≡ addressed address (bufferAt x j)
+  destination-stays : (address : List ℕ) (j m : ℕ) (x : List ℕ) → j < 16 → 57344 ≤ length x → AllHeard H m
+      → addressed address (bufferAt (storedAll j (keptBy e H r) m x) j) ≡ addressed address (bufferAt x j)
   unfolding addressed destinationOf bufferAt Same
   destination-stays address j m x hj room a =
       let y = storedAll j (keptBy e H r) m x in
@@ -194,7 +200,8 @@ not-not false h = absurd (true≢false h)
 
 module _ (address : List ℕ) (j : ℕ) (e : Bool) (H : ℕ → Heard) (m more : ℕ) (x : List ℕ) (hj : j < 16) (room : 57344 ≤ length x) (a : AllHeard H m) (few : m ≤ more) where
   -- fewer than 512 bits come together
-  short : (r : Receiver) → rowIn r < 512 → bitsIn r + more < 512 → ended address (bufferAt (storedAll j (keptBy e H r) m x) j) (receivedBy e H m r) ≡ deciding (calmed 1 (receivedBy e H m r)) NoReceive
+  short : (r : Receiver) → rowIn r < 512 → bitsIn r + more < 512
+      → ended address (bufferAt (storedAll j (keptBy e H r) m x) j) (receivedBy e H m r) ≡ deciding (calmed 1 (receivedBy e H m r)) NoReceive
   short r w h = ends-short address (bufferAt (storedAll j (keptBy e H r) m x) j) (receivedBy e H m r) (omega (arith, received-range e H m r a w .1))
 
   pub not-reported : (r : Receiver) → rowIn r < 512 → mayReport address (bufferAt x j) more r ≡ false
@@ -222,5 +229,6 @@ pub six-long : (x b : List ℕ) (j : ℕ) → b ≡ bufferAt x j → j < 16 → 
 unfolding bufferAt
 six-long x b j e hj room = omega (arith, ap length e, length-part x (32768 + 1536 * j) 1518 (omega arith))
 
-pub destination-is : (x address b : List ℕ) (j : ℕ) (r : Bool) → r ≡ addressed address b → address ≡ addressAt x j → b ≡ bufferAt x j → r ≡ addressed (addressAt x j) (bufferAt x j)
+pub destination-is : (x address b : List ℕ) (j : ℕ) (r : Bool) → r ≡ addressed address b → address ≡ addressAt x j
+    → b ≡ bufferAt x j → r ≡ addressed (addressAt x j) (bufferAt x j)
 destination-is x address b j r p q e = p ∙ ap₂ addressed q e

@@ -47,7 +47,8 @@ unfolding blanks withOctet
 length-blanks i q n x = length-turns _ n x (λ u y. length-set y _ _)
 
 -- one zero
-one-zero : (i k : ℕ) (y : List ℕ) → k < 12144 → withStored i (storedBit k false) y ≡ withOctet y i (k / 8) (getD y (32768 + 1536 * i + k / 8) 0 % 2 ^ (k % 8))
+one-zero : (i k : ℕ) (y : List ℕ) → k < 12144
+    → withStored i (storedBit k false) y ≡ withOctet y i (k / 8) (getD y (32768 + 1536 * i + k / 8) 0 % 2 ^ (k % 8))
 unfolding storedBit withBit withOctet octetWith
 one-zero i k y h =
     let o = getD y (32768 + 1536 * i + k / 8) 0 % 2 ^ (k % 8) in
@@ -55,12 +56,14 @@ one-zero i k y h =
     rw (lt-ltb k 12144 h) (ap (set y (32768 + 1536 * i + k / 8)) z)
 
 -- a zero on an octet that has fewer bits already changes nothing
-no-change : (i q p : ℕ) (y : List ℕ) → getD y (32768 + 1536 * i + q) 0 < 2 ^ p → withOctet y i q (getD y (32768 + 1536 * i + q) 0 % 2 ^ p) ≡ y
+no-change : (i q p : ℕ) (y : List ℕ) → getD y (32768 + 1536 * i + q) 0 < 2 ^ p
+    → withOctet y i q (getD y (32768 + 1536 * i + q) 0 % 2 ^ p) ≡ y
 unfolding withOctet
 no-change i q p y h = ap (set y (32768 + 1536 * i + q)) (mod-eq-of-lt h) ∙ set-getD y (32768 + 1536 * i + q) 0
 
 -- the last octet written
-last-low : (i q p s n : ℕ) (x : List ℕ) → i < 16 → q + n < 1518 → 57344 ≤ length x → (n ≡ 0 → p ≤ s) → getD (blanks i q n (lowKept i q p x)) (32768 + 1536 * i + (q + n)) 0 < 2 ^ s
+last-low : (i q p s n : ℕ) (x : List ℕ) → i < 16 → q + n < 1518 → 57344 ≤ length x → (n ≡ 0 → p ≤ s)
+    → getD (blanks i q n (lowKept i q p x)) (32768 + 1536 * i + (q + n)) 0 < 2 ^ s
 unfolding blanks lowKept withOctet turns
 last-low i q p s zero x hi h room le =
     let e : q + 0 ≡ q = omega arith in
@@ -73,11 +76,13 @@ last-low i q p s (suc n) x hi h room le =
     let l : 57344 ≤ length y = omega (arith, length-blanks i q n (lowKept i q p x), length-low i q p x) in
     omega (arith, getD-set-same y (32768 + 1536 * i + (q + suc n)) 0 0 (omega arith), pow-pos s)
 
-blanks-none : (i q p : ℕ) (x : List ℕ) → withOctet x i q (getD x (32768 + 1536 * i + q) 0 % 2 ^ p) ≡ blanks i q 0 (lowKept i q p x)
+blanks-none : (i q p : ℕ) (x : List ℕ)
+    → withOctet x i q (getD x (32768 + 1536 * i + q) 0 % 2 ^ p) ≡ blanks i q 0 (lowKept i q p x)
 unfolding blanks lowKept turns
 blanks-none i q p x = refl
 
-blanks-more : (i q n : ℕ) (z : List ℕ) → withOctet (blanks i q n z) i (q + suc n) (getD (blanks i q n z) (32768 + 1536 * i + (q + suc n)) 0 % 2 ^ 0) ≡ blanks i q (suc n) z
+blanks-more : (i q n : ℕ) (z : List ℕ)
+    → withOctet (blanks i q n z) i (q + suc n) (getD (blanks i q n z) (32768 + 1536 * i + (q + suc n)) 0 % 2 ^ 0) ≡ blanks i q (suc n) z
 unfolding blanks turns
 blanks-more i q n z = let e : getD (blanks i q n z) (32768 + 1536 * i + (q + suc n)) 0 % 1 ≡ 0 = omega arith in ap (withOctet (blanks i q n z) i (q + suc n)) e
 
@@ -86,7 +91,8 @@ unfolding storedAll turns
 none-stored i st x = refl
 
 -- m zeros stored one by one
-pub zeros-kept : (i c m : ℕ) (x : List ℕ) → i < 16 → 57344 ≤ length x → c + suc m ≤ 12144 → storedAll i (λ s. storedBit (c + s) false) (suc m) x ≡ zeroed i c (suc m) x
+pub zeros-kept : (i c m : ℕ) (x : List ℕ) → i < 16 → 57344 ≤ length x → c + suc m ≤ 12144
+    → storedAll i (λ s. storedBit (c + s) false) (suc m) x ≡ zeroed i c (suc m) x
 unfolding storedAll turns zeroed
 zeros-kept i c zero x hi room h =
     let e : c + 0 ≡ c = omega arith in
@@ -113,7 +119,8 @@ zeros-kept i c (suc m) x hi room h =
     ∙ ap (λ (u : ℕ). blanks i q u z) (sym b))
 
 -- past the largest frame nothing is kept
-pub past-kept : (i c m : ℕ) (bit : ℕ → Bool) (x : List ℕ) → 12144 ≤ c → storedAll i (λ s. storedBit (c + s) (bit s)) m x ≡ x
+pub past-kept : (i c m : ℕ) (bit : ℕ → Bool) (x : List ℕ) → 12144 ≤ c
+    → storedAll i (λ s. storedBit (c + s) (bit s)) m x ≡ x
 unfolding storedAll turns storedBit
 past-kept i c zero bit x h = refl
 past-kept i c (suc m) bit x h = rw (le-ltb (c + m) 12144 (omega arith)) (past-kept i c m bit x h)
@@ -122,12 +129,14 @@ past-kept i c (suc m) bit x h = rw (le-ltb (c + m) 12144 (omega arith)) (past-ke
 unfoldable pub zeroedUpTo : (i c m : ℕ) → List ℕ → List ℕ
 zeroedUpTo i c m x = pick (ltb c 12144) (pick (ltb 0 m) (zeroed i c (min m (12144 - c)) x) x) x
 
-none-past : (i c a b : ℕ) (y : List ℕ) → (0 < b → 12144 ≤ c + a) → turns (λ s z. withStored i (storedBit (c + (a + s)) false) z) b y ≡ y
+none-past : (i c a b : ℕ) (y : List ℕ) → (0 < b → 12144 ≤ c + a)
+    → turns (λ s z. withStored i (storedBit (c + (a + s)) false) z) b y ≡ y
 unfolding turns storedBit
 none-past i c a zero y h = refl
 none-past i c a (suc b) y h = let g : 12144 ≤ c + a = h (omega arith) in rw (le-ltb (c + (a + b)) 12144 (omega arith)) (none-past i c a b y (λ k. g))
 
-all-kept : (i c m : ℕ) (x : List ℕ) → i < 16 → 57344 ≤ length x → c < 12144 → 0 < m → storedAll i (λ s. storedBit (c + s) false) m x ≡ zeroed i c (min m (12144 - c)) x
+all-kept : (i c m : ℕ) (x : List ℕ) → i < 16 → 57344 ≤ length x → c < 12144 → 0 < m
+    → storedAll i (λ s. storedBit (c + s) false) m x ≡ zeroed i c (min m (12144 - c)) x
 unfolding storedAll
 all-kept i c m x hi room h pos =
     let a = min m (12144 - c) in
@@ -140,7 +149,8 @@ all-kept i c m x hi room h pos =
     ∙ ap (λ (y : List ℕ). turns (λ s z. W (a + s) z) b y) (ap (λ (k : ℕ). turns W k x) f ∙ zeros-kept i c (a - 1) x hi room (omega arith) ∙ ap (λ (k : ℕ). zeroed i c k x) (sym f))
     ∙ none-past i c a b (zeroed i c a x) (λ g. omega arith)
 
-pub zeros-stored : (i c m : ℕ) (x : List ℕ) → i < 16 → 57344 ≤ length x → storedAll i (λ s. storedBit (c + s) false) m x ≡ zeroedUpTo i c m x
+pub zeros-stored : (i c m : ℕ) (x : List ℕ) → i < 16 → 57344 ≤ length x
+    → storedAll i (λ s. storedBit (c + s) false) m x ≡ zeroedUpTo i c m x
 unfolding zeroedUpTo
 zeros-stored i c m x hi room =
     by-test (ltb c 12144)
@@ -152,7 +162,8 @@ zeros-stored i c m x hi room =
 -- ---- the fold
 
 -- a reception that has no delimiter yet
-seek-one : (row : ℕ) (sp own e : Bool) (j : ℕ) (x : List ℕ) → stepTaken j (receive [] [] (Seeking row sp own) Several e) x ≡ taken (Seeking 1 true (own || e)) x
+seek-one : (row : ℕ) (sp own e : Bool) (j : ℕ) (x : List ℕ)
+    → stepTaken j (receive [] [] (Seeking row sp own) Several e) x ≡ taken (Seeking 1 true (own || e)) x
 unfolding stepTaken receive hear seek
 seek-one row sp own e j x = refl
 
@@ -162,14 +173,16 @@ unfolding stepTaken receive hear collect collectBit
 collect-one c sp own e j x = ap (λ (t : Bool). taken (Collecting (c + 1) t (own || e)) (withStored j (storedBit c false) x)) (or-true sp)
 
 module _ (j : ℕ) (e : Bool) (x : List ℕ) where
-  sought-more : (own : Bool) (m : ℕ) (p : Taken) → heardAll j e spoils 1 p ≡ taken (Seeking 1 true (own || e)) x → heardAll j e spoils (suc m) p ≡ taken (Seeking 1 true (own || e)) x
+  sought-more : (own : Bool) (m : ℕ) (p : Taken) → heardAll j e spoils 1 p ≡ taken (Seeking 1 true (own || e)) x
+      → heardAll j e spoils (suc m) p ≡ taken (Seeking 1 true (own || e)) x
   unfolding heardAll turns spoils
   sought-more own zero p h = h
   sought-more own (suc m) p h =
       ap (λ (q : Taken). stepTaken j (receive [] [] (q .receiver) Several e) (q .octets)) (sought-more own m p h)
       ∙ seek-one 1 true (own || e) e j x ∙ ap (λ (o : Bool). taken (Seeking 1 true o) x) (or-twice own e)
 
-  seek-first : (row : ℕ) (sp own : Bool) → heardAll j e spoils 1 (taken (Seeking row sp own) x) ≡ taken (Seeking 1 true (own || e)) x
+  seek-first : (row : ℕ) (sp own : Bool)
+      → heardAll j e spoils 1 (taken (Seeking row sp own) x) ≡ taken (Seeking 1 true (own || e)) x
   unfolding heardAll turns spoils
   seek-first row sp own = seek-one row sp own e j x
 
@@ -181,7 +194,8 @@ module _ (j : ℕ) (e : Bool) (x : List ℕ) where
   unfolding heardAll turns spoils stepTaken receive hear seek
   read-first n = refl
 
-  pub spoiled-seeking : (row : ℕ) (sp own : Bool) (m : ℕ) → heardAll j e spoils (suc m) (taken (Seeking row sp own) x) ≡ taken (Seeking 1 true (own || e)) x
+  pub spoiled-seeking : (row : ℕ) (sp own : Bool) (m : ℕ)
+      → heardAll j e spoils (suc m) (taken (Seeking row sp own) x) ≡ taken (Seeking 1 true (own || e)) x
   spoiled-seeking row sp own m = sought-more own m (taken (Seeking row sp own) x) (seek-first row sp own)
 
   pub spoiled-listening : (m : ℕ) → heardAll j e spoils (suc m) (taken Listening x) ≡ taken (Seeking 1 true e) x
@@ -190,7 +204,8 @@ module _ (j : ℕ) (e : Bool) (x : List ℕ) where
   pub spoiled-readable : (n m : ℕ) → heardAll j e spoils (suc m) (taken (Readable n) x) ≡ taken (Seeking 1 true e) x
   spoiled-readable n m = sought-more false m (taken (Readable n) x) (read-first n)
 
-  pub spoiled-collecting : (c : ℕ) (sp own : Bool) (m : ℕ) → heardAll j e spoils (suc m) (taken (Collecting c sp own) x) ≡ taken (Collecting (c + suc m) true (own || e)) (storedAll j (λ s. storedBit (c + s) false) (suc m) x)
+  pub spoiled-collecting : (c : ℕ) (sp own : Bool) (m : ℕ)
+      → heardAll j e spoils (suc m) (taken (Collecting c sp own) x) ≡ taken (Collecting (c + suc m) true (own || e)) (storedAll j (λ s. storedBit (c + s) false) (suc m) x)
   unfolding heardAll storedAll turns spoils
   spoiled-collecting c sp own zero =
       let z : c + 0 ≡ c = omega arith in

@@ -50,7 +50,7 @@ pub fn frames_rest(f: Figures, m: u32, d: Deference, x: Transmitter) -> u32
 }
 
 // Whether nothing is being received.
-fn is_idle(x: Receiver) -> bool
+pub fn is_idle(x: Receiver) -> bool
     ensures { λ r. ⌜ r ≡ idle x ⌝ }
 {
     match x {

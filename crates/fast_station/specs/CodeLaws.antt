@@ -31,15 +31,18 @@ module _ (f : Figures) (m : ℕ) (d : Deference) where
   unfolding heardFor
   for-busy own e = rw e
 
-  pub for-back : (n : ℕ) (own b : Bool) → d ≡ Gap n own → b ≡ goesBack (f .gap1) n own true → b ≡ true → m ≡ heardFor f m d
+  pub for-back : (n : ℕ) (own b : Bool) → d ≡ Gap n own → b ≡ goesBack (f .gap1) n own true → b ≡ true
+      → m ≡ heardFor f m d
   unfolding heardFor
   for-back n own b e p q = rw (e, ← p, q)
 
-  pub for-gap : (n : ℕ) (own b : Bool) → d ≡ Gap n own → b ≡ goesBack (f .gap1) n own true → b ≡ false → f .gap1 + f .gap2 - n ≡ heardFor f m d
+  pub for-gap : (n : ℕ) (own b : Bool) → d ≡ Gap n own → b ≡ goesBack (f .gap1) n own true → b ≡ false
+      → f .gap1 + f .gap2 - n ≡ heardFor f m d
   unfolding heardFor gapOf
   for-gap n own b e p q = rw (e, ← p, q)
 
-  pub for-over : (n : ℕ) (own b : Bool) → d ≡ Gap n own → b ≡ goesBack (f .gap1) n own true → b ≡ false → f .gap1 + f .gap2 < n → 0 ≡ heardFor f m d
+  pub for-over : (n : ℕ) (own b : Bool) → d ≡ Gap n own → b ≡ goesBack (f .gap1) n own true → b ≡ false
+      → f .gap1 + f .gap2 < n → 0 ≡ heardFor f m d
   unfolding heardFor gapOf
   for-over n own b e p q h = rw (e, ← p, q) (omega arith)
 
@@ -102,12 +105,15 @@ module _ (f : Figures) (m : ℕ) (d : Deference) where
   unfolding heardDeference
   gap-none n own e z = rw (e, eq-eqb m 0 z)
 
-  pub gap-heard : (n : ℕ) (own : Bool) (r : Deference) → d ≡ Gap n own → (m ≡ 0 → ⊥) → r ≡ heardGap f m n own → r ≡ heardDeference f m d
+  pub gap-heard : (n : ℕ) (own : Bool) (r : Deference) → d ≡ Gap n own → (m ≡ 0 → ⊥) → r ≡ heardGap f m n own
+      → r ≡ heardDeference f m d
   unfolding heardDeference
   gap-heard n own r e z p = rw (e, ne-eqb m 0 z) p
 
-pub hear-is : (f : Figures) (m : ℕ) (r : Receiver) (s : Station) (d : Deference) (x : Transmitter) (w b df : Bool) → d ≡ heardDeference f m (s .deference)
-    → x ≡ restedTransmitter m (s .transmitter) → w ≡ hasWaited m (s .transmitter) → b ≡ (eqb (s .attempts) 0 && w) → df ≡ (s .deferred || b)
+pub hear-is : (f : Figures) (m : ℕ) (r : Receiver) (s : Station) (d : Deference) (x : Transmitter) (w b df : Bool)
+    → d ≡ heardDeference f m (s .deference)
+    → x ≡ restedTransmitter m (s .transmitter) → w ≡ hasWaited m (s .transmitter) → b ≡ (eqb (s .attempts) 0 && w)
+    → df ≡ (s .deferred || b)
     → record { address = s .address; deference = d; transmitter = x; receiver = r; frame = s .frame; attempts = s .attempts; draw = s .draw; deferred = df; emitted = false } ≡ hearOn f m r s
 unfolding hearOn made deferredBy
 hear-is f m r s d x w b df p q e u v = rw (p, q, v, u, e)

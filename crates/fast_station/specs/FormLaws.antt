@@ -51,7 +51,8 @@ unfolding stepped nextStation triesAfter drawAfter deferredAfter quietly made
 parts-step f s d draw buf h D E X Y R S df dg e em st p q r w = rw (p, q, r, w)
 
 -- a frame that waits one more step
-deferred-step : (m : ℕ) (s : Station) → (deferredBy m s || (waits (restedTransmitter m (s .transmitter)) && (eqb (s .attempts) 0 && true))) ≡ deferredBy (suc m) s
+deferred-step : (m : ℕ) (s : Station)
+    → (deferredBy m s || (waits (restedTransmitter m (s .transmitter)) && (eqb (s .attempts) 0 && true))) ≡ deferredBy (suc m) s
 unfolding deferredBy
 deferred-step m s =
     deferred-more (s .deferred) (eqb (s .attempts) 0) (hasWaited m (s .transmitter)) (waits (restedTransmitter m (s .transmitter)))
@@ -86,7 +87,8 @@ unfolding defer busyRule
 stays-busy f own w = ap (λ (b : Bool). to (Busy b)) (or-false own)
 
 module _ (f : Figures) (own : Bool) where
-  goes-back : (n : ℕ) (w : Bool) → goesBack (f .gap1) n own true ≡ true → defer f (Gap n own) true false w ≡ to (Busy false)
+  goes-back : (n : ℕ) (w : Bool) → goesBack (f .gap1) n own true ≡ true
+      → defer f (Gap n own) true false w ≡ to (Busy false)
   unfolding defer gapRule gapOf
   goes-back n w e = let p = went-back (f .gap1) n own e in rw (lt-leb (f .gap1 + f .gap2) n (omega (arith, p .0)), e, p .1)
 
@@ -110,7 +112,8 @@ module _ (f : Figures) (own : Bool) where
       ap (λ (t : Bool). defer f (pick t (Gap c own) (Busy false)) true false w) b ∙ stays-busy f false w
       ∙ ap (λ (t : Bool). to (pick t (Gap (suc c) own) (Busy false))) (sym (lt-leb (suc c) (gapOf f) (omega arith))))
 
-gap-heard : (f : Figures) (M m n : ℕ) (own w t : Bool) → goesBack (f .gap1) n own true ≡ t → (w ≡ true → m < pick t M (gapOf f - n))
+gap-heard : (f : Figures) (M m n : ℕ) (own w t : Bool) → goesBack (f .gap1) n own true ≡ t
+    → (w ≡ true → m < pick t M (gapOf f - n))
     → defer f (heardDeference f m (Gap n own)) true false w ≡ to (heardDeference f (suc m) (Gap n own))
 unfolding heardDeference heardGap
 gap-heard f M zero n own w true e s = rw (ne-eqb 1 0 (λ z. omega arith), e) (goes-back f own n w e)
@@ -123,19 +126,22 @@ gap-heard f M (suc m) n own w false e s =
     rw (ne-eqb (suc m) 0 (λ z. omega arith), ne-eqb (suc (suc m)) 0 (λ z. omega arith), e, z)
     (rises-on f own (n + suc m) w (back-later (f .gap1) n (n + suc m) own (omega arith) e) (λ t. omega (arith, s t)))
 
-quiet-heard : (f : Figures) (m : ℕ) (w : Bool) → defer f (heardDeference f m Quiet) true false w ≡ to (heardDeference f (suc m) Quiet)
+quiet-heard : (f : Figures) (m : ℕ) (w : Bool)
+    → defer f (heardDeference f m Quiet) true false w ≡ to (heardDeference f (suc m) Quiet)
 unfolding heardDeference defer quietRule busyRule
 quiet-heard f zero w = rw (ne-eqb 1 0 (λ z. omega arith))
 quiet-heard f (suc m) w = rw (ne-eqb (suc m) 0 (λ z. omega arith), ne-eqb (suc (suc m)) 0 (λ z. omega arith))
 
-heard-on : (f : Figures) (M m : ℕ) (d : Deference) (w : Bool) → (w ≡ true → m < heardFor f M d) → defer f (heardDeference f m d) true false w ≡ to (heardDeference f (suc m) d)
+heard-on : (f : Figures) (M m : ℕ) (d : Deference) (w : Bool) → (w ≡ true → m < heardFor f M d)
+    → defer f (heardDeference f m d) true false w ≡ to (heardDeference f (suc m) d)
 unfolding heardFor heardDeference
 heard-on f M m Quiet w s = quiet-heard f m w
 heard-on f M m (Busy own) w s = stays-busy f own w
 heard-on f M m (Gap n own) w s = gap-heard f M m n own w (goesBack (f .gap1) n own true) refl s
 
 -- a frame that waits does not start
-waits-heard : (f : Figures) (M K m : ℕ) (d : Deference) (x : Transmitter) → K ≤ heardRest f M d x → m < K → waits (restedTransmitter m x) ≡ true → m < heardFor f M d
+waits-heard : (f : Figures) (M K m : ℕ) (d : Deference) (x : Transmitter) → K ≤ heardRest f M d x → m < K
+    → waits (restedTransmitter m x) ≡ true → m < heardFor f M d
 unfolding restedTransmitter heardRest
 waits-heard f M K m d NoFrame l h e = absurd (true≢false (sym e))
 waits-heard f M K m d Waiting l h e = omega arith
@@ -149,7 +155,8 @@ waits-heard f M K m d (Jamming k) l h e = absurd (omega arith)
 
 -- the step, over any receiver
 pub hear-step : (f : Figures) (M K m : ℕ) (s : Station) (d draw : ℕ) (buf : List ℕ) (h : Heard) (r q : Receiver) (st : Stored)
-    → K ≤ heardRest f M (s .deference) (s .transmitter) → m < K → hearsAny h ≡ true → receive (s .address) buf r h false ≡ hearing q st
+    → K ≤ heardRest f M (s .deference) (s .transmitter) → m < K → hearsAny h ≡ true
+    → receive (s .address) buf r h false ≡ hearing q st
     → stepped f (hearOn f m r s) d draw buf h ≡ quietly (hearOn f (suc m) q s) Rest st
 unfolding hearOn
 hear-step f M K m s d draw buf h r q st l g a e =
@@ -164,7 +171,9 @@ hear-step f M K m s d draw buf h r q st l g a e =
 -- ---- nothing is heard
 
 -- a reception that ends in the first step; later ones decide nothing
-calms : (address buf : List ℕ) (m : ℕ) (r : Receiver) (e : Bool) → (m ≡ 0 → ended address buf r ≡ deciding (calmed 1 r) NoReceive) → receive address buf (calmed m r) Nothing e ≡ hearing (calmed (suc m) r) NoStore
+pub calms : (address buf : List ℕ) (m : ℕ) (r : Receiver) (e : Bool)
+    → (m ≡ 0 → ended address buf r ≡ deciding (calmed 1 r) NoReceive)
+    → receive address buf (calmed m r) Nothing e ≡ hearing (calmed (suc m) r) NoStore
 unfolding receive calmed ended
 calms address buf m Listening e h = refl
 calms address buf m (Readable n) e h = refl
@@ -173,7 +182,8 @@ calms address buf (suc m) (Seeking row sp own) e h = rw (ne-eqb (suc m) 0 (λ z.
 calms address buf zero (Collecting n sp own) e h = h refl
 calms address buf (suc m) (Collecting n sp own) e h = rw (ne-eqb (suc m) 0 (λ z. omega arith), ne-eqb (suc (suc m)) 0 (λ z. omega arith))
 
-pub rest-step : (f : Figures) (K m : ℕ) (s : Station) (d draw : ℕ) (buf : List ℕ) → 1 ≤ gapOf f → Lasts f K (s .deference) (s .transmitter) → m < K
+pub rest-step : (f : Figures) (K m : ℕ) (s : Station) (d draw : ℕ) (buf : List ℕ) → 1 ≤ gapOf f
+    → Lasts f K (s .deference) (s .transmitter) → m < K
     → (m ≡ 0 → ended (s .address) buf (s .receiver) ≡ deciding (calmed 1 (s .receiver)) NoReceive)
     → stepped f (restOn f m s) d draw buf Nothing ≡ quietly (restOn f (suc m) s) Rest NoStore
 unfolding restOn
@@ -188,7 +198,8 @@ rest-step f K m s d draw buf g l h c =
 
 -- ---- it emits
 
-emits-on : (f : Figures) (K m z n draw : ℕ) (x : Transmitter) (h : Bool) → K ≤ emitsFor z x → m < K → ((k : ℕ) → x ≡ Sending k → h ≡ false)
+emits-on : (f : Figures) (K m z n draw : ℕ) (x : Transmitter) (h : Bool) → K ≤ emitsFor z x → m < K
+    → ((k : ℕ) → x ≡ Sending k → h ≡ false)
     → transmit f (emitsOn f m x) z n draw false h ≡ emitting (emitsOn f (suc m) x) (emittedAt m x) NoTransmit
 unfolding transmit emitsOn emittedAt emitsFor sendBit headBit afterBit jamBit
 emits-on f K m z n draw NoFrame h l g c = absurd (omega arith)
@@ -203,13 +214,15 @@ emits-on f K m z n draw (Heading k) h l g c =
     (λ b. let p = ltb-false (k + m) 64 b in
     rw (le-leb (k + m) 64 (omega arith), lt-leb (k + suc m) 64 (omega arith)) (rw b))
   where
-    heads : ltb (k + m) 64 ≡ true → k + m + 1 ≡ k + suc m → emitting (pick (ltb (k + m) 64) (Heading (k + m + 1)) (Jamming (f .jam))) (PacketBit (k + m)) NoTransmit ≡ emitting (Heading (k + suc m)) (PacketBit (k + m)) NoTransmit
+    heads : ltb (k + m) 64 ≡ true → k + m + 1 ≡ k + suc m
+        → emitting (pick (ltb (k + m) 64) (Heading (k + m + 1)) (Jamming (f .jam))) (PacketBit (k + m)) NoTransmit ≡ emitting (Heading (k + suc m)) (PacketBit (k + m)) NoTransmit
     heads b e = rw (b, e)
 emits-on f K m z n draw (Jamming l) h b g c =
     let e : l - m - 1 ≡ l - suc m = omega arith in rw (lt-leb (l - m) 1 (omega arith), e)
 
 -- it is an emission, and no frame waits
-emits-still : (f : Figures) (K m z : ℕ) (x : Transmitter) → K ≤ emitsFor z x → m < K → (isEmission (emittedAt m x) ≡ true) × (waits (emitsOn f m x) ≡ false)
+emits-still : (f : Figures) (K m z : ℕ) (x : Transmitter) → K ≤ emitsFor z x → m < K
+    → (isEmission (emittedAt m x) ≡ true) × (waits (emitsOn f m x) ≡ false)
 unfolding emittedAt emitsOn emitsFor
 emits-still f K m z NoFrame l g = absurd (omega arith)
 emits-still f K m z Waiting l g = absurd (omega arith)
@@ -224,7 +237,8 @@ busy-emits f true w = refl
 busy-emits f false w = refl
 
 pub emit-step : (f : Figures) (K m : ℕ) (s : Station) (d draw : ℕ) (buf : List ℕ) (h : Heard) (r q : Receiver) (st : Stored)
-    → K ≤ emitsFor (s .frame) (s .transmitter) → m < K → ((k : ℕ) → s .transmitter ≡ Sending k → h ≡ Nothing) → receive (s .address) buf r h true ≡ hearing q st
+    → K ≤ emitsFor (s .frame) (s .transmitter) → m < K → ((k : ℕ) → s .transmitter ≡ Sending k → h ≡ Nothing)
+    → receive (s .address) buf r h true ≡ hearing q st
     → stepped f (emitOn f m r s) d draw buf h ≡ quietly (emitOn f (suc m) q s) (emittedAt m (s .transmitter)) st
 unfolding emitOn
 emit-step f K m s d draw buf h r q st l g c e =
@@ -262,7 +276,8 @@ emits-zero f z (Heading k) h = let e : k + 0 ≡ k = omega arith in rw (le-leb (
 emits-zero f z (Jamming l) h = let e : l - 0 ≡ l = omega arith in ap Jamming e
 
 -- a station of its own parts
-made-same : (s : Station) (d : Deference) (x : Transmitter) (r : Receiver) (df e : Bool) → d ≡ s .deference → x ≡ s .transmitter → r ≡ s .receiver → df ≡ s .deferred → e ≡ s .emitted
+made-same : (s : Station) (d : Deference) (x : Transmitter) (r : Receiver) (df e : Bool) → d ≡ s .deference
+    → x ≡ s .transmitter → r ≡ s .receiver → df ≡ s .deferred → e ≡ s .emitted
     → made s d x r df e ≡ s
 unfolding made
 made-same s d x r df e p q u v w =
@@ -283,7 +298,8 @@ module _ (f : Figures) (d t : ℕ) (s : Station) (v : Fine f d t s) where
   rest-none e =
       made-same s _ _ _ _ false (rested-gap f (s .deference) (v .gap)) (rested-frame f (s .frame) (s .transmitter) (v .number)) (calm-zero (s .receiver)) deferred-none (sym e)
 
-pub emit-none : (f : Figures) (s : Station) → 0 < emitsFor (s .frame) (s .transmitter) → s .deference ≡ Busy true → s .emitted ≡ true → emitOn f 0 (s .receiver) s ≡ s
+pub emit-none : (f : Figures) (s : Station) → 0 < emitsFor (s .frame) (s .transmitter) → s .deference ≡ Busy true
+    → s .emitted ≡ true → emitOn f 0 (s .receiver) s ≡ s
 unfolding emitOn
 emit-none f s h b e = made-same s _ _ (s .receiver) (s .deferred) true (sym b) (emits-zero f (s .frame) (s .transmitter) h) refl refl (sym e)
 
@@ -312,7 +328,8 @@ module _ (f : Figures) (m : ℕ) (r : Receiver) (s : Station) where
   emit-address = refl
 
   -- an emitter holds its frame
-  pub emit-held : 0 < emitsFor (s .frame) (s .transmitter) → octetsHeld (emitOn f m r s .transmitter) (emitOn f m r s .frame) ≡ s .frame
+  pub emit-held : 0 < emitsFor (s .frame) (s .transmitter)
+      → octetsHeld (emitOn f m r s .transmitter) (emitOn f m r s .frame) ≡ s .frame
   unfolding emitOn made
   emit-held p = emits-held f m (s .frame) (s .transmitter) p
 
@@ -345,7 +362,8 @@ module _ (f : Figures) (g : Figured f) where
   calm-small zero (Collecting n sp own) h = h
   calm-small (suc m) (Collecting n sp own) h = rw (ne-eqb (suc m) 0 (λ z. omega arith)) (omega arith)
 
-  emits-small : (m z : ℕ) (x : Transmitter) → numberIn x < 256 ^ 4 → packetLength z < 256 ^ 4 → m ≤ emitsFor z x → numberIn (emitsOn f m x) < 256 ^ 4
+  emits-small : (m z : ℕ) (x : Transmitter) → numberIn x < 256 ^ 4 → packetLength z < 256 ^ 4 → m ≤ emitsFor z x
+      → numberIn (emitsOn f m x) < 256 ^ 4
   unfolding emitsOn emitsFor
   emits-small m z NoFrame h p l = h
   emits-small m z Waiting h p l = h
@@ -384,7 +402,8 @@ module _ (f : Figures) (g : Figured f) where
         draw = v .draw;
       }
 
-  pub emit-fit : (m : ℕ) (r : Receiver) (s : Station) → Fit s → receiverNumber r < 256 ^ 4 → packetLength (s .frame) < 256 ^ 4 → m ≤ emitsFor (s .frame) (s .transmitter) → Fit (emitOn f m r s)
+  pub emit-fit : (m : ℕ) (r : Receiver) (s : Station) → Fit s → receiverNumber r < 256 ^ 4
+      → packetLength (s .frame) < 256 ^ 4 → m ≤ emitsFor (s .frame) (s .transmitter) → Fit (emitOn f m r s)
   unfolding emitOn made
   emit-fit m r s v h p l =
       record {

@@ -116,7 +116,8 @@ pub fn hear_on(f: Figures, m: u32, r: Receiver, s: Station) -> Station
 
 // ---- nothing is heard, and it emits nothing
 
-fn calm(m: u32, r: Receiver) -> Receiver
+// A receiver after m steps in which nothing is heard: a reception that reported nothing is over.
+pub fn calm(m: u32, r: Receiver) -> Receiver
     ensures { λ q. ⌜ q ≡ calmed m r ⌝ }
 {
     match r {

@@ -1,0 +1,1 @@
+-- Laws of a station that moves on. Assumes nothing.
