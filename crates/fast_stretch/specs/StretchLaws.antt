@@ -75,6 +75,27 @@ unfolding quietStretch wentTo
 stretch-quiet f e m j x z s t a b c =
     c ∙ ap (withStation x j) (b ∙ ap (quietOn f e m) a) ∙ sym (none-stored j m (withStation x j (quietOn f e m (stationAt x j))))
 
+-- each as a closed form that fast_plan/Goes speaks of
+module _ (f : Figures) (H : ℕ → Heard) (m j : ℕ) (x : List ℕ) where
+  pub stretch-hears : heardStretch f false H m j x
+      ≡ wentTo j (keptBy false H (stationAt x j .receiver)) m (hearOn f m (receivedBy false H m (stationAt x j .receiver)) (stationAt x j)) x
+  unfolding heardStretch movedOn
+  stretch-hears = refl
+
+  pub stretch-emits : heardStretch f true H m j x
+      ≡ wentTo j (keptBy true H (stationAt x j .receiver)) m (emitOn f m (receivedBy true H m (stationAt x j .receiver)) (stationAt x j)) x
+  unfolding heardStretch movedOn
+  stretch-emits = refl
+
+pub stretch-rests : (f : Figures) (m j : ℕ) (x : List ℕ) → quietStretch f false m j x ≡ wentTo j (λ s. NoStore) m (restOn f m (stationAt x j)) x
+unfolding quietStretch quietOn
+stretch-rests f m j x = refl
+
+pub stretch-alone : (f : Figures) (m j : ℕ) (x : List ℕ)
+    → quietStretch f true m j x ≡ wentTo j (λ s. NoStore) m (emitOn f m (calmed m (stationAt x j .receiver)) (stationAt x j)) x
+unfolding quietStretch quietOn
+stretch-alone f m j x = refl
+
 -- ---- room
 
 module _ (f : Figures) (m j : ℕ) (x : List ℕ) (s : Station) (v : Movable f m x j) (a : s ≡ stationAt x j) where
