@@ -1,14 +1,12 @@
 -- A law for each way through the code; what the ranges of a station give. Assumes nothing.
-use Prim.Native.Nat.{ℕ, zero, suc, _+_, _-_, _*_, _≤_, _<_}
+use Prim.Native.Nat.{ℕ, zero, suc, _+_, _≤_, _<_}
 use mathlib.Core.Path.{_≡_, refl, sym, _∙_, ap, ap₂, subst}
 use mathlib.Core.Bool.{Bool, true, false}
 use mathlib.Core.List.{List}
 use native.Mathlib.Omega.{arith}
-use lib.ListN.{length}
 use Rattle.octets.specs.Base.{pick}
 use Rattle.octets.specs.Turns.{turns}
 use Rattle.layout.specs.declared.Figures.{Figures}
-use Rattle.layout.specs.Layout.{gapOf}
 use Rattle.layout.specs.CheckLaws.{Figured}
 use Rattle.packet.specs.declared.Heard.{Heard}
 use Rattle.state.specs.declared.Transmitter.{Transmitter}
@@ -17,16 +15,13 @@ use Rattle.state.specs.declared.Receiver.{Receiver}
 use Rattle.state.specs.declared.Receiver.the-variants.{Listening, Readable, Seeking, Collecting}
 use Rattle.state.specs.declared.Station.{Station}
 use Rattle.state.specs.State.{numberIn}
-use Rattle.receiver.specs.declared.Stored.{Stored}
 use Rattle.receiver.specs.declared.Stored.the-variants.{NoStore}
 use Rattle.receiver.specs.Receive.{rowIn, bitsIn}
-use Rattle.transmitter.specs.Transmit.{packetLength}
 use Rattle.area.specs.Area.{stationAt, withStation}
-use Rattle.pair.specs.BitTime.{withStored}
 use Rattle.pair.specs.Range.{Fine, NumberIn, FrameIn, ReceiverIn}
 use Rattle.fast_plan.specs.Goes.{storedAll, wentTo, station-all}
 use Rattle.fast_station.specs.Forms.{hearOn, calmed, restOn, emitOn}
-use Rattle.fast_receive.specs.Received.{Taken, taken, heardAll, receivedBy, keptBy}
+use Rattle.fast_receive.specs.Received.{taken, heardAll, receivedBy, keptBy}
 use Rattle.fast_receive.specs.ReceivedLaws.{heard-receiver, heard-octets}
 use Rattle.fast_stretch.specs.Stretch.{movedOn, heardStretch, quietOn, quietStretch, Room, Movable}
 
