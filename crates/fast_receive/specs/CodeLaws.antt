@@ -7,21 +7,19 @@ use native.Mathlib.Numerals.{add-one}
 use native.Mathlib.Omega.{arith}
 use borrow.Author.Tests.{ne-eqb, ltb-true, lt-ltb, le-ltb, lt-leb}
 use lib.Dec.{eqb, leb, ltb}
-use lib.ListN.{length, getD, take, drop}
+use lib.ListN.{length, getD, drop}
 use lib.Seq.{getD-take, getD-drop}
-use Rattle.octets.specs.Base.{pick}
 use Rattle.octets.specs.BaseLaws.{by-test}
 use Rattle.octets.specs.Store.{part, length-part}
-use Rattle.octets.specs.Turns.{turns, turns-none, turns-more, turns-end}
+use Rattle.octets.specs.Turns.{turns-none, turns-more, turns-end}
 use Rattle.packet.specs.declared.Heard.{Heard}
-use Rattle.packet.specs.declared.Heard.the-variants.{Nothing, Clean, Jammed, Several}
+use Rattle.packet.specs.declared.Heard.the-variants.{Clean}
 use Rattle.packet.specs.Packet.{hearsAny, packetBit}
 use Rattle.state.specs.declared.Receiver.{Receiver}
 use Rattle.state.specs.declared.Receiver.the-variants.{Listening, Readable, Seeking, Collecting}
 use Rattle.receiver.specs.declared.Received.{Received}
-use Rattle.receiver.specs.declared.Stored.{Stored}
 use Rattle.receiver.specs.Receive.{rowIn, bitsIn, storedBit, seek, seekBit, collect, collectBit, hear, receive}
-use Rattle.area.specs.Places.{Part, place}
+use Rattle.area.specs.Places.{place}
 use Rattle.area.specs.Area.{bufferAt, heardOf, symbolAt, arrivalAt, withOctet}
 use Rattle.area.specs.AreaLaws.{symbol-by}
 use Rattle.pair.specs.BitTime.{withStored}

@@ -1,7 +1,7 @@
 -- Clean bits that are collected: one by one they are the fold; eight from a whole octet on are an octet of the frame. Assumes nothing.
 use Prim.Native.Nat.{ℕ, zero, suc, _+_, _-_, _*_, _/_, _%_, _^_, _≤_, _<_}
 use mathlib.Core.Path.{_≡_, refl, sym, _∙_, ap}
-use mathlib.Core.Bool.{Bool, true, false, not, _||_, or-false}
+use mathlib.Core.Bool.{Bool, true, false, _||_, or-false}
 use mathlib.Core.List.{List, []}
 use native.Mathlib.Omega.{arith}
 use borrow.Author.Tests.{lt-ltb}
@@ -10,11 +10,9 @@ use lib.ListN.{length, getD, set, length-set}
 use lib.Seq.{getD-set-same, set-set}
 use Rattle.octets.specs.Bits.{digit}
 use Rattle.octets.specs.Turns.{turns, length-turns}
-use Rattle.packet.specs.declared.Heard.{Heard}
 use Rattle.packet.specs.declared.Heard.the-variants.{Clean}
 use Rattle.packet.specs.Packet.{frameBit, packetBit}
 use Rattle.packet.specs.PacketLaws.{frame-bit, bit-of-frame}
-use Rattle.state.specs.declared.Receiver.{Receiver}
 use Rattle.state.specs.declared.Receiver.the-variants.{Collecting}
 use Rattle.receiver.specs.declared.Stored.{Stored}
 use Rattle.receiver.specs.Receive.{storedBit, receive, hear, collect, collectBit}

@@ -1,14 +1,13 @@
 -- A reception that may not report reports nothing when it ends. Assumes nothing.
-use Prim.Native.Nat.{ℕ, zero, suc, _+_, _-_, _*_, _/_, _≤_, _<_}
-use mathlib.Core.Path.{_≡_, refl, sym, _∙_, ap, ap₂, subst}
-use mathlib.Core.Bool.{Bool, true, false, not, _||_, _&&_, true≢false}
+use Prim.Native.Nat.{ℕ, zero, suc, _+_, _*_, _/_, _≤_, _<_}
+use mathlib.Core.Path.{_≡_, refl, sym, _∙_, ap, ap₂}
+use mathlib.Core.Bool.{Bool, true, false, not, _||_, _&&_, true≢false, or-true}
 use mathlib.Core.List.{List, []}
 use native.Mathlib.Omega.{arith}
-use borrow.Author.Tests.{ltb-true, ltb-false, lt-ltb, le-ltb, leb-true, leb-false, le-leb, lt-leb}
+use borrow.Author.Tests.{ltb-false, lt-ltb, le-ltb, leb-false, le-leb, lt-leb}
 use lib.Dec.{eqb, leb, ltb}
-use lib.ListN.{length, getD, set, take, drop, replicate}
+use lib.ListN.{length, getD, drop, replicate}
 use lib.Seq.{getD-set-other, getD-take, getD-drop}
-use Rattle.octets.specs.Base.{pick}
 use Rattle.octets.specs.BaseLaws.{by-test}
 use Rattle.octets.specs.Equal.{equal}
 use Rattle.octets.specs.Region.{Same, part-goes-by}
@@ -129,7 +128,8 @@ module _ (e : Bool) (H : ℕ → Heard) (r : Receiver) (v : Far r) where
 
 -- ---- the station's own emission stays known
 
-abbrev Owns : Receiver → Type 0
+-- a reception during which the station emitted
+abbrev pub Owns : Receiver → Type 0
 Owns Listening = ⊥
 Owns (Readable n) = ⊥
 Owns (Seeking row sp own) = own ≡ true
@@ -157,29 +157,51 @@ owns-step q (Clean b) e p v = hear-owns q true b e v
 owns-step q Jammed e p v = hear-owns q false false e v
 owns-step q Several e p v = hear-owns q false false e v
 
-owns-all : (e : Bool) (H : ℕ → Heard) (r : Receiver) (m : ℕ) → AllHeard H m → Owns r → Owns (receivedBy e H m r)
+pub owns-all : (e : Bool) (H : ℕ → Heard) (r : Receiver) (m : ℕ) → AllHeard H m → Owns r → Owns (receivedBy e H m r)
 unfolding receivedBy turns AllHeard
 owns-all e H r zero a v = v
 owns-all e H r (suc m) a v = owns-step (receivedBy e H m r) (H m) e (a m (omega arith)) (owns-all e H r m (λ s l. a s (omega arith)) v)
 
+-- one step in which it hears others and emits is enough
+seek-emits : (row : ℕ) (sp clean b : Bool) → Owns (seek row sp true clean b .receiver)
+seek-emits row sp clean b = seek-owns row sp true clean b refl
+
+hear-emits : (q : Receiver) (clean b : Bool) → Owns (hear q clean b true .receiver)
+unfolding hear collect collectBit
+hear-emits Listening clean b = seek-emits 1 false clean b
+hear-emits (Readable n) clean b = seek-emits 1 false clean b
+hear-emits (Seeking row sp own) clean b = seek-owns row sp (own || true) clean b (or-true own)
+hear-emits (Collecting n sp own) clean b = or-true own
+
+receive-emits : (q : Receiver) (h : Heard) → hearsAny h ≡ true → Owns (receive [] [] q h true .receiver)
+unfolding receive
+receive-emits q Nothing p = absurd (true≢false (sym p))
+receive-emits q (Clean b) p = hear-emits q true b
+receive-emits q Jammed p = hear-emits q false false
+receive-emits q Several p = hear-emits q false false
+
+pub emits-owns : (H : ℕ → Heard) (r : Receiver) (m : ℕ) → AllHeard H (suc m) → Owns (receivedBy true H (suc m) r)
+unfolding receivedBy turns AllHeard
+emits-owns H r m a = receive-emits (receivedBy true H m r) (H m) (a m (omega arith))
+
 -- ---- nothing is reported
 
 module _ (address buf : List ℕ) where
-  ends-short : (q : Receiver) → bitsIn q < 512 → ended address buf q ≡ deciding (calmed 1 q) NoReceive
+  pub ends-short : (q : Receiver) → bitsIn q < 512 → ended address buf q ≡ deciding (calmed 1 q) NoReceive
   unfolding ended calmed decide
   ends-short Listening h = refl
   ends-short (Readable n) h = refl
   ends-short (Seeking row sp own) h = refl
   ends-short (Collecting n sp own) h = rw (lt-ltb n 512 h)
 
-  ends-own : (q : Receiver) → Owns q → ended address buf q ≡ deciding (calmed 1 q) NoReceive
+  pub ends-own : (q : Receiver) → Owns q → ended address buf q ≡ deciding (calmed 1 q) NoReceive
   unfolding ended calmed decide
   ends-own Listening v = absurd v
   ends-own (Readable n) v = absurd v
   ends-own (Seeking row sp own) v = refl
   ends-own (Collecting n sp own) v = by-test (ltb n 512) (λ c. rw c) (λ c. rw (c, v))
 
-  ends-other : (q : Receiver) → addressed address buf ≡ false → ended address buf q ≡ deciding (calmed 1 q) NoReceive
+  pub ends-other : (q : Receiver) → addressed address buf ≡ false → ended address buf q ≡ deciding (calmed 1 q) NoReceive
   unfolding ended calmed decide
   ends-other Listening h = refl
   ends-other (Readable n) h = refl

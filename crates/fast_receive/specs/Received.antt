@@ -1,8 +1,8 @@
 -- A receiver over many steps in each of which others are heard, and the bits that it stores (document 01, "One bit time": "A reception is an
 -- unbroken stretch of steps in which others are heard."). Each is the fold of the receiver's steps. Assumes nothing.
-use Prim.Native.Nat.{ℕ, _+_, _-_, _*_, _<_, _≤_}
+use Prim.Native.Nat.{ℕ, _+_, _<_}
 use mathlib.Core.Path.{_≡_}
-use mathlib.Core.Bool.{Bool, true, false, not, _||_, _&&_}
+use mathlib.Core.Bool.{Bool, true, not, _||_, _&&_}
 use mathlib.Core.List.{List, []}
 use lib.Dec.{leb, ltb}
 use lib.ListN.{getD}
@@ -15,7 +15,7 @@ use Rattle.state.specs.declared.Receiver.the-variants.{Listening, Readable, See
 use Rattle.receiver.specs.declared.Received.{Received}
 use Rattle.receiver.specs.declared.Stored.{Stored}
 use Rattle.receiver.specs.Receive.{addressed, receive}
-use Rattle.area.specs.Area.{addressAt, bufferAt, arrivalAt, withOctet}
+use Rattle.area.specs.Area.{arrivalAt, withOctet}
 use Rattle.pair.specs.BitTime.{withStored}
 
 -- ---- a receiver, and what it stores in the area

@@ -1,30 +1,25 @@
 -- The fold: a step of it is a step of the receiver, whatever the buffer holds; it falls into parts; its numbers stay in range. Assumes nothing.
-use Prim.Native.Nat.{ℕ, zero, suc, _+_, _-_, _*_, _%_, _^_, _≤_, _<_}
-use mathlib.Core.Path.{_≡_, refl, sym, _∙_, ap, ap₂, subst}
-use mathlib.Core.Bool.{Bool, true, false, not, _||_, _&&_, true≢false, or-false}
+use Prim.Native.Nat.{ℕ, zero, suc, _+_, _-_, _*_, _^_, _≤_, _<_}
+use mathlib.Core.Path.{_≡_, refl, sym, _∙_, ap, ap₂}
+use mathlib.Core.Bool.{Bool, true, false, _||_, true≢false}
 use mathlib.Core.List.{List, []}
 use native.Mathlib.Omega.{arith}
-use borrow.Author.Tests.{ltb-true, ltb-false, lt-ltb, le-ltb, leb-true, leb-false}
-use lib.Dec.{eqb, ltb, leb}
+use borrow.Author.Tests.{ltb-true}
+use lib.Dec.{eqb, ltb}
 use lib.ListN.{length}
-use Rattle.octets.specs.Base.{pick}
-use Rattle.octets.specs.BaseLaws.{by-test, by-eq}
+use Rattle.octets.specs.BaseLaws.{by-test}
 use Rattle.octets.specs.Bits.{digit}
 use Rattle.octets.specs.Turns.{turns}
 use Rattle.packet.specs.declared.Heard.{Heard}
 use Rattle.packet.specs.declared.Heard.the-variants.{Nothing, Clean, Jammed, Several}
-use Rattle.packet.specs.Packet.{hearsAny, packetBit}
+use Rattle.packet.specs.Packet.{hearsAny}
 use Rattle.state.specs.declared.Receiver.{Receiver}
 use Rattle.state.specs.declared.Receiver.the-variants.{Listening, Readable, Seeking, Collecting}
 use Rattle.receiver.specs.declared.Received.{Received}
-use Rattle.receiver.specs.declared.ReceiveEvent.the-variants.{NoReceive}
-use Rattle.receiver.specs.declared.Stored.{Stored}
-use Rattle.receiver.specs.declared.Stored.the-variants.{NoStore, Store}
-use Rattle.receiver.specs.Receive.{rowIn, bitsIn, nextRow, storedBit, hearing, seekBit, seek, collect, collectBit, hear, receive}
+use Rattle.receiver.specs.Receive.{rowIn, bitsIn, nextRow, hearing, seekBit, seek, collect, collectBit, hear, receive}
 use Rattle.record.specs.Codec.{receiverNumber}
 use Rattle.area.specs.Places.{Part, buffer, Off, Keeps}
 use Rattle.area.specs.AreaLaws.{keeps-refl, keeps-trans}
-use Rattle.pair.specs.BitTime.{withStored}
 use Rattle.pair.specs.InPlace.{Kept, length-stored, stored-keeps}
 use Rattle.pair.specs.Ready.{receive-kept}
 use Rattle.fast_plan.specs.Goes.{storedAll}

@@ -1,20 +1,20 @@
 -- Each further step of a closed form is one step of the station; where it begins; its numbers fit. Assumes nothing.
-use Prim.Native.Nat.{ℕ, zero, suc, _+_, _-_, _*_, _^_, _≤_, _<_, max}
+use Prim.Native.Nat.{ℕ, zero, suc, _+_, _-_, _*_, _^_, _≤_, _<_}
 use mathlib.Core.Path.{_≡_, refl, sym, _∙_, ap}
 use mathlib.Core.Bool.{Bool, true, false, _||_, _&&_, true≢false, or-false, and-true, and-false}
 use mathlib.Core.List.{List}
 use native.Mathlib.Omega.{arith}
-use borrow.Author.Tests.{eq-eqb, ne-eqb, ltb-true, ltb-false, lt-ltb, le-ltb, leb-true, leb-false, le-leb, lt-leb}
+use borrow.Author.Tests.{ne-eqb, ltb-true, ltb-false, le-ltb, leb-true, leb-false, le-leb, lt-leb}
 use lib.Dec.{eqb, ltb, leb}
 use Rattle.octets.specs.Base.{pick}
-use Rattle.octets.specs.BaseLaws.{by-test, by-eq}
+use Rattle.octets.specs.BaseLaws.{by-test}
 use Rattle.layout.specs.declared.Figures.{Figures}
 use Rattle.layout.specs.Layout.{gapOf}
 use Rattle.layout.specs.CheckLaws.{Figured}
 use Rattle.packet.specs.declared.Heard.{Heard}
 use Rattle.packet.specs.declared.Heard.the-variants.{Nothing}
 use Rattle.packet.specs.declared.Emission.{Emission}
-use Rattle.packet.specs.declared.Emission.the-variants.{Rest, PacketBit, JamBit}
+use Rattle.packet.specs.declared.Emission.the-variants.{Rest, PacketBit}
 use Rattle.packet.specs.Packet.{hearsAny, isEmission}
 use Rattle.state.specs.declared.Deference.{Deference}
 use Rattle.state.specs.declared.Deference.the-variants.{Quiet, Busy, Gap}
@@ -26,7 +26,7 @@ use Rattle.state.specs.declared.Station.{Station}
 use Rattle.state.specs.State.{numberIn}
 use Rattle.deference.specs.Defer.{to, defer, quietRule, busyRule, gapRule, gapOver, goesBack}
 use Rattle.transmitter.specs.declared.TransmitEvent.the-variants.{NoTransmit}
-use Rattle.transmitter.specs.Transmit.{waits, resting, emitting, transmit, waitBit, backoffBit, sendBit, afterBit, headBit, jamBit, packetLength, octetsHeld}
+use Rattle.transmitter.specs.Transmit.{waits, emitting, transmit, sendBit, afterBit, headBit, jamBit, packetLength, octetsHeld}
 use Rattle.receiver.specs.declared.ReceiveEvent.the-variants.{NoReceive}
 use Rattle.receiver.specs.declared.Stored.{Stored}
 use Rattle.receiver.specs.declared.Stored.the-variants.{NoStore}
@@ -34,7 +34,7 @@ use Rattle.receiver.specs.Receive.{hearing, deciding, receive, ended}
 use Rattle.station.specs.Step.{triesAfter, drawAfter, deferredAfter, stepped, nextStation}
 use Rattle.record.specs.Codec.{deferenceCount, receiverNumber}
 use Rattle.record.specs.CodecLaws.{Fit}
-use Rattle.pair.specs.Range.{Fine, GapIn, NumberIn, FrameIn}
+use Rattle.pair.specs.Range.{Fine}
 use Rattle.quick.specs.Quick.{quietly}
 use Rattle.fast_silence.specs.Rested.{restedDeference, restedTransmitter, hasWaited, Lasts, NoneOut, defer-goes, waits-rests, lasts-none, transmit-goes, waited-more, deferred-more, rested-gap, rested-frame, none-waited, as-was, count-small, number-less}
 use Rattle.fast_station.specs.Forms.{made, deferredBy, heardGap, heardDeference, heardFor, heardRest, hearOn, calmed, restOn, emitsOn, emittedAt, emitsFor, emitOn}

@@ -11,7 +11,7 @@ use Rattle.state.specs.declared.Station.{Station}
 use Rattle.state.specs.State.{numberIn}
 use Rattle.receiver.specs.declared.Stored.the-variants.{NoStore}
 use Rattle.receiver.specs.Receive.{rowIn, bitsIn}
-use Rattle.area.specs.Area.{stationAt, withStation}
+use Rattle.area.specs.Area.{stationAt}
 use Rattle.fast_plan.specs.Goes.{wentTo}
 use Rattle.fast_station.specs.Forms.{hearOn, calmed, restOn, emitOn}
 use Rattle.fast_receive.specs.Received.{receivedBy, keptBy}

@@ -1,14 +1,12 @@
 -- A law for each way through the code; what the ranges of a station give. Assumes nothing.
-use Prim.Native.Nat.{ℕ, zero, suc, _+_, _-_, _*_, _≤_, _<_}
+use Prim.Native.Nat.{ℕ, zero, suc, _+_, _≤_, _<_}
 use mathlib.Core.Path.{_≡_, refl, sym, _∙_, ap, ap₂, subst}
 use mathlib.Core.Bool.{Bool, true, false}
 use mathlib.Core.List.{List}
 use native.Mathlib.Omega.{arith}
-use lib.ListN.{length}
 use Rattle.octets.specs.Base.{pick}
 use Rattle.octets.specs.Turns.{turns}
 use Rattle.layout.specs.declared.Figures.{Figures}
-use Rattle.layout.specs.Layout.{gapOf}
 use Rattle.layout.specs.CheckLaws.{Figured}
 use Rattle.packet.specs.declared.Heard.{Heard}
 use Rattle.state.specs.declared.Transmitter.{Transmitter}
@@ -17,16 +15,13 @@ use Rattle.state.specs.declared.Receiver.{Receiver}
 use Rattle.state.specs.declared.Receiver.the-variants.{Listening, Readable, Seeking, Collecting}
 use Rattle.state.specs.declared.Station.{Station}
 use Rattle.state.specs.State.{numberIn}
-use Rattle.receiver.specs.declared.Stored.{Stored}
 use Rattle.receiver.specs.declared.Stored.the-variants.{NoStore}
 use Rattle.receiver.specs.Receive.{rowIn, bitsIn}
-use Rattle.transmitter.specs.Transmit.{packetLength}
 use Rattle.area.specs.Area.{stationAt, withStation}
-use Rattle.pair.specs.BitTime.{withStored}
 use Rattle.pair.specs.Range.{Fine, NumberIn, FrameIn, ReceiverIn}
 use Rattle.fast_plan.specs.Goes.{storedAll, wentTo, station-all}
 use Rattle.fast_station.specs.Forms.{hearOn, calmed, restOn, emitOn}
-use Rattle.fast_receive.specs.Received.{Taken, taken, heardAll, receivedBy, keptBy}
+use Rattle.fast_receive.specs.Received.{taken, heardAll, receivedBy, keptBy}
 use Rattle.fast_receive.specs.ReceivedLaws.{heard-receiver, heard-octets}
 use Rattle.fast_stretch.specs.Stretch.{movedOn, heardStretch, quietOn, quietStretch, Room, Movable}
 
@@ -74,6 +69,27 @@ pub stretch-quiet : (f : Figures) (e : Bool) (m j : ℕ) (x z : List ℕ) (s t :
 unfolding quietStretch wentTo
 stretch-quiet f e m j x z s t a b c =
     c ∙ ap (withStation x j) (b ∙ ap (quietOn f e m) a) ∙ sym (none-stored j m (withStation x j (quietOn f e m (stationAt x j))))
+
+-- each as a closed form that fast_plan/Goes speaks of
+module _ (f : Figures) (H : ℕ → Heard) (m j : ℕ) (x : List ℕ) where
+  pub stretch-hears : heardStretch f false H m j x
+      ≡ wentTo j (keptBy false H (stationAt x j .receiver)) m (hearOn f m (receivedBy false H m (stationAt x j .receiver)) (stationAt x j)) x
+  unfolding heardStretch movedOn
+  stretch-hears = refl
+
+  pub stretch-emits : heardStretch f true H m j x
+      ≡ wentTo j (keptBy true H (stationAt x j .receiver)) m (emitOn f m (receivedBy true H m (stationAt x j .receiver)) (stationAt x j)) x
+  unfolding heardStretch movedOn
+  stretch-emits = refl
+
+pub stretch-rests : (f : Figures) (m j : ℕ) (x : List ℕ) → quietStretch f false m j x ≡ wentTo j (λ s. NoStore) m (restOn f m (stationAt x j)) x
+unfolding quietStretch quietOn
+stretch-rests f m j x = refl
+
+pub stretch-alone : (f : Figures) (m j : ℕ) (x : List ℕ)
+    → quietStretch f true m j x ≡ wentTo j (λ s. NoStore) m (emitOn f m (calmed m (stationAt x j .receiver)) (stationAt x j)) x
+unfolding quietStretch quietOn
+stretch-alone f m j x = refl
 
 -- ---- room
 
