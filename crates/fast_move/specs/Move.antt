@@ -19,6 +19,7 @@ use Rattle.fast_station.specs.Forms.{heardRest, emitsFor}
 use Rattle.fast_receive.specs.Received.{spoils, lineFrom, bitsFrom, mayReport}
 use Rattle.fast_heard.specs.declared.Kind.{Kind}
 use Rattle.fast_heard.specs.declared.Kind.the-variants.{Silent, Line, From, Spoiled}
+use Rattle.fast_stretch.specs.Stretch.{heardStretch, quietStretch}
 use Rattle.fast_segment.specs.Alone.{Moves}
 
 -- steps of this kind: nothing; its line from step u on; bits of the packet that carries F from bit b on; spoiled symbols
@@ -72,6 +73,18 @@ emitsAll m heard s =
     s .emitted
     && (isBusyOwn (s .deference)
     && (leb m (emitsFor (s .frame) (s .transmitter)) && pick heard (not (sending (s .transmitter))) (idle (s .receiver))))
+
+-- all of that
+unfoldable pub canMove : Figures → (m : ℕ) → Kind → List ℕ → (j : ℕ) → Bool
+canMove f m K x j =
+    pick (emitting (stationAt x j .transmitter)) (emitsAll m (isHeard K) (stationAt x j))
+    (pick (isHeard K) (hearsAll f m (stationAt x j))
+    (restsAll f m (mayReport (addressAt x j) (bufferAt x j) 0 (stationAt x j .receiver)) (stationAt x j)))
+
+-- ---- what they leave
+
+unfoldable pub stretched : Figures → (e : Bool) → Kind → (m j : ℕ) → List ℕ → (u : ℕ) (F : List ℕ) (b : ℕ) → List ℕ
+stretched f e K m j x u F b = pick (isHeard K) (heardStretch f e (heardIn K x j u F b) m j x) (quietStretch f e m j x)
 
 -- shut, so that a search does not enter it
 unfoldable pub Moving : Figures → (D j c : ℕ) → List ℕ → Type 0

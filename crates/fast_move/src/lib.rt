@@ -8,9 +8,10 @@ use state::Receiver;
 use state::Station;
 use state::Transmitter;
 ghost use mathlib.Core.Path.{_≡_};
+ghost use mathlib.Core.Bool.{not};
 ghost use Prim.Native.Nat.{_+_, _<_, _≤_};
 ghost use lib.ListN.{length};
-ghost use Rattle.area.specs.Area.{bufferAt};
+ghost use Rattle.octets.specs.Base.{pick};
 ghost use Rattle.fast_plan.specs.Own.{byItself};
 ghost use Rattle.fast_silence.specs.Bound.{idle};
 ghost use Rattle.fast_move.specs.Move.{heardIn, isHeard, emitting, sending, isBusyOwn, restsAll, hearsAll, emitsAll, Moving};
@@ -82,6 +83,16 @@ fn hears_all(f: Figures, m: u32, s: Station) -> bool
     octets::both(!s.emitted, m <= fast_station::heard_rest(f, m, d, x))
 }
 
+// What an emitter must be in to go on: a sender hears nothing, and where nothing is heard the receiver is idle.
+fn is_calm(heard: bool, x: Transmitter, r: Receiver) -> bool
+    ensures { λ q. ⌜ q ≡ pick heard (not (sending x)) (idle r) ⌝ }
+{
+    if heard {
+        return !is_sending(x);
+    }
+    fast_rest::is_idle(r)
+}
+
 // An emitter goes on for m steps.
 fn emits_all(m: u32, heard: bool, s: Station) -> bool
     requires { ⌜ s .frame < 65536 ⌝ }
@@ -90,6 +101,6 @@ fn emits_all(m: u32, heard: bool, s: Station) -> bool
     let d = s.deference;
     let x = s.transmitter;
     let r = s.receiver;
-    let calm = if heard { !is_sending(x) } else { fast_rest::is_idle(r) };
+    let calm = is_calm(heard, x, r);
     octets::both(s.emitted, octets::both(is_busy_own(d), octets::both(m <= fast_station::emits_for(s.frame, x), calm)))
 }
