@@ -1,6 +1,5 @@
 -- `fast_lines::clear_line` meets its contract. Assumes nothing.
 use Rattle.fast_lines.specs.LinesLaws.{clear-left, clear-made}
--- `fast_lines::clear_line` meets its contract. Assumes nothing.
 use borrow.Author.Needs.{needs}
 use Rattle.fast_lines.proofs.clear_line.Statement.{statement}
 use Rattle.fast_lines.proofs.clear_line.Tie as tie

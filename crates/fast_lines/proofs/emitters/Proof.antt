@@ -7,7 +7,6 @@ use borrow.Author.Needs.{needs}
 use Rattle.octets.specs.Filled.{filled, filled-none, filled-more}
 use Rattle.fast_lines.specs.Lines.{silent, emitterAt}
 use Rattle.fast_lines.specs.LinesLaws.{emitters-end}
--- `fast_lines::emitters` meets its contract. Assumes nothing.
 use Rattle.fast_lines.proofs.emitters.Statement.{statement}
 use Rattle.fast_lines.proofs.emitters.Tie as tie
 

@@ -7,7 +7,6 @@ use borrow.Author.Needs.{needs}
 use Rattle.fast_plan.specs.Push.{waysTo}
 use Rattle.fast_lines.specs.Lines.{planBy}
 use Rattle.fast_lines.specs.LinesLaws.{ways-none, ways-asks, ways-more, ways-end}
--- `fast_lines::push_all` meets its contract. Assumes nothing.
 use Rattle.fast_lines.proofs.push_all.Statement.{statement}
 use Rattle.fast_lines.proofs.push_all.Tie as tie
 

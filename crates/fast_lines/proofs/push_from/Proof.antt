@@ -1,7 +1,6 @@
 -- `fast_lines::push_from` meets its contract. Assumes nothing.
 use native.Mathlib.Omega.{arith}
 use Rattle.fast_lines.specs.LinesLaws.{push-own, push-silent, push-bits, push-jam, push-near, push-frame, push-enough}
--- `fast_lines::push_from` meets its contract. Assumes nothing.
 use borrow.Author.Needs.{needs}
 use Rattle.fast_lines.proofs.push_from.Statement.{statement}
 use Rattle.fast_lines.proofs.push_from.Tie as tie

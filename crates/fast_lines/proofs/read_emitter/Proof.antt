@@ -1,6 +1,5 @@
 -- `fast_lines::read_emitter` meets its contract. Assumes nothing.
 use Rattle.fast_lines.specs.LinesLaws.{emitter-silent, emitter-jams, emitter-sends}
--- `fast_lines::read_emitter` meets its contract. Assumes nothing.
 use borrow.Author.Needs.{needs}
 use Rattle.fast_lines.proofs.read_emitter.Statement.{statement}
 use Rattle.fast_lines.proofs.read_emitter.Tie as tie

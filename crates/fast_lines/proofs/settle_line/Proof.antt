@@ -1,7 +1,6 @@
 -- `fast_lines::settle_line` meets its contract. Assumes nothing.
 use native.Mathlib.Omega.{arith}
 use Rattle.fast_lines.specs.LinesLaws.{line-codes, line-asks, line-made}
--- `fast_lines::settle_line` meets its contract. Assumes nothing.
 use borrow.Author.Needs.{needs}
 use Rattle.fast_lines.proofs.settle_line.Statement.{statement}
 use Rattle.fast_lines.proofs.settle_line.Tie as tie

@@ -7,7 +7,6 @@ use borrow.Author.Needs.{needs}
 use Rattle.fast_plan.specs.Placed.{linesDone}
 use Rattle.fast_lines.specs.Lines.{planBy}
 use Rattle.fast_lines.specs.LinesLaws.{lines-none, lines-asks, lines-more, lines-end}
--- `fast_lines::settle_lines` meets its contract. Assumes nothing.
 use Rattle.fast_lines.proofs.settle_lines.Statement.{statement}
 use Rattle.fast_lines.proofs.settle_lines.Tie as tie
 
