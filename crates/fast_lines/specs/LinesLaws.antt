@@ -20,10 +20,11 @@ use Rattle.state.specs.declared.Transmitter.the-variants.{NoFrame, Waiting, Bac
 use Rattle.transmitter.specs.Transmit.{octetsHeld}
 use Rattle.record.specs.Codec.{transmitterOf, decoded}
 use Rattle.area.specs.Places.{Part, clock, layout, frame, place, Keeps}
-use Rattle.area.specs.Area.{clockAt, countAt, positionAt, distance, spaceAt, recordAt, stationAt, frameAt, symbolAt}
+use Rattle.area.specs.Area.{clockAt, figuresAt, countAt, positionAt, distance, spaceAt, recordAt, stationAt, frameAt, symbolAt}
 use Rattle.area.specs.AreaLaws.{clock-by, count-by, space-by, symbol-by, frame-by}
 use Rattle.area.specs.CodeLaws.{space-is}
-use Rattle.pair.specs.Range.{FrameIn}
+use Rattle.layout.specs.declared.Figures.{Figures}
+use Rattle.pair.specs.Range.{NumberIn, FrameIn}
 use Rattle.pair.specs.Ready.{Readiness}
 use Rattle.fast_plan.specs.Own.{Others}
 use Rattle.fast_plan.specs.Plan.{Plan}
@@ -33,7 +34,8 @@ use Rattle.fast_plan.specs.Placed.{LineOnly, clear-only, ways-only, linesDone, 
 use Rattle.fast_plan.specs.Turned.{all-line}
 use Rattle.fast_line.specs.Line.{isClear, bitsFrom, jams}
 use Rattle.fast_line.specs.LineLaws.{clear-line, way-same, way-silent, cleared-same}
-use Rattle.fast_heard.specs.Hearing.{goesOn, heldAt, planOf}
+use Rattle.fast_station.specs.Forms.{emitsFor}
+use Rattle.fast_heard.specs.Hearing.{goesOn, heldAt, planOf, emits}
 use Rattle.fast_lines.specs.declared.Emitter.{Emitter}
 use Rattle.fast_lines.specs.Lines.{silent, emitterOf, emitterAt, emittersOf, silence, emitted, planBy, Enough, Pushes, pushedFrom, Settles}
 
@@ -342,6 +344,16 @@ plan-same x a n i s hi f h =
     ap (λ (e : Emitter). emitted (frameAt x i (e .octets)) e s) (filled-at silent (emitterAt a) n i silent hi)
     ∙ emitter-plan x a i s (stationAt a i .transmitter) (stationAt a i .frame) f (h (stationAt a i .frame))
 
+-- an emitter that may go on for K steps has bits enough for them
+emitter-enough : (f : Figures) (K : ℕ) (p : Transmitter) (z : ℕ) → NumberIn f z p → FrameIn p z → (emits p ≡ true → K ≤ emitsFor z p) → Enough K (emitterOf p z)
+unfolding emitsFor
+emitter-enough f K NoFrame z n h l = record { frame = omega arith; bits = λ e. absurd (omega arith) }
+emitter-enough f K Waiting z n h l = record { frame = omega arith; bits = λ e. absurd (omega arith) }
+emitter-enough f K (BackingOff w) z n h l = record { frame = omega arith; bits = λ e. absurd (omega arith) }
+emitter-enough f K (Sending k) z n h l = record { frame = omega (arith, h .1); bits = λ e. omega (arith, l refl, n .1) }
+emitter-enough f K (Heading k) z n h l = record { frame = omega (arith, h .1); bits = λ e. omega (arith, l refl, n .1) }
+emitter-enough f K (Jamming m) z n h l = record { frame = omega arith; bits = λ e. absurd (omega arith) }
+
 -- the stations have moved on by themselves: what the code asks for, and that it makes the lines of the window
 module _ (a : List ℕ) (r : Readiness a) (P : Plan) (K : ℕ) where
   moved-keeps : (p : Part) → ((j : ℕ) → j < 16 → Others p j) → Keeps p (ownAll a P K (countAt a) a) a
@@ -356,9 +368,11 @@ module _ (a : List ℕ) (r : Readiness a) (P : Plan) (K : ℕ) where
   moved-frame : (i : ℕ) → i < 16 → Keeps (frame i) (ownAll a P K (countAt a) a) a
   moved-frame i hi = moved-keeps (frame i) (λ j h. record { station = λ p q. omega arith; counters = λ p q. omega arith; buffer = λ p q. omega arith })
 
-  pub moved-settles : clockAt a + K ≤ 16777216 → ((i : ℕ) → i < countAt a → Enough K (emitterAt a i)) → Settles (countAt a) (clockAt a) K (emittersOf a (countAt a)) (ownAll a P K (countAt a) a)
-  unfolding emittersOf
-  moved-settles early enough =
+  pub moved-settles : clockAt a + K ≤ 16777216
+      → ((i : ℕ) → i < countAt a → emits (stationAt a i .transmitter) ≡ true → K ≤ emitsFor (stationAt a i .frame) (stationAt a i .transmitter))
+      → Settles (countAt a) (clockAt a) K (emittersOf a (countAt a)) (ownAll a P K (countAt a) a)
+  unfolding emittersOf emitterAt
+  moved-settles early lasts =
       let n = countAt a in
       let few = r .spread .few in
       let x = ownAll a P K n a in
@@ -370,7 +384,9 @@ module _ (a : List ℕ) (r : Readiness a) (P : Plan) (K : ℕ) where
         early = early;
         near = λ i j hi hj. rw (space-by x a i j (omega arith) (omega arith) moved-layout) (r .spread .near i j hi hj);
         codes = λ i u hi. rw (symbol-by x a i u (all-line a P K n i u (omega arith) few)) (r .codes i u hi);
-        enough = λ i hi. subst (Enough K) (sym (filled-at silent (emitterAt a) n i silent hi)) (enough i hi);
+        enough = λ i hi.
+            subst (Enough K) (sym (filled-at silent (emitterAt a) n i silent hi))
+            (emitter-enough (figuresAt a) K (stationAt a i .transmitter) (stationAt a i .frame) (r .fine i hi .number) (r .fine i hi .frame) (lasts i hi));
       }
 
   pub moved-lines : (y : List ℕ) → let x = ownAll a P K (countAt a) a in linesDone x (planBy x (emittersOf a (countAt a))) K (countAt a) y ≡ linesDone a (planOf a) K (countAt a) y
