@@ -82,7 +82,8 @@ module _ (a : List ℕ) (i : ℕ) where
       ∙ code-sends (getD (recordAt a i) 3 0) (getD (recordAt a i) 4 0) (getD (recordAt a i) 9 0) (omega arith) (omega arith)
       ∙ by-words
 
-pub emitters-end : (a : List ℕ) (n i : ℕ) (es : List Emitter) → i ≤ n → n ≤ i → es ≡ filled silent (emitterAt a) i → es ≡ emittersOf a n
+pub emitters-end : (a : List ℕ) (n i : ℕ) (es : List Emitter) → i ≤ n → n ≤ i → es ≡ filled silent (emitterAt a) i
+    → es ≡ emittersOf a n
 unfolding emittersOf
 emitters-end a n i es p q r = filled-end silent (emitterAt a) n i es p q r
 
@@ -120,20 +121,25 @@ module _ (j t K i : ℕ) (e : Emitter) (x : List ℕ) where
       (λ b. rw b (sym (ap (λ (Q : ℕ → Symbol). onWay t d K Q j (min d K) x) (emitted-none F e h)
       ∙ way-silent t d K silence j (min d K) x (omega arith) (λ s l. none-silent s) (p .codes))))
 
-  push-by : (d : ℕ) (Q : ℕ → Symbol) (z : List ℕ) → (i ≡ j → ⊥) → d ≡ spaceAt x i j → emitted (frameAt x i (e .octets)) e ≡ Q → z ≡ onWay t d K Q j (min d K) x → z ≡ pushedFrom j t K i e x
+  push-by : (d : ℕ) (Q : ℕ → Symbol) (z : List ℕ) → (i ≡ j → ⊥) → d ≡ spaceAt x i j
+      → emitted (frameAt x i (e .octets)) e ≡ Q → z ≡ onWay t d K Q j (min d K) x → z ≡ pushedFrom j t K i e x
   unfolding pushedFrom
   push-by d Q z ne ed eQ ez = rw (ne-eqb i j ne) (ez ∙ ap₂ (λ (g : ℕ) (R : ℕ → Symbol). onWay t g K R j (min g K) x) ed (sym eQ))
 
-  pub push-bits : (d p q : ℕ) (z : List ℕ) → z ≡ onWay t d K (bitsFrom (frameAt x i (e .octets)) (e .bit)) j (min d K) x → d ≡ distance p q → q ≡ positionAt x j → p ≡ positionAt x i
+  pub push-bits : (d p q : ℕ) (z : List ℕ)
+      → z ≡ onWay t d K (bitsFrom (frameAt x i (e .octets)) (e .bit)) j (min d K) x → d ≡ distance p q
+      → q ≡ positionAt x j → p ≡ positionAt x i
       → e .kind ≡ 1 → (e .kind ≡ 0 → ⊥) → (i ≡ j → ⊥) → z ≡ pushedFrom j t K i e x
   push-bits d p q z ez ed eq ep one some ne = push-by d (bitsFrom (frameAt x i (e .octets)) (e .bit)) z ne (space-is x i j d p q ed eq ep) (emitted-bits (frameAt x i (e .octets)) e some one) ez
 
-  pub push-jam : (d p q : ℕ) (z : List ℕ) → z ≡ onWay t d K jams j (min d K) x → d ≡ distance p q → q ≡ positionAt x j → p ≡ positionAt x i
+  pub push-jam : (d p q : ℕ) (z : List ℕ) → z ≡ onWay t d K jams j (min d K) x → d ≡ distance p q → q ≡ positionAt x j
+      → p ≡ positionAt x i
       → (e .kind ≡ 1 → ⊥) → (e .kind ≡ 0 → ⊥) → (i ≡ j → ⊥) → z ≡ pushedFrom j t K i e x
   push-jam d p q z ez ed eq ep other some ne = push-by d jams z ne (space-is x i j d p q ed eq ep) (emitted-jam (frameAt x i (e .octets)) e some other) ez
 
   -- how far the code's sums go
-  pub push-near : Pushes j t K i e x → (d p q : ℕ) → d ≡ distance p q → q ≡ positionAt x j → p ≡ positionAt x i → t + K + d < 4294967296
+  pub push-near : Pushes j t K i e x → (d p q : ℕ) → d ≡ distance p q → q ≡ positionAt x j → p ≡ positionAt x i
+      → t + K + d < 4294967296
   push-near h d p q ed eq ep = omega (arith, space-is x i j d p q ed eq ep, h .near, h .early)
 
   pub push-frame : Pushes j t K i e x → e .octets ≤ 1536
@@ -145,7 +151,8 @@ module _ (j t K i : ℕ) (e : Emitter) (x : List ℕ) where
 -- ---- the code: a line cleared
 
 module _ (t j K : ℕ) (x : List ℕ) where
-  pub clear-left : (r : Bool) → r ≡ isClear x j → r ≡ true → ((u : ℕ) → symbolAt x j u ≤ 4) → x ≡ cleared t j (min K 256) x
+  pub clear-left : (r : Bool) → r ≡ isClear x j → r ≡ true → ((u : ℕ) → symbolAt x j u ≤ 4)
+      → x ≡ cleared t j (min K 256) x
   clear-left r e h codes = sym (cleared-same t j (min K 256) x (λ s l. clear-line x j (sym e ∙ h) (t + s)) codes)
 
   pub clear-made : (m : ℕ) (y : List ℕ) → y ≡ cleared t j m x → m ≡ min K 256 → y ≡ cleared t j (min K 256) x
@@ -178,7 +185,7 @@ module _ (n t K : ℕ) (es : List Emitter) (x : List ℕ) (s : Settles n t K es 
   pub line-codes : (j : ℕ) → j < n → (u : ℕ) → symbolAt x j u ≤ 4
   line-codes j hj u = s .codes j u hj
 
-  module _ (j : ℕ) (hj : j < n) (P : Plan) where
+  module _ (j : ℕ) (hj : j < n) where
     only-kept : (U : List ℕ → List ℕ) → LineOnly n j U → Kept n x (U x)
     only-kept U o =
         let few = s .few in
@@ -190,8 +197,8 @@ module _ (n t K : ℕ) (es : List Emitter) (x : List ℕ) (s : Settles n t K es 
           codes = o .codes x (s .long) (s .codes);
         }
 
-    lines-kept : Kept n x (linesDone x P K j x)
-    lines-kept =
+    lines-kept : (P : Plan) → Kept n x (linesDone x P K j x)
+    lines-kept P =
         let few = s .few in
         let c = s .count in
         let le : j ≤ countAt x = omega arith in
@@ -214,7 +221,7 @@ module _ (n t K : ℕ) (es : List Emitter) (x : List ℕ) (s : Settles n t K es 
       ways-kept : Kept n x y
       ways-kept =
           let few = s .few in
-          subst (Kept n x) (sym ey) (only-kept j hj (planBy x es) (λ z. waysTo x (planBy x es) K j i z) (ways-only n j few hj x (planBy x es) K i))
+          subst (Kept n x) (sym ey) (only-kept j hj (λ z. waysTo x (planBy x es) K j i z) (ways-only n j few hj x (planBy x es) K i))
 
       pub ways-asks : Pushes j t K i (getD es i silent) y
       ways-asks =
@@ -222,7 +229,8 @@ module _ (n t K : ℕ) (es : List Emitter) (x : List ℕ) (s : Settles n t K es 
           let r = settles-on y ways-kept in
           record { from = omega arith; to = omega arith; long = r .long; near = r .near i j hi hj; early = r .early; codes = λ u. r .codes j u hj; enough = r .enough i hi }
 
-      pub ways-more : (z : List ℕ) → z ≡ pushedFrom j t K i (getD es i silent) y → z ≡ waysTo x (planBy x es) K j (i + 1) x
+      pub ways-more : (z : List ℕ) → z ≡ pushedFrom j t K i (getD es i silent) y
+          → z ≡ waysTo x (planBy x es) K j (i + 1) x
       unfolding waysTo pushedFrom planBy
       ways-more z ez =
           let few = s .few in
@@ -235,7 +243,8 @@ module _ (n t K : ℕ) (es : List Emitter) (x : List ℕ) (s : Settles n t K es 
           (ez ∙ (λ m. pick (eqb i j) y (onWay (time m) (space m) K (emitted (frames m) e) j (min (space m) K) y)))
           ey
 
-    pub ways-end : (i : ℕ) (y : List ℕ) → i ≤ n → n ≤ i → y ≡ waysTo x (planBy x es) K j i x → y ≡ waysTo x (planBy x es) K j n x
+    pub ways-end : (i : ℕ) (y : List ℕ) → i ≤ n → n ≤ i → y ≡ waysTo x (planBy x es) K j i x
+        → y ≡ waysTo x (planBy x es) K j n x
     unfolding waysTo
     ways-end i y p q e = turns-end _ n i x y p q e
 
@@ -267,7 +276,8 @@ module _ (K j : ℕ) (a : List ℕ) (P : Plan) (b : List ℕ) (Q : Plan) (h : Al
       let count = h .count in
       (λ m. waysTo a P K j (count m) (cleared (time m) j (min K 256) x)) ∙ ways-same (countAt b) (cleared (clockAt b) j (min K 256) x) (omega arith)
 
-lines-same : (K : ℕ) (a : List ℕ) (P : Plan) (b : List ℕ) (Q : Plan) (k : ℕ) (x : List ℕ) → ((j : ℕ) → j < k → Alike K j a P b Q) → linesDone a P K k x ≡ linesDone b Q K k x
+lines-same : (K : ℕ) (a : List ℕ) (P : Plan) (b : List ℕ) (Q : Plan) (k : ℕ) (x : List ℕ)
+    → ((j : ℕ) → j < k → Alike K j a P b Q) → linesDone a P K k x ≡ linesDone b Q K k x
 unfolding linesDone turns
 lines-same K a P b Q zero x h = refl
 lines-same K a P b Q (suc k) x h =
@@ -293,7 +303,7 @@ module _ (n t K : ℕ) (es : List Emitter) (x : List ℕ) (s : Settles n t K es 
 
   module _ (j : ℕ) (hj : j < n) (y : List ℕ) (ey : y ≡ cleared t j (min K 256) x) where
     clear-kept : Kept n x y
-    clear-kept = let few = s .few in subst (Kept n x) (sym ey) (only-kept n t K es x s j hj (planBy x es) (λ z. cleared t j (min K 256) z) (clear-only n j few hj t (min K 256)))
+    clear-kept = let few = s .few in subst (Kept n x) (sym ey) (only-kept n t K es x s j hj (λ z. cleared t j (min K 256) z) (clear-only n j few hj t (min K 256)))
 
     pub line-asks : Settles n t K es y
     line-asks = settles-on n t K es x s y clear-kept
@@ -322,13 +332,15 @@ module _ (n t K : ℕ) (es : List Emitter) (x : List ℕ) (s : Settles n t K es 
     unfolding linesDone
     lines-more z ez = turns-more _ j x y z (ez ∙ line-same K j y (planBy y es) x (planBy x es) (kept-alike y lines-here j hj) y) ey
 
-  pub lines-end : (j : ℕ) (y : List ℕ) → j ≤ n → n ≤ j → y ≡ linesDone x (planBy x es) K j x → y ≡ linesDone x (planBy x es) K n x
+  pub lines-end : (j : ℕ) (y : List ℕ) → j ≤ n → n ≤ j → y ≡ linesDone x (planBy x es) K j x
+      → y ≡ linesDone x (planBy x es) K n x
   unfolding linesDone
   lines-end j y p q e = turns-end _ n j x y p q e
 
 -- ---- the code's plan is the window's: the emitters are those before it, the frames are as they were
 
-emitter-plan : (x a : List ℕ) (i s : ℕ) (p : Transmitter) (z : ℕ) → FrameIn p z → (z ≤ 1536 → frameAt x i z ≡ frameAt a i z)
+emitter-plan : (x a : List ℕ) (i s : ℕ) (p : Transmitter) (z : ℕ) → FrameIn p z
+    → (z ≤ 1536 → frameAt x i z ≡ frameAt a i z)
     → emitted (frameAt x i (emitterOf p z .octets)) (emitterOf p z) s ≡ symbolOf (frameAt a i (octetsHeld p z)) (goesOn p s)
 unfolding emitted silence bitsFrom jams
 emitter-plan x a i s NoFrame z f h = refl
@@ -338,14 +350,16 @@ emitter-plan x a i s (Sending k) z f h = ap (λ (F : List ℕ). Bit (packetBit F
 emitter-plan x a i s (Heading k) z f h = ap (λ (F : List ℕ). Bit (packetBit F (k + s))) (h (omega (arith, f .1)))
 emitter-plan x a i s (Jamming n) z f h = refl
 
-plan-same : (x a : List ℕ) (n i s : ℕ) → i < n → FrameIn (stationAt a i .transmitter) (stationAt a i .frame) → ((z : ℕ) → z ≤ 1536 → frameAt x i z ≡ frameAt a i z) → planBy x (emittersOf a n) i s ≡ planOf a i s
+plan-same : (x a : List ℕ) (n i s : ℕ) → i < n → FrameIn (stationAt a i .transmitter) (stationAt a i .frame)
+    → ((z : ℕ) → z ≤ 1536 → frameAt x i z ≡ frameAt a i z) → planBy x (emittersOf a n) i s ≡ planOf a i s
 unfolding planBy emittersOf planOf heldAt emitterAt
 plan-same x a n i s hi f h =
     ap (λ (e : Emitter). emitted (frameAt x i (e .octets)) e s) (filled-at silent (emitterAt a) n i silent hi)
     ∙ emitter-plan x a i s (stationAt a i .transmitter) (stationAt a i .frame) f (h (stationAt a i .frame))
 
 -- an emitter that may go on for K steps has bits enough for them
-emitter-enough : (f : Figures) (K : ℕ) (p : Transmitter) (z : ℕ) → NumberIn f z p → FrameIn p z → (emits p ≡ true → K ≤ emitsFor z p) → Enough K (emitterOf p z)
+emitter-enough : (f : Figures) (K : ℕ) (p : Transmitter) (z : ℕ) → NumberIn f z p → FrameIn p z
+    → (emits p ≡ true → K ≤ emitsFor z p) → Enough K (emitterOf p z)
 unfolding emitsFor
 emitter-enough f K NoFrame z n h l = record { frame = omega arith; bits = λ e. absurd (omega arith) }
 emitter-enough f K Waiting z n h l = record { frame = omega arith; bits = λ e. absurd (omega arith) }
