@@ -14,6 +14,7 @@ use lib.ListN.{length, getD, set}
 use lib.Seq.{set-getD}
 use Rattle.octets.specs.Base.{some}
 use Rattle.octets.specs.BaseLaws.{by-test, by-eq, neither, none-below, some-hit}
+use Rattle.octets.specs.Store.{length-part}
 use Rattle.octets.specs.Turns.{turns, turns-none, turns-more, turns-end}
 use Rattle.packet.specs.declared.Heard.{Heard}
 use Rattle.packet.specs.declared.Heard.the-variants.{Nothing, Clean, Jammed, Several}
@@ -21,11 +22,13 @@ use Rattle.packet.specs.declared.Symbol.{Symbol}
 use Rattle.packet.specs.declared.Symbol.the-variants.{Silence, Bit}
 use Rattle.packet.specs.Packet.{hearsAny, packetBit}
 use Rattle.packet.specs.PacketLaws.{frame-bit, bit-alternates, bit-delimits, bit-of-frame}
-use Rattle.area.specs.Area.{heardOf, heardCode, symbolAt, arrivalAt, withArrival, alone, withSymbol}
-use Rattle.area.specs.AreaLaws.{arrival-turn}
+use Rattle.area.specs.Places.{frame}
+use Rattle.area.specs.Area.{frameAt, heardOf, heardCode, symbolAt, arrivalAt, withArrival, alone, withSymbol}
+use Rattle.area.specs.AreaLaws.{frame-by, arrival-turn}
 use Rattle.area.specs.CodeLaws.{heard-nothing, heard-zero, heard-one, heard-jam, heard-several, joined-code}
 use Rattle.meeting.specs.Gather.{joined-none}
 use Rattle.fast_plan.specs.Push.{cleared, joinedAt, onWay}
+use Rattle.fast_plan.specs.Placed.{way-only}
 use Rattle.fast_line.specs.Line.{kindOf, kindAt, firstOf, otherKind, lasts, runAt, inUse, isClear, bitsFrom, jams}
 
 -- ---- the first that passes a test
@@ -260,10 +263,30 @@ module _ (t d K : ℕ) (Q : ℕ → Symbol) (j : ℕ) (x : List ℕ) where
   unfolding onWay
   way-end m s y r p q e = turns-end _ (min d K) s x y (omega arith) (omega arith) r
 
-pub bits-more : (t d K : ℕ) (F : List ℕ) (k j : ℕ) (x : List ℕ) (s f c : ℕ) (y z : List ℕ) → z ≡ withSymbol y j (t + (f + s + d)) c → c ≡ heardCode (alone (Bit (packetBit F (k + (f + s)))))
-    → f ≡ K - d → y ≡ onWay t d K (bitsFrom F k) j s x → z ≡ onWay t d K (bitsFrom F k) j (s + 1) x
+-- symbols put change no frame
+module _ (t d K : ℕ) (Q : ℕ → Symbol) (j : ℕ) (x : List ℕ) (s i n : ℕ) (y : List ℕ) (ey : y ≡ onWay t d K Q j s x) (hj : j < 16) (hi : i < 16) (hn : n ≤ 1536) (room : 57344 ≤ length x) where
+  way-frame : frameAt y i n ≡ frameAt x i n
+  way-frame =
+      let o = way-only 16 j (omega arith) hj t d K Q s in
+      let l : length y ≡ length x = ap length ey ∙ o .long x in
+      frame-by y x i n hi hn (omega arith) room (rw ey (o .off (frame i) x (λ u p q. omega arith)))
+
+  -- and a bit of it that is put is one of the packet's
+  pub way-bit : (F : List ℕ) (k f m : ℕ) → F ≡ frameAt y i n → s < m → m ≡ min d K → f ≡ K - d → k + K ≤ 65 + 8 * n → k + (f + s) < 65 + 8 * length F
+  unfolding frameAt
+  way-bit F k f m e hs em ef hk =
+      let l : length y ≡ length x = ap length ey ∙ way-only 16 j (omega arith) hj t d K Q s .long x in
+      let z : length F ≡ n = ap length e ∙ length-part y (8192 + 1536 * i) n (omega arith) in
+      omega arith
+
+pub bits-more : (t d K i n k j : ℕ) (x : List ℕ) (s f c : ℕ) (F y z : List ℕ) → z ≡ withSymbol y j (t + (f + s + d)) c → c ≡ heardCode (alone (Bit (packetBit F (k + (f + s))))) → F ≡ frameAt y i n
+    → f ≡ K - d → y ≡ onWay t d K (bitsFrom (frameAt x i n) k) j s x → j < 16 → i < 16 → n ≤ 1536 → 57344 ≤ length x → z ≡ onWay t d K (bitsFrom (frameAt x i n) k) j (s + 1) x
 unfolding bitsFrom
-bits-more t d K F k j x s f c y z ez ec ef ey = way-more t d K (bitsFrom F k) j x s f c y z ez ec (λ w. bit-sounds (packetBit F (k + (f + s))) (sym ec ∙ w)) ef ey
+bits-more t d K i n k j x s f c F y z ez ec eF ef ey hj hi hn room =
+    let G = frameAt x i n in
+    let e : F ≡ G = eF ∙ way-frame t d K (bitsFrom G k) j x s i n y ey hj hi hn room in
+    let g : c ≡ heardCode (alone (Bit (packetBit G (k + (f + s))))) = ec ∙ ap (λ (h : List ℕ). heardCode (alone (Bit (packetBit h (k + (f + s)))))) e in
+    way-more t d K (bitsFrom G k) j x s f c y z ez g (λ w. bit-sounds (packetBit G (k + (f + s))) (sym g ∙ w)) ef ey
 
 pub jam-more : (t d K j : ℕ) (x : List ℕ) (s f : ℕ) (y z : List ℕ) → z ≡ withSymbol y j (t + (f + s + d)) 3 → f ≡ K - d → y ≡ onWay t d K jams j s x → z ≡ onWay t d K jams j (s + 1) x
 unfolding jams

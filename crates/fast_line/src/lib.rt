@@ -7,7 +7,7 @@ ghost use Prim.Native.Nat.{_+_, _*_, _<_, _≤_, min};
 ghost use lib.ListN.{length};
 ghost use Rattle.packet.specs.declared.Symbol.the-variants.{Bit};
 ghost use Rattle.packet.specs.Packet.{packetBit};
-ghost use Rattle.area.specs.Area.{heardOf, heardCode, alone};
+ghost use Rattle.area.specs.Area.{heardOf, heardCode, alone, frameAt};
 ghost use Rattle.fast_plan.specs.Push.{cleared, onWay};
 ghost use Rattle.fast_line.specs.Line.{kindOf, lasts, runAt, isClear, bitsFrom, jams};
 
@@ -110,25 +110,26 @@ fn bit_code(frame: &[u8], k: usize) -> u8
     ((x >> place) % 2 + 1) as u8
 }
 
-// A station at distance d sends its packet's bits from bit k on, in `steps` steps from t on: those that are still on
-// their way then are put on the line of station j.
+// Station i, at distance d, sends the bits of the packet that carries its frame, from bit k on, in `steps` steps from t
+// on: those that are still on their way then are put on the line of station j.
 pub fn push_bits(
     area: &mut [u8],
     j: usize,
     t: usize,
     d: usize,
     steps: usize,
-    frame: &[u8],
+    i: usize,
+    octets: usize,
     k: usize,
 )
-    requires { ⌜ (j < 16) × (57344 ≤ length (now area)) × (t + steps + d < 4294967296) × (k + steps ≤ 65 + 8 * length (now frame)) × (k < 4294967296) ⌝ }
-    ensures { λ r. ⌜ now (area .exit) ≡ onWay t d steps (bitsFrom (now (frame .entry)) k) j (min d steps) (now (area .entry)) ⌝ }
+    requires { ⌜ (j < 16) × (i < 16) × (octets ≤ 1536) × (57344 ≤ length (now area)) × (t + steps + d < 4294967296) × (k + steps ≤ 65 + 8 * octets) ⌝ }
+    ensures { λ r. ⌜ now (area .exit) ≡ onWay t d steps (bitsFrom (frameAt (now (area .entry)) i octets) k) j (min d steps) (now (area .entry)) ⌝ }
 {
     let m = quick::capped(d, steps);
     let from = steps - m;
     let mut put: usize = 0;
     while put < m {
-        let code = bit_code(frame, k + (from + put));
+        let code = bit_code(buffers::frame(area, i, octets), k + (from + put));
         delay::add_symbol(area, j, t + (from + put + d), code);
         put += 1;
     }

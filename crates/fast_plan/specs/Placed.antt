@@ -11,6 +11,7 @@ use Rattle.octets.specs.BaseLaws.{by-test, by-eq}
 use Rattle.octets.specs.Turns.{turns}
 use Rattle.packet.specs.declared.Heard.{Heard}
 use Rattle.packet.specs.declared.Heard.the-variants.{Nothing}
+use Rattle.packet.specs.declared.Symbol.{Symbol}
 use Rattle.area.specs.Places.{Part, counters, station, buffer, place, Off, Keeps}
 use Rattle.area.specs.Area.{clockAt, withClock, countAt, spaceAt, heardCode, symbolAt, arrivalAt, withArrival, joined}
 use Rattle.area.specs.AreaLaws.{keeps-refl, keeps-trans, arrival-by, symbol-by, arrival-keeps, symbol-same, code-small, clock-keeps, length-arrival, length-clock}
@@ -60,13 +61,23 @@ module _ (n j : ℕ) (few : n ≤ 16) (hj : j < n) where
   pick-only : (b : Bool) (U : List ℕ → List ℕ) → LineOnly n j U → LineOnly n j (λ x. pick b x (U x))
   pick-only b U h = by-test b (λ e. subst (λ (c : Bool). LineOnly n j (λ x. pick c x (U x))) (sym e) none-only) (λ e. subst (λ (c : Bool). LineOnly n j (λ x. pick c x (U x))) (sym e) h)
 
+  -- places cleared; the symbols of one station; those of the first k; the whole of a line
+  pub clear-only : (t m : ℕ) → LineOnly n j (λ x. cleared t j m x)
+  unfolding cleared
+  clear-only t m = turns-only _ (λ s. one-only (t + s) (λ x. Nothing)) m
+
+  pub way-only : (t d K : ℕ) (Q : ℕ → Symbol) (m : ℕ) → LineOnly n j (λ x. onWay t d K Q j m x)
+  unfolding onWay joinedAt
+  way-only t d K Q m = turns-only _ (λ u. one-only (t + (K - d + u + d)) (λ x. joined (arrivalAt x j (t + (K - d + u + d))) (Q (K - d + u)))) m
+
+  pub ways-only : (a : List ℕ) (P : Plan) (K k : ℕ) → LineOnly n j (λ x. waysTo a P K j k x)
+  unfolding waysTo
+  ways-only a P K k =
+      turns-only _ (λ i. pick-only (eqb i j) (λ x. onWay (clockAt a) (spaceAt a i j) K (P i) j (min (spaceAt a i j) K) x) (way-only (clockAt a) (spaceAt a i j) K (P i) (min (spaceAt a i j) K))) k
+
   pub done-only : (a : List ℕ) (P : Plan) (K : ℕ) → LineOnly n j (λ x. lineDone a P K j x)
-  unfolding lineDone waysTo cleared onWay joinedAt
-  done-only a P K =
-      both-only (λ x. waysTo a P K j (countAt a) x) (λ x. cleared (clockAt a) j (min K 256) x)
-      (turns-only _ (λ i. pick-only (eqb i j) (λ x. onWay (clockAt a) (spaceAt a i j) K (P i) j (min (spaceAt a i j) K) x)
-      (turns-only _ (λ u. one-only (clockAt a + (K - spaceAt a i j + u + spaceAt a i j)) (λ x. joined (arrivalAt x j (clockAt a + (K - spaceAt a i j + u + spaceAt a i j))) (P i (K - spaceAt a i j + u)))) (min (spaceAt a i j) K))) (countAt a))
-      (turns-only _ (λ s. one-only (clockAt a + s) (λ x. Nothing)) (min K 256))
+  unfolding lineDone
+  done-only a P K = both-only (λ x. waysTo a P K j (countAt a) x) (λ x. cleared (clockAt a) j (min K 256) x) (ways-only a P K (countAt a)) (clear-only (clockAt a) (min K 256))
 
 -- ---- all lines
 

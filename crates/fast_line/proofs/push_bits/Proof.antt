@@ -4,17 +4,18 @@ use mathlib.Core.Path.{_≡_, refl}
 use lib.ListN.{length}
 use native.Mathlib.Omega.{arith}
 use borrow.Author.Needs.{needs}
+use Rattle.area.specs.Area.{frameAt}
 use Rattle.fast_plan.specs.Push.{onWay}
 use Rattle.fast_line.specs.Line.{bitsFrom}
-use Rattle.fast_line.specs.LineLaws.{way-none, bits-more, way-end}
+use Rattle.fast_line.specs.LineLaws.{way-none, way-bit, bits-more, way-end}
 use Rattle.fast_line.proofs.push_bits.Statement.{statement}
 use Rattle.fast_line.proofs.push_bits.Tie as tie
 
 abbrev Inv-loop : tie.InvT-loop
-Inv-loop area₀ j t d steps frame k m from put₀ area put = (put ≤ m) × (m ≡ min d steps) × (from ≡ steps - d) × (length area ≡ length area₀) × (area ≡ onWay t d steps (bitsFrom frame k) j put area₀)
+Inv-loop area₀ j t d steps i octets k m from put₀ area put = (put ≤ m) × (m ≡ min d steps) × (from ≡ steps - d) × (length area ≡ length area₀) × (area ≡ onWay t d steps (bitsFrom (frameAt area₀ i octets) k) j put area₀)
 
 abbrev μ-loop : tie.MeasureT-loop
-μ-loop area₀ j t d steps frame k m from put₀ area put = m - put
+μ-loop area₀ j t d steps i octets k m from put₀ area put = m - put
 
 capped-requires : tie.Need-capped-requires Inv-loop μ-loop
 capped-requires c κs = search needs
@@ -25,6 +26,9 @@ sub-from c = omega arith
 loop-holds : tie.Need-loop-holds Inv-loop μ-loop
 loop-holds c = (omega arith, omega arith, omega arith, refl, search way-none)
 
+frame-requires : tie.Need-frame-requires Inv-loop μ-loop
+frame-requires c κs = omega arith
+
 add-bit-code : tie.Need-add-bit-code Inv-loop μ-loop
 add-bit-code c = omega arith
 
@@ -32,7 +36,7 @@ add-bit-code-2 : tie.Need-add-bit-code-2 Inv-loop μ-loop
 add-bit-code-2 c = omega arith
 
 bit-code-requires : tie.Need-bit-code-requires Inv-loop μ-loop
-bit-code-requires c κs = omega arith
+bit-code-requires c κs = search way-bit
 
 add-add-symbol : tie.Need-add-add-symbol Inv-loop μ-loop
 add-add-symbol c = omega arith
@@ -53,7 +57,7 @@ loop-less : tie.Need-loop-less Inv-loop μ-loop
 loop-less c = omega arith
 
 loop-again : tie.Need-loop-again Inv-loop μ-loop
-loop-again c = (omega arith, omega arith, omega arith, omega arith, search bits-more)
+loop-again c = (omega arith, omega arith, omega arith, omega arith, bits-more _ _ _ _ _ _ _ _ _ _ _ _ _ _ (c .before .before .add-symbol .ensures) (c .before .before .before .before .bit-code .ensures) (c .before .before .before .before .before .frame .ensures) (c .before .before .before .before .before .before .before .before .loop .inv .2) (c .before .before .before .before .before .before .before .before .loop .inv .4) (omega arith) (omega arith) (omega arith) (omega arith))
 
 same-length : tie.Need-same-length Inv-loop μ-loop
 same-length c = search needs
@@ -70,6 +74,7 @@ push-bits-spec =
     capped-requires
     sub-from
     loop-holds
+    frame-requires
     add-bit-code
     add-bit-code-2
     bit-code-requires
