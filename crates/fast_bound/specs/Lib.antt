@@ -1,1 +1,3 @@
 pub mod Foresee
+pub mod Bound
+pub mod BoundLaws

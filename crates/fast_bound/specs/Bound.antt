@@ -1,0 +1,96 @@
+-- How long a window may be: of a run of steps of one kind those in which a station starts nothing and reports nothing, or goes on emitting.
+-- Assumes nothing.
+use Prim.Native.Nat.{ℕ, _+_, min}
+use mathlib.Core.Path.{_≡_}
+use mathlib.Core.Bool.{Bool, true, false, not, _&&_}
+use mathlib.Core.List.{List}
+use lib.Dec.{ltb}
+use Rattle.octets.specs.Base.{pick}
+use Rattle.layout.specs.declared.Figures.{Figures}
+use Rattle.state.specs.declared.Deference.{Deference}
+use Rattle.state.specs.declared.Deference.the-variants.{Quiet, Busy, Gap}
+use Rattle.state.specs.declared.Transmitter.{Transmitter}
+use Rattle.state.specs.declared.Transmitter.the-variants.{NoFrame, Waiting, BackingOff, Sending, Heading, Jamming}
+use Rattle.state.specs.declared.Receiver.{Receiver}
+use Rattle.state.specs.declared.Station.{Station}
+use Rattle.receiver.specs.Receive.{bitsIn}
+use Rattle.area.specs.Area.{depthAt, figuresAt}
+use Rattle.fast_plan.specs.Plan.{hears}
+use Rattle.fast_plan.specs.Calm.{Calm}
+use Rattle.fast_silence.specs.Rested.{restedDeference, restedTransmitter}
+use Rattle.fast_silence.specs.Bound.{framesRest, idle}
+use Rattle.fast_station.specs.Forms.{heardDeference, heardRest, emitsFor}
+use Rattle.fast_heard.specs.declared.Kind.{Kind}
+use Rattle.fast_heard.specs.declared.Kind.the-variants.{Silent, Line, From, Spoiled}
+use Rattle.fast_heard.specs.Hearing.{planOf}
+use Rattle.fast_bound.specs.declared.Ahead.{Ahead}
+
+-- ---- a station that emits nothing, by its deference, its transmitter and the most bits that it may have collected
+
+-- "Fewer than 512 collected bits: nothing": where nothing is heard a reception of fewer bits ends and reports nothing
+unfoldable pub restSteps : Figures → (m : ℕ) → Deference → Transmitter → (q : ℕ) → ℕ
+restSteps f m d x q = pick (ltb q 512) (min m (framesRest f m d x)) 0
+
+unfoldable pub hearSteps : Figures → (m : ℕ) → Deference → Transmitter → ℕ
+hearSteps f m d x = min m (heardRest f m d x)
+
+-- k steps in which nothing is heard, and k in which others are
+unfoldable pub restedTo : Figures → (k : ℕ) → Ahead → Ahead
+restedTo f k g = record { len = k; deference = restedDeference f k (g .deference); transmitter = restedTransmitter k (g .transmitter); bits = 0 }
+
+unfoldable pub heardTo : Figures → (k : ℕ) → Ahead → Ahead
+heardTo f k g = record { len = k; deference = heardDeference f k (g .deference); transmitter = restedTransmitter k (g .transmitter); bits = g .bits + k }
+
+unfoldable pub restAhead : Figures → (m : ℕ) → Ahead → Ahead
+restAhead f m g = restedTo f (restSteps f m (g .deference) (g .transmitter) (g .bits)) g
+
+unfoldable pub hearAhead : Figures → (m : ℕ) → Ahead → Ahead
+hearAhead f m g = heardTo f (hearSteps f m (g .deference) (g .transmitter)) g
+
+-- of m steps of a kind
+unfoldable pub ahead : Figures → Kind → (m : ℕ) → Ahead → Ahead
+ahead f Silent m g = restAhead f m g
+ahead f Line m g = hearAhead f m g
+ahead f From m g = hearAhead f m g
+ahead f Spoiled m g = hearAhead f m g
+
+-- where it begins
+unfoldable pub aheadOf : Station → Ahead
+aheadOf s = record { len = 0; deference = s .deference; transmitter = s .transmitter; bits = bitsIn (s .receiver) }
+
+-- ---- a station that emits
+
+-- busy, in a stretch in which it emitted
+unfoldable pub ownBusy : Deference → Bool
+ownBusy Quiet = false
+ownBusy (Busy own) = own
+ownBusy (Gap n own) = false
+
+unfoldable pub sends : Transmitter → Bool
+sends NoFrame = false
+sends Waiting = false
+sends (BackingOff w) = false
+sends (Sending k) = true
+sends (Heading k) = false
+sends (Jamming n) = false
+
+-- what it hears of this kind ends no reception, and makes no collision
+unfoldable pub unhurt : Kind → Receiver → Transmitter → Bool
+unhurt Silent r x = idle r
+unhurt Line r x = not (sends x)
+unhurt From r x = not (sends x)
+unhurt Spoiled r x = not (sends x)
+
+-- it emits as in the step before, and goes on
+unfoldable pub emitsWith : Kind → Station → Bool
+emitsWith c s = s .emitted && (ownBusy (s .deference) && unhurt c (s .receiver) (s .transmitter))
+
+-- the steps through which it does while what it hears is of this kind
+unfoldable pub emitSteps : Kind → Station → ℕ
+emitSteps c s = pick (emitsWith c s) (emitsFor (s .frame) (s .transmitter)) 0
+
+-- ---- on the area
+
+-- for k steps station j emits what the plan says, and has no event
+unfoldable pub CalmFor : List ℕ → (j k : ℕ) → Type 0
+CalmFor a j k = Calm (figuresAt a) (depthAt a) j (hears a (planOf a) j) (planOf a j) k a

@@ -1,0 +1,158 @@
+-- How long a window may be: one law for each way through the code, and what it says of the window. Assumes nothing.
+use Prim.Native.Nat.{ℕ, _+_, _-_, _≤_, _<_, min}
+use mathlib.Core.Path.{_≡_, refl, sym, _∙_, ap, ap₂, subst}
+use mathlib.Core.Bool.{Bool, true, false, not, _&&_, true≢false}
+use mathlib.Core.List.{List}
+use native.Mathlib.Omega.{arith}
+use borrow.Author.Tests.{lt-ltb, le-ltb, ltb-true, ltb-false, not-true, not-false}
+use lib.Dec.{ltb}
+use Rattle.octets.specs.BaseLaws.{by-test}
+use Rattle.layout.specs.declared.Figures.{Figures}
+use Rattle.packet.specs.declared.Heard.{Heard}
+use Rattle.packet.specs.declared.Heard.the-variants.{Nothing, Clean, Jammed, Several}
+use Rattle.packet.specs.Packet.{hearsAny}
+use Rattle.state.specs.declared.Deference.{Deference}
+use Rattle.state.specs.declared.Deference.the-variants.{Quiet, Busy, Gap}
+use Rattle.state.specs.declared.Transmitter.{Transmitter}
+use Rattle.state.specs.declared.Transmitter.the-variants.{NoFrame, Waiting, BackingOff, Sending, Heading, Jamming}
+use Rattle.state.specs.declared.Receiver.{Receiver}
+use Rattle.state.specs.declared.Receiver.the-variants.{Listening, Readable, Seeking, Collecting}
+use Rattle.state.specs.declared.Station.{Station}
+use Rattle.receiver.specs.Receive.{bitsIn}
+use Rattle.fast_silence.specs.Rested.{restedDeference, restedTransmitter, Lasts, Idle}
+use Rattle.fast_silence.specs.Bound.{framesRest, frames-last, idle}
+use Rattle.fast_station.specs.Forms.{heardDeference, heardRest, emitsFor}
+use Rattle.fast_heard.specs.declared.Kind.{Kind}
+use Rattle.fast_heard.specs.declared.Kind.the-variants.{Silent, Line, From, Spoiled}
+use Rattle.fast_bound.specs.declared.Ahead.{Ahead}
+use Rattle.fast_bound.specs.Bound.{restSteps, hearSteps, restedTo, heardTo, restAhead, hearAhead, ahead, aheadOf, ownBusy, sends, unhurt, emitsWith, emitSteps, CalmFor}
+
+-- ---- the code by value: a station that emits nothing
+
+module _ (f : Figures) (m : ℕ) (d : Deference) (x : Transmitter) where
+  pub rest-many : (q : ℕ) → 512 ≤ q → 0 ≡ restSteps f m d x q
+  unfolding restSteps
+  rest-many q h = rw (le-ltb q 512 h)
+
+  pub rest-few : (q k y : ℕ) → q < 512 → k ≡ min m y → y ≡ framesRest f m d x → k ≡ restSteps f m d x q
+  unfolding restSteps
+  rest-few q k y h e p = rw (lt-ltb q 512 h) (e ∙ ap (min m) p)
+
+  pub hear-few : (k y : ℕ) → k ≡ min m y → y ≡ heardRest f m d x → k ≡ hearSteps f m d x
+  unfolding hearSteps
+  hear-few k y e p = e ∙ ap (min m) p
+
+module _ (f : Figures) (m : ℕ) (g : Ahead) (k : ℕ) (d : Deference) (x : Transmitter) where
+  pub rest-to : k ≡ restSteps f m (g .deference) (g .transmitter) (g .bits) → d ≡ restedDeference f k (g .deference) → x ≡ restedTransmitter k (g .transmitter)
+      → record { len = k; deference = d; transmitter = x; bits = 0 } ≡ restAhead f m g
+  unfolding restAhead restedTo
+  rest-to e p q = rw (p, q, e)
+
+  pub hear-to : k ≡ hearSteps f m (g .deference) (g .transmitter) → d ≡ heardDeference f k (g .deference) → x ≡ restedTransmitter k (g .transmitter)
+      → record { len = k; deference = d; transmitter = x; bits = g .bits + k } ≡ hearAhead f m g
+  unfolding hearAhead heardTo
+  hear-to e p q = rw (p, q, e)
+
+module _ (f : Figures) (c : Kind) (m : ℕ) (g r : Ahead) where
+  pub ahead-silent : c ≡ Silent → r ≡ restAhead f m g → r ≡ ahead f c m g
+  unfolding ahead
+  ahead-silent e p = rw e p
+
+  pub ahead-line : c ≡ Line → r ≡ hearAhead f m g → r ≡ ahead f c m g
+  unfolding ahead
+  ahead-line e p = rw e p
+
+  pub ahead-from : c ≡ From → r ≡ hearAhead f m g → r ≡ ahead f c m g
+  unfolding ahead
+  ahead-from e p = rw e p
+
+  pub ahead-spoiled : c ≡ Spoiled → r ≡ hearAhead f m g → r ≡ ahead f c m g
+  unfolding ahead
+  ahead-spoiled e p = rw e p
+
+module _ (r : Receiver) where
+  pub bits-listening : r ≡ Listening → 0 ≡ bitsIn r
+  bits-listening e = rw e
+
+  pub bits-readable : (n : ℕ) → r ≡ Readable n → 0 ≡ bitsIn r
+  bits-readable n e = rw e
+
+  pub bits-seeking : (n : ℕ) (sp own : Bool) → r ≡ Seeking n sp own → 0 ≡ bitsIn r
+  bits-seeking n sp own e = rw e
+
+  pub bits-collecting : (n : ℕ) (sp own : Bool) → r ≡ Collecting n sp own → n ≡ bitsIn r
+  bits-collecting n sp own e = rw e
+
+pub ahead-is : (s : Station) (q : ℕ) → q ≡ bitsIn (s .receiver) → record { len = 0; deference = s .deference; transmitter = s .transmitter; bits = q } ≡ aheadOf s
+unfolding aheadOf
+ahead-is s q e = rw e
+
+-- ---- the code by value: a station that emits
+
+module _ (d : Deference) where
+  pub own-quiet : d ≡ Quiet → false ≡ ownBusy d
+  unfolding ownBusy
+  own-quiet e = rw e
+
+  pub own-busy : (own : Bool) → d ≡ Busy own → own ≡ ownBusy d
+  unfolding ownBusy
+  own-busy own e = rw e
+
+  pub own-gap : (n : ℕ) (own : Bool) → d ≡ Gap n own → false ≡ ownBusy d
+  unfolding ownBusy
+  own-gap n own e = rw e
+
+module _ (x : Transmitter) where
+  pub sends-none : x ≡ NoFrame → false ≡ sends x
+  unfolding sends
+  sends-none e = rw e
+
+  pub sends-waits : x ≡ Waiting → false ≡ sends x
+  unfolding sends
+  sends-waits e = rw e
+
+  pub sends-backs : (w : ℕ) → x ≡ BackingOff w → false ≡ sends x
+  unfolding sends
+  sends-backs w e = rw e
+
+  pub sends-sends : (k : ℕ) → x ≡ Sending k → true ≡ sends x
+  unfolding sends
+  sends-sends k e = rw e
+
+  pub sends-heads : (k : ℕ) → x ≡ Heading k → false ≡ sends x
+  unfolding sends
+  sends-heads k e = rw e
+
+  pub sends-jams : (k : ℕ) → x ≡ Jamming k → false ≡ sends x
+  unfolding sends
+  sends-jams k e = rw e
+
+module _ (c : Kind) (r : Receiver) (x : Transmitter) (b : Bool) where
+  pub unhurt-silent : c ≡ Silent → b ≡ idle r → b ≡ unhurt c r x
+  unfolding unhurt
+  unhurt-silent e p = rw e p
+
+  pub unhurt-line : c ≡ Line → b ≡ sends x → not b ≡ unhurt c r x
+  unfolding unhurt
+  unhurt-line e p = rw e (ap not p)
+
+  pub unhurt-from : c ≡ From → b ≡ sends x → not b ≡ unhurt c r x
+  unfolding unhurt
+  unhurt-from e p = rw e (ap not p)
+
+  pub unhurt-spoiled : c ≡ Spoiled → b ≡ sends x → not b ≡ unhurt c r x
+  unfolding unhurt
+  unhurt-spoiled e p = rw e (ap not p)
+
+module _ (c : Kind) (s : Station) (o u g b : Bool) (eo : o ≡ ownBusy (s .deference)) (eu : u ≡ unhurt c (s .receiver) (s .transmitter)) (eg : g ≡ (o && u)) (eb : b ≡ (s .emitted && g)) where
+  with-is : b ≡ emitsWith c s
+  unfolding emitsWith
+  with-is = eb ∙ ap (λ (y : Bool). s .emitted && y) (eg ∙ ap₂ (λ (y z : Bool). y && z) eo eu)
+
+  pub emit-some : (k : ℕ) → k ≡ emitsFor (s .frame) (s .transmitter) → b ≡ true → k ≡ emitSteps c s
+  unfolding emitSteps
+  emit-some k e h = rw (← with-is, h) e
+
+  pub emit-none : b ≡ false → 0 ≡ emitSteps c s
+  unfolding emitSteps
+  emit-none h = rw (← with-is, h)
