@@ -1,6 +1,6 @@
 -- How long a window may be: of a run of steps of one kind those in which a station starts nothing and reports nothing, or goes on emitting.
 -- Assumes nothing.
-use Prim.Native.Nat.{ℕ, _+_, min}
+use Prim.Native.Nat.{ℕ, _+_, _<_, min}
 use mathlib.Core.Path.{_≡_}
 use mathlib.Core.Bool.{Bool, true, false, not, _&&_}
 use mathlib.Core.List.{List}
@@ -14,16 +14,19 @@ use Rattle.state.specs.declared.Transmitter.the-variants.{NoFrame, Waiting, Bac
 use Rattle.state.specs.declared.Receiver.{Receiver}
 use Rattle.state.specs.declared.Station.{Station}
 use Rattle.receiver.specs.Receive.{bitsIn}
-use Rattle.area.specs.Area.{depthAt, figuresAt}
+use Rattle.area.specs.Area.{clockAt, depthAt, figuresAt, countAt}
+use Rattle.pair.specs.Ready.{Readiness}
 use Rattle.fast_plan.specs.Plan.{hears}
 use Rattle.fast_plan.specs.Calm.{Calm}
 use Rattle.fast_silence.specs.Rested.{restedDeference, restedTransmitter}
 use Rattle.fast_silence.specs.Bound.{framesRest, idle}
 use Rattle.fast_station.specs.Forms.{heardDeference, heardRest, emitsFor}
+use Rattle.fast_heard.specs.declared.Near.{Near}
 use Rattle.fast_heard.specs.declared.Kind.{Kind}
 use Rattle.fast_heard.specs.declared.Kind.the-variants.{Silent, Line, From, Spoiled}
-use Rattle.fast_heard.specs.Hearing.{planOf}
+use Rattle.fast_heard.specs.Hearing.{planOf, nearestOf, nearBit}
 use Rattle.fast_bound.specs.declared.Ahead.{Ahead}
+use Rattle.fast_bound.specs.Foresee.{Foreseen}
 
 -- ---- a station that emits nothing, by its deference, its transmitter and the most bits that it may have collected
 
@@ -94,3 +97,32 @@ emitSteps c s = pick (emitsWith c s) (emitsFor (s .frame) (s .transmitter)) 0
 -- for k steps station j emits what the plan says, and has no event
 unfoldable pub CalmFor : List ℕ → (j k : ℕ) → Type 0
 CalmFor a j k = Calm (figuresAt a) (depthAt a) j (hears a (planOf a) j) (planOf a j) k a
+
+-- so do the first i stations
+unfoldable pub CalmBelow : List ℕ → (i k : ℕ) → Type 0
+CalmBelow a i k = (j : ℕ) → j < i → CalmFor a j k
+
+-- what is read of a ready area before the stations are looked at
+pub record Read (a : List ℕ) (f : Figures) (n t : ℕ) : Type 0 where
+  pub ready : Readiness a
+  pub figures : f ≡ figuresAt a
+  pub count : n ≡ countAt a
+  pub clock : t ≡ clockAt a
+
+-- and of what is near to station j
+pub record Seen (a : List ℕ) (f : Figures) (j t : ℕ) (w : Near) (k : ℕ) : Type 0 where
+  pub read : Read a f (countAt a) t
+  pub station : j < countAt a
+  pub nearest : w ≡ nearestOf a (countAt a) j
+  pub bit : k ≡ nearBit a w
+
+-- both shut, so that a search does not enter them
+unfoldable pub ReadFrom : List ℕ → Figures → (n t : ℕ) → Type 0
+ReadFrom a f n t = Read a f n t
+
+unfoldable pub NearTo : List ℕ → Figures → (j t : ℕ) → Near → (k : ℕ) → Type 0
+NearTo a f j t w k = Seen a f j t w k
+
+-- a silent station after s steps, as it was foreseen
+unfoldable pub Underway : List ℕ → (j s : ℕ) → Ahead → Type 0
+Underway a j s g = (r : Readiness a) (hj : j < countAt a) → Foreseen a r j hj s (g .deference) (g .transmitter) (g .bits)

@@ -63,7 +63,7 @@ calm-bits (suc m) (Seeking row sp own) h = rw (ne-eqb (suc m) 0 (λ z. omega ari
 calm-bits (suc m) (Collecting n sp own) h = rw (ne-eqb (suc m) 0 (λ z. omega arith)) refl
 calm-bits zero r h = absurd (omega arith)
 
-bits-clock : (t : ℕ) (r : Receiver) → ReceiverIn t r → bitsIn r ≤ t
+pub bits-clock : (t : ℕ) (r : Receiver) → ReceiverIn t r → bitsIn r ≤ t
 bits-clock t Listening h = omega arith
 bits-clock t (Readable n) h = omega arith
 bits-clock t (Seeking row sp own) h = omega arith

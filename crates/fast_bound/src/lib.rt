@@ -16,7 +16,7 @@ ghost use Rattle.area.specs.Area.{clockAt, countAt};
 ghost use Rattle.pair.specs.Ready.{Ready};
 ghost use Rattle.fast_plan.specs.Calm.{AllCalm};
 ghost use Rattle.fast_heard.specs.Hearing.{planOf, emitsAt};
-ghost use Rattle.fast_bound.specs.Bound.{restSteps, hearSteps, restAhead, hearAhead, ahead, aheadOf, ownBusy, sends, unhurt, emitSteps, CalmFor};
+ghost use Rattle.fast_bound.specs.Bound.{restSteps, hearSteps, restAhead, hearAhead, ahead, aheadOf, ownBusy, sends, unhurt, emitSteps, CalmFor, ReadFrom, NearTo};
 
 // Of a station that emits nothing: `len` steps of one kind, and what it comes to in them. It has collected at most
 // `bits` bits.
@@ -33,7 +33,8 @@ pub struct Ahead {
 // reported.
 fn rest_steps(f: Figures, m: u32, d: Deference, x: Transmitter, q: u32) -> u32
     requires { ⌜ f .gap1 + f .gap2 < 65536 ⌝ }
-    ensures { λ r. ⌜ r ≡ restSteps f m d x q ⌝ }
+    ensures same { λ r. ⌜ r ≡ restSteps f m d x q ⌝ }
+    ensures bound { λ r. ⌜ r ≤ m ⌝ }
 {
     if 512 <= q {
         return 0;
@@ -52,7 +53,8 @@ fn hear_steps(f: Figures, m: u32, d: Deference, x: Transmitter) -> u32
 
 fn rest_ahead(f: Figures, m: u32, at: Ahead) -> Ahead
     requires { ⌜ f .gap1 + f .gap2 < 65536 ⌝ }
-    ensures { λ r. ⌜ r ≡ restAhead f m at ⌝ }
+    ensures same { λ r. ⌜ r ≡ restAhead f m at ⌝ }
+    ensures bound { λ r. ⌜ (r .len ≤ m) × (r .bits ≤ at .bits + r .len) ⌝ }
 {
     let d = at.deference;
     let x = at.transmitter;
@@ -69,7 +71,8 @@ fn rest_ahead(f: Figures, m: u32, at: Ahead) -> Ahead
 
 fn hear_ahead(f: Figures, m: u32, at: Ahead) -> Ahead
     requires { ⌜ (f .gap1 + f .gap2 < 65536) × (at .bits + m < 4294967296) ⌝ }
-    ensures { λ r. ⌜ r ≡ hearAhead f m at ⌝ }
+    ensures same { λ r. ⌜ r ≡ hearAhead f m at ⌝ }
+    ensures bound { λ r. ⌜ (r .len ≤ m) × (r .bits ≤ at .bits + r .len) ⌝ }
 {
     let d = at.deference;
     let x = at.transmitter;
@@ -87,7 +90,8 @@ fn hear_ahead(f: Figures, m: u32, at: Ahead) -> Ahead
 // Of m steps of a kind those in which no frame starts and nothing is reported.
 pub fn foresee(f: Figures, kind: Kind, m: u32, at: Ahead) -> Ahead
     requires { ⌜ (f .gap1 + f .gap2 < 65536) × (at .bits + m < 4294967296) ⌝ }
-    ensures { λ r. ⌜ r ≡ ahead f kind m at ⌝ }
+    ensures same { λ r. ⌜ r ≡ ahead f kind m at ⌝ }
+    ensures bound { λ r. ⌜ (r .len ≤ m) × (r .bits ≤ at .bits + r .len) ⌝ }
 {
     match kind {
         Kind::Silent => rest_ahead(f, m, at),
@@ -185,4 +189,86 @@ fn ahead_of(s: Station) -> Ahead
         transmitter,
         bits,
     }
+}
+
+// A station that emits nothing, run by run of what it hears: at most m steps in which it starts nothing and has no event.
+fn silent_bound(area: &[u8], f: Figures, j: usize, t: u32, near: Near, bit: u32, m: u32) -> u32
+    requires { ⌜ (j < 16) × (57344 ≤ length (now area)) × (t + m ≤ 16777216) × (f .gap1 + f .gap2 < 65536) × NearTo (now area) f j t near bit × (emitsAt (now area) j ≡ false) ⌝ }
+    ensures calm { λ r. ⌜ CalmFor (now (area .entry)) j r ⌝ }
+    ensures bound { λ r. ⌜ r ≤ m ⌝ }
+{
+    let station = area::read_station(area, j);
+    if station.emitted {
+        return 0;
+    }
+    let mut at = ahead_of(station);
+    let mut s: u32 = 0;
+    while s < m {
+        let run = fast_heard::heard_run(
+            area,
+            j,
+            t as usize,
+            near,
+            bit,
+            s as usize,
+            (m - s) as usize,
+        );
+        let len = run.len as u32;
+        let kind = run.kind;
+        let next = foresee(f, kind, len, at);
+        s += next.len;
+        if next.len < len {
+            return s;
+        }
+        at = next;
+    }
+    s
+}
+
+// A station that emits: at most m steps through which it goes on and has no event.
+fn emit_bound(area: &[u8], f: Figures, j: usize, t: u32, near: Near, bit: u32, m: u32) -> u32
+    requires { ⌜ (j < 16) × (57344 ≤ length (now area)) × (t + m ≤ 16777216) × (0 < m) × NearTo (now area) f j t near bit × (emitsAt (now area) j ≡ true) ⌝ }
+    ensures calm { λ r. ⌜ CalmFor (now (area .entry)) j r ⌝ }
+    ensures bound { λ r. ⌜ r ≤ m ⌝ }
+{
+    let run = fast_heard::heard_run(area, j, t as usize, near, bit, 0, m as usize);
+    let station = area::read_station(area, j);
+    let kind = run.kind;
+    let most = emit_steps(kind, station);
+    fast_rest::smaller(run.len as u32, most)
+}
+
+// At most m steps in which station j, of n, goes on or starts nothing, and has no event.
+fn station_bound(area: &[u8], f: Figures, n: usize, t: u32, j: usize, m: u32) -> u32
+    requires { ⌜ (j < n) × (n ≤ 16) × (57344 ≤ length (now area)) × (t + m ≤ 16777216) × (0 < m) × (f .gap1 + f .gap2 < 65536) × ReadFrom (now area) f n t ⌝ }
+    ensures calm { λ r. ⌜ CalmFor (now (area .entry)) j r ⌝ }
+    ensures bound { λ r. ⌜ r ≤ m ⌝ }
+{
+    let near = fast_heard::nearest(area, n, j);
+    let bit = fast_heard::near_bit(area, near);
+    if area::read_word(area, j, 3) < 3 {
+        return silent_bound(area, f, j, t, near, bit, m);
+    }
+    emit_bound(area, f, j, t, near, bit, m)
+}
+
+// How long a window may be, of m steps.
+pub fn bound(area: &[u8], m: u32) -> u32
+    requires { ⌜ (57344 ≤ length (now area)) × (clockAt (now area) + m ≤ 16777216) × Ready (now area) ⌝ }
+    ensures calm { λ r. ⌜ AllCalm (now (area .entry)) (planOf (now (area .entry))) r ⌝ }
+    ensures bound { λ r. ⌜ r ≤ m ⌝ }
+{
+    let n = area::read_count(area) as usize;
+    let t = area::read_clock(area);
+    let f = area::read_figures(area);
+    let mut left = m;
+    let mut i: usize = 0;
+    while i < n {
+        if left == 0 {
+            return 0;
+        }
+        left = station_bound(area, f, n, t, i, left);
+        i += 1;
+    }
+    left
 }

@@ -1,55 +1,42 @@
+-- `fast_bound::is_sending` meets its contract. Assumes nothing.
 use Rattle.fast_bound.specs.BoundLaws.{sends-none, sends-waits, sends-backs, sends-sends, sends-heads, sends-jams}
 use borrow.Author.Needs.{needs}
 use Rattle.fast_bound.proofs.is_sending.Statement.{statement}
 use Rattle.fast_bound.proofs.is_sending.Tie as tie
-use Rattle.fast_bound.proofs.is_sending.Reads as reads
-use Rattle.fast_bound.proofs.is_sending.Lts as lts
 
--- src/lib.rt:136:33
 enum-told : tie.Need-enum-told
 enum-told c = search needs
 
--- src/lib.rt:137:33
 enum-told-2 : tie.Need-enum-told-2
 enum-told-2 c = search needs
 
--- src/lib.rt:138:39
 enum-told-3 : tie.Need-enum-told-3
 enum-told-3 c = search needs
 
--- src/lib.rt:139:36
 enum-told-4 : tie.Need-enum-told-4
 enum-told-4 c = search needs
 
--- src/lib.rt:140:36
 enum-told-5 : tie.Need-enum-told-5
 enum-told-5 c = search needs
 
--- src/lib.rt:141:36
 enum-told-6 : tie.Need-enum-told-6
 enum-told-6 c = search needs
 
--- src/lib.rt:132:1
 returns : tie.Need-returns
 returns c = search sends-none
 
--- src/lib.rt:132:1
 returns-2 : tie.Need-returns-2
 returns-2 c = search sends-waits
 
--- src/lib.rt:132:1
 returns-3 : tie.Need-returns-3
 returns-3 c = search sends-backs
 
--- src/lib.rt:132:1
 returns-4 : tie.Need-returns-4
 returns-4 c = search sends-sends
 
--- src/lib.rt:132:1
 returns-5 : tie.Need-returns-5
 returns-5 c = search sends-heads
 
--- src/lib.rt:132:1
 returns-6 : tie.Need-returns-6
 returns-6 c = search sends-jams
 

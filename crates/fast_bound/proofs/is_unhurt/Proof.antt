@@ -1,57 +1,42 @@
+-- `fast_bound::is_unhurt` meets its contract. Assumes nothing.
 use Rattle.fast_bound.specs.BoundLaws.{unhurt-silent, unhurt-line, unhurt-from, unhurt-spoiled}
 use borrow.Author.Needs.{needs}
 use Rattle.fast_bound.proofs.is_unhurt.Statement.{statement}
 use Rattle.fast_bound.proofs.is_unhurt.Tie as tie
-use Rattle.fast_bound.proofs.is_unhurt.Reads as reads
-use Rattle.fast_bound.proofs.is_unhurt.Lts as lts
-use Rattle.fast_bound.proofs.is_sending.Reads as is-sending-reads
-use Rattle.fast_rest.proofs.is_idle.Reads as is-idle-reads
 
--- src/lib.rt:150:25
 enum-told : tie.Need-enum-told
 enum-told c = search needs
 
--- src/lib.rt:150:25
 is-idle-requires : tie.Need-is-idle-requires
 is-idle-requires c κs = search needs
 
--- src/lib.rt:151:24
 enum-told-2 : tie.Need-enum-told-2
 enum-told-2 c = search needs
 
--- src/lib.rt:151:24
 is-sending-requires : tie.Need-is-sending-requires
 is-sending-requires c κs = search needs
 
--- src/lib.rt:152:24
 enum-told-3 : tie.Need-enum-told-3
 enum-told-3 c = search needs
 
--- src/lib.rt:152:24
 is-sending-requires-2 : tie.Need-is-sending-requires-2
 is-sending-requires-2 c κs = search needs
 
--- src/lib.rt:153:27
 enum-told-4 : tie.Need-enum-told-4
 enum-told-4 c = search needs
 
--- src/lib.rt:153:27
 is-sending-requires-3 : tie.Need-is-sending-requires-3
 is-sending-requires-3 c κs = search needs
 
--- src/lib.rt:146:1
 returns : tie.Need-returns
 returns c = search unhurt-silent
 
--- src/lib.rt:146:1
 returns-2 : tie.Need-returns-2
 returns-2 c = search unhurt-line
 
--- src/lib.rt:146:1
 returns-3 : tie.Need-returns-3
 returns-3 c = search unhurt-from
 
--- src/lib.rt:146:1
 returns-4 : tie.Need-returns-4
 returns-4 c = search unhurt-spoiled
 

@@ -1,31 +1,24 @@
+-- `fast_bound::own_busy` meets its contract. Assumes nothing.
 use Rattle.fast_bound.specs.BoundLaws.{own-quiet, own-busy, own-gap}
 use borrow.Author.Needs.{needs}
 use Rattle.fast_bound.proofs.own_busy.Statement.{statement}
 use Rattle.fast_bound.proofs.own_busy.Tie as tie
-use Rattle.fast_bound.proofs.own_busy.Reads as reads
-use Rattle.fast_bound.proofs.own_busy.Lts as lts
 
--- src/lib.rt:126:29
 enum-told : tie.Need-enum-told
 enum-told c = search needs
 
--- src/lib.rt:127:25
 enum-known-d : tie.Need-enum-known-d
 enum-known-d c = search needs
 
--- src/lib.rt:128:48
 enum-told-2 : tie.Need-enum-told-2
 enum-told-2 c = search needs
 
--- src/lib.rt:122:1
 returns : tie.Need-returns
 returns c = search own-quiet
 
--- src/lib.rt:122:1
 returns-2 : tie.Need-returns-2
 returns-2 c = search own-busy
 
--- src/lib.rt:122:1
 returns-3 : tie.Need-returns-3
 returns-3 c = search own-gap
 

@@ -1,0 +1,263 @@
+-- How long a window may be, on the area: what is foreseen run by run of what a station hears, and of all stations. Assumes nothing.
+use Prim.Native.Nat.{ℕ, _+_, _-_, _≤_, _<_, min}
+use mathlib.Core.Path.{_≡_, refl, sym, _∙_, ap, subst}
+use mathlib.Core.Bool.{Bool, true, false, not, _&&_, true≢false}
+use mathlib.Core.List.{List}
+use native.Mathlib.Omega.{arith}
+use borrow.Author.Tests.{ltb-true, not-true}
+use lib.Dec.{ltb}
+use Rattle.octets.specs.BaseLaws.{by-test, by-eq}
+use Rattle.layout.specs.declared.Figures.{Figures}
+use Rattle.packet.specs.declared.Heard.{Heard}
+use Rattle.packet.specs.declared.Heard.the-variants.{Nothing}
+use Rattle.packet.specs.Packet.{hearsAny}
+use Rattle.state.specs.declared.Deference.{Deference}
+use Rattle.state.specs.declared.Deference.the-variants.{Quiet, Busy, Gap}
+use Rattle.state.specs.declared.Transmitter.{Transmitter}
+use Rattle.state.specs.declared.Transmitter.the-variants.{NoFrame, Waiting, BackingOff, Sending, Heading, Jamming}
+use Rattle.state.specs.declared.Receiver.{Receiver}
+use Rattle.state.specs.declared.Receiver.the-variants.{Listening, Readable, Seeking, Collecting}
+use Rattle.state.specs.declared.Station.{Station}
+use Rattle.receiver.specs.Receive.{bitsIn}
+use Rattle.area.specs.Area.{clockAt, depthAt, figuresAt, countAt, stationAt, arrivalAt}
+use Rattle.pair.specs.Range.{FrameIn}
+use Rattle.pair.specs.Ready.{Readiness, Ready}
+use Rattle.fast_plan.specs.Plan.{hears}
+use Rattle.fast_plan.specs.Calm.{AllCalm, calm-none, calm-less}
+use Rattle.fast_silence.specs.Rested.{Idle}
+use Rattle.fast_silence.specs.Bound.{framesRest, frames-last, idle}
+use Rattle.fast_station.specs.Forms.{heardRest, emitsFor}
+use Rattle.fast_line.specs.LineLaws.{by-clean, by-spoiled}
+use Rattle.fast_heard.specs.declared.Near.{Near}
+use Rattle.fast_heard.specs.declared.Kind.{Kind}
+use Rattle.fast_heard.specs.declared.Kind.the-variants.{Silent, Line, From, Spoiled}
+use Rattle.fast_heard.specs.declared.Segment.{Segment}
+use Rattle.fast_heard.specs.Hearing.{planOf, heldAt, emits, emitsAt, nearestOf, nearBit, Says, Segmented}
+use Rattle.fast_heard.specs.NearLaws.{near-station}
+use Rattle.fast_heard.specs.HearingLaws.{segment-hears}
+use Rattle.fast_bound.specs.declared.Ahead.{Ahead}
+use Rattle.fast_bound.specs.Foresee.{Foreseen, bits-clock, foreseen-start, foreseen-heard, foreseen-rest, emits-unheard, emits-heard}
+use Rattle.fast_bound.specs.Bound.{restSteps, hearSteps, restedTo, heardTo, restAhead, hearAhead, ahead, aheadOf, ownBusy, sends, unhurt, emitsWith, emitSteps, CalmFor, CalmBelow, ReadFrom, NearTo, Underway}
+
+-- ---- in a run of any kind but silence others are heard
+
+module _ (H L : ℕ → Heard) (F : List ℕ) (k d s m : ℕ) where
+  line-any : Says H L F k d s Line m → (v : ℕ) → v < m → hearsAny (H (s + v)) ≡ true
+  line-any h v l = by-clean (L (s + v)) (h v l .1) (λ b e. ap hearsAny (h v l .0 ∙ e))
+
+  from-any : Says H L F k d s From m → (v : ℕ) → v < m → hearsAny (H (s + v)) ≡ true
+  from-any h v l = ap hearsAny (h .2 v l)
+
+  spoiled-any : Says H L F k d s Spoiled m → (v : ℕ) → v < m → hearsAny (H (s + v)) ≡ true
+  spoiled-any h v l = by-spoiled (H (s + v)) (h v l) (λ e. ap hearsAny e) (λ e. ap hearsAny e)
+
+-- ---- a station that emits nothing
+
+rest-within : (f : Figures) (m : ℕ) (d : Deference) (x : Transmitter) (q k : ℕ) → k ≡ restSteps f m d x q → 0 < k → (q < 512) × (k ≤ m) × (k ≤ framesRest f m d x)
+unfolding restSteps
+rest-within f m d x q k e p =
+    by-test (ltb q 512)
+    (λ c. let y : k ≡ min m (framesRest f m d x) = rw c at e in (ltb-true q 512 c, omega arith, omega arith))
+    (λ c. let y : k ≡ 0 = rw c at e in absurd (omega arith))
+
+hear-within : (f : Figures) (m : ℕ) (d : Deference) (x : Transmitter) (k : ℕ) → k ≡ hearSteps f m d x → (k ≤ m) × (k ≤ heardRest f m d x)
+unfolding hearSteps
+hear-within f m d x k e = (omega arith, omega arith)
+
+module _ (a : List ℕ) (r : Readiness a) (j : ℕ) (hj : j < countAt a) (off : emitsAt a j ≡ false) (s n : ℕ) (early : clockAt a + (s + n) ≤ 16777216) (g : Ahead)
+    (v : Foreseen a r j hj s (g .deference) (g .transmitter) (g .bits)) where
+  Next : Ahead → Type 0
+  Next h = Foreseen a r j hj (s + h .len) (h .deference) (h .transmitter) (h .bits)
+
+  rest-goes : ((u : ℕ) → u < n → hears a (planOf a) j (s + u) ≡ Nothing) → (k : ℕ) → k ≡ restSteps (figuresAt a) n (g .deference) (g .transmitter) (g .bits) → 0 < k
+      → Next (restedTo (figuresAt a) k g)
+  unfolding Next restedTo
+  rest-goes none k e pos =
+      let q = rest-within (figuresAt a) n (g .deference) (g .transmitter) (g .bits) k e pos in
+      let le = q .1 in
+      foreseen-rest a r j hj off s k pos (omega arith) (g .deference) (g .transmitter) (g .bits) v (λ u l. none u (omega arith))
+      (frames-last (figuresAt a) n k (g .deference) (g .transmitter) pos (q .2)) (q .0)
+
+  hear-goes : ((u : ℕ) → u < n → hearsAny (hears a (planOf a) j (s + u)) ≡ true) → (k : ℕ) → k ≡ hearSteps (figuresAt a) n (g .deference) (g .transmitter) → 0 < k
+      → Next (heardTo (figuresAt a) k g)
+  unfolding Next heardTo
+  hear-goes all k e pos =
+      let q = hear-within (figuresAt a) n (g .deference) (g .transmitter) k e in
+      let le = q .0 in
+      foreseen-heard a r j hj off s k pos (omega arith) (g .deference) (g .transmitter) (g .bits) v n (λ u l. all u (omega arith)) (q .1)
+
+  -- a run of any kind
+  run-goes : (L : ℕ → Heard) (F : List ℕ) (k d : ℕ) (c : Kind) → Says (hears a (planOf a) j) L F k d s c n → 0 < ahead (figuresAt a) c n g .len → Next (ahead (figuresAt a) c n g)
+  unfolding ahead restAhead hearAhead restedTo heardTo
+  run-goes L F k d Silent h pos = rest-goes h (restSteps (figuresAt a) n (g .deference) (g .transmitter) (g .bits)) refl pos
+  run-goes L F k d Line h pos = hear-goes (line-any (hears a (planOf a) j) L F k d s n h) (hearSteps (figuresAt a) n (g .deference) (g .transmitter)) refl pos
+  run-goes L F k d From h pos = hear-goes (from-any (hears a (planOf a) j) L F k d s n h) (hearSteps (figuresAt a) n (g .deference) (g .transmitter)) refl pos
+  run-goes L F k d Spoiled h pos = hear-goes (spoiled-any (hears a (planOf a) j) L F k d s n h) (hearSteps (figuresAt a) n (g .deference) (g .transmitter)) refl pos
+
+module _ (a : List ℕ) (j : ℕ) where
+  pub calm-zero : CalmFor a j 0
+  unfolding CalmFor
+  calm-zero = calm-none (figuresAt a) (depthAt a) j (hears a (planOf a) j) (planOf a j) a
+
+  pub under-start : (s : Station) (g : Ahead) → s ≡ stationAt a j → g ≡ aheadOf s → s .emitted ≡ false → Underway a j 0 g
+  unfolding Underway aheadOf
+  under-start s g es eg e =
+      λ r hj. subst (λ (y : Ahead). Foreseen a r j hj 0 (y .deference) (y .transmitter) (y .bits)) (sym (eg ∙ ap aheadOf es))
+      (foreseen-start a r j hj (ap (λ (y : Station). y .emitted) (sym es) ∙ e))
+
+module _ (a : List ℕ) (f : Figures) (j t : ℕ) (w : Near) (k : ℕ) (v : NearTo a f j t w k) where
+  pub start-bits : (s : Station) (g : Ahead) → s ≡ stationAt a j → g ≡ aheadOf s → g .bits ≤ t + 0
+  unfolding NearTo aheadOf
+  start-bits s g es eg =
+      let y : g .bits ≡ bitsIn (stationAt a j .receiver) = ap (λ (z : Ahead). z .bits) (eg ∙ ap aheadOf es) in
+      omega (arith, y, v .read .clock, bits-clock (clockAt a) (stationAt a j .receiver) (v .read .ready .fine j (v .station) .receiver))
+
+  pub calm-end : (s : ℕ) (g : Ahead) → Underway a j s g → CalmFor a j s
+  unfolding NearTo Underway CalmFor
+  calm-end s g u = u (v .read .ready) (v .station) .calm
+
+  -- what a run says of what is heard
+  run-says : (s : ℕ) (run : Segment) → Segmented a j t w k s run
+      → Says (hears a (planOf a) j) (λ u. arrivalAt a j (clockAt a + u)) (heldAt a (w .from)) k (w .d1) s (run .kind) (run .len)
+  unfolding NearTo
+  run-says s run h = segment-hears a a j t w k (v .read .ready) (v .station) (v .nearest) (v .bit) (v .read .clock) (λ u. refl) s run h
+
+  module _ (off : emitsAt a j ≡ false) (m s : ℕ) (run : Segment) (h : Segmented a j t w k s run) (g next : Ahead) (u : Underway a j s g) (e : next ≡ ahead f (run .kind) (run .len) g)
+      (hs : s < m) (len : run .len ≤ m - s) (early : t + m ≤ 16777216) where
+    under-on : 0 < next .len → Underway a j (s + next .len) next
+    unfolding NearTo Underway Next
+    under-on pos =
+        let p : next ≡ ahead (figuresAt a) (run .kind) (run .len) g = e ∙ ap (λ (y : Figures). ahead y (run .kind) (run .len) g) (v .read .figures) in
+        λ r hj. subst (λ (y : Ahead). Foreseen a r j hj (s + y .len) (y .deference) (y .transmitter) (y .bits)) (sym p)
+        (run-goes a r j hj off s (run .len) (omega (arith, v .read .clock)) g (u r hj) (λ u. arrivalAt a j (clockAt a + u)) (heldAt a (w .from)) k (w .d1) (run .kind) (run-says s run h)
+        (subst (λ (y : Ahead). 0 < y .len) p pos))
+
+    pub under-again : 0 < run .len → run .len ≤ next .len → Underway a j (s + next .len) next
+    under-again p q = under-on (omega arith)
+
+    pub calm-on : CalmFor a j (s + next .len)
+    calm-on =
+        by-eq (next .len) 0
+        (λ z. let y : s + next .len ≡ s = omega arith in subst (CalmFor a j) (sym y) (calm-end s g u))
+        (λ z. calm-end (s + next .len) next (under-on (omega (arith, z))))
+
+-- ---- a station that emits
+
+both-true : (x y : Bool) → (x && y) ≡ true → (x ≡ true) × (y ≡ true)
+both-true true y h = (refl, h)
+both-true false y h = absurd (true≢false (sym h))
+
+is-own : (d : Deference) → ownBusy d ≡ true → d ≡ Busy true
+unfolding ownBusy
+is-own Quiet h = absurd (true≢false (sym h))
+is-own (Busy own) h = ap Busy h
+is-own (Gap n own) h = absurd (true≢false (sym h))
+
+is-idle : (r : Receiver) → idle r ≡ true → Idle r
+unfolding idle
+is-idle Listening h = tt
+is-idle (Readable n) h = tt
+is-idle (Seeking row sp own) h = absurd (true≢false (sym h))
+is-idle (Collecting n sp own) h = absurd (true≢false (sym h))
+
+not-sending : (x : Transmitter) → not (sends x) ≡ true → (i : ℕ) → x ≡ Sending i → ⊥
+unfolding sends
+not-sending x h i e = true≢false (ap sends (sym e) ∙ not-true (sends x) h)
+
+frame-held : (x : Transmitter) (z : ℕ) → emits x ≡ true → FrameIn x z → z ≤ 1518
+frame-held NoFrame z e h = absurd (true≢false (sym e))
+frame-held Waiting z e h = h .1
+frame-held (BackingOff w) z e h = h .1
+frame-held (Sending k) z e h = h .1
+frame-held (Heading k) z e h = h .1
+frame-held (Jamming k) z e h = h .1
+
+frame-most : (a : List ℕ) (r : Readiness a) (j : ℕ) → j < countAt a → emitsAt a j ≡ true → stationAt a j .frame ≤ 1518
+unfolding emitsAt
+frame-most a r j hj on = frame-held (stationAt a j .transmitter) (stationAt a j .frame) on (r .fine j hj .frame)
+
+emit-within : (c : Kind) (s : Station) (k : ℕ) → 0 < k → k ≤ emitSteps c s → (emitsWith c s ≡ true) × (k ≤ emitsFor (s .frame) (s .transmitter))
+unfolding emitSteps
+emit-within c s k p h =
+    by-test (emitsWith c s)
+    (λ e. (e, rw e at h))
+    (λ e. let y : k ≤ 0 = rw e at h in absurd (omega arith))
+
+module _ (a : List ℕ) (r : Readiness a) (j : ℕ) (hj : j < countAt a) (on : emitsAt a j ≡ true) (n : ℕ) (early : clockAt a + n ≤ 16777216) (k : ℕ) (pos : 0 < k) (few : k ≤ n) where
+  from-zero : (P : Heard → Type 0) → ((u : ℕ) → u < n → P (hears a (planOf a) j (0 + u))) → (u : ℕ) → u < k → P (hears a (planOf a) j u)
+  from-zero P h u l = let z : 0 + u ≡ u = omega arith in subst (λ (y : ℕ). P (hears a (planOf a) j y)) z (h u (omega arith))
+
+  module _ (emitted : stationAt a j .emitted ≡ true) (busy : stationAt a j .deference ≡ Busy true) (lasts : k ≤ emitsFor (stationAt a j .frame) (stationAt a j .transmitter)) where
+    heard-goes : ((u : ℕ) → u < n → hearsAny (hears a (planOf a) j (0 + u)) ≡ true) → not (sends (stationAt a j .transmitter)) ≡ true → CalmFor a j k
+    unfolding CalmFor
+    heard-goes all h =
+        emits-heard a r j hj k pos (omega arith) busy emitted lasts (frame-most a r j hj on) (from-zero (λ (y : Heard). hearsAny y ≡ true) all) (not-sending (stationAt a j .transmitter) h)
+
+    emit-goes : (L : ℕ → Heard) (F : List ℕ) (b d : ℕ) (c : Kind) → Says (hears a (planOf a) j) L F b d 0 c n → unhurt c (stationAt a j .receiver) (stationAt a j .transmitter) ≡ true → CalmFor a j k
+    unfolding CalmFor unhurt
+    emit-goes L F b d Silent h e =
+        emits-unheard a r j hj k pos (omega arith) busy emitted lasts (frame-most a r j hj on) (from-zero (λ (y : Heard). y ≡ Nothing) h) (is-idle (stationAt a j .receiver) e)
+    emit-goes L F b d Line h e = heard-goes (line-any (hears a (planOf a) j) L F b d 0 n h) e
+    emit-goes L F b d From h e = heard-goes (from-any (hears a (planOf a) j) L F b d 0 n h) e
+    emit-goes L F b d Spoiled h e = heard-goes (spoiled-any (hears a (planOf a) j) L F b d 0 n h) e
+
+module _ (a : List ℕ) (f : Figures) (j t : ℕ) (w : Near) (k : ℕ) (v : NearTo a f j t w k) (on : emitsAt a j ≡ true) (s : Station) (es : s ≡ stationAt a j) where
+  pub frame-small : s .frame < 65536
+  unfolding NearTo
+  frame-small =
+      omega (arith, ap (λ (y : Station). y .frame) es, frame-most a (v .read .ready) j (v .station) on)
+
+  pub emit-calm : (m : ℕ) (run : Segment) (y q : ℕ) → Segmented a j t w k 0 run → run .len ≤ m → t + m ≤ 16777216 → y ≡ emitSteps (run .kind) s → q ≡ min (run .len) y → CalmFor a j q
+  unfolding NearTo emitsWith
+  emit-calm m run y q h len early ey eq =
+      by-eq q 0
+      (λ z. subst (CalmFor a j) (sym z) (calm-zero a j))
+      (λ z. let u = emit-within (run .kind) (stationAt a j) q (omega (arith, z)) (omega (arith, ey ∙ ap (emitSteps (run .kind)) es)) in
+      let p = both-true (stationAt a j .emitted) (ownBusy (stationAt a j .deference) && unhurt (run .kind) (stationAt a j .receiver) (stationAt a j .transmitter)) (u .0) in
+      let o = both-true (ownBusy (stationAt a j .deference)) (unhurt (run .kind) (stationAt a j .receiver) (stationAt a j .transmitter)) (p .1) in
+      emit-goes a (v .read .ready) j (v .station) on (run .len) (omega (arith, v .read .clock)) q (omega (arith, z)) (omega arith) (p .0) (is-own (stationAt a j .deference) (o .0)) (u .1)
+      (λ i. arrivalAt a j (clockAt a + i)) (heldAt a (w .from)) k (w .d1) (run .kind) (run-says a f j t w k v 0 run h) (o .1))
+
+-- ---- all stations
+
+module _ (a : List ℕ) (f : Figures) (n t : ℕ) where
+  pub read-from : Ready a → f ≡ figuresAt a → n ≡ countAt a → t ≡ clockAt a → ReadFrom a f n t
+  unfolding ReadFrom Ready
+  read-from r p q e = record { ready = r; figures = p; count = q; clock = e }
+
+  pub read-gap : ReadFrom a f n t → f .gap1 + f .gap2 < 65536
+  unfolding ReadFrom
+  read-gap v = subst (λ (g : Figures). g .gap1 + g .gap2 < 65536) (sym (v .figures)) (omega (arith, v .ready .figures .gap1, v .ready .figures .gap2))
+
+  pub near-to : (j : ℕ) (w : Near) (k : ℕ) → ReadFrom a f n t → j < n → w ≡ nearestOf a n j → k ≡ nearBit a w → NearTo a f j t w k
+  unfolding ReadFrom NearTo
+  near-to j w k v hj ew ek =
+      record {
+        read = record { ready = v .ready; figures = v .figures; count = refl; clock = v .clock };
+        station = omega (arith, v .count);
+        nearest = ew ∙ ap (λ (m : ℕ). nearestOf a m j) (v .count);
+        bit = ek;
+      }
+
+pub near-few : (a : List ℕ) (n j : ℕ) (w : Near) → n ≤ 16 → w ≡ nearestOf a n j → w .d1 < 256 → w .from < 16
+near-few a n j w h e l = omega (arith, near-station a n j w e l)
+
+module _ (a : List ℕ) where
+  pub below-none : (k : ℕ) → CalmBelow a 0 k
+  unfolding CalmBelow
+  below-none k = λ j h. absurd (omega arith)
+
+  pub below-more : (i k r : ℕ) → CalmBelow a i k → CalmFor a i r → r ≤ k → CalmBelow a (i + 1) r
+  unfolding CalmBelow CalmFor
+  below-more i k r b c h =
+      λ j l. by-eq j i
+      (λ z. subst (λ (y : ℕ). CalmFor a y r) (sym z) c)
+      (λ z. calm-less (figuresAt a) (depthAt a) j (hears a (planOf a) j) (planOf a j) a k r h (b j (omega (arith, z))))
+
+  pub below-all : (n i k : ℕ) → CalmBelow a i k → n ≡ countAt a → n ≤ i → AllCalm a (planOf a) k
+  unfolding CalmBelow CalmFor
+  below-all n i k b e h = λ j l. b j (omega arith)
+
+  pub all-zero : AllCalm a (planOf a) 0
+  unfolding CalmFor
+  all-zero = λ j l. calm-zero a j
