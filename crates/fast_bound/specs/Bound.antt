@@ -2,7 +2,7 @@
 -- Assumes nothing.
 use Prim.Native.Nat.{ℕ, _+_, _<_, min}
 use mathlib.Core.Path.{_≡_}
-use mathlib.Core.Bool.{Bool, true, false, not, _&&_}
+use mathlib.Core.Bool.{Bool, true, false, not, _||_, _&&_}
 use mathlib.Core.List.{List}
 use lib.Dec.{ltb}
 use Rattle.octets.specs.Base.{pick}
@@ -30,22 +30,23 @@ use Rattle.fast_bound.specs.Foresee.{Foreseen}
 
 -- ---- a station that emits nothing, by its deference, its transmitter and the most bits that it may have collected
 
--- "Fewer than 512 collected bits: nothing": where nothing is heard a reception of fewer bits ends and reports nothing
-unfoldable pub restSteps : Figures → (m : ℕ) → Deference → Transmitter → (q : ℕ) → ℕ
-restSteps f m d x q = pick (ltb q 512) (min m (framesRest f m d x)) 0
+-- "under 512 collected bits .. nothing": where nothing is heard a reception of fewer bits ends and reports nothing, and so does one that may not
+-- report, b
+unfoldable pub restSteps : Figures → (m : ℕ) → Deference → Transmitter → (q : ℕ) → (b : Bool) → ℕ
+restSteps f m d x q b = pick (b || ltb q 512) (min m (framesRest f m d x)) 0
 
 unfoldable pub hearSteps : Figures → (m : ℕ) → Deference → Transmitter → ℕ
 hearSteps f m d x = min m (heardRest f m d x)
 
 -- k steps in which nothing is heard, and k in which others are
 unfoldable pub restedTo : Figures → (k : ℕ) → Ahead → Ahead
-restedTo f k g = record { len = k; deference = restedDeference f k (g .deference); transmitter = restedTransmitter k (g .transmitter); bits = 0 }
+restedTo f k g = record { len = k; deference = restedDeference f k (g .deference); transmitter = restedTransmitter k (g .transmitter); bits = 0; harmless = false }
 
 unfoldable pub heardTo : Figures → (k : ℕ) → Ahead → Ahead
-heardTo f k g = record { len = k; deference = heardDeference f k (g .deference); transmitter = restedTransmitter k (g .transmitter); bits = g .bits + k }
+heardTo f k g = record { len = k; deference = heardDeference f k (g .deference); transmitter = restedTransmitter k (g .transmitter); bits = g .bits + k; harmless = g .harmless }
 
 unfoldable pub restAhead : Figures → (m : ℕ) → Ahead → Ahead
-restAhead f m g = restedTo f (restSteps f m (g .deference) (g .transmitter) (g .bits)) g
+restAhead f m g = restedTo f (restSteps f m (g .deference) (g .transmitter) (g .bits) (g .harmless)) g
 
 unfoldable pub hearAhead : Figures → (m : ℕ) → Ahead → Ahead
 hearAhead f m g = heardTo f (hearSteps f m (g .deference) (g .transmitter)) g
@@ -58,8 +59,8 @@ ahead f From m g = hearAhead f m g
 ahead f Spoiled m g = hearAhead f m g
 
 -- where it begins
-unfoldable pub aheadOf : Station → Ahead
-aheadOf s = record { len = 0; deference = s .deference; transmitter = s .transmitter; bits = bitsIn (s .receiver) }
+unfoldable pub aheadOf : Station → (b : Bool) → Ahead
+aheadOf s b = record { len = 0; deference = s .deference; transmitter = s .transmitter; bits = bitsIn (s .receiver); harmless = b }
 
 -- ---- a station that emits
 
@@ -123,6 +124,6 @@ ReadFrom a f n t = Read a f n t
 unfoldable pub NearTo : List ℕ → Figures → (j t : ℕ) → Near → (k : ℕ) → Type 0
 NearTo a f j t w k = Seen a f j t w k
 
--- a silent station after s steps, as it was foreseen
-unfoldable pub Underway : List ℕ → (j s : ℕ) → Ahead → Type 0
-Underway a j s g = (r : Readiness a) (hj : j < countAt a) → Foreseen a r j hj s (g .deference) (g .transmitter) (g .bits)
+-- a silent station after s of m steps, as it was foreseen
+unfoldable pub Underway : List ℕ → (j m s : ℕ) → Ahead → Type 0
+Underway a j m s g = (r : Readiness a) (hj : j < countAt a) → Foreseen a r j hj m s (g .deference) (g .transmitter) (g .bits) (g .harmless)

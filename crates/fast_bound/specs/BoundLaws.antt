@@ -1,7 +1,7 @@
 -- How long a window may be: one law for each way through the code, and what it says of the window. Assumes nothing.
 use Prim.Native.Nat.{ℕ, _+_, _-_, _≤_, _<_, min}
 use mathlib.Core.Path.{_≡_, refl, sym, _∙_, ap, ap₂, subst}
-use mathlib.Core.Bool.{Bool, true, false, not, _&&_, true≢false}
+use mathlib.Core.Bool.{Bool, true, false, not, _||_, _&&_}
 use mathlib.Core.List.{List}
 use native.Mathlib.Omega.{arith}
 use borrow.Author.Tests.{lt-ltb, le-ltb, ltb-true, ltb-false, not-true, not-false}
@@ -30,26 +30,26 @@ use Rattle.fast_bound.specs.Bound.{restSteps, hearSteps, restedTo, heard
 -- ---- the code by value: a station that emits nothing
 
 module _ (f : Figures) (m : ℕ) (d : Deference) (x : Transmitter) where
-  pub rest-many : (q : ℕ) → 512 ≤ q → 0 ≡ restSteps f m d x q
+  pub rest-many : (q : ℕ) (b c : Bool) → c ≡ (b || ltb q 512) → c ≡ false → 0 ≡ restSteps f m d x q b
   unfolding restSteps
-  rest-many q h = rw (le-ltb q 512 h)
+  rest-many q b c e h = rw (← e, h)
 
-  pub rest-few : (q k y : ℕ) → q < 512 → k ≡ min m y → y ≡ framesRest f m d x → k ≡ restSteps f m d x q
+  pub rest-few : (q : ℕ) (b c : Bool) (k y : ℕ) → c ≡ (b || ltb q 512) → c ≡ true → k ≡ min m y → y ≡ framesRest f m d x → k ≡ restSteps f m d x q b
   unfolding restSteps
-  rest-few q k y h e p = rw (lt-ltb q 512 h) (e ∙ ap (min m) p)
+  rest-few q b c k y e h n p = rw (← e, h) (n ∙ ap (min m) p)
 
   pub hear-few : (k y : ℕ) → k ≡ min m y → y ≡ heardRest f m d x → k ≡ hearSteps f m d x
   unfolding hearSteps
   hear-few k y e p = e ∙ ap (min m) p
 
 module _ (f : Figures) (m : ℕ) (g : Ahead) (k : ℕ) (d : Deference) (x : Transmitter) where
-  pub rest-to : k ≡ restSteps f m (g .deference) (g .transmitter) (g .bits) → d ≡ restedDeference f k (g .deference) → x ≡ restedTransmitter k (g .transmitter)
-      → record { len = k; deference = d; transmitter = x; bits = 0 } ≡ restAhead f m g
+  pub rest-to : k ≡ restSteps f m (g .deference) (g .transmitter) (g .bits) (g .harmless) → d ≡ restedDeference f k (g .deference) → x ≡ restedTransmitter k (g .transmitter)
+      → record { len = k; deference = d; transmitter = x; bits = 0; harmless = false } ≡ restAhead f m g
   unfolding restAhead restedTo
   rest-to e p q = rw (p, q, e)
 
   pub hear-to : k ≡ hearSteps f m (g .deference) (g .transmitter) → d ≡ heardDeference f k (g .deference) → x ≡ restedTransmitter k (g .transmitter)
-      → record { len = k; deference = d; transmitter = x; bits = g .bits + k } ≡ hearAhead f m g
+      → record { len = k; deference = d; transmitter = x; bits = g .bits + k; harmless = g .harmless } ≡ hearAhead f m g
   unfolding hearAhead heardTo
   hear-to e p q = rw (p, q, e)
 
@@ -83,9 +83,10 @@ module _ (r : Receiver) where
   pub bits-collecting : (n : ℕ) (sp own : Bool) → r ≡ Collecting n sp own → n ≡ bitsIn r
   bits-collecting n sp own e = rw e
 
-pub ahead-is : (s : Station) (q : ℕ) → q ≡ bitsIn (s .receiver) → record { len = 0; deference = s .deference; transmitter = s .transmitter; bits = q } ≡ aheadOf s
+pub ahead-is : (s : Station) (b : Bool) (q : ℕ) → q ≡ bitsIn (s .receiver)
+    → record { len = 0; deference = s .deference; transmitter = s .transmitter; bits = q; harmless = b } ≡ aheadOf s b
 unfolding aheadOf
-ahead-is s q e = rw e
+ahead-is s b q e = rw e
 
 -- ---- the code by value: a station that emits
 

@@ -1,10 +1,10 @@
 -- How long a window may be, on the area: what is foreseen run by run of what a station hears, and of all stations. Assumes nothing.
 use Prim.Native.Nat.{ℕ, _+_, _-_, _≤_, _<_, min}
 use mathlib.Core.Path.{_≡_, refl, sym, _∙_, ap, subst}
-use mathlib.Core.Bool.{Bool, true, false, not, _&&_, true≢false}
+use mathlib.Core.Bool.{Bool, true, false, not, _||_, _&&_, true≢false}
 use mathlib.Core.List.{List}
 use native.Mathlib.Omega.{arith}
-use borrow.Author.Tests.{ltb-true, not-true}
+use borrow.Author.Tests.{not-true}
 use lib.Dec.{ltb}
 use Rattle.octets.specs.BaseLaws.{by-test, by-eq}
 use Rattle.layout.specs.declared.Figures.{Figures}
@@ -19,7 +19,7 @@ use Rattle.state.specs.declared.Receiver.{Receiver}
 use Rattle.state.specs.declared.Receiver.the-variants.{Listening, Readable, Seeking, Collecting}
 use Rattle.state.specs.declared.Station.{Station}
 use Rattle.receiver.specs.Receive.{bitsIn}
-use Rattle.area.specs.Area.{clockAt, depthAt, figuresAt, countAt, stationAt, arrivalAt}
+use Rattle.area.specs.Area.{clockAt, depthAt, figuresAt, countAt, addressAt, stationAt, bufferAt, arrivalAt}
 use Rattle.pair.specs.Range.{FrameIn}
 use Rattle.pair.specs.Ready.{Readiness, Ready}
 use Rattle.fast_plan.specs.Plan.{hears}
@@ -27,6 +27,8 @@ use Rattle.fast_plan.specs.Calm.{AllCalm, calm-none, calm-less}
 use Rattle.fast_silence.specs.Rested.{Idle}
 use Rattle.fast_silence.specs.Bound.{framesRest, frames-last, idle}
 use Rattle.fast_station.specs.Forms.{heardRest, emitsFor}
+use Rattle.fast_receive.specs.Received.{mayReport}
+use Rattle.fast_segment.specs.Alone.{address-in}
 use Rattle.fast_line.specs.LineLaws.{by-clean, by-spoiled}
 use Rattle.fast_heard.specs.declared.Near.{Near}
 use Rattle.fast_heard.specs.declared.Kind.{Kind}
@@ -53,29 +55,30 @@ module _ (H L : ℕ → Heard) (F : List ℕ) (k d s m : ℕ) where
 
 -- ---- a station that emits nothing
 
-rest-within : (f : Figures) (m : ℕ) (d : Deference) (x : Transmitter) (q k : ℕ) → k ≡ restSteps f m d x q → 0 < k → (q < 512) × (k ≤ m) × (k ≤ framesRest f m d x)
+rest-within : (f : Figures) (m : ℕ) (d : Deference) (x : Transmitter) (q : ℕ) (b : Bool) (k : ℕ) → k ≡ restSteps f m d x q b → 0 < k
+    → ((b || ltb q 512) ≡ true) × (k ≤ m) × (k ≤ framesRest f m d x)
 unfolding restSteps
-rest-within f m d x q k e p =
-    by-test (ltb q 512)
-    (λ c. let y : k ≡ min m (framesRest f m d x) = rw c at e in (ltb-true q 512 c, omega arith, omega arith))
+rest-within f m d x q b k e p =
+    by-test (b || ltb q 512)
+    (λ c. let y : k ≡ min m (framesRest f m d x) = rw c at e in (c, omega arith, omega arith))
     (λ c. let y : k ≡ 0 = rw c at e in absurd (omega arith))
 
 hear-within : (f : Figures) (m : ℕ) (d : Deference) (x : Transmitter) (k : ℕ) → k ≡ hearSteps f m d x → (k ≤ m) × (k ≤ heardRest f m d x)
 unfolding hearSteps
 hear-within f m d x k e = (omega arith, omega arith)
 
-module _ (a : List ℕ) (r : Readiness a) (j : ℕ) (hj : j < countAt a) (off : emitsAt a j ≡ false) (s n : ℕ) (early : clockAt a + (s + n) ≤ 16777216) (g : Ahead)
-    (v : Foreseen a r j hj s (g .deference) (g .transmitter) (g .bits)) where
+module _ (a : List ℕ) (r : Readiness a) (j : ℕ) (hj : j < countAt a) (off : emitsAt a j ≡ false) (m s n : ℕ) (early : clockAt a + (s + n) ≤ 16777216) (within : s + n ≤ m) (g : Ahead)
+    (v : Foreseen a r j hj m s (g .deference) (g .transmitter) (g .bits) (g .harmless)) where
   Next : Ahead → Type 0
-  Next h = Foreseen a r j hj (s + h .len) (h .deference) (h .transmitter) (h .bits)
+  Next h = Foreseen a r j hj m (s + h .len) (h .deference) (h .transmitter) (h .bits) (h .harmless)
 
-  rest-goes : ((u : ℕ) → u < n → hears a (planOf a) j (s + u) ≡ Nothing) → (k : ℕ) → k ≡ restSteps (figuresAt a) n (g .deference) (g .transmitter) (g .bits) → 0 < k
+  rest-goes : ((u : ℕ) → u < n → hears a (planOf a) j (s + u) ≡ Nothing) → (k : ℕ) → k ≡ restSteps (figuresAt a) n (g .deference) (g .transmitter) (g .bits) (g .harmless) → 0 < k
       → Next (restedTo (figuresAt a) k g)
   unfolding Next restedTo
   rest-goes none k e pos =
-      let q = rest-within (figuresAt a) n (g .deference) (g .transmitter) (g .bits) k e pos in
+      let q = rest-within (figuresAt a) n (g .deference) (g .transmitter) (g .bits) (g .harmless) k e pos in
       let le = q .1 in
-      foreseen-rest a r j hj off s k pos (omega arith) (g .deference) (g .transmitter) (g .bits) v (λ u l. none u (omega arith))
+      foreseen-rest a r j hj off s k pos (omega arith) m (g .deference) (g .transmitter) (g .bits) (g .harmless) v (λ u l. none u (omega arith))
       (frames-last (figuresAt a) n k (g .deference) (g .transmitter) pos (q .2)) (q .0)
 
   hear-goes : ((u : ℕ) → u < n → hearsAny (hears a (planOf a) j (s + u)) ≡ true) → (k : ℕ) → k ≡ hearSteps (figuresAt a) n (g .deference) (g .transmitter) → 0 < k
@@ -84,12 +87,12 @@ module _ (a : List ℕ) (r : Readiness a) (j : ℕ) (hj : j < countAt a) (off : 
   hear-goes all k e pos =
       let q = hear-within (figuresAt a) n (g .deference) (g .transmitter) k e in
       let le = q .0 in
-      foreseen-heard a r j hj off s k pos (omega arith) (g .deference) (g .transmitter) (g .bits) v n (λ u l. all u (omega arith)) (q .1)
+      foreseen-heard a r j hj off s k pos (omega arith) m (g .deference) (g .transmitter) (g .bits) (g .harmless) v n (λ u l. all u (omega arith)) (q .1) (omega arith)
 
   -- a run of any kind
   run-goes : (L : ℕ → Heard) (F : List ℕ) (k d : ℕ) (c : Kind) → Says (hears a (planOf a) j) L F k d s c n → 0 < ahead (figuresAt a) c n g .len → Next (ahead (figuresAt a) c n g)
   unfolding ahead restAhead hearAhead restedTo heardTo
-  run-goes L F k d Silent h pos = rest-goes h (restSteps (figuresAt a) n (g .deference) (g .transmitter) (g .bits)) refl pos
+  run-goes L F k d Silent h pos = rest-goes h (restSteps (figuresAt a) n (g .deference) (g .transmitter) (g .bits) (g .harmless)) refl pos
   run-goes L F k d Line h pos = hear-goes (line-any (hears a (planOf a) j) L F k d s n h) (hearSteps (figuresAt a) n (g .deference) (g .transmitter)) refl pos
   run-goes L F k d From h pos = hear-goes (from-any (hears a (planOf a) j) L F k d s n h) (hearSteps (figuresAt a) n (g .deference) (g .transmitter)) refl pos
   run-goes L F k d Spoiled h pos = hear-goes (spoiled-any (hears a (planOf a) j) L F k d s n h) (hearSteps (figuresAt a) n (g .deference) (g .transmitter)) refl pos
@@ -99,22 +102,32 @@ module _ (a : List ℕ) (j : ℕ) where
   unfolding CalmFor
   calm-zero = calm-none (figuresAt a) (depthAt a) j (hears a (planOf a) j) (planOf a j) a
 
-  pub under-start : (s : Station) (g : Ahead) → s ≡ stationAt a j → g ≡ aheadOf s → s .emitted ≡ false → Underway a j 0 g
+  pub under-start : (m : ℕ) (s : Station) (g : Ahead) (x : Receiver) (c : Bool) → s ≡ stationAt a j → x ≡ s .receiver → c ≡ mayReport (addressAt a j) (bufferAt a j) m x → g ≡ aheadOf s (not c) → s .emitted ≡ false
+      → Underway a j m 0 g
   unfolding Underway aheadOf
-  under-start s g es eg e =
-      λ r hj. subst (λ (y : Ahead). Foreseen a r j hj 0 (y .deference) (y .transmitter) (y .bits)) (sym (eg ∙ ap aheadOf es))
-      (foreseen-start a r j hj (ap (λ (y : Station). y .emitted) (sym es) ∙ e))
+  under-start m s g x c es ex ec eg e =
+      λ r hj. subst (λ (y : Ahead). Foreseen a r j hj m 0 (y .deference) (y .transmitter) (y .bits) (y .harmless)) (sym (eg ∙ ap (λ (y : Station). aheadOf y (not c)) es))
+      (foreseen-start a r j hj m (not c) (ap (λ (y : Station). y .emitted) (sym es) ∙ e)
+      (λ h. let z : x ≡ stationAt a j .receiver = ex ∙ ap (λ (y : Station). y .receiver) es in
+      ap (λ (y : List ℕ). mayReport y (bufferAt a j) m (stationAt a j .receiver)) (address-in a j) ∙ ap (mayReport (addressAt a j) (bufferAt a j) m) (sym z) ∙ sym ec ∙ not-true c h))
 
 module _ (a : List ℕ) (f : Figures) (j t : ℕ) (w : Near) (k : ℕ) (v : NearTo a f j t w k) where
-  pub start-bits : (s : Station) (g : Ahead) → s ≡ stationAt a j → g ≡ aheadOf s → g .bits ≤ t + 0
-  unfolding NearTo aheadOf
-  start-bits s g es eg =
-      let y : g .bits ≡ bitsIn (stationAt a j .receiver) = ap (λ (z : Ahead). z .bits) (eg ∙ ap aheadOf es) in
-      omega (arith, y, v .read .clock, bits-clock (clockAt a) (stationAt a j .receiver) (v .read .ready .fine j (v .station) .receiver))
+  bits-most : bitsIn (stationAt a j .receiver) ≤ t
+  unfolding NearTo
+  bits-most = omega (arith, v .read .clock, bits-clock (clockAt a) (stationAt a j .receiver) (v .read .ready .fine j (v .station) .receiver))
 
-  pub calm-end : (s : ℕ) (g : Ahead) → Underway a j s g → CalmFor a j s
+  pub bits-room : (m : ℕ) (s : Station) (x : Receiver) → s ≡ stationAt a j → x ≡ s .receiver → t + m ≤ 16777216 → bitsIn x + m < 4294967296
+  bits-room m s x es ex h = subst (λ (y : Receiver). bitsIn y + m < 4294967296) (sym (ex ∙ ap (λ (y : Station). y .receiver) es)) (omega (arith, bits-most))
+
+  pub start-bits : (s : Station) (b : Bool) (g : Ahead) → s ≡ stationAt a j → g ≡ aheadOf s b → g .bits ≤ t + 0
+  unfolding aheadOf
+  start-bits s b g es eg =
+      let y : g .bits ≡ bitsIn (stationAt a j .receiver) = ap (λ (z : Ahead). z .bits) (eg ∙ ap (λ (z : Station). aheadOf z b) es) in
+      omega (arith, y, bits-most)
+
+  pub calm-end : (m s : ℕ) (g : Ahead) → Underway a j m s g → CalmFor a j s
   unfolding NearTo Underway CalmFor
-  calm-end s g u = u (v .read .ready) (v .station) .calm
+  calm-end m s g u = u (v .read .ready) (v .station) .calm
 
   -- what a run says of what is heard
   run-says : (s : ℕ) (run : Segment) → Segmented a j t w k s run
@@ -122,24 +135,24 @@ module _ (a : List ℕ) (f : Figures) (j t : ℕ) (w : Near) (k : ℕ) (v : Near
   unfolding NearTo
   run-says s run h = segment-hears a a j t w k (v .read .ready) (v .station) (v .nearest) (v .bit) (v .read .clock) (λ u. refl) s run h
 
-  module _ (off : emitsAt a j ≡ false) (m s : ℕ) (run : Segment) (h : Segmented a j t w k s run) (g next : Ahead) (u : Underway a j s g) (e : next ≡ ahead f (run .kind) (run .len) g)
+  module _ (off : emitsAt a j ≡ false) (m s : ℕ) (run : Segment) (h : Segmented a j t w k s run) (g next : Ahead) (u : Underway a j m s g) (e : next ≡ ahead f (run .kind) (run .len) g)
       (hs : s < m) (len : run .len ≤ m - s) (early : t + m ≤ 16777216) where
-    under-on : 0 < next .len → Underway a j (s + next .len) next
+    under-on : 0 < next .len → Underway a j m (s + next .len) next
     unfolding NearTo Underway Next
     under-on pos =
         let p : next ≡ ahead (figuresAt a) (run .kind) (run .len) g = e ∙ ap (λ (y : Figures). ahead y (run .kind) (run .len) g) (v .read .figures) in
-        λ r hj. subst (λ (y : Ahead). Foreseen a r j hj (s + y .len) (y .deference) (y .transmitter) (y .bits)) (sym p)
-        (run-goes a r j hj off s (run .len) (omega (arith, v .read .clock)) g (u r hj) (λ u. arrivalAt a j (clockAt a + u)) (heldAt a (w .from)) k (w .d1) (run .kind) (run-says s run h)
+        λ r hj. subst (λ (y : Ahead). Foreseen a r j hj m (s + y .len) (y .deference) (y .transmitter) (y .bits) (y .harmless)) (sym p)
+        (run-goes a r j hj off m s (run .len) (omega (arith, v .read .clock)) (omega arith) g (u r hj) (λ u. arrivalAt a j (clockAt a + u)) (heldAt a (w .from)) k (w .d1) (run .kind) (run-says s run h)
         (subst (λ (y : Ahead). 0 < y .len) p pos))
 
-    pub under-again : 0 < run .len → run .len ≤ next .len → Underway a j (s + next .len) next
+    pub under-again : 0 < run .len → run .len ≤ next .len → Underway a j m (s + next .len) next
     under-again p q = under-on (omega arith)
 
     pub calm-on : CalmFor a j (s + next .len)
     calm-on =
         by-eq (next .len) 0
-        (λ z. let y : s + next .len ≡ s = omega arith in subst (CalmFor a j) (sym y) (calm-end s g u))
-        (λ z. calm-end (s + next .len) next (under-on (omega (arith, z))))
+        (λ z. let y : s + next .len ≡ s = omega arith in subst (CalmFor a j) (sym y) (calm-end m s g u))
+        (λ z. calm-end m (s + next .len) next (under-on (omega (arith, z))))
 
 -- ---- a station that emits
 

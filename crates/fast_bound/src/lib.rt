@@ -16,30 +16,31 @@ ghost use Rattle.area.specs.Area.{clockAt, countAt};
 ghost use Rattle.pair.specs.Ready.{Ready};
 ghost use Rattle.fast_plan.specs.Calm.{AllCalm};
 ghost use Rattle.fast_heard.specs.Hearing.{planOf, emitsAt};
-ghost use Rattle.fast_bound.specs.Bound.{restSteps, hearSteps, restAhead, hearAhead, ahead, aheadOf, ownBusy, sends, unhurt, emitSteps, CalmFor, ReadFrom, NearTo};
+ghost use Rattle.fast_bound.specs.Bound.{restSteps, hearSteps, restAhead, hearAhead, ahead, aheadOf, ownBusy, sends, unhurt, emitSteps, CalmFor, ReadFrom, NearTo, Underway};
 
 // Of a station that emits nothing: `len` steps of one kind, and what it comes to in them. It has collected at most
-// `bits` bits.
+// `bits` bits; `harmless`: its reception may not report, however long it goes on.
 pub struct Ahead {
     pub len: u32,
     pub deference: Deference,
     pub transmitter: Transmitter,
     pub bits: u32,
+    pub harmless: bool,
 }
 
 // ---- a station that emits nothing, by value
 
 // Of m steps in which nothing is heard those in which no frame starts; none where the reception that they end may be
 // reported.
-fn rest_steps(f: Figures, m: u32, d: Deference, x: Transmitter, q: u32) -> u32
+fn rest_steps(f: Figures, m: u32, d: Deference, x: Transmitter, q: u32, harmless: bool) -> u32
     requires { ⌜ f .gap1 + f .gap2 < 65536 ⌝ }
-    ensures same { λ r. ⌜ r ≡ restSteps f m d x q ⌝ }
+    ensures same { λ r. ⌜ r ≡ restSteps f m d x q harmless ⌝ }
     ensures bound { λ r. ⌜ r ≤ m ⌝ }
 {
-    if 512 <= q {
-        return 0;
+    if octets::either(harmless, q < 512) {
+        return fast_rest::smaller(m, fast_rest::frames_rest(f, m, d, x));
     }
-    fast_rest::smaller(m, fast_rest::frames_rest(f, m, d, x))
+    0
 }
 
 // Of m steps in which others are heard those in which no frame starts.
@@ -58,7 +59,7 @@ fn rest_ahead(f: Figures, m: u32, at: Ahead) -> Ahead
 {
     let d = at.deference;
     let x = at.transmitter;
-    let len = rest_steps(f, m, d, x, at.bits);
+    let len = rest_steps(f, m, d, x, at.bits, at.harmless);
     let deference = fast_rest::rest_deference(f, len, d);
     let transmitter = fast_rest::rest_transmitter(len, x);
     Ahead {
@@ -66,6 +67,7 @@ fn rest_ahead(f: Figures, m: u32, at: Ahead) -> Ahead
         deference,
         transmitter,
         bits: 0,
+        harmless: false,
     }
 }
 
@@ -84,6 +86,7 @@ fn hear_ahead(f: Figures, m: u32, at: Ahead) -> Ahead
         deference,
         transmitter,
         bits: at.bits + len,
+        harmless: at.harmless,
     }
 }
 
@@ -176,8 +179,8 @@ fn emit_steps(kind: Kind, s: Station) -> u32
 // ---- on the area
 
 // A station as it is: no step ahead.
-fn ahead_of(s: Station) -> Ahead
-    ensures { λ r. ⌜ r ≡ aheadOf s ⌝ }
+fn ahead_of(s: Station, harmless: bool) -> Ahead
+    ensures { λ r. ⌜ r ≡ aheadOf s harmless ⌝ }
 {
     let deference = s.deference;
     let transmitter = s.transmitter;
@@ -188,20 +191,27 @@ fn ahead_of(s: Station) -> Ahead
         deference,
         transmitter,
         bits,
+        harmless,
     }
 }
 
-// A station that emits nothing, run by run of what it hears: at most m steps in which it starts nothing and has no event.
-fn silent_bound(area: &[u8], f: Figures, j: usize, t: u32, near: Near, bit: u32, m: u32) -> u32
-    requires { ⌜ (j < 16) × (57344 ≤ length (now area)) × (t + m ≤ 16777216) × (f .gap1 + f .gap2 < 65536) × NearTo (now area) f j t near bit × (emitsAt (now area) j ≡ false) ⌝ }
+// A station that emits nothing, run by run of what it hears, from where it begins: at most m steps in which it starts
+// nothing and has no event.
+fn silent_runs(
+    area: &[u8],
+    f: Figures,
+    j: usize,
+    t: u32,
+    near: Near,
+    bit: u32,
+    first: Ahead,
+    m: u32,
+) -> u32
+    requires { ⌜ (j < 16) × (57344 ≤ length (now area)) × (t + m ≤ 16777216) × (f .gap1 + f .gap2 < 65536) × NearTo (now area) f j t near bit × (emitsAt (now area) j ≡ false) × (first .bits ≤ t + 0) × Underway (now area) j m 0 first ⌝ }
     ensures calm { λ r. ⌜ CalmFor (now (area .entry)) j r ⌝ }
     ensures bound { λ r. ⌜ r ≤ m ⌝ }
 {
-    let station = area::read_station(area, j);
-    if station.emitted {
-        return 0;
-    }
-    let mut at = ahead_of(station);
+    let mut at = first;
     let mut s: u32 = 0;
     while s < m {
         let run = fast_heard::heard_run(
@@ -223,6 +233,22 @@ fn silent_bound(area: &[u8], f: Figures, j: usize, t: u32, near: Near, bit: u32,
         at = next;
     }
     s
+}
+
+// A station that emits nothing: at most m steps in which it starts nothing and has no event.
+fn silent_bound(area: &[u8], f: Figures, j: usize, t: u32, near: Near, bit: u32, m: u32) -> u32
+    requires { ⌜ (j < 16) × (57344 ≤ length (now area)) × (t + m ≤ 16777216) × (f .gap1 + f .gap2 < 65536) × NearTo (now area) f j t near bit × (emitsAt (now area) j ≡ false) ⌝ }
+    ensures calm { λ r. ⌜ CalmFor (now (area .entry)) j r ⌝ }
+    ensures bound { λ r. ⌜ r ≤ m ⌝ }
+{
+    let station = area::read_station(area, j);
+    if station.emitted {
+        return 0;
+    }
+    let receiver = station.receiver;
+    let reports = fast_receive::may_report(area, j, receiver, m);
+    let first = ahead_of(station, !reports);
+    silent_runs(area, f, j, t, near, bit, first, m)
 }
 
 // A station that emits: at most m steps through which it goes on and has no event.

@@ -5,8 +5,8 @@ use borrow.Author.Needs.{needs}
 use Rattle.fast_bound.proofs.rest_steps.Statement.{statement}
 use Rattle.fast_bound.proofs.rest_steps.Tie as tie
 
-returns : tie.Need-returns
-returns c = (search rest-many, omega arith)
+either-requires : tie.Need-either-requires
+either-requires c κs = search needs
 
 frames-rest-requires : tie.Need-frames-rest-requires
 frames-rest-requires c κs = search needs
@@ -14,8 +14,12 @@ frames-rest-requires c κs = search needs
 smaller-requires : tie.Need-smaller-requires
 smaller-requires c κs = search needs
 
+returns : tie.Need-returns
+returns c = (search rest-few, omega arith)
+
 returns-2 : tie.Need-returns-2
-returns-2 c = (search rest-few, omega arith)
+returns-2 c = (search rest-many, omega arith)
 
 pub rest-steps-spec : {M : Type 1} → statement M
-rest-steps-spec = tie.close (tie.spec returns frames-rest-requires smaller-requires returns-2)
+rest-steps-spec =
+    tie.close (tie.spec either-requires frames-rest-requires smaller-requires returns returns-2)

@@ -1,81 +1,35 @@
 -- `fast_bound::silent_bound` meets its contract. Assumes nothing.
-use Prim.Native.Nat.{_+_, _-_, _≤_}
 use native.Mathlib.Omega.{arith}
+use Rattle.fast_bound.specs.WindowLaws.{calm-zero, bits-room, under-start, start-bits}
 use borrow.Author.Needs.{needs}
-use Rattle.fast_bound.specs.Bound.{Underway}
-use Rattle.fast_bound.specs.WindowLaws.{calm-zero, under-start, start-bits, calm-end, under-again, calm-on}
 use Rattle.fast_bound.proofs.silent_bound.Statement.{statement}
 use Rattle.fast_bound.proofs.silent_bound.Tie as tie
 
-abbrev Inv-loop : tie.InvT-loop
-Inv-loop area f j t near bit m at₀ s₀ at s = (s ≤ m) × (at .bits ≤ t + s) × Underway area j s at
-
-abbrev μ-loop : tie.MeasureT-loop
-μ-loop area f j t near bit m at₀ s₀ at s = m - s
-
-read-station-requires : tie.Need-read-station-requires Inv-loop μ-loop
+read-station-requires : tie.Need-read-station-requires
 read-station-requires c κs = search needs
 
-returns : tie.Need-returns Inv-loop μ-loop
+returns : tie.Need-returns
 returns c = (search calm-zero, omega arith)
 
-ahead-of-requires : tie.Need-ahead-of-requires Inv-loop μ-loop
+may-report-requires : tie.Need-may-report-requires
+may-report-requires c κs = (omega arith, omega arith, search bits-room)
+
+ahead-of-requires : tie.Need-ahead-of-requires
 ahead-of-requires c κs = search needs
 
-loop-holds : tie.Need-loop-holds Inv-loop μ-loop
-loop-holds c = (omega arith, search start-bits, search under-start)
+silent-runs-requires : tie.Need-silent-runs-requires
+silent-runs-requires c κs = (omega arith, omega arith, omega arith, omega arith, search needs, search needs, search start-bits, search under-start)
 
-cast-heard-run : tie.Need-cast-heard-run Inv-loop μ-loop
-cast-heard-run c = omega arith
-
-sub-heard-run : tie.Need-sub-heard-run Inv-loop μ-loop
-sub-heard-run c = omega arith
-
-cast-heard-run-2 : tie.Need-cast-heard-run-2 Inv-loop μ-loop
-cast-heard-run-2 c = omega arith
-
-heard-run-requires : tie.Need-heard-run-requires Inv-loop μ-loop
-heard-run-requires c κs = search needs
-
-cast-len : tie.Need-cast-len Inv-loop μ-loop
-cast-len c = omega arith
-
-foresee-requires : tie.Need-foresee-requires Inv-loop μ-loop
-foresee-requires c κs = (omega arith, omega arith)
-
-add-s : tie.Need-add-s Inv-loop μ-loop
-add-s c = omega arith
-
-returns-2 : tie.Need-returns-2 Inv-loop μ-loop
-returns-2 c = (search calm-on, omega arith)
-
-loop-less : tie.Need-loop-less Inv-loop μ-loop
-loop-less c = omega arith
-
-loop-again : tie.Need-loop-again Inv-loop μ-loop
-loop-again c = (omega arith, omega arith, search under-again)
-
-returns-3 : tie.Need-returns-3 Inv-loop μ-loop
-returns-3 c = (search calm-end, omega arith)
+returns-2 : tie.Need-returns-2
+returns-2 c = search needs
 
 pub silent-bound-spec : {M : Type 1} → statement M
 silent-bound-spec =
     tie.close
     (tie.spec
-    Inv-loop
-    μ-loop
     read-station-requires
     returns
+    may-report-requires
     ahead-of-requires
-    loop-holds
-    cast-heard-run
-    sub-heard-run
-    cast-heard-run-2
-    heard-run-requires
-    cast-len
-    foresee-requires
-    add-s
-    returns-2
-    loop-less
-    loop-again
-    returns-3)
+    silent-runs-requires
+    returns-2)
