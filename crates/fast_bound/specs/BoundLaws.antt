@@ -1,16 +1,9 @@
 -- How long a window may be: one law for each way through the code, and what it says of the window. Assumes nothing.
-use Prim.Native.Nat.{ℕ, _+_, _-_, _≤_, _<_, min}
-use mathlib.Core.Path.{_≡_, refl, sym, _∙_, ap, ap₂, subst}
+use Prim.Native.Nat.{ℕ, _+_, _-_, min}
+use mathlib.Core.Path.{_≡_, _∙_, ap, ap₂}
 use mathlib.Core.Bool.{Bool, true, false, not, _||_, _&&_}
-use mathlib.Core.List.{List}
-use native.Mathlib.Omega.{arith}
-use borrow.Author.Tests.{lt-ltb, le-ltb, ltb-true, ltb-false, not-true, not-false}
 use lib.Dec.{ltb}
-use Rattle.octets.specs.BaseLaws.{by-test}
 use Rattle.layout.specs.declared.Figures.{Figures}
-use Rattle.packet.specs.declared.Heard.{Heard}
-use Rattle.packet.specs.declared.Heard.the-variants.{Nothing, Clean, Jammed, Several}
-use Rattle.packet.specs.Packet.{hearsAny}
 use Rattle.state.specs.declared.Deference.{Deference}
 use Rattle.state.specs.declared.Deference.the-variants.{Quiet, Busy, Gap}
 use Rattle.state.specs.declared.Transmitter.{Transmitter}
@@ -19,13 +12,13 @@ use Rattle.state.specs.declared.Receiver.{Receiver}
 use Rattle.state.specs.declared.Receiver.the-variants.{Listening, Readable, Seeking, Collecting}
 use Rattle.state.specs.declared.Station.{Station}
 use Rattle.receiver.specs.Receive.{bitsIn}
-use Rattle.fast_silence.specs.Rested.{restedDeference, restedTransmitter, Lasts, Idle}
-use Rattle.fast_silence.specs.Bound.{framesRest, frames-last, idle}
+use Rattle.fast_silence.specs.Rested.{restedDeference, restedTransmitter}
+use Rattle.fast_silence.specs.Bound.{framesRest, idle}
 use Rattle.fast_station.specs.Forms.{heardDeference, heardRest, emitsFor}
 use Rattle.fast_heard.specs.declared.Kind.{Kind}
 use Rattle.fast_heard.specs.declared.Kind.the-variants.{Silent, Line, From, Spoiled}
 use Rattle.fast_bound.specs.declared.Ahead.{Ahead}
-use Rattle.fast_bound.specs.Bound.{restSteps, hearSteps, restedTo, heardTo, restAhead, hearAhead, ahead, aheadOf, ownBusy, sends, unhurt, emitsWith, emitSteps, CalmFor}
+use Rattle.fast_bound.specs.Bound.{restSteps, hearSteps, restedTo, heardTo, restAhead, hearAhead, ahead, aheadOf, ownBusy, sends, unhurt, emitsWith, emitSteps}
 
 -- ---- the code by value: a station that emits nothing
 
@@ -34,7 +27,8 @@ module _ (f : Figures) (m : ℕ) (d : Deference) (x : Transmitter) where
   unfolding restSteps
   rest-many q b c e h = rw (← e, h)
 
-  pub rest-few : (q : ℕ) (b c : Bool) (k y : ℕ) → c ≡ (b || ltb q 512) → c ≡ true → k ≡ min m y → y ≡ framesRest f m d x → k ≡ restSteps f m d x q b
+  pub rest-few : (q : ℕ) (b c : Bool) (k y : ℕ) → c ≡ (b || ltb q 512) → c ≡ true → k ≡ min m y → y ≡ framesRest f m d x
+      → k ≡ restSteps f m d x q b
   unfolding restSteps
   rest-few q b c k y e h n p = rw (← e, h) (n ∙ ap (min m) p)
 
@@ -43,12 +37,14 @@ module _ (f : Figures) (m : ℕ) (d : Deference) (x : Transmitter) where
   hear-few k y e p = e ∙ ap (min m) p
 
 module _ (f : Figures) (m : ℕ) (g : Ahead) (k : ℕ) (d : Deference) (x : Transmitter) where
-  pub rest-to : k ≡ restSteps f m (g .deference) (g .transmitter) (g .bits) (g .harmless) → d ≡ restedDeference f k (g .deference) → x ≡ restedTransmitter k (g .transmitter)
+  pub rest-to : k ≡ restSteps f m (g .deference) (g .transmitter) (g .bits) (g .harmless)
+      → d ≡ restedDeference f k (g .deference) → x ≡ restedTransmitter k (g .transmitter)
       → record { len = k; deference = d; transmitter = x; bits = 0; harmless = false } ≡ restAhead f m g
   unfolding restAhead restedTo
   rest-to e p q = rw (p, q, e)
 
-  pub hear-to : k ≡ hearSteps f m (g .deference) (g .transmitter) → d ≡ heardDeference f k (g .deference) → x ≡ restedTransmitter k (g .transmitter)
+  pub hear-to : k ≡ hearSteps f m (g .deference) (g .transmitter) → d ≡ heardDeference f k (g .deference)
+      → x ≡ restedTransmitter k (g .transmitter)
       → record { len = k; deference = d; transmitter = x; bits = g .bits + k; harmless = g .harmless } ≡ hearAhead f m g
   unfolding hearAhead heardTo
   hear-to e p q = rw (p, q, e)
@@ -145,7 +141,8 @@ module _ (c : Kind) (r : Receiver) (x : Transmitter) (b : Bool) where
   unfolding unhurt
   unhurt-spoiled e p = rw e (ap not p)
 
-module _ (c : Kind) (s : Station) (o u g b : Bool) (eo : o ≡ ownBusy (s .deference)) (eu : u ≡ unhurt c (s .receiver) (s .transmitter)) (eg : g ≡ (o && u)) (eb : b ≡ (s .emitted && g)) where
+module _ (c : Kind) (s : Station) (o u g b : Bool) (eo : o ≡ ownBusy (s .deference))
+    (eu : u ≡ unhurt c (s .receiver) (s .transmitter)) (eg : g ≡ (o && u)) (eb : b ≡ (s .emitted && g)) where
   with-is : b ≡ emitsWith c s
   unfolding emitsWith
   with-is = eb ∙ ap (λ (y : Bool). s .emitted && y) (eg ∙ ap₂ (λ (y z : Bool). y && z) eo eu)

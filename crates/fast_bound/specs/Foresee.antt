@@ -1,7 +1,7 @@
 -- What is foreseen of a station in a window: that it goes on emitting, or starts nothing, and reports nothing, as long as its deference, its
 -- wait and its reception allow. Assumes nothing.
-use Prim.Native.Nat.{ℕ, zero, suc, _+_, _-_, _*_, _^_, _≤_, _<_}
-use mathlib.Core.Path.{_≡_, refl, sym, _∙_, ap, ap₂, subst}
+use Prim.Native.Nat.{ℕ, zero, suc, _+_, _-_, _^_, _≤_, _<_}
+use mathlib.Core.Path.{_≡_, refl, sym, _∙_, ap, subst}
 use mathlib.Core.Bool.{Bool, true, false, _||_, true≢false}
 use mathlib.Core.List.{List}
 use native.Mathlib.Omega.{arith}
@@ -12,9 +12,7 @@ use Rattle.octets.specs.BaseLaws.{by-test}
 use Rattle.layout.specs.declared.Figures.{Figures}
 use Rattle.packet.specs.declared.Heard.{Heard}
 use Rattle.packet.specs.declared.Heard.the-variants.{Nothing}
-use Rattle.packet.specs.declared.Symbol.{Symbol}
 use Rattle.packet.specs.declared.Symbol.the-variants.{Silence}
-use Rattle.packet.specs.declared.Emission.{Emission}
 use Rattle.packet.specs.Packet.{hearsAny, symbolOf}
 use Rattle.state.specs.declared.Deference.{Deference}
 use Rattle.state.specs.declared.Deference.the-variants.{Busy}
@@ -27,12 +25,12 @@ use Rattle.transmitter.specs.Transmit.{octetsHeld}
 use Rattle.receiver.specs.declared.Stored.{Stored}
 use Rattle.receiver.specs.declared.Stored.the-variants.{NoStore}
 use Rattle.receiver.specs.declared.ReceiveEvent.the-variants.{NoReceive}
-use Rattle.receiver.specs.Receive.{bitsIn, rowIn, hearing, deciding, decide, receive, ended}
+use Rattle.receiver.specs.Receive.{bitsIn, rowIn, hearing, deciding, receive, ended}
 use Rattle.record.specs.Codec.{receiverNumber}
 use Rattle.area.specs.Area.{clockAt, depthAt, figuresAt, countAt, stationAt, frameAt, bufferAt, withStation}
 use Rattle.area.specs.Places.{buffer}
 use Rattle.area.specs.AreaLaws.{buffer-by, station-keeps, length-station}
-use Rattle.pair.specs.Range.{Fine, ReceiverIn, fine-fit, fine-room}
+use Rattle.pair.specs.Range.{ReceiverIn, fine-fit, fine-room}
 use Rattle.pair.specs.Ready.{Readiness}
 use Rattle.fast_plan.specs.Own.{byItself, by-itself-none, itself-split}
 use Rattle.fast_plan.specs.Plan.{hears}
@@ -40,11 +38,11 @@ use Rattle.fast_plan.specs.Goes.{wentTo}
 use Rattle.fast_plan.specs.Calm.{Calm, calm-none, calm-then}
 use Rattle.fast_silence.specs.Rested.{restedDeference, restedTransmitter, Lasts, Idle}
 use Rattle.fast_station.specs.Forms.{made, heardDeference, heardRest, hearOn, calmed, restOn, emittedAt, emitsFor, emitOn}
-use Rattle.fast_station.specs.FormLaws.{hear-address, hear-fit, rest-address, rest-fit}
+use Rattle.fast_station.specs.FormLaws.{hear-address}
 use Rattle.fast_receive.specs.Received.{receivedBy, keptBy, AllHeard, mayReport}
 use Rattle.fast_receive.specs.ReceivedLaws.{received-none, received-step, kept-by, received-range, received-fits}
 use Rattle.fast_receive.specs.EndLaws.{may-few, silent-ends, silent-still}
-use Rattle.fast_segment.specs.Alone.{Moves, address-in, itself-moves}
+use Rattle.fast_segment.specs.Alone.{Moves, itself-moves}
 use Rattle.fast_segment.specs.Segments.{Segment, heard-segment, emit-segment, rest-segment}
 use Rattle.fast_heard.specs.Hearing.{planOf, emits, emitsAt, heldAt, goesOn}
 use Rattle.fast_heard.specs.NearLaws.{silent-off}
@@ -63,7 +61,8 @@ bits-clock t (Readable n) h = omega arith
 bits-clock t (Seeking row sp own) h = omega arith
 bits-clock t (Collecting n sp own) h = h
 
-may-same : {address address′ buf buf′ : List ℕ} {n n′ : ℕ} {r r′ : Receiver} → address ≡ address′ → buf ≡ buf′ → n ≡ n′ → r ≡ r′ → mayReport address buf n r ≡ mayReport address′ buf′ n′ r′
+may-same : {address address′ buf buf′ : List ℕ} {n n′ : ℕ} {r r′ : Receiver} → address ≡ address′ → buf ≡ buf′ → n ≡ n′
+    → r ≡ r′ → mayReport address buf n r ≡ mayReport address′ buf′ n′ r′
 may-same p q e h = λ i. mayReport (p i) (q i) (e i) (h i)
 
 module _ (f : Figures) (m : ℕ) (r : Receiver) (s : Station) where
@@ -127,9 +126,11 @@ module _ (a : List ℕ) (r : Readiness a) (j : ℕ) (hj : j < countAt a) where
     pub transmitter : stationAt (after s) j .transmitter ≡ x
     pub silent : stationAt (after s) j .emitted ≡ false
     pub bits : bitsIn (stationAt (after s) j .receiver) ≤ q
-    pub harmless : b ≡ true → mayReport (stationAt (after s) j .address) (bufferAt (after s) j) (M - s) (stationAt (after s) j .receiver) ≡ false
+    pub harmless : b ≡ true
+        → mayReport (stationAt (after s) j .address) (bufferAt (after s) j) (M - s) (stationAt (after s) j .receiver) ≡ false
 
-  pub foreseen-start : (M : ℕ) (b : Bool) → stationAt a j .emitted ≡ false → (b ≡ true → mayReport (stationAt a j .address) (bufferAt a j) M (stationAt a j .receiver) ≡ false)
+  pub foreseen-start : (M : ℕ) (b : Bool) → stationAt a j .emitted ≡ false
+      → (b ≡ true → mayReport (stationAt a j .address) (bufferAt a j) M (stationAt a j .receiver) ≡ false)
       → Foreseen M 0 (stationAt a j .deference) (stationAt a j .transmitter) (bitsIn (stationAt a j .receiver)) b
   foreseen-start M b e h =
       let z : byItself (figuresAt a) (depthAt a) j (hears a (planOf a) j) 0 a ≡ a = by-itself-none (figuresAt a) (depthAt a) j (hears a (planOf a) j) a in
@@ -160,13 +161,15 @@ module _ (a : List ℕ) (r : Readiness a) (j : ℕ) (hj : j < countAt a) where
     silence k = sym (silent-off a j (s + k) off)
 
     calm-on : (q : Station) (st : ℕ → Stored) → Calm (figuresAt a) (depthAt a) j (hears a (planOf a) j) (planOf a j) s a
-        → Segment (figuresAt a) (depthAt a) j H (λ k. Silence) m (after s) st q → Calm (figuresAt a) (depthAt a) j (hears a (planOf a) j) (planOf a j) (s + m) a
+        → Segment (figuresAt a) (depthAt a) j H (λ k. Silence) m (after s) st q
+        → Calm (figuresAt a) (depthAt a) j (hears a (planOf a) j) (planOf a j) (s + m) a
     unfolding H
     calm-on q st c g =
         calm-then (figuresAt a) (depthAt a) j (hears a (planOf a) j) (planOf a j) a s m c
         (record { emits = λ k h. g .calm .emits k h ∙ silence k; quiet = g .calm .quiet })
 
-    then-is : (q : Station) (st : ℕ → Stored) → Segment (figuresAt a) (depthAt a) j H (λ k. Silence) m (after s) st q → stationAt (after (s + m)) j ≡ q
+    then-is : (q : Station) (st : ℕ → Stored) → Segment (figuresAt a) (depthAt a) j H (λ k. Silence) m (after s) st q
+        → stationAt (after (s + m)) j ≡ q
     unfolding H
     then-is q st g = ap (λ (x : List ℕ). stationAt x j) (split s m) ∙ g .there
 
@@ -184,7 +187,8 @@ module _ (a : List ℕ) (r : Readiness a) (j : ℕ) (hj : j < countAt a) where
       collected = omega (arith, bits-clock (clockAt a + s) (stationAt (after s) j .receiver) (moves s (omega arith) .fine .receiver))
 
       -- others are heard for m steps more
-      pub foreseen-heard : (n : ℕ) → ((k : ℕ) → k < m → hearsAny (hears a (planOf a) j (s + k)) ≡ true) → m ≤ heardRest (figuresAt a) n d x → s + m ≤ M
+      pub foreseen-heard : (n : ℕ) → ((k : ℕ) → k < m → hearsAny (hears a (planOf a) j (s + k)) ≡ true)
+          → m ≤ heardRest (figuresAt a) n d x → s + m ≤ M
           → Foreseen M (s + m) (heardDeference (figuresAt a) m d) (restedTransmitter m x) (q + m) b
       unfolding H AllHeard wentTo
       foreseen-heard n all lasts within =
@@ -226,7 +230,8 @@ module _ (a : List ℕ) (r : Readiness a) (j : ℕ) (hj : j < countAt a) where
           silent-ends (u .address) (bufferAt (after s) j) 0 (u .receiver) (may-few (u .address) (bufferAt (after s) j) 0 (u .receiver) (omega (arith, v .bits))))
 
       -- nothing is heard for m steps more
-      pub foreseen-rest : ((k : ℕ) → k < m → hears a (planOf a) j (s + k) ≡ Nothing) → Lasts (figuresAt a) m d x → (b || ltb q 512) ≡ true
+      pub foreseen-rest : ((k : ℕ) → k < m → hears a (planOf a) j (s + k) ≡ Nothing) → Lasts (figuresAt a) m d x
+          → (b || ltb q 512) ≡ true
           → Foreseen M (s + m) (restedDeference (figuresAt a) m d) (restedTransmitter m x) 0 false
       unfolding H
       foreseen-rest none lasts few =
@@ -272,7 +277,8 @@ module _ (a : List ℕ) (r : Readiness a) (j : ℕ) (hj : j < countAt a) where
   held-is (Heading k) z h = refl
   held-is (Jamming k) z h = refl
 
-  module _ (m : ℕ) (pos : 0 < m) (early : clockAt a + m ≤ 16777216) (busy : stationAt a j .deference ≡ Busy true) (on : stationAt a j .emitted ≡ true)
+  module _ (m : ℕ) (pos : 0 < m) (early : clockAt a + m ≤ 16777216) (busy : stationAt a j .deference ≡ Busy true)
+      (on : stationAt a j .emitted ≡ true)
       (lasts : m ≤ emitsFor (stationAt a j .frame) (stationAt a j .transmitter)) (octets : stationAt a j .frame ≤ 1518) where
     as-planned : (k : ℕ) → symbolOf (frameAt a j (stationAt a j .frame)) (emittedAt k (stationAt a j .transmitter)) ≡ planOf a j k
     unfolding planOf heldAt
@@ -286,7 +292,8 @@ module _ (a : List ℕ) (r : Readiness a) (j : ℕ) (hj : j < countAt a) where
     calm-by st q g = record { emits = λ k h. g .calm .emits k h ∙ as-planned k; quiet = g .calm .quiet }
 
     -- it hears nothing
-    pub emits-unheard : ((k : ℕ) → k < m → hears a (planOf a) j k ≡ Nothing) → Idle (stationAt a j .receiver) → Calm (figuresAt a) (depthAt a) j (hears a (planOf a) j) (planOf a j) m a
+    pub emits-unheard : ((k : ℕ) → k < m → hears a (planOf a) j k ≡ Nothing) → Idle (stationAt a j .receiver)
+        → Calm (figuresAt a) (depthAt a) j (hears a (planOf a) j) (planOf a j) m a
     emits-unheard none idle =
         let u = stationAt a j in
         calm-by (λ k. NoStore) (emitOn (figuresAt a) m (u .receiver) u)
@@ -296,7 +303,9 @@ module _ (a : List ℕ) (r : Readiness a) (j : ℕ) (hj : j < countAt a) where
         refl busy on lasts (λ k i h e. none k h) octets)
 
     -- it hears others, and does not send any more: header or jam
-    pub emits-heard : ((k : ℕ) → k < m → hearsAny (hears a (planOf a) j k) ≡ true) → ((i : ℕ) → stationAt a j .transmitter ≡ Sending i → ⊥) → Calm (figuresAt a) (depthAt a) j (hears a (planOf a) j) (planOf a j) m a
+    pub emits-heard : ((k : ℕ) → k < m → hearsAny (hears a (planOf a) j k) ≡ true)
+        → ((i : ℕ) → stationAt a j .transmitter ≡ Sending i → ⊥)
+        → Calm (figuresAt a) (depthAt a) j (hears a (planOf a) j) (planOf a j) m a
     unfolding AllHeard
     emits-heard all none =
         let u = stationAt a j in

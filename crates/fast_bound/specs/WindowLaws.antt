@@ -16,16 +16,15 @@ use Rattle.state.specs.declared.Deference.the-variants.{Quiet, Busy, Gap}
 use Rattle.state.specs.declared.Transmitter.{Transmitter}
 use Rattle.state.specs.declared.Transmitter.the-variants.{NoFrame, Waiting, BackingOff, Sending, Heading, Jamming}
 use Rattle.state.specs.declared.Receiver.{Receiver}
-use Rattle.state.specs.declared.Receiver.the-variants.{Listening, Readable, Seeking, Collecting}
 use Rattle.state.specs.declared.Station.{Station}
 use Rattle.receiver.specs.Receive.{bitsIn}
 use Rattle.area.specs.Area.{clockAt, depthAt, figuresAt, countAt, addressAt, stationAt, bufferAt, arrivalAt}
 use Rattle.pair.specs.Range.{FrameIn}
 use Rattle.pair.specs.Ready.{Readiness, Ready}
+use Rattle.quick.specs.Quick.{both-true}
 use Rattle.fast_plan.specs.Plan.{hears}
 use Rattle.fast_plan.specs.Calm.{AllCalm, calm-none, calm-less}
-use Rattle.fast_silence.specs.Rested.{Idle}
-use Rattle.fast_silence.specs.Bound.{framesRest, frames-last, idle}
+use Rattle.fast_silence.specs.Bound.{framesRest, frames-last, is-idle}
 use Rattle.fast_station.specs.Forms.{heardRest, emitsFor}
 use Rattle.fast_receive.specs.Received.{mayReport}
 use Rattle.fast_segment.specs.Alone.{address-in}
@@ -55,7 +54,8 @@ module _ (H L : ℕ → Heard) (F : List ℕ) (k d s m : ℕ) where
 
 -- ---- a station that emits nothing
 
-rest-within : (f : Figures) (m : ℕ) (d : Deference) (x : Transmitter) (q : ℕ) (b : Bool) (k : ℕ) → k ≡ restSteps f m d x q b → 0 < k
+rest-within : (f : Figures) (m : ℕ) (d : Deference) (x : Transmitter) (q : ℕ) (b : Bool) (k : ℕ)
+    → k ≡ restSteps f m d x q b → 0 < k
     → ((b || ltb q 512) ≡ true) × (k ≤ m) × (k ≤ framesRest f m d x)
 unfolding restSteps
 rest-within f m d x q b k e p =
@@ -63,16 +63,19 @@ rest-within f m d x q b k e p =
     (λ c. let y : k ≡ min m (framesRest f m d x) = rw c at e in (c, omega arith, omega arith))
     (λ c. let y : k ≡ 0 = rw c at e in absurd (omega arith))
 
-hear-within : (f : Figures) (m : ℕ) (d : Deference) (x : Transmitter) (k : ℕ) → k ≡ hearSteps f m d x → (k ≤ m) × (k ≤ heardRest f m d x)
+hear-within : (f : Figures) (m : ℕ) (d : Deference) (x : Transmitter) (k : ℕ) → k ≡ hearSteps f m d x
+    → (k ≤ m) × (k ≤ heardRest f m d x)
 unfolding hearSteps
 hear-within f m d x k e = (omega arith, omega arith)
 
-module _ (a : List ℕ) (r : Readiness a) (j : ℕ) (hj : j < countAt a) (off : emitsAt a j ≡ false) (m s n : ℕ) (early : clockAt a + (s + n) ≤ 16777216) (within : s + n ≤ m) (g : Ahead)
+module _ (a : List ℕ) (r : Readiness a) (j : ℕ) (hj : j < countAt a) (off : emitsAt a j ≡ false) (m s n : ℕ)
+    (early : clockAt a + (s + n) ≤ 16777216) (within : s + n ≤ m) (g : Ahead)
     (v : Foreseen a r j hj m s (g .deference) (g .transmitter) (g .bits) (g .harmless)) where
   Next : Ahead → Type 0
   Next h = Foreseen a r j hj m (s + h .len) (h .deference) (h .transmitter) (h .bits) (h .harmless)
 
-  rest-goes : ((u : ℕ) → u < n → hears a (planOf a) j (s + u) ≡ Nothing) → (k : ℕ) → k ≡ restSteps (figuresAt a) n (g .deference) (g .transmitter) (g .bits) (g .harmless) → 0 < k
+  rest-goes : ((u : ℕ) → u < n → hears a (planOf a) j (s + u) ≡ Nothing) → (k : ℕ)
+      → k ≡ restSteps (figuresAt a) n (g .deference) (g .transmitter) (g .bits) (g .harmless) → 0 < k
       → Next (restedTo (figuresAt a) k g)
   unfolding Next restedTo
   rest-goes none k e pos =
@@ -81,7 +84,8 @@ module _ (a : List ℕ) (r : Readiness a) (j : ℕ) (hj : j < countAt a) (off : 
       foreseen-rest a r j hj off s k pos (omega arith) m (g .deference) (g .transmitter) (g .bits) (g .harmless) v (λ u l. none u (omega arith))
       (frames-last (figuresAt a) n k (g .deference) (g .transmitter) pos (q .2)) (q .0)
 
-  hear-goes : ((u : ℕ) → u < n → hearsAny (hears a (planOf a) j (s + u)) ≡ true) → (k : ℕ) → k ≡ hearSteps (figuresAt a) n (g .deference) (g .transmitter) → 0 < k
+  hear-goes : ((u : ℕ) → u < n → hearsAny (hears a (planOf a) j (s + u)) ≡ true) → (k : ℕ)
+      → k ≡ hearSteps (figuresAt a) n (g .deference) (g .transmitter) → 0 < k
       → Next (heardTo (figuresAt a) k g)
   unfolding Next heardTo
   hear-goes all k e pos =
@@ -90,7 +94,8 @@ module _ (a : List ℕ) (r : Readiness a) (j : ℕ) (hj : j < countAt a) (off : 
       foreseen-heard a r j hj off s k pos (omega arith) m (g .deference) (g .transmitter) (g .bits) (g .harmless) v n (λ u l. all u (omega arith)) (q .1) (omega arith)
 
   -- a run of any kind
-  run-goes : (L : ℕ → Heard) (F : List ℕ) (k d : ℕ) (c : Kind) → Says (hears a (planOf a) j) L F k d s c n → 0 < ahead (figuresAt a) c n g .len → Next (ahead (figuresAt a) c n g)
+  run-goes : (L : ℕ → Heard) (F : List ℕ) (k d : ℕ) (c : Kind) → Says (hears a (planOf a) j) L F k d s c n
+      → 0 < ahead (figuresAt a) c n g .len → Next (ahead (figuresAt a) c n g)
   unfolding ahead restAhead hearAhead restedTo heardTo
   run-goes L F k d Silent h pos = rest-goes h (restSteps (figuresAt a) n (g .deference) (g .transmitter) (g .bits) (g .harmless)) refl pos
   run-goes L F k d Line h pos = hear-goes (line-any (hears a (planOf a) j) L F k d s n h) (hearSteps (figuresAt a) n (g .deference) (g .transmitter)) refl pos
@@ -102,7 +107,8 @@ module _ (a : List ℕ) (j : ℕ) where
   unfolding CalmFor
   calm-zero = calm-none (figuresAt a) (depthAt a) j (hears a (planOf a) j) (planOf a j) a
 
-  pub under-start : (m : ℕ) (s : Station) (g : Ahead) (x : Receiver) (c : Bool) → s ≡ stationAt a j → x ≡ s .receiver → c ≡ mayReport (addressAt a j) (bufferAt a j) m x → g ≡ aheadOf s (not c) → s .emitted ≡ false
+  pub under-start : (m : ℕ) (s : Station) (g : Ahead) (x : Receiver) (c : Bool) → s ≡ stationAt a j → x ≡ s .receiver
+      → c ≡ mayReport (addressAt a j) (bufferAt a j) m x → g ≡ aheadOf s (not c) → s .emitted ≡ false
       → Underway a j m 0 g
   unfolding Underway aheadOf
   under-start m s g x c es ex ec eg e =
@@ -116,7 +122,8 @@ module _ (a : List ℕ) (f : Figures) (j t : ℕ) (w : Near) (k : ℕ) (v : Near
   unfolding NearTo
   bits-most = omega (arith, v .read .clock, bits-clock (clockAt a) (stationAt a j .receiver) (v .read .ready .fine j (v .station) .receiver))
 
-  pub bits-room : (m : ℕ) (s : Station) (x : Receiver) → s ≡ stationAt a j → x ≡ s .receiver → t + m ≤ 16777216 → bitsIn x + m < 4294967296
+  pub bits-room : (m : ℕ) (s : Station) (x : Receiver) → s ≡ stationAt a j → x ≡ s .receiver → t + m ≤ 16777216
+      → bitsIn x + m < 4294967296
   bits-room m s x es ex h = subst (λ (y : Receiver). bitsIn y + m < 4294967296) (sym (ex ∙ ap (λ (y : Station). y .receiver) es)) (omega (arith, bits-most))
 
   pub start-bits : (s : Station) (b : Bool) (g : Ahead) → s ≡ stationAt a j → g ≡ aheadOf s b → g .bits ≤ t + 0
@@ -135,7 +142,8 @@ module _ (a : List ℕ) (f : Figures) (j t : ℕ) (w : Near) (k : ℕ) (v : Near
   unfolding NearTo
   run-says s run h = segment-hears a a j t w k (v .read .ready) (v .station) (v .nearest) (v .bit) (v .read .clock) (λ u. refl) s run h
 
-  module _ (off : emitsAt a j ≡ false) (m s : ℕ) (run : Segment) (h : Segmented a j t w k s run) (g next : Ahead) (u : Underway a j m s g) (e : next ≡ ahead f (run .kind) (run .len) g)
+  module _ (off : emitsAt a j ≡ false) (m s : ℕ) (run : Segment) (h : Segmented a j t w k s run) (g next : Ahead)
+      (u : Underway a j m s g) (e : next ≡ ahead f (run .kind) (run .len) g)
       (hs : s < m) (len : run .len ≤ m - s) (early : t + m ≤ 16777216) where
     under-on : 0 < next .len → Underway a j m (s + next .len) next
     unfolding NearTo Underway Next
@@ -156,22 +164,11 @@ module _ (a : List ℕ) (f : Figures) (j t : ℕ) (w : Near) (k : ℕ) (v : Near
 
 -- ---- a station that emits
 
-both-true : (x y : Bool) → (x && y) ≡ true → (x ≡ true) × (y ≡ true)
-both-true true y h = (refl, h)
-both-true false y h = absurd (true≢false (sym h))
-
 is-own : (d : Deference) → ownBusy d ≡ true → d ≡ Busy true
 unfolding ownBusy
 is-own Quiet h = absurd (true≢false (sym h))
 is-own (Busy own) h = ap Busy h
 is-own (Gap n own) h = absurd (true≢false (sym h))
-
-is-idle : (r : Receiver) → idle r ≡ true → Idle r
-unfolding idle
-is-idle Listening h = tt
-is-idle (Readable n) h = tt
-is-idle (Seeking row sp own) h = absurd (true≢false (sym h))
-is-idle (Collecting n sp own) h = absurd (true≢false (sym h))
 
 not-sending : (x : Transmitter) → not (sends x) ≡ true → (i : ℕ) → x ≡ Sending i → ⊥
 unfolding sends
@@ -189,24 +186,30 @@ frame-most : (a : List ℕ) (r : Readiness a) (j : ℕ) → j < countAt a → em
 unfolding emitsAt
 frame-most a r j hj on = frame-held (stationAt a j .transmitter) (stationAt a j .frame) on (r .fine j hj .frame)
 
-emit-within : (c : Kind) (s : Station) (k : ℕ) → 0 < k → k ≤ emitSteps c s → (emitsWith c s ≡ true) × (k ≤ emitsFor (s .frame) (s .transmitter))
+emit-within : (c : Kind) (s : Station) (k : ℕ) → 0 < k → k ≤ emitSteps c s
+    → (emitsWith c s ≡ true) × (k ≤ emitsFor (s .frame) (s .transmitter))
 unfolding emitSteps
 emit-within c s k p h =
     by-test (emitsWith c s)
     (λ e. (e, rw e at h))
     (λ e. let y : k ≤ 0 = rw e at h in absurd (omega arith))
 
-module _ (a : List ℕ) (r : Readiness a) (j : ℕ) (hj : j < countAt a) (on : emitsAt a j ≡ true) (n : ℕ) (early : clockAt a + n ≤ 16777216) (k : ℕ) (pos : 0 < k) (few : k ≤ n) where
-  from-zero : (P : Heard → Type 0) → ((u : ℕ) → u < n → P (hears a (planOf a) j (0 + u))) → (u : ℕ) → u < k → P (hears a (planOf a) j u)
+module _ (a : List ℕ) (r : Readiness a) (j : ℕ) (hj : j < countAt a) (on : emitsAt a j ≡ true) (n : ℕ)
+    (early : clockAt a + n ≤ 16777216) (k : ℕ) (pos : 0 < k) (few : k ≤ n) where
+  from-zero : (P : Heard → Type 0) → ((u : ℕ) → u < n → P (hears a (planOf a) j (0 + u))) → (u : ℕ) → u < k
+      → P (hears a (planOf a) j u)
   from-zero P h u l = let z : 0 + u ≡ u = omega arith in subst (λ (y : ℕ). P (hears a (planOf a) j y)) z (h u (omega arith))
 
-  module _ (emitted : stationAt a j .emitted ≡ true) (busy : stationAt a j .deference ≡ Busy true) (lasts : k ≤ emitsFor (stationAt a j .frame) (stationAt a j .transmitter)) where
-    heard-goes : ((u : ℕ) → u < n → hearsAny (hears a (planOf a) j (0 + u)) ≡ true) → not (sends (stationAt a j .transmitter)) ≡ true → CalmFor a j k
+  module _ (emitted : stationAt a j .emitted ≡ true) (busy : stationAt a j .deference ≡ Busy true)
+      (lasts : k ≤ emitsFor (stationAt a j .frame) (stationAt a j .transmitter)) where
+    heard-goes : ((u : ℕ) → u < n → hearsAny (hears a (planOf a) j (0 + u)) ≡ true)
+        → not (sends (stationAt a j .transmitter)) ≡ true → CalmFor a j k
     unfolding CalmFor
     heard-goes all h =
         emits-heard a r j hj k pos (omega arith) busy emitted lasts (frame-most a r j hj on) (from-zero (λ (y : Heard). hearsAny y ≡ true) all) (not-sending (stationAt a j .transmitter) h)
 
-    emit-goes : (L : ℕ → Heard) (F : List ℕ) (b d : ℕ) (c : Kind) → Says (hears a (planOf a) j) L F b d 0 c n → unhurt c (stationAt a j .receiver) (stationAt a j .transmitter) ≡ true → CalmFor a j k
+    emit-goes : (L : ℕ → Heard) (F : List ℕ) (b d : ℕ) (c : Kind) → Says (hears a (planOf a) j) L F b d 0 c n
+        → unhurt c (stationAt a j .receiver) (stationAt a j .transmitter) ≡ true → CalmFor a j k
     unfolding CalmFor unhurt
     emit-goes L F b d Silent h e =
         emits-unheard a r j hj k pos (omega arith) busy emitted lasts (frame-most a r j hj on) (from-zero (λ (y : Heard). y ≡ Nothing) h) (is-idle (stationAt a j .receiver) e)
@@ -214,13 +217,15 @@ module _ (a : List ℕ) (r : Readiness a) (j : ℕ) (hj : j < countAt a) (on : e
     emit-goes L F b d From h e = heard-goes (from-any (hears a (planOf a) j) L F b d 0 n h) e
     emit-goes L F b d Spoiled h e = heard-goes (spoiled-any (hears a (planOf a) j) L F b d 0 n h) e
 
-module _ (a : List ℕ) (f : Figures) (j t : ℕ) (w : Near) (k : ℕ) (v : NearTo a f j t w k) (on : emitsAt a j ≡ true) (s : Station) (es : s ≡ stationAt a j) where
+module _ (a : List ℕ) (f : Figures) (j t : ℕ) (w : Near) (k : ℕ) (v : NearTo a f j t w k) (on : emitsAt a j ≡ true)
+    (s : Station) (es : s ≡ stationAt a j) where
   pub frame-small : s .frame < 65536
   unfolding NearTo
   frame-small =
       omega (arith, ap (λ (y : Station). y .frame) es, frame-most a (v .read .ready) j (v .station) on)
 
-  pub emit-calm : (m : ℕ) (run : Segment) (y q : ℕ) → Segmented a j t w k 0 run → run .len ≤ m → t + m ≤ 16777216 → y ≡ emitSteps (run .kind) s → q ≡ min (run .len) y → CalmFor a j q
+  pub emit-calm : (m : ℕ) (run : Segment) (y q : ℕ) → Segmented a j t w k 0 run → run .len ≤ m → t + m ≤ 16777216
+      → y ≡ emitSteps (run .kind) s → q ≡ min (run .len) y → CalmFor a j q
   unfolding NearTo emitsWith
   emit-calm m run y q h len early ey eq =
       by-eq q 0
