@@ -81,7 +81,8 @@ module _ (a : List ℕ) (r : Readiness a) (j : ℕ) (hj : j < countAt a) (off : 
   rest-goes none k e pos =
       let q = rest-within (figuresAt a) n (g .deference) (g .transmitter) (g .bits) (g .harmless) k e pos in
       let le = q .1 in
-      foreseen-rest a r j hj off s k pos (omega arith) m (g .deference) (g .transmitter) (g .bits) (g .harmless) v (λ u l. none u (omega arith))
+      foreseen-rest a r j hj off s k pos (omega arith) m (g .deference) (g .transmitter) (g .bits) (g .harmless) v
+      (λ u l. none u (omega arith))
       (frames-last (figuresAt a) n k (g .deference) (g .transmitter) pos (q .2)) (q .0)
 
   hear-goes : ((u : ℕ) → u < n → hearsAny (hears a (planOf a) j (s + u)) ≡ true) → (k : ℕ)
@@ -91,16 +92,23 @@ module _ (a : List ℕ) (r : Readiness a) (j : ℕ) (hj : j < countAt a) (off : 
   hear-goes all k e pos =
       let q = hear-within (figuresAt a) n (g .deference) (g .transmitter) k e in
       let le = q .0 in
-      foreseen-heard a r j hj off s k pos (omega arith) m (g .deference) (g .transmitter) (g .bits) (g .harmless) v n (λ u l. all u (omega arith)) (q .1) (omega arith)
+      foreseen-heard a r j hj off s k pos (omega arith) m (g .deference) (g .transmitter) (g .bits) (g .harmless) v n
+      (λ u l. all u (omega arith)) (q .1) (omega arith)
 
   -- a run of any kind
   run-goes : (L : ℕ → Heard) (F : List ℕ) (k d : ℕ) (c : Kind) → Says (hears a (planOf a) j) L F k d s c n
       → 0 < ahead (figuresAt a) c n g .len → Next (ahead (figuresAt a) c n g)
   unfolding ahead restAhead hearAhead restedTo heardTo
   run-goes L F k d Silent h pos = rest-goes h (restSteps (figuresAt a) n (g .deference) (g .transmitter) (g .bits) (g .harmless)) refl pos
-  run-goes L F k d Line h pos = hear-goes (line-any (hears a (planOf a) j) L F k d s n h) (hearSteps (figuresAt a) n (g .deference) (g .transmitter)) refl pos
-  run-goes L F k d From h pos = hear-goes (from-any (hears a (planOf a) j) L F k d s n h) (hearSteps (figuresAt a) n (g .deference) (g .transmitter)) refl pos
-  run-goes L F k d Spoiled h pos = hear-goes (spoiled-any (hears a (planOf a) j) L F k d s n h) (hearSteps (figuresAt a) n (g .deference) (g .transmitter)) refl pos
+  run-goes L F k d Line h pos =
+      hear-goes (line-any (hears a (planOf a) j) L F k d s n h)
+      (hearSteps (figuresAt a) n (g .deference) (g .transmitter)) refl pos
+  run-goes L F k d From h pos =
+      hear-goes (from-any (hears a (planOf a) j) L F k d s n h)
+      (hearSteps (figuresAt a) n (g .deference) (g .transmitter)) refl pos
+  run-goes L F k d Spoiled h pos =
+      hear-goes (spoiled-any (hears a (planOf a) j) L F k d s n h)
+      (hearSteps (figuresAt a) n (g .deference) (g .transmitter)) refl pos
 
 module _ (a : List ℕ) (j : ℕ) where
   pub calm-zero : CalmFor a j 0
@@ -120,11 +128,14 @@ module _ (a : List ℕ) (j : ℕ) where
 module _ (a : List ℕ) (f : Figures) (j t : ℕ) (w : Near) (k : ℕ) (v : NearTo a f j t w k) where
   bits-most : bitsIn (stationAt a j .receiver) ≤ t
   unfolding NearTo
-  bits-most = omega (arith, v .read .clock, bits-clock (clockAt a) (stationAt a j .receiver) (v .read .ready .fine j (v .station) .receiver))
+  bits-most =
+      omega (arith, v .read .clock, bits-clock (clockAt a) (stationAt a j .receiver) (v .read .ready .fine j (v .station) .receiver))
 
   pub bits-room : (m : ℕ) (s : Station) (x : Receiver) → s ≡ stationAt a j → x ≡ s .receiver → t + m ≤ 16777216
       → bitsIn x + m < 4294967296
-  bits-room m s x es ex h = subst (λ (y : Receiver). bitsIn y + m < 4294967296) (sym (ex ∙ ap (λ (y : Station). y .receiver) es)) (omega (arith, bits-most))
+  bits-room m s x es ex h =
+      subst (λ (y : Receiver). bitsIn y + m < 4294967296) (sym (ex ∙ ap (λ (y : Station). y .receiver) es))
+      (omega (arith, bits-most))
 
   pub start-bits : (s : Station) (b : Bool) (g : Ahead) → s ≡ stationAt a j → g ≡ aheadOf s b → g .bits ≤ t + 0
   unfolding aheadOf
@@ -233,7 +244,8 @@ module _ (a : List ℕ) (f : Figures) (j t : ℕ) (w : Near) (k : ℕ) (v : Near
       (λ z. let u = emit-within (run .kind) (stationAt a j) q (omega (arith, z)) (omega (arith, ey ∙ ap (emitSteps (run .kind)) es)) in
       let p = both-true (stationAt a j .emitted) (ownBusy (stationAt a j .deference) && unhurt (run .kind) (stationAt a j .receiver) (stationAt a j .transmitter)) (u .0) in
       let o = both-true (ownBusy (stationAt a j .deference)) (unhurt (run .kind) (stationAt a j .receiver) (stationAt a j .transmitter)) (p .1) in
-      emit-goes a (v .read .ready) j (v .station) on (run .len) (omega (arith, v .read .clock)) q (omega (arith, z)) (omega arith) (p .0) (is-own (stationAt a j .deference) (o .0)) (u .1)
+      emit-goes a (v .read .ready) j (v .station) on (run .len) (omega (arith, v .read .clock)) q (omega (arith, z))
+      (omega arith) (p .0) (is-own (stationAt a j .deference) (o .0)) (u .1)
       (λ i. arrivalAt a j (clockAt a + i)) (heldAt a (w .from)) k (w .d1) (run .kind) (run-says a f j t w k v 0 run h) (o .1))
 
 -- ---- all stations
@@ -245,7 +257,9 @@ module _ (a : List ℕ) (f : Figures) (n t : ℕ) where
 
   pub read-gap : ReadFrom a f n t → f .gap1 + f .gap2 < 65536
   unfolding ReadFrom
-  read-gap v = subst (λ (g : Figures). g .gap1 + g .gap2 < 65536) (sym (v .figures)) (omega (arith, v .ready .figures .gap1, v .ready .figures .gap2))
+  read-gap v =
+      subst (λ (g : Figures). g .gap1 + g .gap2 < 65536) (sym (v .figures))
+      (omega (arith, v .ready .figures .gap1, v .ready .figures .gap2))
 
   pub near-to : (j : ℕ) (w : Near) (k : ℕ) → ReadFrom a f n t → j < n → w ≡ nearestOf a n j → k ≡ nearBit a w → NearTo a f j t w k
   unfolding ReadFrom NearTo
