@@ -7,6 +7,7 @@ use mathlib.Core.List.{List}
 use lib.Dec.{ltb}
 use Rattle.octets.specs.Base.{pick}
 use Rattle.layout.specs.declared.Figures.{Figures}
+use Rattle.packet.specs.Packet.{hearsAny}
 use Rattle.state.specs.declared.Deference.{Deference}
 use Rattle.state.specs.declared.Deference.the-variants.{Quiet, Busy, Gap}
 use Rattle.state.specs.declared.Transmitter.{Transmitter}
@@ -78,22 +79,30 @@ sends (Sending k) = true
 sends (Heading k) = false
 sends (Jamming n) = false
 
--- what it hears of this kind ends no reception, and makes no collision
-unfoldable pub unhurt : Kind → Receiver → Transmitter → Bool
-unhurt Silent r x = idle r
-unhurt Line r x = not (sends x)
-unhurt From r x = not (sends x)
-unhurt Spoiled r x = not (sends x)
+-- nothing heard ends no reception of it, where q; others heard make no collision
+unfoldable pub unhurt : (q : Bool) → Receiver → Transmitter → Bool
+unhurt q r x = pick q (idle r) (not (sends x))
 
 -- it emits as in the step before, and goes on
-unfoldable pub emitsWith : Kind → Station → Bool
-emitsWith c s = s .emitted && (ownBusy (s .deference) && unhurt c (s .receiver) (s .transmitter))
+unfoldable pub emitsWith : (q : Bool) → Station → Bool
+emitsWith q s = s .emitted && (ownBusy (s .deference) && unhurt q (s .receiver) (s .transmitter))
 
--- the steps through which it does while what it hears is of this kind
-unfoldable pub emitSteps : Kind → Station → ℕ
-emitSteps c s = pick (emitsWith c s) (emitsFor (s .frame) (s .transmitter)) 0
+-- the steps through which it does while it hears nothing, where q, or others
+unfoldable pub emitSteps : (q : Bool) → Station → ℕ
+emitSteps q s = pick (emitsWith q s) (emitsFor (s .frame) (s .transmitter)) 0
+
+-- in steps of a kind nothing is heard, where q, or others are
+unfoldable pub isLike : Kind → (q : Bool) → Bool
+isLike Silent q = q
+isLike Line q = not q
+isLike From q = not q
+isLike Spoiled q = not q
 
 -- ---- on the area
+
+-- in each of m steps it hears nothing, where q, or others
+unfoldable pub Alike : List ℕ → (j : ℕ) → (q : Bool) → (m : ℕ) → Type 0
+Alike a j q m = (v : ℕ) → v < m → hearsAny (hears a (planOf a) j v) ≡ not q
 
 -- for k steps station j emits what the plan says, and has no event
 unfoldable pub CalmFor : List ℕ → (j k : ℕ) → Type 0

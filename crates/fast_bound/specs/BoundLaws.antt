@@ -18,7 +18,7 @@ use Rattle.fast_station.specs.Forms.{heardDeference, heardRest, emitsFor}
 use Rattle.fast_heard.specs.declared.Kind.{Kind}
 use Rattle.fast_heard.specs.declared.Kind.the-variants.{Silent, Line, From, Spoiled}
 use Rattle.fast_bound.specs.declared.Ahead.{Ahead}
-use Rattle.fast_bound.specs.Bound.{restSteps, hearSteps, restedTo, heardTo, restAhead, hearAhead, ahead, aheadOf, ownBusy, sends, unhurt, emitsWith, emitSteps}
+use Rattle.fast_bound.specs.Bound.{restSteps, hearSteps, restedTo, heardTo, restAhead, hearAhead, ahead, aheadOf, ownBusy, sends, unhurt, emitsWith, emitSteps, isLike}
 
 -- ---- the code by value: a station that emits nothing
 
@@ -124,33 +124,42 @@ module _ (x : Transmitter) where
   unfolding sends
   sends-jams k e = rw e
 
-module _ (c : Kind) (r : Receiver) (x : Transmitter) (b : Bool) where
-  pub unhurt-silent : c ≡ Silent → b ≡ idle r → b ≡ unhurt c r x
+module _ (q : Bool) (r : Receiver) (x : Transmitter) (b : Bool) where
+  pub unhurt-quiet : q ≡ true → b ≡ idle r → b ≡ unhurt q r x
   unfolding unhurt
-  unhurt-silent e p = rw e p
+  unhurt-quiet e p = rw e p
 
-  pub unhurt-line : c ≡ Line → b ≡ sends x → not b ≡ unhurt c r x
+  pub unhurt-heard : q ≡ false → b ≡ sends x → not b ≡ unhurt q r x
   unfolding unhurt
-  unhurt-line e p = rw e (ap not p)
+  unhurt-heard e p = rw e (ap not p)
 
-  pub unhurt-from : c ≡ From → b ≡ sends x → not b ≡ unhurt c r x
-  unfolding unhurt
-  unhurt-from e p = rw e (ap not p)
-
-  pub unhurt-spoiled : c ≡ Spoiled → b ≡ sends x → not b ≡ unhurt c r x
-  unfolding unhurt
-  unhurt-spoiled e p = rw e (ap not p)
-
-module _ (c : Kind) (s : Station) (o u g b : Bool) (eo : o ≡ ownBusy (s .deference))
-    (eu : u ≡ unhurt c (s .receiver) (s .transmitter)) (eg : g ≡ (o && u)) (eb : b ≡ (s .emitted && g)) where
-  with-is : b ≡ emitsWith c s
+module _ (q : Bool) (s : Station) (o u g b : Bool) (eo : o ≡ ownBusy (s .deference))
+    (eu : u ≡ unhurt q (s .receiver) (s .transmitter)) (eg : g ≡ (o && u)) (eb : b ≡ (s .emitted && g)) where
+  with-is : b ≡ emitsWith q s
   unfolding emitsWith
   with-is = eb ∙ ap (λ (y : Bool). s .emitted && y) (eg ∙ ap₂ (λ (y z : Bool). y && z) eo eu)
 
-  pub emit-some : (k : ℕ) → k ≡ emitsFor (s .frame) (s .transmitter) → b ≡ true → k ≡ emitSteps c s
+  pub emit-some : (k : ℕ) → k ≡ emitsFor (s .frame) (s .transmitter) → b ≡ true → k ≡ emitSteps q s
   unfolding emitSteps
   emit-some k e h = rw (← with-is, h) e
 
-  pub emit-none : b ≡ false → 0 ≡ emitSteps c s
+  pub emit-none : b ≡ false → 0 ≡ emitSteps q s
   unfolding emitSteps
   emit-none h = rw (← with-is, h)
+
+module _ (c : Kind) (q : Bool) where
+  pub like-silent : c ≡ Silent → q ≡ isLike c q
+  unfolding isLike
+  like-silent e = rw e
+
+  pub like-line : c ≡ Line → not q ≡ isLike c q
+  unfolding isLike
+  like-line e = rw e
+
+  pub like-from : c ≡ From → not q ≡ isLike c q
+  unfolding isLike
+  like-from e = rw e
+
+  pub like-spoiled : c ≡ Spoiled → not q ≡ isLike c q
+  unfolding isLike
+  like-spoiled e = rw e

@@ -4,12 +4,12 @@ use mathlib.Core.Path.{_≡_, refl, sym, _∙_, ap, subst}
 use mathlib.Core.Bool.{Bool, true, false, not, _||_, _&&_, true≢false}
 use mathlib.Core.List.{List}
 use native.Mathlib.Omega.{arith}
-use borrow.Author.Tests.{not-true}
+use borrow.Author.Tests.{ltb-true, ltb-false, not-true, not-false}
 use lib.Dec.{ltb}
 use Rattle.octets.specs.BaseLaws.{by-test, by-eq}
 use Rattle.layout.specs.declared.Figures.{Figures}
 use Rattle.packet.specs.declared.Heard.{Heard}
-use Rattle.packet.specs.declared.Heard.the-variants.{Nothing}
+use Rattle.packet.specs.declared.Heard.the-variants.{Nothing, Clean, Jammed, Several}
 use Rattle.packet.specs.Packet.{hearsAny}
 use Rattle.state.specs.declared.Deference.{Deference}
 use Rattle.state.specs.declared.Deference.the-variants.{Quiet, Busy, Gap}
@@ -38,7 +38,7 @@ use Rattle.fast_heard.specs.NearLaws.{near-station}
 use Rattle.fast_heard.specs.HearingLaws.{segment-hears}
 use Rattle.fast_bound.specs.declared.Ahead.{Ahead}
 use Rattle.fast_bound.specs.Foresee.{Foreseen, bits-clock, foreseen-start, foreseen-heard, foreseen-rest, emits-unheard, emits-heard}
-use Rattle.fast_bound.specs.Bound.{restSteps, hearSteps, restedTo, heardTo, restAhead, hearAhead, ahead, aheadOf, ownBusy, sends, unhurt, emitsWith, emitSteps, CalmFor, CalmBelow, ReadFrom, NearTo, Underway}
+use Rattle.fast_bound.specs.Bound.{restSteps, hearSteps, restedTo, heardTo, restAhead, hearAhead, ahead, aheadOf, ownBusy, sends, unhurt, emitsWith, emitSteps, isLike, Alike, CalmFor, CalmBelow, ReadFrom, NearTo, Underway}
 
 -- ---- in a run of any kind but silence others are heard
 
@@ -197,56 +197,76 @@ frame-most : (a : List ℕ) (r : Readiness a) (j : ℕ) → j < countAt a → em
 unfolding emitsAt
 frame-most a r j hj on = frame-held (stationAt a j .transmitter) (stationAt a j .frame) on (r .fine j hj .frame)
 
-emit-within : (c : Kind) (s : Station) (k : ℕ) → 0 < k → k ≤ emitSteps c s
-    → (emitsWith c s ≡ true) × (k ≤ emitsFor (s .frame) (s .transmitter))
+emit-within : (q : Bool) (s : Station) (k : ℕ) → 0 < k → k ≤ emitSteps q s
+    → (emitsWith q s ≡ true) × (k ≤ emitsFor (s .frame) (s .transmitter))
 unfolding emitSteps
-emit-within c s k p h =
-    by-test (emitsWith c s)
+emit-within q s k p h =
+    by-test (emitsWith q s)
     (λ e. (e, rw e at h))
     (λ e. let y : k ≤ 0 = rw e at h in absurd (omega arith))
 
-module _ (a : List ℕ) (r : Readiness a) (j : ℕ) (hj : j < countAt a) (on : emitsAt a j ≡ true) (n : ℕ)
-    (early : clockAt a + n ≤ 16777216) (k : ℕ) (pos : 0 < k) (few : k ≤ n) where
-  from-zero : (P : Heard → Type 0) → ((u : ℕ) → u < n → P (hears a (planOf a) j (0 + u))) → (u : ℕ) → u < k
-      → P (hears a (planOf a) j u)
-  from-zero P h u l = let z : 0 + u ≡ u = omega arith in subst (λ (y : ℕ). P (hears a (planOf a) j y)) z (h u (omega arith))
+hears-none : (h : Heard) → hearsAny h ≡ false → h ≡ Nothing
+hears-none Nothing e = refl
+hears-none (Clean b) e = absurd (true≢false e)
+hears-none Jammed e = absurd (true≢false e)
+hears-none Several e = absurd (true≢false e)
 
-  module _ (emitted : stationAt a j .emitted ≡ true) (busy : stationAt a j .deference ≡ Busy true)
-      (lasts : k ≤ emitsFor (stationAt a j .frame) (stationAt a j .transmitter)) where
-    heard-goes : ((u : ℕ) → u < n → hearsAny (hears a (planOf a) j (0 + u)) ≡ true)
-        → not (sends (stationAt a j .transmitter)) ≡ true → CalmFor a j k
-    unfolding CalmFor
-    heard-goes all h =
-        emits-heard a r j hj k pos (omega arith) busy emitted lasts (frame-most a r j hj on) (from-zero (λ (y : Heard). hearsAny y ≡ true) all) (not-sending (stationAt a j .transmitter) h)
+-- what a run says of whether others are heard
+run-any : (H L : ℕ → Heard) (F : List ℕ) (k d s m : ℕ) (c : Kind) (q : Bool) → Says H L F k d s c m → isLike c q ≡ true
+    → (v : ℕ) → v < m → hearsAny (H (s + v)) ≡ not q
+unfolding isLike
+run-any H L F k d s m Silent q h e v l = ap hearsAny (h v l) ∙ sym (ap not e)
+run-any H L F k d s m Line q h e v l = line-any H L F k d s m h v l ∙ sym e
+run-any H L F k d s m From q h e v l = from-any H L F k d s m h v l ∙ sym e
+run-any H L F k d s m Spoiled q h e v l = spoiled-any H L F k d s m h v l ∙ sym e
 
-    emit-goes : (L : ℕ → Heard) (F : List ℕ) (b d : ℕ) (c : Kind) → Says (hears a (planOf a) j) L F b d 0 c n
-        → unhurt c (stationAt a j .receiver) (stationAt a j .transmitter) ≡ true → CalmFor a j k
-    unfolding CalmFor unhurt
-    emit-goes L F b d Silent h e =
-        emits-unheard a r j hj k pos (omega arith) busy emitted lasts (frame-most a r j hj on) (from-zero (λ (y : Heard). y ≡ Nothing) h) (is-idle (stationAt a j .receiver) e)
-    emit-goes L F b d Line h e = heard-goes (line-any (hears a (planOf a) j) L F b d 0 n h) e
-    emit-goes L F b d From h e = heard-goes (from-any (hears a (planOf a) j) L F b d 0 n h) e
-    emit-goes L F b d Spoiled h e = heard-goes (spoiled-any (hears a (planOf a) j) L F b d 0 n h) e
+module _ (a : List ℕ) (j : ℕ) (q : Bool) where
+  pub alike-none : Alike a j q 0
+  unfolding Alike
+  alike-none = λ v l. absurd (omega arith)
 
-module _ (a : List ℕ) (f : Figures) (j t : ℕ) (w : Near) (k : ℕ) (v : NearTo a f j t w k) (on : emitsAt a j ≡ true)
+  pub alike-more : (t : ℕ) (w : Near) (k : ℕ) → NearTo a (figuresAt a) j t w k → (s : ℕ) (run : Segment) (b : Bool)
+      → Segmented a j t w k s run → b ≡ isLike (run .kind) q → not b ≡ false → Alike a j q s → Alike a j q (s + run .len)
+  unfolding Alike
+  alike-more t w k n s run b h e p al =
+      λ v l. by-test (ltb v s)
+      (λ c. al v (ltb-true v s c))
+      (λ c. let g = ltb-false v s c in
+      let z : s + (v - s) ≡ v = omega arith in
+      subst (λ (y : ℕ). hearsAny (hears a (planOf a) j y) ≡ not q) z
+      (run-any (hears a (planOf a) j) (λ u. arrivalAt a j (clockAt a + u)) (heldAt a (w .from)) k (w .d1) s (run .len) (run .kind) q
+      (run-says a (figuresAt a) j t w k n s run h) (sym e ∙ not-false b p) (v - s) (omega arith)))
+
+module _ (a : List ℕ) (r : Readiness a) (j : ℕ) (hj : j < countAt a) (on : emitsAt a j ≡ true) (k : ℕ) (pos : 0 < k)
+    (early : clockAt a + k ≤ 16777216) (emitted : stationAt a j .emitted ≡ true) (busy : stationAt a j .deference ≡ Busy true)
+    (lasts : k ≤ emitsFor (stationAt a j .frame) (stationAt a j .transmitter)) where
+  emit-goes : (q : Bool) → ((v : ℕ) → v < k → hearsAny (hears a (planOf a) j v) ≡ not q)
+      → unhurt q (stationAt a j .receiver) (stationAt a j .transmitter) ≡ true → CalmFor a j k
+  unfolding CalmFor unhurt
+  emit-goes true al e =
+      emits-unheard a r j hj k pos early busy emitted lasts (frame-most a r j hj on)
+      (λ v l. hears-none (hears a (planOf a) j v) (al v l)) (is-idle (stationAt a j .receiver) e)
+  emit-goes false al e =
+      emits-heard a r j hj k pos early busy emitted lasts (frame-most a r j hj on) al (not-sending (stationAt a j .transmitter) e)
+
+module _ (a : List ℕ) (j t : ℕ) (w : Near) (b : ℕ) (v : NearTo a (figuresAt a) j t w b) (on : emitsAt a j ≡ true)
     (s : Station) (es : s ≡ stationAt a j) where
   pub frame-small : s .frame < 65536
   unfolding NearTo
-  frame-small =
-      omega (arith, ap (λ (y : Station). y .frame) es, frame-most a (v .read .ready) j (v .station) on)
+  frame-small = omega (arith, ap (λ (y : Station). y .frame) es, frame-most a (v .read .ready) j (v .station) on)
 
-  pub emit-calm : (m : ℕ) (run : Segment) (y q : ℕ) → Segmented a j t w k 0 run → run .len ≤ m → t + m ≤ 16777216
-      → y ≡ emitSteps (run .kind) s → q ≡ min (run .len) y → CalmFor a j q
-  unfolding NearTo emitsWith
-  emit-calm m run y q h len early ey eq =
-      by-eq q 0
+  pub emit-calm : (q : Bool) (m n y k : ℕ) → Alike a j q n → n ≤ m → t + m ≤ 16777216 → y ≡ emitSteps q s → k ≡ min n y
+      → CalmFor a j k
+  unfolding NearTo emitsWith Alike
+  emit-calm q m n y k al len early ey ek =
+      by-eq k 0
       (λ z. subst (CalmFor a j) (sym z) (calm-zero a j))
-      (λ z. let u = emit-within (run .kind) (stationAt a j) q (omega (arith, z)) (omega (arith, ey ∙ ap (emitSteps (run .kind)) es)) in
-      let p = both-true (stationAt a j .emitted) (ownBusy (stationAt a j .deference) && unhurt (run .kind) (stationAt a j .receiver) (stationAt a j .transmitter)) (u .0) in
-      let o = both-true (ownBusy (stationAt a j .deference)) (unhurt (run .kind) (stationAt a j .receiver) (stationAt a j .transmitter)) (p .1) in
-      emit-goes a (v .read .ready) j (v .station) on (run .len) (omega (arith, v .read .clock)) q (omega (arith, z))
-      (omega arith) (p .0) (is-own (stationAt a j .deference) (o .0)) (u .1)
-      (λ i. arrivalAt a j (clockAt a + i)) (heldAt a (w .from)) k (w .d1) (run .kind) (run-says a f j t w k v 0 run h) (o .1))
+      (λ z. let x = stationAt a j in
+      let u = emit-within q x k (omega (arith, z)) (omega (arith, ey ∙ ap (emitSteps q) es)) in
+      let p = both-true (x .emitted) (ownBusy (x .deference) && unhurt q (x .receiver) (x .transmitter)) (u .0) in
+      let o = both-true (ownBusy (x .deference)) (unhurt q (x .receiver) (x .transmitter)) (p .1) in
+      emit-goes a (v .read .ready) j (v .station) on k (omega (arith, z)) (omega (arith, v .read .clock)) (p .0)
+      (is-own (x .deference) (o .0)) (u .1) q (λ i l. al i (omega arith)) (o .1))
 
 -- ---- all stations
 
@@ -268,6 +288,18 @@ module _ (a : List ℕ) (f : Figures) (n t : ℕ) where
         read = record { ready = v .ready; figures = v .figures; count = refl; clock = v .clock };
         station = omega (arith, v .count);
         nearest = ew ∙ ap (λ (m : ℕ). nearestOf a m j) (v .count);
+        bit = ek;
+      }
+
+  pub near-here : (j : ℕ) (w : Near) (k : ℕ) → ReadFrom a f n t → j < n → w ≡ nearestOf a n j → k ≡ nearBit a w
+      → NearTo a (figuresAt a) j t w k
+  unfolding ReadFrom NearTo
+  near-here j w k v hj ew ek =
+      let y = near-to j w k v hj ew ek in
+      record {
+        read = record { ready = v .ready; figures = refl; count = refl; clock = v .clock };
+        station = y .station;
+        nearest = y .nearest;
         bit = ek;
       }
 

@@ -12,11 +12,11 @@ ghost use mathlib.Core.Bool.{true, false};
 ghost use Prim.Native.Nat.{_+_, _<_, _≤_};
 ghost use lib.ListN.{length};
 ghost use Rattle.receiver.specs.Receive.{bitsIn};
-ghost use Rattle.area.specs.Area.{clockAt};
+ghost use Rattle.area.specs.Area.{clockAt, figuresAt};
 ghost use Rattle.pair.specs.Ready.{Ready};
 ghost use Rattle.fast_plan.specs.Calm.{AllCalm};
 ghost use Rattle.fast_heard.specs.Hearing.{planOf, emitsAt};
-ghost use Rattle.fast_bound.specs.Bound.{restSteps, hearSteps, restAhead, hearAhead, ahead, aheadOf, ownBusy, sends, unhurt, emitSteps, CalmFor, ReadFrom, NearTo, Underway};
+ghost use Rattle.fast_bound.specs.Bound.{restSteps, hearSteps, restAhead, hearAhead, ahead, aheadOf, ownBusy, sends, unhurt, emitSteps, isLike, Alike, CalmFor, ReadFrom, NearTo, Underway};
 
 // Of a station that emits nothing: `len` steps of one kind, and what it comes to in them. It has collected at most
 // `bits` bits; `harmless`: its reception may not report, however long it goes on.
@@ -149,27 +149,25 @@ fn is_sending(x: Transmitter) -> bool
     }
 }
 
-// Whether what is heard of this kind ends no reception and makes no collision.
-fn is_unhurt(kind: Kind, r: Receiver, x: Transmitter) -> bool
-    ensures { λ b. ⌜ b ≡ unhurt kind r x ⌝ }
+// Whether nothing heard, or others heard, ends no reception and makes no collision.
+fn is_unhurt(quiet: bool, r: Receiver, x: Transmitter) -> bool
+    ensures { λ b. ⌜ b ≡ unhurt quiet r x ⌝ }
 {
-    match kind {
-        Kind::Silent => fast_rest::is_idle(r),
-        Kind::Line => !is_sending(x),
-        Kind::From => !is_sending(x),
-        Kind::Spoiled => !is_sending(x),
+    if quiet {
+        return fast_rest::is_idle(r);
     }
+    !is_sending(x)
 }
 
-// The steps through which a station goes on emitting while what it hears is of this kind.
-fn emit_steps(kind: Kind, s: Station) -> u32
+// The steps through which a station goes on emitting while it hears nothing, or while it hears others.
+fn emit_steps(quiet: bool, s: Station) -> u32
     requires { ⌜ s .frame < 65536 ⌝ }
-    ensures { λ r. ⌜ r ≡ emitSteps kind s ⌝ }
+    ensures { λ r. ⌜ r ≡ emitSteps quiet s ⌝ }
 {
     let d = s.deference;
     let r = s.receiver;
     let x = s.transmitter;
-    let goes = octets::both(own_busy(d), is_unhurt(kind, r, x));
+    let goes = octets::both(own_busy(d), is_unhurt(quiet, r, x));
     if octets::both(s.emitted, goes) {
         return fast_station::emits_for(s.frame, x);
     }
@@ -251,22 +249,62 @@ fn silent_bound(area: &[u8], f: Figures, j: usize, t: u32, near: Near, bit: u32,
     silent_runs(area, f, j, t, near, bit, first, m)
 }
 
+// Whether in steps of this kind nothing is heard, where `quiet`, or others are.
+fn is_like(kind: Kind, quiet: bool) -> bool
+    ensures { λ r. ⌜ r ≡ isLike kind quiet ⌝ }
+{
+    match kind {
+        Kind::Silent => quiet,
+        Kind::Line => !quiet,
+        Kind::From => !quiet,
+        Kind::Spoiled => !quiet,
+    }
+}
+
+// Of m steps those before station j hears something, where `quiet`, or before it hears nothing.
+fn alike_for(area: &[u8], j: usize, t: u32, near: Near, bit: u32, quiet: bool, m: u32) -> u32
+    requires { ⌜ (j < 16) × (57344 ≤ length (now area)) × (t + m ≤ 16777216) × NearTo (now area) (figuresAt (now area)) j t near bit ⌝ }
+    ensures alike { λ r. ⌜ Alike (now (area .entry)) j quiet r ⌝ }
+    ensures bound { λ r. ⌜ r ≤ m ⌝ }
+{
+    let mut s: u32 = 0;
+    while s < m {
+        let run = fast_heard::heard_run(
+            area,
+            j,
+            t as usize,
+            near,
+            bit,
+            s as usize,
+            (m - s) as usize,
+        );
+        let kind = run.kind;
+        if !is_like(kind, quiet) {
+            return s;
+        }
+        s += run.len as u32;
+    }
+    s
+}
+
 // A station that emits: at most m steps through which it goes on and has no event.
-fn emit_bound(area: &[u8], f: Figures, j: usize, t: u32, near: Near, bit: u32, m: u32) -> u32
-    requires { ⌜ (j < 16) × (57344 ≤ length (now area)) × (t + m ≤ 16777216) × (0 < m) × NearTo (now area) f j t near bit × (emitsAt (now area) j ≡ true) ⌝ }
+fn emit_bound(area: &[u8], j: usize, t: u32, near: Near, bit: u32, m: u32) -> u32
+    requires { ⌜ (j < 16) × (57344 ≤ length (now area)) × (t + m ≤ 16777216) × NearTo (now area) (figuresAt (now area)) j t near bit × (emitsAt (now area) j ≡ true) ⌝ }
     ensures calm { λ r. ⌜ CalmFor (now (area .entry)) j r ⌝ }
     ensures bound { λ r. ⌜ r ≤ m ⌝ }
 {
-    let run = fast_heard::heard_run(area, j, t as usize, near, bit, 0, m as usize);
     let station = area::read_station(area, j);
-    let kind = run.kind;
-    let most = emit_steps(kind, station);
-    fast_rest::smaller(run.len as u32, most)
+    let quiet = alike_for(area, j, t, near, bit, true, m);
+    if 0 < quiet {
+        return fast_rest::smaller(quiet, emit_steps(true, station));
+    }
+    let heard = alike_for(area, j, t, near, bit, false, m);
+    fast_rest::smaller(heard, emit_steps(false, station))
 }
 
 // At most m steps in which station j, of n, goes on or starts nothing, and has no event.
 fn station_bound(area: &[u8], f: Figures, n: usize, t: u32, j: usize, m: u32) -> u32
-    requires { ⌜ (j < n) × (n ≤ 16) × (57344 ≤ length (now area)) × (t + m ≤ 16777216) × (0 < m) × (f .gap1 + f .gap2 < 65536) × ReadFrom (now area) f n t ⌝ }
+    requires { ⌜ (j < n) × (n ≤ 16) × (57344 ≤ length (now area)) × (t + m ≤ 16777216) × (f .gap1 + f .gap2 < 65536) × ReadFrom (now area) f n t ⌝ }
     ensures calm { λ r. ⌜ CalmFor (now (area .entry)) j r ⌝ }
     ensures bound { λ r. ⌜ r ≤ m ⌝ }
 {
@@ -275,7 +313,7 @@ fn station_bound(area: &[u8], f: Figures, n: usize, t: u32, j: usize, m: u32) ->
     if area::read_word(area, j, 3) < 3 {
         return silent_bound(area, f, j, t, near, bit, m);
     }
-    emit_bound(area, f, j, t, near, bit, m)
+    emit_bound(area, j, t, near, bit, m)
 }
 
 // How long a window may be, of m steps.

@@ -33,7 +33,7 @@ returns : tie.Need-returns Inv-loop μ-loop
 returns c = (search all-zero, omega arith)
 
 station-bound-requires : tie.Need-station-bound-requires Inv-loop μ-loop
-station-bound-requires c κs = (omega arith, search ready-few, omega arith, omega arith, omega arith, search read-gap, search needs)
+station-bound-requires c κs = (omega arith, search ready-few, omega arith, omega arith, search read-gap, search needs)
 
 add-i : tie.Need-add-i Inv-loop μ-loop
 add-i c = omega arith

@@ -1,7 +1,7 @@
 -- `fast_bound::station_bound` meets its contract. Assumes nothing.
 use native.Mathlib.Omega.{arith}
 use Rattle.fast_heard.specs.NearLaws.{silent-by-code, emits-by-code}
-use Rattle.fast_bound.specs.WindowLaws.{near-few, near-to}
+use Rattle.fast_bound.specs.WindowLaws.{near-few, near-to, near-here}
 use borrow.Author.Needs.{needs}
 use Rattle.fast_bound.proofs.station_bound.Statement.{statement}
 use Rattle.fast_bound.proofs.station_bound.Tie as tie
@@ -22,7 +22,7 @@ returns : tie.Need-returns
 returns c = search needs
 
 emit-bound-requires : tie.Need-emit-bound-requires
-emit-bound-requires c κs = (omega arith, omega arith, omega arith, omega arith, search near-to, search emits-by-code)
+emit-bound-requires c κs = (omega arith, omega arith, omega arith, search near-here, search emits-by-code)
 
 returns-2 : tie.Need-returns-2
 returns-2 c = search needs
