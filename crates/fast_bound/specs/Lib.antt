@@ -1,1 +1,4 @@
 pub mod Foresee
+pub mod Bound
+pub mod BoundLaws
+pub mod WindowLaws

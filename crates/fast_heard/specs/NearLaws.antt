@@ -304,22 +304,32 @@ code-read : (a : List ℕ) (i : ℕ) → stationAt a i .transmitter ≡ transmit
 unfolding stationAt decoded
 code-read a i = refl
 
+-- whether a station emits, by the code of its transmitter's phase
+module _ (a : List ℕ) (i c : ℕ) (e : c ≡ getD (recordAt a i) 3 0) where
+  pub silent-by-code : c < 3 → emitsAt a i ≡ false
+  unfolding emitsAt
+  silent-by-code h = ap emits (code-read a i) ∙ silent-code (getD (recordAt a i) 3 0) (getD (recordAt a i) 4 0) (omega arith) .0
+
+  pub emits-by-code : 3 ≤ c → emitsAt a i ≡ true
+  unfolding emitsAt
+  emits-by-code h = ap emits (code-read a i) ∙ emits-code (getD (recordAt a i) 3 0) (getD (recordAt a i) 4 0) (omega arith)
+
 module _ (a : List ℕ) (j i : ℕ) (w : Near) where
   pub note-own : i ≡ j → w ≡ noted (emitsAt a) (spaceTo a j) j i w
   unfolding noted
   note-own e = rw (eq-eqb i j e)
 
   pub note-silent : (c : ℕ) → c ≡ getD (recordAt a i) 3 0 → c < 3 → w ≡ noted (emitsAt a) (spaceTo a j) j i w
-  unfolding noted emitsAt
+  unfolding noted
   note-silent c e h =
-      let x : emits (stationAt a i .transmitter) ≡ false = ap emits (code-read a i) ∙ silent-code (getD (recordAt a i) 3 0) (getD (recordAt a i) 4 0) (omega arith) .0 in
+      let x : emitsAt a i ≡ false = silent-by-code a i c e h in
       by-test (eqb i j) (λ b. rw b) (λ b. rw (b, x))
 
   pub note-more : (c d p q : ℕ) (r : Near) → r ≡ nearer w i d → d ≡ distance q p → q ≡ positionAt a i → p ≡ positionAt a j → c ≡ getD (recordAt a i) 3 0 → 3 ≤ c → (i ≡ j → ⊥)
       → r ≡ noted (emitsAt a) (spaceTo a j) j i w
-  unfolding noted emitsAt spaceTo
+  unfolding noted spaceTo
   note-more c d p q r er ed eq ep e h ne =
-      let x : emits (stationAt a i .transmitter) ≡ true = ap emits (code-read a i) ∙ emits-code (getD (recordAt a i) 3 0) (getD (recordAt a i) 4 0) (omega arith) in
+      let x : emitsAt a i ≡ true = emits-by-code a i c e h in
       rw (ne-eqb i j ne, x) (er ∙ ap (nearer w i) (space-is a i j d q p ed ep eq))
 
 module _ (a : List ℕ) (j : ℕ) where

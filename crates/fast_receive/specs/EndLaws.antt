@@ -1,5 +1,5 @@
--- A reception that may not report reports nothing when it ends. Assumes nothing.
-use Prim.Native.Nat.{ℕ, zero, suc, _+_, _*_, _/_, _≤_, _<_}
+-- A reception that may not report reports nothing when it ends, and still may not while it goes on. Assumes nothing.
+use Prim.Native.Nat.{ℕ, zero, suc, _+_, _-_, _*_, _/_, _≤_, _<_}
 use mathlib.Core.Path.{_≡_, refl, sym, _∙_, ap, ap₂}
 use mathlib.Core.Bool.{Bool, true, false, not, _||_, _&&_, true≢false, or-true}
 use mathlib.Core.List.{List, []}
@@ -186,27 +186,47 @@ emits-owns H r m a = receive-emits (receivedBy true H m r) (H m) (a m (omega ari
 
 -- ---- nothing is reported
 
-module _ (address buf : List ℕ) where
-  pub ends-short : (q : Receiver) → bitsIn q < 512 → ended address buf q ≡ deciding (calmed 1 q) NoReceive
-  unfolding ended calmed decide
-  ends-short Listening h = refl
-  ends-short (Readable n) h = refl
-  ends-short (Seeking row sp own) h = refl
-  ends-short (Collecting n sp own) h = rw (lt-ltb n 512 h)
+module _ (address buf : List ℕ) (more : ℕ) where
+  -- fewer than 512 bits come together
+  pub may-few : (q : Receiver) → bitsIn q + more < 512 → mayReport address buf more q ≡ false
+  unfolding mayReport
+  may-few Listening h = lt-leb 512 more (omega arith)
+  may-few (Readable n) h = lt-leb 512 more (omega arith)
+  may-few (Seeking row sp own) h = rw (lt-leb 512 more (omega arith))
+  may-few (Collecting n sp own) h = rw (lt-leb 512 (n + more) h)
 
-  pub ends-own : (q : Receiver) → Owns q → ended address buf q ≡ deciding (calmed 1 q) NoReceive
-  unfolding ended calmed decide
-  ends-own Listening v = absurd v
-  ends-own (Readable n) v = absurd v
-  ends-own (Seeking row sp own) v = refl
-  ends-own (Collecting n sp own) v = by-test (ltb n 512) (λ c. rw c) (λ c. rw (c, v))
+  may-owned : (q : Receiver) → Owns q → mayReport address buf more q ≡ false
+  unfolding mayReport
+  may-owned Listening v = absurd v
+  may-owned (Readable n) v = absurd v
+  may-owned (Seeking row sp own) v = by-test (leb 512 more) (λ c. rw (c, v)) (λ c. rw c)
+  may-owned (Collecting n sp own) v = by-test (leb 512 (n + more)) (λ c. rw (c, v)) (λ c. rw c)
 
-  pub ends-other : (q : Receiver) → addressed address buf ≡ false → ended address buf q ≡ deciding (calmed 1 q) NoReceive
-  unfolding ended calmed decide
-  ends-other Listening h = refl
-  ends-other (Readable n) h = refl
-  ends-other (Seeking row sp own) h = refl
-  ends-other (Collecting n sp own) h = by-test (ltb n 512) (λ c. rw c) (λ c. by-test own (λ o. rw (c, o)) (λ o. rw (c, o, h)))
+  may-other : (q : Receiver) → Far q → addressed address buf ≡ false → mayReport address buf more q ≡ false
+  unfolding mayReport
+  may-other Listening v h = absurd v
+  may-other (Readable n) v h = absurd v
+  may-other (Seeking row sp own) v h = absurd v
+  may-other (Collecting n sp own) v h =
+      by-test (leb 512 (n + more))
+      (λ c. by-test own (λ o. rw (c, o)) (λ o. rw (c, o, le-ltb n 48 v, h)))
+      (λ c. rw c)
+
+  -- a reception that may not report ends and reports nothing
+  pub silent-ends : (q : Receiver) → mayReport address buf more q ≡ false → ended address buf q ≡ deciding (calmed 1 q) NoReceive
+  unfolding mayReport ended calmed decide
+  silent-ends Listening h = refl
+  silent-ends (Readable n) h = refl
+  silent-ends (Seeking row sp own) h = refl
+  silent-ends (Collecting n sp own) h =
+      by-test (ltb n 512)
+      (λ c. rw c)
+      (λ c. let g = ltb-false n 512 c in
+      by-test own
+      (λ o. rw (c, o))
+      (λ o. by-test (addressed address buf)
+      (λ p. absurd (true≢false (rw (le-leb 512 (n + more) (omega arith), o, le-ltb n 48 (omega arith), p) at h)))
+      (λ p. rw (c, o, p))))
 
 not-both : (a b : Bool) → (a && b) ≡ false → a ≡ true → b ≡ false
 not-both true b h e = h
@@ -220,30 +240,32 @@ not-not : (a : Bool) → not a ≡ false → a ≡ true
 not-not true h = refl
 not-not false h = absurd (true≢false h)
 
+-- it still may not after m steps in which others are heard
 module _ (address : List ℕ) (j : ℕ) (e : Bool) (H : ℕ → Heard) (m more : ℕ) (x : List ℕ) (hj : j < 16) (room : 57344 ≤ length x) (a : AllHeard H m) (few : m ≤ more) where
-  -- fewer than 512 bits come together
-  short : (r : Receiver) → rowIn r < 512 → bitsIn r + more < 512
-      → ended address (bufferAt (storedAll j (keptBy e H r) m x) j) (receivedBy e H m r) ≡ deciding (calmed 1 (receivedBy e H m r)) NoReceive
-  short r w h = ends-short address (bufferAt (storedAll j (keptBy e H r) m x) j) (receivedBy e H m r) (omega (arith, received-range e H m r a w .1))
+  short : (r : Receiver) → rowIn r < 512 → bitsIn r + more < 512 → mayReport address (bufferAt (storedAll j (keptBy e H r) m x) j) (more - m) (receivedBy e H m r) ≡ false
+  short r w h = may-few address (bufferAt (storedAll j (keptBy e H r) m x) j) (more - m) (receivedBy e H m r) (omega (arith, received-range e H m r a w .1))
 
-  pub not-reported : (r : Receiver) → rowIn r < 512 → mayReport address (bufferAt x j) more r ≡ false
-      → ended address (bufferAt (storedAll j (keptBy e H r) m x) j) (receivedBy e H m r) ≡ deciding (calmed 1 (receivedBy e H m r)) NoReceive
+  pub silent-still : (r : Receiver) → rowIn r < 512 → mayReport address (bufferAt x j) more r ≡ false
+      → mayReport address (bufferAt (storedAll j (keptBy e H r) m x) j) (more - m) (receivedBy e H m r) ≡ false
   unfolding mayReport
-  not-reported Listening w h = short Listening w (omega (arith, leb-false 512 more h))
-  not-reported (Readable n) w h = short (Readable n) w (omega (arith, leb-false 512 more h))
-  not-reported (Seeking row sp own) w h =
+  silent-still Listening w h = short Listening w (omega (arith, leb-false 512 more h))
+  silent-still (Readable n) w h = short (Readable n) w (omega (arith, leb-false 512 more h))
+  silent-still (Seeking row sp own) w h =
+      let r : Receiver = Seeking row sp own in
       by-test (leb 512 more)
-      (λ c. ends-own address (bufferAt (storedAll j (keptBy e H (Seeking row sp own)) m x) j) (receivedBy e H m (Seeking row sp own)) (owns-all e H (Seeking row sp own) m a (not-not own (not-both (leb 512 more) (not own) h c))))
-      (λ c. short (Seeking row sp own) w (omega (arith, leb-false 512 more c)))
-  not-reported (Collecting n sp own) w h =
+      (λ c. may-owned address (bufferAt (storedAll j (keptBy e H r) m x) j) (more - m) (receivedBy e H m r) (owns-all e H r m a (not-not own (not-both (leb 512 more) (not own) h c))))
+      (λ c. short r w (omega (arith, leb-false 512 more c)))
+  silent-still (Collecting n sp own) w h =
+      let r : Receiver = Collecting n sp own in
+      let b = bufferAt (storedAll j (keptBy e H r) m x) j in
       by-test (leb 512 (n + more))
       (λ c. let rest : (not own && (ltb n 48 || addressed address (bufferAt x j))) ≡ false = not-both (leb 512 (n + more)) (not own && (ltb n 48 || addressed address (bufferAt x j))) h c in
       by-test own
-      (λ o. ends-own address (bufferAt (storedAll j (keptBy e H (Collecting n sp own)) m x) j) (receivedBy e H m (Collecting n sp own)) (owns-all e H (Collecting n sp own) m a o))
+      (λ o. may-owned address b (more - m) (receivedBy e H m r) (owns-all e H r m a o))
       (λ o. let p = not-first (ltb n 48) (addressed address (bufferAt x j)) (not-both (not own) (ltb n 48 || addressed address (bufferAt x j)) rest (ap not o)) in
-      ends-other address (bufferAt (storedAll j (keptBy e H (Collecting n sp own)) m x) j) (receivedBy e H m (Collecting n sp own))
-      (destination-stays e H (Collecting n sp own) (ltb-false n 48 (p .0)) address j m x hj room a ∙ p .1)))
-      (λ c. short (Collecting n sp own) w (omega (arith, leb-false 512 (n + more) c)))
+      let far = ltb-false n 48 (p .0) in
+      may-other address b (more - m) (receivedBy e H m r) (far-all e H r far m a) (destination-stays e H r far address j m x hj room a ∙ p .1)))
+      (λ c. short r w (omega (arith, leb-false 512 (n + more) c)))
 
 -- ---- the code's own
 

@@ -118,7 +118,8 @@ fn gap_to(f: Figures, own: bool, count: u32, m: u32) -> Deference
     }
 }
 
-fn rest_deference(f: Figures, m: u32, d: Deference) -> Deference
+// A deference after m steps in which nothing is heard.
+pub fn rest_deference(f: Figures, m: u32, d: Deference) -> Deference
     requires { ⌜ f .gap1 + f .gap2 < 65536 ⌝ }
     ensures { λ r. ⌜ r ≡ restedDeference f m d ⌝ }
 {

@@ -52,7 +52,7 @@ frames-last f m K d (Sending k) p h = absurd (omega arith)
 frames-last f m K d (Heading k) p h = absurd (omega arith)
 frames-last f m K d (Jamming k) p h = absurd (omega arith)
 
-is-idle : (r : Receiver) → idle r ≡ true → Idle r
+pub is-idle : (r : Receiver) → idle r ≡ true → Idle r
 unfolding idle
 is-idle Listening e = tt
 is-idle (Readable n) e = tt

@@ -68,7 +68,8 @@ fn hear_gap(f: Figures, m: u32, count: u32, own: bool) -> Deference
     }
 }
 
-fn hear_deference(f: Figures, m: u32, d: Deference) -> Deference
+// A deference after m steps in which others are heard.
+pub fn hear_deference(f: Figures, m: u32, d: Deference) -> Deference
     requires { ⌜ f .gap1 + f .gap2 < 65536 ⌝ }
     ensures { λ r. ⌜ r ≡ heardDeference f m d ⌝ }
 {
