@@ -35,7 +35,7 @@ use Rattle.fast_silence.specs.Bound.{framesRest, idle, frames-last}
 use Rattle.fast_station.specs.Forms.{heardRest, hearOn, calmed, restOn, emitsFor, emitOn}
 use Rattle.fast_receive.specs.Received.{receivedBy, keptBy, spoils, lineFrom, bitsFrom, AllHeard, mayReport}
 use Rattle.fast_receive.specs.ReceivedLaws.{received-none, received-step, kept-by, received-range, received-fits, spoils-heard, bits-heard}
-use Rattle.fast_receive.specs.EndLaws.{not-reported}
+use Rattle.fast_receive.specs.EndLaws.{silent-ends}
 use Rattle.fast_heard.specs.declared.Kind.{Kind}
 use Rattle.fast_heard.specs.declared.Kind.the-variants.{Silent, Line, From, Spoiled}
 use Rattle.fast_segment.specs.Alone.{Moves, address-in}
@@ -165,9 +165,8 @@ module _ (f : Figures) (D j u : ℕ) (x : List ℕ) (v : Moves f D j u x) (m : �
 
   quiet-end : mayReport (addressAt x j) (bufferAt x j) 0 (stationAt x j .receiver) ≡ false
       → ended (stationAt x j .address) (bufferAt x j) (stationAt x j .receiver) ≡ deciding (calmed 1 (stationAt x j .receiver)) NoReceive
-  unfolding storedAll receivedBy turns AllHeard
   quiet-end e =
-      not-reported (stationAt x j .address) j false (λ k. Nothing) 0 0 x (v .index) (v .room) (λ k h. absurd (omega arith)) (omega arith) (stationAt x j .receiver) row
+      silent-ends (stationAt x j .address) (bufferAt x j) 0 (stationAt x j .receiver)
       (ap (λ (y : List ℕ). mayReport y (bufferAt x j) 0 (stationAt x j .receiver)) (address-in x j) ∙ e)
 
   rest-once : emitting (stationAt x j .transmitter) ≡ false
