@@ -5,6 +5,7 @@ use wisavulome_bench::area::{self, put_word, word, AREA};
 use wisavulome_bench::crc;
 use wisavulome_bench::frame;
 use wisavulome_bench::layout::{self, Layout};
+use wisavulome_bench::program;
 use wisavulome_bench::LAST_CLOCK;
 
 pub use wisavulome_bench::rng::Rng;
@@ -509,4 +510,35 @@ pub fn same_area(ours: &[u8], plain: &[u8], context: &dyn Fn() -> String) {
         .map(|at| format!("{}: ours {}, plain {}", place_name(at), ours[at], plain[at]))
         .collect();
     panic!("{}: areas differ\n{}", context(), differences.join("\n"));
+}
+
+/// A whole run input, damaged or not; none where it may ask for more steps than a test can make.
+pub fn run_input(rng: &mut Rng) -> Option<Vec<u8>> {
+    let mut input = sheet(rng);
+    let (layout, _) = layout::read_sheet(&input).expect("a sheet that is not refused");
+    let depth = rng.edgy(1, 16);
+    input.push(depth as u8);
+    input.extend(draws(rng, layout.places.len(), depth as usize));
+    let count = rng.range(0, 12);
+    input.extend((count as u16).to_be_bytes());
+    let mut time = 0;
+    for _ in 0..count {
+        let offer = offer(rng, &layout, true);
+        time += if rng.one_in(3) { rng.range(0, 800) } else { rng.range(0, 10) };
+        input.extend(time.to_be_bytes());
+        input.push(offer.station as u8);
+        input.extend(area::address(offer.destination));
+        input.extend(offer.value.to_be_bytes());
+        input.extend((offer.data.len() as u16).to_be_bytes());
+        input.extend(offer.data);
+    }
+    input.extend(rng.range(0, 6000).to_be_bytes());
+    if rng.one_in(4) {
+        input = damaged(rng, &input);
+    }
+    // A damaged count of bit times may ask for more steps than a test can make.
+    if program::numbers(&input).is_ok_and(|numbers| numbers[4] > 10_000) {
+        return None;
+    }
+    Some(input)
 }

@@ -22,7 +22,7 @@ use Rattle.opener.specs.Open.{statusAnswer, opened}
 use Rattle.valid.specs.Valid.{areaRefusal}
 use Rattle.sheet.specs.Sheet.{sheetSize, countIn}
 use Rattle.input.specs.declared.Plan.{Plan}
-use Rattle.input.specs.Plan.{offerPlace, offersPlace, timesIn, drawsWrong, planWrong, lastRefusal, afterSheet, sheetRefusal, planRefusal, Planned, planRead, planReading, verdictAnswer}
+use Rattle.input.specs.Plan.{offerPlace, offersPlace, timesIn, drawsWrong, planWrong, lastRefusal, afterSheet, sheetRefusal, planRefusal, Planned, unless as whole, planRead, planReading, verdictAnswer}
 use Rattle.input.specs.PlanTheorems.{reading-right}
 use Rattle.answers.specs.Answers.{replied, valueOf, layoutPut}
 use Rattle.calls.specs.Calls.{given, kept}
