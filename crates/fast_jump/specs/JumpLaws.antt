@@ -35,7 +35,8 @@ module _ (a : List ℕ) (m : ℕ) where
   unfolding restedAll
   all-none = turns-none _ a
 
-  pub all-more : (k c : ℕ) (x b : List ℕ) (s n : Station) (f : Figures) → k < c → c ≤ 16 → 57344 ≤ length a → x ≡ restedAll a m k a → f ≡ figuresAt a → s ≡ stationAt x k → n ≡ rested f m s → b ≡ withStation x k n
+  pub all-more : (k c : ℕ) (x b : List ℕ) (s n : Station) (f : Figures) → k < c → c ≤ 16 → 57344 ≤ length a
+      → x ≡ restedAll a m k a → f ≡ figuresAt a → s ≡ stationAt x k → n ≡ rested f m s → b ≡ withStation x k n
       → b ≡ restedAll a m (k + 1) a
   unfolding restedAll
   all-more k c x b s n f hk few room e ef es en eb =
@@ -46,7 +47,8 @@ module _ (a : List ℕ) (m : ℕ) where
   unfolding restedAll
   all-end n k x h g e = turns-end _ n k a x h g e
 
-  pub jump-is : (n t : ℕ) (x b : List ℕ) → n ≡ countAt a → t ≡ clockAt a → x ≡ restedAll a m n a → b ≡ withClock x (t + m) → b ≡ jumped m a
+  pub jump-is : (n t : ℕ) (x b : List ℕ) → n ≡ countAt a → t ≡ clockAt a → x ≡ restedAll a m n a
+      → b ≡ withClock x (t + m) → b ≡ jumped m a
   unfolding jumped
   jump-is n t x b en et ex eb = eb ∙ rw (ex, en, et)
 

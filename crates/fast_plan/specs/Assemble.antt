@@ -35,7 +35,8 @@ module _ (n i : ℕ) (few : n ≤ 16) (hi : i < n) (st : ℕ → Stored) (kept :
   all-still zero k x s = refl
   all-still (suc m) k x s = stored-still n k few s i (st m) (storedAll i st m x) hi (kept m) ∙ all-still m k x s
 
-  all-on : (m : ℕ) (x y : List ℕ) → 57344 ≤ length x → 57344 ≤ length y → Keeps (buffer i) x y → Keeps (buffer i) (storedAll i st m x) (storedAll i st m y)
+  all-on : (m : ℕ) (x y : List ℕ) → 57344 ≤ length x → 57344 ≤ length y → Keeps (buffer i) x y
+      → Keeps (buffer i) (storedAll i st m x) (storedAll i st m y)
   unfolding storedAll turns
   all-on zero x y lx ly e = e
   all-on (suc m) x y lx ly e =
@@ -85,7 +86,8 @@ left-own n i o few hi k =
 
 -- ---- all stations
 
-module _ (n : ℕ) (few : n ≤ 16) (G : ℕ → List ℕ → List ℕ) (own : (i : ℕ) → i < n → Own n i (G i)) (a : List ℕ) (room : 57344 ≤ length a) where
+module _ (n : ℕ) (few : n ≤ 16) (G : ℕ → List ℕ → List ℕ) (own : (i : ℕ) → i < n → Own n i (G i)) (a : List ℕ)
+    (room : 57344 ≤ length a) where
   abbrev pub each : ℕ → List ℕ
   each k = turns G k a
 
@@ -136,7 +138,8 @@ module _ (n : ℕ) (few : n ≤ 16) (G : ℕ → List ℕ → List ℕ) (own : (
 unfoldable pub assembled : List ℕ → Plan → (K : ℕ) → (G : ℕ → List ℕ → List ℕ) → List ℕ
 assembled a P K G = withClock (linesAll a P K (countAt a) (turns G (countAt a) a)) (clockAt a + K)
 
-pub assembled-left : (a : List ℕ) (P : Plan) (K : ℕ) (G : ℕ → List ℕ → List ℕ) → countAt a ≤ 16 → 57344 ≤ length a → ((i : ℕ) → i < countAt a → Own (countAt a) i (G i))
+pub assembled-left : (a : List ℕ) (P : Plan) (K : ℕ) (G : ℕ → List ℕ → List ℕ) → countAt a ≤ 16 → 57344 ≤ length a
+    → ((i : ℕ) → i < countAt a → Own (countAt a) i (G i))
     → ((i : ℕ) → i < countAt a → ownAfter a P i K ≡ G i a) → Left a P K (assembled a P K G)
 unfolding assembled
 assembled-left a P K G few room own is =
@@ -162,7 +165,8 @@ assembled-left a P K G few room own is =
       rest = λ k st. clock-still l k (clockAt a + K) (st .clock) ∙ lines-still n k st a P K n o (omega arith) ∙ each-still n few G own a room n k (omega arith) st;
     }
 
-pub steps-assembled : (a : List ℕ) (P : Plan) (K : ℕ) (G : ℕ → List ℕ → List ℕ) → 0 < K → Readiness a → clockAt a + K ≤ 16777216 → Holds a P K → ((i : ℕ) → i < countAt a → Own (countAt a) i (G i))
+pub steps-assembled : (a : List ℕ) (P : Plan) (K : ℕ) (G : ℕ → List ℕ → List ℕ) → 0 < K → Readiness a
+    → clockAt a + K ≤ 16777216 → Holds a P K → ((i : ℕ) → i < countAt a → Own (countAt a) i (G i))
     → ((i : ℕ) → i < countAt a → ownAfter a P i K ≡ G i a) → steps K a ≡ assembled a P K G
 steps-assembled a P K G pos r early h own is =
     left-same-area a P K (steps K a) (assembled a P K G) (r .spread .few) (planned-left a P K (steps K a) pos (plan-happens a P K r early h))

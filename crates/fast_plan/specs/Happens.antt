@@ -61,7 +61,8 @@ module _ (P : Plan) where
       (λ c. let h = ltb-true s K c in cut-in K i s h ∙ sym (cut-in (suc K) i s (omega arith)))
       (λ c. let h = ltb-false s K c in cut-none K i s h ∙ sym (cut-none (suc K) i s (omega arith)))))
 
-reaches-by : (d : ℕ → ℕ → ℕ) (E F : ℕ → ℕ → Symbol) (j u i : ℕ) → ((i ≡ j → ⊥) → d i j ≤ u → E i (u - d i j) ≡ F i (u - d i j)) → reaches d E j u i ≡ reaches d F j u i
+reaches-by : (d : ℕ → ℕ → ℕ) (E F : ℕ → ℕ → Symbol) (j u i : ℕ)
+    → ((i ≡ j → ⊥) → d i j ≤ u → E i (u - d i j) ≡ F i (u - d i j)) → reaches d E j u i ≡ reaches d F j u i
 unfolding reaches
 reaches-by d E F j u i h =
     by-eq i j (λ z. rw (eq-eqb i j z))
@@ -69,9 +70,12 @@ reaches-by d E F j u i h =
     (λ c. rw (ne-eqb i j z, c) (h z (leb-true (d i j) u c)))
     (λ c. rw (ne-eqb i j z, c)))
 
-pub heard-by : (N : Net) (E F : ℕ → ℕ → Symbol) (j u : ℕ) → ((i : ℕ) → i < N .n → (i ≡ j → ⊥) → N .d i j ≤ u → E i (u - N .d i j) ≡ F i (u - N .d i j)) → heard N E j u ≡ heard N F j u
+pub heard-by : (N : Net) (E F : ℕ → ℕ → Symbol) (j u : ℕ)
+    → ((i : ℕ) → i < N .n → (i ≡ j → ⊥) → N .d i j ≤ u → E i (u - N .d i j) ≡ F i (u - N .d i j))
+    → heard N E j u ≡ heard N F j u
 unfolding heard
-heard-by N E F j u h = gathered-same (N .n) (reaches (N .d) E j u) (reaches (N .d) F j u) (λ i l. reaches-by (N .d) E F j u i (h i l))
+heard-by N E F j u h =
+    gathered-same (N .n) (reaches (N .d) E j u) (reaches (N .d) F j u) (λ i l. reaches-by (N .d) E F j u i (h i l))
 
 pub heard-none : (N : Net) (E : ℕ → ℕ → Symbol) (j u : ℕ) → ((i s : ℕ) → E i s ≡ Silence) → heard N E j u ≡ Nothing
 unfolding heard reaches
@@ -86,7 +90,8 @@ module _ (a : List ℕ) (sp : Spread (countAt a) a) (P : Plan) where
   hears-line s j hj =
       ap (met (lineNow a j s)) (heard-by (netOf a) (cut s P) P j s (λ i hi ne le. cut-in P s i (s - spaceAt a i j) (omega (arith, sp .pos i j hi hj ne))))
 
-  line-grown : (K j v : ℕ) → lineAfter a P (suc K) j v ≡ met (lineAfter a P K j v) (gathered (countAt a) (adds (spaceAt a) K (λ i. P i K) j v))
+  line-grown : (K j v : ℕ)
+      → lineAfter a P (suc K) j v ≡ met (lineAfter a P K j v) (gathered (countAt a) (adds (spaceAt a) K (λ i. P i K) j v))
   unfolding lineAfter netOf
   line-grown K j v =
       ap (met (lineNow a j v))
@@ -106,7 +111,8 @@ module _ (a : List ℕ) (sp : Spread (countAt a) a) (P : Plan) where
   line-start j v h =
       rw (lt-ltb v 256 h)
       (ap (met (arrivalAt a j (clockAt a + v)))
-      (heard-none (netOf a) (cut 0 P) j v (λ i s. cut-none P 0 i s (omega arith))) ∙ met-none (arrivalAt a j (clockAt a + v)))
+      (heard-none (netOf a) (cut 0 P) j v (λ i s. cut-none P 0 i s (omega arith)))
+      ∙ met-none (arrivalAt a j (clockAt a + v)))
 
 -- ---- octets that no turn writes
 
@@ -118,7 +124,8 @@ module _ (n k : ℕ) (few : n ≤ 16) (still : Still n k) where
   sends-still : (t i : ℕ) (s : Symbol) (m : ℕ) (x : List ℕ) → m ≤ n → getD (turns (sendTo t i s) m x) k 0 ≡ getD x k 0
   unfolding turns
   sends-still t i s zero x hm = refl
-  sends-still t i s (suc m) x hm = send-still t i s m (turns (sendTo t i s) m x) hm ∙ sends-still t i s m x (omega arith)
+  sends-still t i s (suc m) x hm =
+      send-still t i s m (turns (sendTo t i s) m x) hm ∙ sends-still t i s m x (omega arith)
 
   pushed-still : (t i : ℕ) (s : Symbol) (x : List ℕ) → getD (pushed n t i s x) k 0 ≡ getD x k 0
   unfolding pushed
@@ -145,20 +152,28 @@ module _ (n k : ℕ) (few : n ≤ 16) (still : Still n k) where
   unfolding ownLeft
   left-still i o x hi h = stored-still i (o .stored) _ hi h ∙ counted-still i o _ hi ∙ station-still i (o .station) x hi
 
-  settled-still : (t i : ℕ) (r : Act) (x : List ℕ) → i < n → Kept (r .outcome .stored) → getD (settled n t i r x) k 0 ≡ getD x k 0
+  settled-still : (t i : ℕ) (r : Act) (x : List ℕ) → i < n → Kept (r .outcome .stored)
+      → getD (settled n t i r x) k 0 ≡ getD x k 0
   unfolding settled placed
   settled-still t i r x hi h =
-      pushed-still t i (r .symbol) _ ∙ arrival-still t i Nothing _ hi ∙ stored-still i (r .outcome .stored) _ hi h ∙ counted-still i (r .outcome) _ hi ∙ station-still i (r .outcome .station) x hi
+      pushed-still t i (r .symbol) _
+      ∙ arrival-still t i Nothing _ hi
+      ∙ stored-still i (r .outcome .stored) _ hi h
+      ∙ counted-still i (r .outcome) _ hi
+      ∙ station-still i (r .outcome .station) x hi
 
-  turns-still : (t : ℕ) (r : ℕ → Act) (m : ℕ) (x : List ℕ) → m ≤ n → ((i : ℕ) → i < n → Kept (r i .outcome .stored)) → getD (turns (λ i y. settled n t i (r i) y) m x) k 0 ≡ getD x k 0
+  turns-still : (t : ℕ) (r : ℕ → Act) (m : ℕ) (x : List ℕ) → m ≤ n → ((i : ℕ) → i < n → Kept (r i .outcome .stored))
+      → getD (turns (λ i y. settled n t i (r i) y) m x) k 0 ≡ getD x k 0
   unfolding turns
   turns-still t r zero x hm h = refl
   turns-still t r (suc m) x hm h = settled-still t m (r m) _ hm (h m hm) ∙ turns-still t r m x (omega arith) h
 
 -- ---- a station's own parts after the turns of all
 
-module _ (n t : ℕ) (r : ℕ → Act) (x : List ℕ) (sp : Spread n x) (kept : (i : ℕ) → i < n → Kept (r i .outcome .stored)) (room : 57344 ≤ length x) where
-  part-own : (p : Part) (i : ℕ) → i < n → ((j : ℕ) → j < n → (j ≡ i → ⊥) → Foreign p t j) → ((j u : ℕ) → j < n → Off p (place j u))
+module _ (n t : ℕ) (r : ℕ → Act) (x : List ℕ) (sp : Spread n x) (kept : (i : ℕ) → i < n → Kept (r i .outcome .stored))
+    (room : 57344 ≤ length x) where
+  part-own : (p : Part) (i : ℕ) → i < n → ((j : ℕ) → j < n → (j ≡ i → ⊥) → Foreign p t j)
+      → ((j u : ℕ) → j < n → Off p (place j u))
       → Keeps p (turns (λ j y. settled n t j (r j) y) n x) (ownLeft i (r i .outcome) (turns (λ j y. settled n t j (r j) y) i x))
   unfolding placed ownLeft
   part-own p i hi q o =
@@ -167,7 +182,8 @@ module _ (n t : ℕ) (r : ℕ → Act) (x : List ℕ) (sp : Spread n x) (kept : 
       (own n t r x sp kept room p i n (omega arith) hi q o)
       (arrival-keeps p (ownLeft i (r i .outcome) y) i t Nothing (o i t hi))
 
-  turns-own : (i : ℕ) → i < n → OwnSame i (turns (λ j y. settled n t j (r j) y) n x) (ownLeft i (r i .outcome) (turns (λ j y. settled n t j (r j) y) i x))
+  turns-own : (i : ℕ) → i < n
+      → OwnSame i (turns (λ j y. settled n t j (r j) y) n x) (ownLeft i (r i .outcome) (turns (λ j y. settled n t j (r j) y) i x))
   turns-own i hi =
       let few = sp .few in
       record {
@@ -186,7 +202,8 @@ module _ (n t : ℕ) (r : ℕ → Act) (x : List ℕ) (sp : Spread n x) (kept : 
 -- ---- one step more
 
 front : (v l : List ℕ) (k : ℕ) → k < length v → length v ≤ length l → getD (sets l 0 v) k 0 ≡ getD v k 0
-front v l k h g = let z : k ≡ 0 + k = omega arith in ap (λ (i : ℕ). getD (sets l 0 v) i 0) z ∙ octet-same v l 0 k h (omega arith)
+front v l k h g =
+    let z : k ≡ 0 + k = omega arith in ap (λ (i : ℕ). getD (sets l 0 v) i 0) z ∙ octet-same v l 0 k h (omega arith)
 
 -- the clock's octets go by the clock alone
 pub stamped : (x y : List ℕ) (c : ℕ) → 57344 ≤ length x → 57344 ≤ length y → Same 0 4 (withClock x c) (withClock y c)
@@ -268,7 +285,8 @@ module _ (a : List ℕ) (sp : Spread (countAt a) a) (P : Plan) (K : ℕ) (x : Li
 
   after-clock : (j u : ℕ) → arrivalAt (stepArea x) j u ≡ arrivalAt turned j u
   unfolding stepArea turned
-  after-clock j u = arrival-by (stepArea x) turned j u (clock-keeps (place j u) turned (clockAt x + 1) (λ p q. omega arith))
+  after-clock j u =
+      arrival-by (stepArea x) turned j u (clock-keeps (place j u) turned (clockAt x + 1) (λ p q. omega arith))
 
   module _ (holds : (i : ℕ) → i < countAt a → actAfter a P i K .symbol ≡ P i K) where
     one-share : (j v i : ℕ) → j < countAt a → i < countAt a → K < v → v < K + 256
@@ -279,7 +297,8 @@ module _ (a : List ℕ) (sp : Spread (countAt a) a) (P : Plan) (K : ℕ) (x : Li
         ∙ ap (λ (s : Symbol). share (clockAt a + K) (spaceAt a i j) i s j (clockAt a + v)) (ap (λ (c : Act). c .symbol) (act-planned i hi) ∙ holds i hi)
         ∙ share-adds (spaceAt a) (clockAt a) K (λ m. P m K) j v i _ _ refl refl (sp .pos i j hi hj) (sp .near i j hi hj) lo up
 
-    line-turned : (j v : ℕ) → j < countAt a → K < v → v < K + 256 → arrivalAt turned j (clockAt a + v) ≡ lineAfter a P (suc K) j v
+    line-turned : (j v : ℕ) → j < countAt a → K < v → v < K + 256
+        → arrivalAt turned j (clockAt a + v) ≡ lineAfter a P (suc K) j v
     unfolding turned
     line-turned j v hj lo up =
         let r = w .ready in
@@ -298,9 +317,11 @@ module _ (a : List ℕ) (sp : Spread (countAt a) a) (P : Plan) (K : ℕ) (x : Li
         ∙ clear-all (countAt x) (clockAt x) (actAt x) x (r .spread) (kept-at x) room (countAt x) j (omega arith) (below j hj)
         ∙ sym (line-free a sp P K j hj)
 
-    next-line : (j v : ℕ) → j < countAt a → suc K ≤ v → v < suc K + 256 → arrivalAt (stepArea x) j (clockAt a + v) ≡ lineAfter a P (suc K) j v
+    next-line : (j v : ℕ) → j < countAt a → suc K ≤ v → v < suc K + 256
+        → arrivalAt (stepArea x) j (clockAt a + v) ≡ lineAfter a P (suc K) j v
     next-line j v hj lo up =
-        after-clock j (clockAt a + v) ∙ by-eq v (K + 256) (λ z. rw z (line-last j hj)) (λ z. line-turned j v hj lo (omega arith))
+        after-clock j (clockAt a + v)
+        ∙ by-eq v (K + 256) (λ z. rw z (line-last j hj)) (λ z. line-turned j v hj lo (omega arith))
 
     next-rest : (k : ℕ) → Still (countAt a) k → getD (stepArea x) k 0 ≡ getD a k 0
     unfolding stepArea withClock Same
@@ -315,7 +336,8 @@ module _ (a : List ℕ) (sp : Spread (countAt a) a) (P : Plan) (K : ℕ) (x : Li
     next-stamp k lo up =
         let t : clockAt x + 1 ≡ clockAt a + suc K = omega (arith, w .time) in
         let l : length turned ≡ length x = length-after (countAt x) (clockAt x) (actAt x) x (w .ready .spread) (kept-at x) room (countAt x) in
-        stamped turned a (clockAt x + 1) (omega (arith, l, room)) (omega (arith, w .long, room)) k lo up ∙ ap (λ (c : ℕ). getD (withClock a c) k 0) t
+        stamped turned a (clockAt x + 1) (omega (arith, l, room)) (omega (arith, w .long, room)) k lo up
+        ∙ ap (λ (c : ℕ). getD (withClock a c) k 0) t
 
     pub next-planned : clockAt x < 16777216 → Planned a P (suc K) (stepArea x)
     next-planned early =
@@ -349,7 +371,8 @@ planned-none a P r =
       rest = λ k st. refl;
     }
 
-pub plan-happens : (a : List ℕ) (P : Plan) (K : ℕ) → Readiness a → clockAt a + K ≤ 16777216 → Holds a P K → Planned a P K (steps K a)
+pub plan-happens : (a : List ℕ) (P : Plan) (K : ℕ) → Readiness a → clockAt a + K ≤ 16777216 → Holds a P K
+    → Planned a P K (steps K a)
 unfolding steps turns Holds
 plan-happens a P zero r early h = planned-none a P r
 plan-happens a P (suc K) r early h =
@@ -357,7 +380,8 @@ plan-happens a P (suc K) r early h =
     next-planned a (r .spread) P K (steps K a) w (λ i hi. h K i (omega arith) hi) (omega (arith, w .time))
 
 -- and what each station does in step s is what it does by itself
-pub plan-acts : (a : List ℕ) (P : Plan) (K s i : ℕ) → Readiness a → clockAt a + K ≤ 16777216 → Holds a P K → s ≤ K → i < countAt a → actAt (steps s a) i ≡ actAfter a P i s
+pub plan-acts : (a : List ℕ) (P : Plan) (K s i : ℕ) → Readiness a → clockAt a + K ≤ 16777216 → Holds a P K → s ≤ K
+    → i < countAt a → actAt (steps s a) i ≡ actAfter a P i s
 unfolding Holds
 plan-acts a P K s i r early h hs hi =
     act-planned a (r .spread) P s (steps s a) (plan-happens a P s r (omega arith) (λ u j hu hj. h u j (omega arith) hj)) i hi

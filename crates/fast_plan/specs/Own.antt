@@ -53,7 +53,8 @@ ownTurn f d i h x = ownLeft i (actOn f d i h x .outcome) x
 unfoldable pub byItself : Figures → (d i : ℕ) → (ℕ → Heard) → ℕ → List ℕ → List ℕ
 byItself f d i H m x = turns (λ s y. ownTurn f d i (H s) y) m x
 
-pub by-itself-more : (f : Figures) (d i : ℕ) (H : ℕ → Heard) (m : ℕ) (x : List ℕ) → byItself f d i H (suc m) x ≡ ownTurn f d i (H m) (byItself f d i H m x)
+pub by-itself-more : (f : Figures) (d i : ℕ) (H : ℕ → Heard) (m : ℕ) (x : List ℕ)
+    → byItself f d i H (suc m) x ≡ ownTurn f d i (H m) (byItself f d i H m x)
 unfolding byItself turns
 by-itself-more f d i H m x = refl
 
@@ -62,13 +63,16 @@ unfolding byItself turns
 by-itself-none f d i H x = refl
 
 -- only what is heard in these turns matters
-pub itself-heard : (f : Figures) (d i : ℕ) (H G : ℕ → Heard) (m : ℕ) (x : List ℕ) → ((s : ℕ) → s < m → H s ≡ G s) → byItself f d i H m x ≡ byItself f d i G m x
+pub itself-heard : (f : Figures) (d i : ℕ) (H G : ℕ → Heard) (m : ℕ) (x : List ℕ) → ((s : ℕ) → s < m → H s ≡ G s)
+    → byItself f d i H m x ≡ byItself f d i G m x
 unfolding byItself turns
 itself-heard f d i H G zero x h = refl
-itself-heard f d i H G (suc m) x h = ap₂ (ownTurn f d i) (h m (omega arith)) (itself-heard f d i H G m x (λ s l. h s (omega arith)))
+itself-heard f d i H G (suc m) x h =
+    ap₂ (ownTurn f d i) (h m (omega arith)) (itself-heard f d i H G m x (λ s l. h s (omega arith)))
 
 -- some turns, and then others: a stretch in segments
-pub itself-split : (f : Figures) (d i : ℕ) (H : ℕ → Heard) (a b : ℕ) (x : List ℕ) → byItself f d i H (a + b) x ≡ byItself f d i (λ s. H (a + s)) b (byItself f d i H a x)
+pub itself-split : (f : Figures) (d i : ℕ) (H : ℕ → Heard) (a b : ℕ) (x : List ℕ)
+    → byItself f d i H (a + b) x ≡ byItself f d i (λ s. H (a + s)) b (byItself f d i H a x)
 unfolding byItself turns
 itself-split f d i H a zero x = let e : a + 0 ≡ a = omega arith in ap (λ (k : ℕ). byItself f d i H k x) e
 itself-split f d i H a (suc b) x =
@@ -91,9 +95,11 @@ pub length-left : (i : ℕ) (o : Stepped) (x : List ℕ) → length (ownLeft i o
 unfolding ownLeft
 length-left i o x = length-stored i (o .stored) _ ∙ length-counted i o _ ∙ length-station x i (o .station)
 
-pub length-itself : (f : Figures) (d i : ℕ) (H : ℕ → Heard) (m : ℕ) (x : List ℕ) → length (byItself f d i H m x) ≡ length x
+pub length-itself : (f : Figures) (d i : ℕ) (H : ℕ → Heard) (m : ℕ) (x : List ℕ)
+    → length (byItself f d i H m x) ≡ length x
 unfolding byItself ownTurn
-length-itself f d i H m x = length-turns (λ s y. ownTurn f d i (H s) y) m x (λ s y. length-left i (actOn f d i (H s) y .outcome) y)
+length-itself f d i H m x =
+    length-turns (λ s y. ownTurn f d i (H s) y) m x (λ s y. length-left i (actOn f d i (H s) y .outcome) y)
 
 -- a part that is none of station i's own
 pub record Others (p : Part) (i : ℕ) : Type 0 where
@@ -101,7 +107,8 @@ pub record Others (p : Part) (i : ℕ) : Type 0 where
   pub counters : Off p (counters i)
   pub buffer : Off p (buffer i)
 
-pub left-keeps : (p : Part) (i : ℕ) (o : Stepped) (x : List ℕ) → Kept (o .stored) → Others p i → Keeps p (ownLeft i o x) x
+pub left-keeps : (p : Part) (i : ℕ) (o : Stepped) (x : List ℕ) → Kept (o .stored) → Others p i
+    → Keeps p (ownLeft i o x) x
 unfolding ownLeft
 left-keeps p i o x k q =
     let x₁ = withStation x i (o .station) in
@@ -110,7 +117,8 @@ left-keeps p i o x k q =
     keeps-trans p x₃ x₂ x (stored-keeps p i (o .stored) x₂ k (q .buffer))
     (keeps-trans p x₂ x₁ x (counted-keeps p i o x₁ (q .counters)) (station-keeps p x i (o .station) (q .station)))
 
-pub itself-keeps : (p : Part) (f : Figures) (d i : ℕ) (H : ℕ → Heard) (m : ℕ) (x : List ℕ) → Others p i → Keeps p (byItself f d i H m x) x
+pub itself-keeps : (p : Part) (f : Figures) (d i : ℕ) (H : ℕ → Heard) (m : ℕ) (x : List ℕ) → Others p i
+    → Keeps p (byItself f d i H m x) x
 unfolding byItself turns ownTurn
 itself-keeps p f d i H zero x q = keeps-refl p x
 itself-keeps p f d i H (suc m) x q =
@@ -147,7 +155,8 @@ module _ (i : ℕ) (hi : i < 16) (x y : List ℕ) (lx : 57344 ≤ length x) (ly 
   unfolding Keeps Same withStation
   station-on s e k lo up = words-over 14 x y (2048 + 64 * i) (encoded s) k (omega arith) (omega arith) (λ o. e k lo up)
 
-  counters-on : (o : Stepped) → Keeps (counters i) x y → Keeps (counters i) (withCounters x i (counted (countersAt x i) o)) (withCounters y i (counted (countersAt y i) o))
+  counters-on : (o : Stepped) → Keeps (counters i) x y
+      → Keeps (counters i) (withCounters x i (counted (countersAt x i) o)) (withCounters y i (counted (countersAt y i) o))
   unfolding withCounters Keeps Same
   counters-on o e k lo up = rw (counters-by x y i e) (words-over 16 x y (1024 + 64 * i) (counted (countersAt y i) o) k (omega arith) (omega arith) (λ a. e k lo up))
 
@@ -165,7 +174,8 @@ module _ (i : ℕ) (hi : i < 16) (x y : List ℕ) (lx : 57344 ≤ length x) (ly 
       (λ z. getD-set-other x (32768 + 1536 * i + m / 8) k _ 0 z ∙ e k lo up ∙ sym (getD-set-other y (32768 + 1536 * i + m / 8) k _ 0 z))
 
 -- what it leaves of its own goes by that
-pub left-same : (i : ℕ) (o : Stepped) (x y : List ℕ) → i < 16 → 57344 ≤ length x → 57344 ≤ length y → Kept (o .stored) → OwnSame i x y → OwnSame i (ownLeft i o x) (ownLeft i o y)
+pub left-same : (i : ℕ) (o : Stepped) (x y : List ℕ) → i < 16 → 57344 ≤ length x → 57344 ≤ length y → Kept (o .stored)
+    → OwnSame i x y → OwnSame i (ownLeft i o x) (ownLeft i o y)
 unfolding ownLeft
 left-same i o x y hi lx ly k e =
     let x₁ = withStation x i (o .station) in
@@ -213,7 +223,8 @@ pub record Drawn (s : Station) : Type 0 where
   pub draw : s .draw < 16
   pub held : octetsHeld (s .transmitter) (s .frame) ≤ 1536
 
-pub on-same : (f : Figures) (d i : ℕ) (h : Heard) (x y : List ℕ) → i < 16 → 57344 ≤ length x → 57344 ≤ length y → Drawn (stationAt y i) → Stays i x y → OwnSame i x y → actOn f d i h x ≡ actOn f d i h y
+pub on-same : (f : Figures) (d i : ℕ) (h : Heard) (x y : List ℕ) → i < 16 → 57344 ≤ length x → 57344 ≤ length y
+    → Drawn (stationAt y i) → Stays i x y → OwnSame i x y → actOn f d i h x ≡ actOn f d i h y
 unfolding actOn outcomeOn
 on-same f d i h x y hi lx ly dr q e =
     let s : stationAt x i ≡ stationAt y i = station-by x y i hi lx ly (q .layout) (e .station) in
@@ -223,7 +234,8 @@ on-same f d i h x y hi lx ly dr q e =
     frame-by x y i (octetsHeld (stationAt y i .transmitter) (stationAt y i .frame)) hi (dr .held) lx ly (q .frame) in
     rw (s, b, w, z)
 
-pub itself-stays : (f : Figures) (d i : ℕ) (H : ℕ → Heard) (m : ℕ) (x : List ℕ) → i < 16 → Stays i (byItself f d i H m x) x
+pub itself-stays : (f : Figures) (d i : ℕ) (H : ℕ → Heard) (m : ℕ) (x : List ℕ) → i < 16
+    → Stays i (byItself f d i H m x) x
 itself-stays f d i H m x hi =
     record {
       layout = itself-keeps layout f d i H m x (record { station = λ p q. omega arith; counters = λ p q. omega arith; buffer = λ p q. omega arith });
@@ -232,7 +244,8 @@ itself-stays f d i H m x hi =
     }
 
 -- so do many turns
-pub itself-same : (f : Figures) (d i : ℕ) (H : ℕ → Heard) (m : ℕ) (x y : List ℕ) → i < 16 → 57344 ≤ length x → 57344 ≤ length y → ((s : ℕ) → s < m → Drawn (stationAt (byItself f d i H s y) i))
+pub itself-same : (f : Figures) (d i : ℕ) (H : ℕ → Heard) (m : ℕ) (x y : List ℕ) → i < 16 → 57344 ≤ length x
+    → 57344 ≤ length y → ((s : ℕ) → s < m → Drawn (stationAt (byItself f d i H s y) i))
     → Stays i x y → OwnSame i x y → OwnSame i (byItself f d i H m x) (byItself f d i H m y)
 unfolding byItself turns ownTurn
 itself-same f d i H zero x y hi lx ly dr q e = e

@@ -28,7 +28,8 @@ pub record LineOnly (n j : ℕ) (U : List ℕ → List ℕ) : Type 0 where
   pub long : (x : List ℕ) → length (U x) ≡ length x
   pub off : (p : Part) (x : List ℕ) → ((u : ℕ) → Off p (place j u)) → Keeps p (U x) x
   pub still : (k : ℕ) (x : List ℕ) → Still n k → getD (U x) k 0 ≡ getD x k 0
-  pub codes : (x : List ℕ) → 57344 ≤ length x → ((i u : ℕ) → i < n → symbolAt x i u ≤ 4) → (i u : ℕ) → i < n → symbolAt (U x) i u ≤ 4
+  pub codes : (x : List ℕ) → 57344 ≤ length x → ((i u : ℕ) → i < n → symbolAt x i u ≤ 4) → (i u : ℕ) → i < n
+      → symbolAt (U x) i u ≤ 4
 
 module _ (n j : ℕ) (few : n ≤ 16) (hj : j < n) where
   none-only : LineOnly n j (λ x. x)
@@ -82,23 +83,28 @@ module _ (a : List ℕ) (P : Plan) (K : ℕ) (few : countAt a ≤ 16) where
   done-long zero x h = refl
   done-long (suc k) x h = only k h .long (linesDone a P K k x) ∙ done-long k x (omega arith)
 
-  done-keeps : (p : Part) (k : ℕ) (x : List ℕ) → k ≤ countAt a → ((j u : ℕ) → j < k → Off p (place j u)) → Keeps p (linesDone a P K k x) x
+  done-keeps : (p : Part) (k : ℕ) (x : List ℕ) → k ≤ countAt a → ((j u : ℕ) → j < k → Off p (place j u))
+      → Keeps p (linesDone a P K k x) x
   unfolding linesDone turns
   done-keeps p zero x h o = keeps-refl p x
   done-keeps p (suc k) x h o =
       keeps-trans p (linesDone a P K (suc k) x) (linesDone a P K k x) x (only k h .off p (linesDone a P K k x) (λ u. o k u (omega arith))) (done-keeps p k x (omega arith) (λ j u l. o j u (omega arith)))
 
-  done-still : (m k : ℕ) (x : List ℕ) → k ≤ countAt a → Still (countAt a) m → getD (linesDone a P K k x) m 0 ≡ getD x m 0
+  done-still : (m k : ℕ) (x : List ℕ) → k ≤ countAt a → Still (countAt a) m
+      → getD (linesDone a P K k x) m 0 ≡ getD x m 0
   unfolding linesDone turns
   done-still m zero x h s = refl
   done-still m (suc k) x h s = only k h .still m (linesDone a P K k x) s ∙ done-still m k x (omega arith) s
 
-  done-codes : (k : ℕ) (x : List ℕ) → k ≤ countAt a → 57344 ≤ length x → ((i u : ℕ) → i < countAt a → symbolAt x i u ≤ 4) → (i u : ℕ) → i < countAt a → symbolAt (linesDone a P K k x) i u ≤ 4
+  done-codes : (k : ℕ) (x : List ℕ) → k ≤ countAt a → 57344 ≤ length x
+      → ((i u : ℕ) → i < countAt a → symbolAt x i u ≤ 4) → (i u : ℕ) → i < countAt a
+      → symbolAt (linesDone a P K k x) i u ≤ 4
   unfolding linesDone turns
   done-codes zero x h room c = c
   done-codes (suc k) x h room c = only k h .codes (linesDone a P K k x) (omega (arith, done-long k x (omega arith))) (done-codes k x (omega arith) room c)
 
-  done-line : (sp : Spread (countAt a) a) (k j v : ℕ) (x : List ℕ) → k ≤ countAt a → j < k → 57344 ≤ length x → ((i u : ℕ) → i < countAt a → arrivalAt x i u ≡ arrivalAt a i u) → K ≤ v → v < K + 256
+  done-line : (sp : Spread (countAt a) a) (k j v : ℕ) (x : List ℕ) → k ≤ countAt a → j < k → 57344 ≤ length x
+      → ((i u : ℕ) → i < countAt a → arrivalAt x i u ≡ arrivalAt a i u) → K ≤ v → v < K + 256
       → arrivalAt (linesDone a P K k x) j (clockAt a + v) ≡ lineAfter a P K j v
   unfolding linesDone turns
   done-line sp zero j v x hk hj room same lo up = absurd (omega arith)
@@ -114,7 +120,8 @@ module _ (a : List ℕ) (P : Plan) (K : ℕ) (few : countAt a ≤ 16) where
 unfoldable pub madeOf : List ℕ → Plan → (K : ℕ) → (G : ℕ → List ℕ → List ℕ) → List ℕ
 madeOf a P K G = withClock (linesDone a P K (countAt a) (turns G (countAt a) a)) (clockAt a + K)
 
-pub steps-made : (a : List ℕ) (P : Plan) (K : ℕ) (G : ℕ → List ℕ → List ℕ) → 0 < K → Readiness a → clockAt a + K ≤ 16777216 → Holds a P K → ((i : ℕ) → i < countAt a → Own (countAt a) i (G i))
+pub steps-made : (a : List ℕ) (P : Plan) (K : ℕ) (G : ℕ → List ℕ → List ℕ) → 0 < K → Readiness a
+    → clockAt a + K ≤ 16777216 → Holds a P K → ((i : ℕ) → i < countAt a → Own (countAt a) i (G i))
     → ((i : ℕ) → i < countAt a → ownAfter a P i K ≡ G i a) → steps K a ≡ madeOf a P K G
 unfolding madeOf
 steps-made a P K G pos r early h own is =

@@ -99,7 +99,8 @@ least-most g (suc n) m i h = by-eq i n (λ e. rw e (omega arith)) (λ e. omega (
 -- ---- Theorem 2
 
 -- any lower bound of each first deviation
-pub holds-below : (a : List ℕ) (P : Plan) (K : ℕ) (b : ℕ → ℕ) → ((i s : ℕ) → i < countAt a → s < b i → deviates a P i s ≡ false) → ((i : ℕ) → i < countAt a → K ≤ b i)
+pub holds-below : (a : List ℕ) (P : Plan) (K : ℕ) (b : ℕ → ℕ)
+    → ((i s : ℕ) → i < countAt a → s < b i → deviates a P i s ≡ false) → ((i : ℕ) → i < countAt a → K ≤ b i)
     → Holds a P K × Unhurt a P K
 unfolding Holds Unhurt deviates
 holds-below a P K b h g = (
@@ -112,7 +113,8 @@ holds-below a P K b h g = (
     not-off false e = absurd (true≢false e)
 
 -- the least of them, of m steps asked
-pub holds-prefix : (a : List ℕ) (P : Plan) (m : ℕ) → Holds a P (least (λ i. until (deviates a P i) m) (countAt a) m) × Unhurt a P (least (λ i. until (deviates a P i) m) (countAt a) m)
+pub holds-prefix : (a : List ℕ) (P : Plan) (m : ℕ)
+    → Holds a P (least (λ i. until (deviates a P i) m) (countAt a) m) × Unhurt a P (least (λ i. until (deviates a P i) m) (countAt a) m)
 holds-prefix a P m =
     holds-below a P (least (λ i. until (deviates a P i) m) (countAt a) m) (λ i. until (deviates a P i) m) (λ i s hi hs. until-below (deviates a P i) m s hs)
     (λ i hi. least-most (λ i. until (deviates a P i) m) (countAt a) m i hi)
@@ -140,4 +142,5 @@ module _ (a : List ℕ) (sp : Spread (countAt a) a) (P Q : Plan) (K : ℕ) (agre
 
   pub holds-agree : Holds a P K → Holds a Q K
   unfolding Holds
-  holds-agree h s i hs hi = ap (λ (r : Act). r .symbol) (sym (act-agree i s hi (omega arith))) ∙ h s i hs hi ∙ agree i s hs
+  holds-agree h s i hs hi =
+      ap (λ (r : Act). r .symbol) (sym (act-agree i s hi (omega arith))) ∙ h s i hs hi ∙ agree i s hs

@@ -33,15 +33,21 @@ length-cleared : (t j m : ℕ) (x : List ℕ) → length (cleared t j m x) ≡ l
 unfolding cleared
 length-cleared t j m x = length-turns _ m x (λ s y. length-arrival y j (t + s) Nothing)
 
-arrival-off : (x : List ℕ) (j u : ℕ) (h : Heard) (i v : ℕ) → (j ≡ i → u % 256 ≡ v % 256 → ⊥) → arrivalAt (withArrival x j u h) i v ≡ arrivalAt x i v
-arrival-off x j u h i v ne = arrival-by (withArrival x j u h) x i v (arrival-keeps (place i v) x j u h (λ p q. ne (omega arith) (omega arith)))
+arrival-off : (x : List ℕ) (j u : ℕ) (h : Heard) (i v : ℕ) → (j ≡ i → u % 256 ≡ v % 256 → ⊥)
+    → arrivalAt (withArrival x j u h) i v ≡ arrivalAt x i v
+arrival-off x j u h i v ne =
+    arrival-by (withArrival x j u h) x i v (arrival-keeps (place i v) x j u h (λ p q. ne (omega arith) (omega arith)))
 
-cleared-other : (t j m : ℕ) (x : List ℕ) (v : ℕ) → ((s : ℕ) → s < m → (t + s) % 256 ≡ v % 256 → ⊥) → arrivalAt (cleared t j m x) j v ≡ arrivalAt x j v
+cleared-other : (t j m : ℕ) (x : List ℕ) (v : ℕ) → ((s : ℕ) → s < m → (t + s) % 256 ≡ v % 256 → ⊥)
+    → arrivalAt (cleared t j m x) j v ≡ arrivalAt x j v
 unfolding cleared turns
 cleared-other t j zero x v h = refl
-cleared-other t j (suc m) x v h = arrival-off (cleared t j m x) j (t + m) Nothing j v (λ e z. h m (omega arith) z) ∙ cleared-other t j m x v (λ s l. h s (omega arith))
+cleared-other t j (suc m) x v h =
+    arrival-off (cleared t j m x) j (t + m) Nothing j v (λ e z. h m (omega arith) z)
+    ∙ cleared-other t j m x v (λ s l. h s (omega arith))
 
-cleared-there : (t j m : ℕ) (x : List ℕ) (s : ℕ) → j < 16 → 57344 ≤ length x → m ≤ 256 → s < m → arrivalAt (cleared t j m x) j (t + s) ≡ Nothing
+cleared-there : (t j m : ℕ) (x : List ℕ) (s : ℕ) → j < 16 → 57344 ≤ length x → m ≤ 256 → s < m
+    → arrivalAt (cleared t j m x) j (t + s) ≡ Nothing
 unfolding cleared turns
 cleared-there t j zero x s hj room hm h = absurd (omega arith)
 cleared-there t j (suc m) x s hj room hm h =
@@ -50,7 +56,8 @@ cleared-there t j (suc m) x s hj room hm h =
     (λ z. arrival-off (cleared t j m x) j (t + m) Nothing j (t + s) (λ e y. omega arith) ∙ cleared-there t j m x s hj room (omega arith) (omega arith))
 
 -- what is left is what was on its way; x has the line of a
-pub cleared-line : (a x : List ℕ) (K j v : ℕ) → j < 16 → 57344 ≤ length x → ((u : ℕ) → arrivalAt x j u ≡ arrivalAt a j u) → K ≤ v → v < K + 256
+pub cleared-line : (a x : List ℕ) (K j v : ℕ) → j < 16 → 57344 ≤ length x
+    → ((u : ℕ) → arrivalAt x j u ≡ arrivalAt a j u) → K ≤ v → v < K + 256
     → arrivalAt (cleared (clockAt a) j (min K 256) x) j (clockAt a + v) ≡ lineNow a j v
 unfolding lineNow
 cleared-line a x K j v hj room same lo up =
@@ -80,7 +87,8 @@ length-way t d K Q j m x = length-turns _ m x (λ u y. length-joined j (t + (K -
 
 -- what place v gets of m of them
 unfoldable pub gets : (d K : ℕ) → (ℕ → Symbol) → (m v : ℕ) → Symbol
-gets d K Q m v = pick (leb d v) (pick (leb (K - d) (v - d)) (pick (ltb (v - d) (K - d + m)) (Q (v - d)) Silence) Silence) Silence
+gets d K Q m v =
+    pick (leb d v) (pick (leb (K - d) (v - d)) (pick (ltb (v - d) (K - d + m)) (Q (v - d)) Silence) Silence) Silence
 
 module _ (d K : ℕ) (Q : ℕ → Symbol) (m : ℕ) where
   gets-none : (v : ℕ) → (d ≤ v → K - d ≤ v - d → v - d < K - d + m → ⊥) → gets d K Q m v ≡ Silence
@@ -108,7 +116,8 @@ gets-more d K Q m v ne =
     (λ b. let q = leb-false (K - d) (v - d) b in gets-none d K Q (suc m) v (λ x y z. omega arith) ∙ sym (gets-none d K Q m v (λ x y z. omega arith))))
     (λ c. let p = leb-false d v c in gets-none d K Q (suc m) v (λ x y z. omega arith) ∙ sym (gets-none d K Q m v (λ x y z. omega arith)))
 
-pub way-line : (t d K : ℕ) (Q : ℕ → Symbol) (j m : ℕ) (x : List ℕ) (v : ℕ) → j < 16 → 57344 ≤ length x → d < 256 → m ≤ min d K → K ≤ v → v < K + 256
+pub way-line : (t d K : ℕ) (Q : ℕ → Symbol) (j m : ℕ) (x : List ℕ) (v : ℕ) → j < 16 → 57344 ≤ length x → d < 256
+    → m ≤ min d K → K ≤ v → v < K + 256
     → arrivalAt (onWay t d K Q j m x) j (t + v) ≡ joined (arrivalAt x j (t + v)) (gets d K Q m v)
 unfolding onWay turns joinedAt
 way-line t d K Q j zero x v hj room hd hm lo up = sym (ap (joined (arrivalAt x j (t + v))) (gets-none d K Q 0 v (λ p q r. omega arith)) ∙ joined-none (arrivalAt x j (t + v)))
@@ -123,13 +132,15 @@ way-line t d K Q j (suc m) x v hj room hd hm lo up =
     (ap Q (sym n))
     ∙ ap (joined (arrivalAt x j (t + v))) (sym (gets-one d K Q (suc m) v (omega arith) (omega arith) (omega arith))))
     (λ z. arrival-off y j u (joined (arrivalAt y j u) (Q (K - d + m))) j (t + v) (λ e w. z (omega arith))
-    ∙ way-line t d K Q j m x v hj room hd (omega arith) lo up ∙ ap (joined (arrivalAt x j (t + v))) (sym (gets-more d K Q m v z)))
+    ∙ way-line t d K Q j m x v hj room hd (omega arith) lo up
+    ∙ ap (joined (arrivalAt x j (t + v))) (sym (gets-more d K Q m v z)))
 
 -- ---- all senders of one line
 
 -- the first k stations' symbols to station j
 unfoldable pub waysTo : List ℕ → Plan → (K j k : ℕ) → List ℕ → List ℕ
-waysTo a P K j k x = turns (λ i y. pick (eqb i j) y (onWay (clockAt a) (spaceAt a i j) K (P i) j (min (spaceAt a i j) K) y)) k x
+waysTo a P K j k x =
+    turns (λ i y. pick (eqb i j) y (onWay (clockAt a) (spaceAt a i j) K (P i) j (min (spaceAt a i j) K) y)) k x
 
 length-ways : (a : List ℕ) (P : Plan) (K j k : ℕ) (x : List ℕ) → length (waysTo a P K j k x) ≡ length x
 unfolding waysTo
@@ -137,7 +148,8 @@ length-ways a P K j k x =
     length-turns _ k x (λ i y. by-test (eqb i j) (λ c. rw c) (λ c. rw c (length-way (clockAt a) (spaceAt a i j) K (P i) j (min (spaceAt a i j) K) y)))
 
 -- what a station's symbols come to at a place, in the plan's words
-gets-reaches : (a : List ℕ) (P : Plan) (K j v i : ℕ) → (i ≡ j → ⊥) → K ≤ v → gets (spaceAt a i j) K (P i) (min (spaceAt a i j) K) v ≡ reaches (spaceAt a) (cut K P) j v i
+gets-reaches : (a : List ℕ) (P : Plan) (K j v i : ℕ) → (i ≡ j → ⊥) → K ≤ v
+    → gets (spaceAt a i j) K (P i) (min (spaceAt a i j) K) v ≡ reaches (spaceAt a) (cut K P) j v i
 unfolding reaches cut
 gets-reaches a P K j v i ne lo =
     let d = spaceAt a i j in
@@ -153,7 +165,8 @@ own-none : (a : List ℕ) (P : Plan) (K j v i : ℕ) → i ≡ j → reaches (sp
 unfolding reaches
 own-none a P K j v i z = rw (eq-eqb i j z)
 
-ways-line : (a : List ℕ) (P : Plan) (K j k : ℕ) (x : List ℕ) (v : ℕ) → j < 16 → 57344 ≤ length x → ((i : ℕ) → i < k → spaceAt a i j < 256) → K ≤ v → v < K + 256
+ways-line : (a : List ℕ) (P : Plan) (K j k : ℕ) (x : List ℕ) (v : ℕ) → j < 16 → 57344 ≤ length x
+    → ((i : ℕ) → i < k → spaceAt a i j < 256) → K ≤ v → v < K + 256
     → arrivalAt (waysTo a P K j k x) j (clockAt a + v) ≡ met (arrivalAt x j (clockAt a + v)) (gathered k (reaches (spaceAt a) (cut K P) j v))
 unfolding waysTo turns gathered
 ways-line a P K j zero x v hj room near lo up = sym (met-none (arrivalAt x j (clockAt a + v)))
@@ -169,13 +182,18 @@ ways-line a P K j (suc k) x v hj room near lo up =
     (λ z. rw (ne-eqb k j z)
     (way-line (clockAt a) (spaceAt a k j) K (P k) j (min (spaceAt a k j) K) y v hj (omega (arith, length-ways a P K j k x)) (near k (omega arith)) (omega arith) lo up
     ∙ ap (joined (arrivalAt y j u)) (gets-reaches a P K j v k z lo))) in
-    one ∙ ap (λ (h : Heard). joined h s) ih ∙ joined-met (met (arrivalAt x j u) g) s ∙ met-group (arrivalAt x j u) g (alone s) ∙ ap (met (arrivalAt x j u)) (sym (joined-met g s))
+    one
+    ∙ ap (λ (h : Heard). joined h s) ih
+    ∙ joined-met (met (arrivalAt x j u) g) s
+    ∙ met-group (arrivalAt x j u) g (alone s)
+    ∙ ap (met (arrivalAt x j u)) (sym (joined-met g s))
 
 -- the whole of a line
 unfoldable pub lineDone : List ℕ → Plan → (K j : ℕ) → List ℕ → List ℕ
 lineDone a P K j x = waysTo a P K j (countAt a) (cleared (clockAt a) j (min K 256) x)
 
-pub pushed-line : (a x : List ℕ) (P : Plan) (K j v : ℕ) → Spread (countAt a) a → j < countAt a → 57344 ≤ length x → ((u : ℕ) → arrivalAt x j u ≡ arrivalAt a j u) → K ≤ v → v < K + 256
+pub pushed-line : (a x : List ℕ) (P : Plan) (K j v : ℕ) → Spread (countAt a) a → j < countAt a → 57344 ≤ length x
+    → ((u : ℕ) → arrivalAt x j u ≡ arrivalAt a j u) → K ≤ v → v < K + 256
     → arrivalAt (lineDone a P K j x) j (clockAt a + v) ≡ lineAfter a P K j v
 unfolding lineAfter heard netOf lineDone
 pushed-line a x P K j v sp hj room same lo up =

@@ -29,7 +29,8 @@ use Rattle.fast_plan.specs.Prefix.{Unhurt, holds-less}
 unfoldable pub eventsBy : List ℕ → Plan → ℕ → List Events
 eventsBy a P s = filled noEvents (λ i. eventsOf (actAfter a P i s)) (countAt a)
 
-pub plan-events : (a : List ℕ) (P : Plan) (K s : ℕ) → Readiness a → clockAt a + K ≤ 16777216 → Holds a P K → s ≤ K → eventsAt (steps s a) ≡ eventsBy a P s
+pub plan-events : (a : List ℕ) (P : Plan) (K s : ℕ) → Readiness a → clockAt a + K ≤ 16777216 → Holds a P K → s ≤ K
+    → eventsAt (steps s a) ≡ eventsBy a P s
 unfolding eventsAt eventsBy
 plan-events a P K s r early h hs =
     let w : Planned a P s (steps s a) = plan-happens a P s r (omega arith) (holds-less a P K s hs h) in
@@ -43,7 +44,8 @@ none-late a P K s u hs =
     below-none (lateAt (eventsBy a P s)) 16
     (λ i h. by-test (ltb i (countAt a))
     (λ c. let l = ltb-true i (countAt a) c in
-    ap (λ (e : Events). isLate (e .sent)) (filled-at noEvents (λ j. eventsOf (actAfter a P j s)) (countAt a) i noEvents l) ∙ u s i hs l)
+    ap (λ (e : Events). isLate (e .sent)) (filled-at noEvents (λ j. eventsOf (actAfter a P j s)) (countAt a) i noEvents l)
+    ∙ u s i hs l)
     (λ c. let l = ltb-false i (countAt a) c in
     let z : i ≡ countAt a + (i - countAt a) = omega arith in
     ap (λ (m : ℕ). isLate (getD (filled noEvents (λ j. eventsOf (actAfter a P j s)) (countAt a)) m noEvents .sent)) z
@@ -53,15 +55,18 @@ none-late a P K s u hs =
 unfoldable pub talliedBy : List ℕ → Plan → ℕ → List ℕ → List ℕ
 talliedBy a P K ws = turns (λ s w. tallied (eventsBy a P s) 16 w) K ws
 
-run-one : (k m : ℕ) (ws a : List ℕ) → some (lateAt (eventsAt a)) 16 ≡ false → runOf (suc k) m ws a ≡ runOf k (m + 1) (tallied (eventsAt a) 16 ws) (stepArea a)
+run-one : (k m : ℕ) (ws a : List ℕ) → some (lateAt (eventsAt a)) 16 ≡ false
+    → runOf (suc k) m ws a ≡ runOf k (m + 1) (tallied (eventsAt a) 16 ws) (stepArea a)
 unfolding runOf
 run-one k m ws a e = rw e
 
 -- K steps of a run
-pub run-steps : (a : List ℕ) (P : Plan) (K r m : ℕ) (ws : List ℕ) → Readiness a → clockAt a + K ≤ 16777216 → Holds a P K → Unhurt a P K
+pub run-steps : (a : List ℕ) (P : Plan) (K r m : ℕ) (ws : List ℕ) → Readiness a → clockAt a + K ≤ 16777216 → Holds a P K
+    → Unhurt a P K
     → runOf (K + r) m ws a ≡ runOf r (m + K) (talliedBy a P K ws) (steps K a)
 unfolding talliedBy turns steps Unhurt
-run-steps a P zero r m ws ready early h u = let e : 0 + r ≡ r = omega arith in let z : m ≡ m + 0 = omega arith in ap₂ (λ (k l : ℕ). runOf k l ws a) e z
+run-steps a P zero r m ws ready early h u =
+    let e : 0 + r ≡ r = omega arith in let z : m ≡ m + 0 = omega arith in ap₂ (λ (k l : ℕ). runOf k l ws a) e z
 run-steps a P (suc K) r m ws ready early h u =
     let e : suc K + r ≡ K + suc r = omega arith in
     let z : m + K + 1 ≡ m + suc K = omega arith in
@@ -77,9 +82,12 @@ run-steps a P (suc K) r m ws ready early h u =
     unhurt-less K u = λ s i hs hi. u s i (omega arith) hi
 
 -- Theorem 1 for a run: the first K steps are the plan's
-pub run-planned : (a : List ℕ) (P : Plan) (K r m : ℕ) (ws : List ℕ) → 0 < K → Readiness a → clockAt a + K ≤ 16777216 → Holds a P K → Unhurt a P K
+pub run-planned : (a : List ℕ) (P : Plan) (K r m : ℕ) (ws : List ℕ) → 0 < K → Readiness a → clockAt a + K ≤ 16777216
+    → Holds a P K → Unhurt a P K
     → runOf (K + r) m ws a ≡ runOf r (m + K) (talliedBy a P K ws) (planned a P K)
-run-planned a P K r m ws pos ready early h u = run-steps a P K r m ws ready early h u ∙ ap (runOf r (m + K) (talliedBy a P K ws)) (steps-planned a P K pos ready early h)
+run-planned a P K r m ws pos ready early h u =
+    run-steps a P K r m ws ready early h u
+    ∙ ap (runOf r (m + K) (talliedBy a P K ws)) (steps-planned a P K pos ready early h)
 
 -- K steps without an event
 pub until-steps : (a : List ℕ) (K k : ℕ) → ((s : ℕ) → s < K → eventful (eventsAt (steps s a)) ≡ false)

@@ -126,13 +126,15 @@ used-end a i s m k h e lo up = let z : s ≡ min m 256 = omega arith in rw (← 
 module _ (a : List ℕ) (m : ℕ) where
   first-few : (k : ℕ) → 0 ≡ worth k → 0 ≡ worth (linesRest a (worth k) (countAt a))
   unfolding linesRest
-  first-few k e = rw (← e) (few-worth 0 (linesRest a 0 (countAt a)) (lines-fall a 0 0 (countAt a) (omega arith)) (omega arith))
+  first-few k e =
+      rw (← e) (few-worth 0 (linesRest a 0 (countAt a)) (lines-fall a 0 0 (countAt a) (omega arith)) (omega arith))
 
   pub silent-few : m < 5 → 0 ≡ silentFor m a
   unfolding silentFor stationsRest
   silent-few h = first-few (stationsRest a m (countAt a)) (few-worth m (stationsRest a m (countAt a)) (stations-fall a m 0 (countAt a) (omega arith)) h)
 
-  pub silent-is : (n k r : ℕ) → n ≡ countAt a → k ≡ worth (stationsRest a m n) → r ≡ worth (linesRest a k n) → r ≡ silentFor m a
+  pub silent-is : (n k r : ℕ) → n ≡ countAt a → k ≡ worth (stationsRest a m n) → r ≡ worth (linesRest a k n)
+      → r ≡ silentFor m a
   unfolding silentFor
   silent-is n k r e p q = q ∙ rw (p, e)
 

@@ -76,7 +76,9 @@ rested-for f m K s p h =
 
     value : {b c : Bool} → s .emitted ≡ b → idle (s .receiver) ≡ c
         → pick (s .emitted) 0 (pick (idle (s .receiver)) (framesRest f m (s .deference) (s .transmitter)) 0) ≡ pick b 0 (pick c (framesRest f m (s .deference) (s .transmitter)) 0)
-    value {b} {c} e i = ap (λ (u : Bool). pick u 0 (pick (idle (s .receiver)) (framesRest f m (s .deference) (s .transmitter)) 0)) e ∙ ap (λ (u : Bool). pick b 0 (pick u (framesRest f m (s .deference) (s .transmitter)) 0)) i
+    value {b} {c} e i =
+        ap (λ (u : Bool). pick u 0 (pick (idle (s .receiver)) (framesRest f m (s .deference) (s .transmitter)) 0)) e
+        ∙ ap (λ (u : Bool). pick b 0 (pick u (framesRest f m (s .deference) (s .transmitter)) 0)) i
 
 -- ---- a line: to its first place in use, of m steps asked
 
@@ -157,7 +159,8 @@ lines-fall a m i (suc n) h =
     by-eq i (suc n) (λ e. rw e (omega arith))
     (λ ne. omega (arith, line-most a (linesRest a m n) n, lines-fall a m i n (omega arith)))
 
-stations-one : (a : List ℕ) (m i : ℕ) → stationsRest a m (suc i) ≤ stationRests (figuresAt a) (stationsRest a m i) (stationAt a i)
+stations-one : (a : List ℕ) (m i : ℕ)
+    → stationsRest a m (suc i) ≤ stationRests (figuresAt a) (stationsRest a m i) (stationAt a i)
 unfolding stationsRest
 stations-one a m i = omega arith
 

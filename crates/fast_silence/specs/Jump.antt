@@ -93,7 +93,8 @@ module _ (f : Figures) (d i : ℕ) (a : List ℕ) (K : ℕ) (hi : i < 16) (room 
   there : (m : ℕ) → stationAt (withStation a i (rested f m q)) i ≡ rested f m q
   there m = station-same a room i (rested f m q) hi (fits m) (own-address m)
 
-  outcome-by : (m : ℕ) (x : List ℕ) → m < K → stationAt x i ≡ rested f m q → actOn f d i Nothing x .outcome ≡ quietly (rested f (suc m) q) Rest NoStore
+  outcome-by : (m : ℕ) (x : List ℕ) → m < K → stationAt x i ≡ rested f m q
+      → actOn f d i Nothing x .outcome ≡ quietly (rested f (suc m) q) Rest NoStore
   unfolding actOn outcomeOn q
   outcome-by m x h e =
       ap (λ (s : Station). stepped f s d (drawAt x i (s .draw)) (bufferAt x i) Nothing) e
@@ -103,23 +104,29 @@ module _ (f : Figures) (d i : ℕ) (a : List ℕ) (K : ℕ) (hi : i < 16) (room 
   unfolding q
   begins = sym (rested-none f d (clockAt a) (stationAt a i) v (l .silent))
 
-  turn-by : (m : ℕ) (x : List ℕ) → m < K → stationAt x i ≡ rested f m q → ownTurn f d i Nothing x ≡ withStation x i (rested f (suc m) q)
+  turn-by : (m : ℕ) (x : List ℕ) → m < K → stationAt x i ≡ rested f m q
+      → ownTurn f d i Nothing x ≡ withStation x i (rested f (suc m) q)
   unfolding ownTurn
   turn-by m x h e = ap (λ (o : Stepped). ownLeft i o x) (outcome-by m x h e) ∙ quiet-left i (rested f (suc m) q) x
 
-  pub silent-itself : (m : ℕ) → suc m ≤ K → byItself f d i (λ s. Nothing) (suc m) a ≡ withStation a i (rested f (suc m) (stationAt a i))
+  pub silent-itself : (m : ℕ) → suc m ≤ K
+      → byItself f d i (λ s. Nothing) (suc m) a ≡ withStation a i (rested f (suc m) (stationAt a i))
   unfolding byItself turns q
   silent-itself zero h = turn-by 0 a h begins
   silent-itself (suc m) h =
       let x = withStation a i (rested f (suc m) (stationAt a i)) in
-      ap (ownTurn f d i Nothing) (silent-itself m (omega arith)) ∙ turn-by (suc m) x h (there (suc m)) ∙ station-over a i hi (rested f (suc (suc m)) (stationAt a i)) (rested f (suc m) (stationAt a i)) room
+      ap (ownTurn f d i Nothing) (silent-itself m (omega arith))
+      ∙ turn-by (suc m) x h (there (suc m))
+      ∙ station-over a i hi (rested f (suc (suc m)) (stationAt a i)) (rested f (suc m) (stationAt a i)) room
 
   -- what it does in step m
-  pub silent-act : (m : ℕ) → m < K → actOn f d i Nothing (byItself f d i (λ s. Nothing) m a) .outcome ≡ quietly (rested f (suc m) (stationAt a i)) Rest NoStore
+  pub silent-act : (m : ℕ) → m < K
+      → actOn f d i Nothing (byItself f d i (λ s. Nothing) m a) .outcome ≡ quietly (rested f (suc m) (stationAt a i)) Rest NoStore
   unfolding byItself turns q
   silent-act zero h = outcome-by 0 a h begins
   silent-act (suc m) h =
-      ap (λ (x : List ℕ). actOn f d i Nothing x .outcome) (silent-itself m (omega arith)) ∙ outcome-by (suc m) (withStation a i (rested f (suc m) (stationAt a i))) h (there (suc m))
+      ap (λ (x : List ℕ). actOn f d i Nothing x .outcome) (silent-itself m (omega arith))
+      ∙ outcome-by (suc m) (withStation a i (rested f (suc m) (stationAt a i))) h (there (suc m))
 
 none-at : (n k : ℕ) → getD (filled noEvents (λ i. noEvents) n) k noEvents ≡ noEvents
 none-at n k =
@@ -142,7 +149,8 @@ nothing-eventful n =
 -- ---- the plan of silence
 
 module _ (a : List ℕ) (K : ℕ) (r : Readiness a) (s : Silent a K) where
-  silence-heard : (E : Plan) (j v : ℕ) → ((i u : ℕ) → E i u ≡ Silence) → met (lineNow a j v) (heard (netOf a) E j v) ≡ lineNow a j v
+  silence-heard : (E : Plan) (j v : ℕ) → ((i u : ℕ) → E i u ≡ Silence)
+      → met (lineNow a j v) (heard (netOf a) E j v) ≡ lineNow a j v
   silence-heard E j v h = ap (met (lineNow a j v)) (heard-none (netOf a) E j v h) ∙ met-none (lineNow a j v)
 
   line-empty : (j u : ℕ) → j < countAt a → u < K → lineNow a j u ≡ Nothing
@@ -156,11 +164,13 @@ module _ (a : List ℕ) (K : ℕ) (r : Readiness a) (s : Silent a K) where
   unfolding hears silentPlan
   hears-none j u hj hu = silence-heard silentPlan j u (λ i v. refl) ∙ line-empty j u hj hu
 
-  own-silent : (i m : ℕ) → i < countAt a → m ≤ K → ownAfter a silentPlan i m ≡ byItself (figuresAt a) (depthAt a) i (λ u. Nothing) m a
+  own-silent : (i m : ℕ) → i < countAt a → m ≤ K
+      → ownAfter a silentPlan i m ≡ byItself (figuresAt a) (depthAt a) i (λ u. Nothing) m a
   unfolding ownAfter
   own-silent i m hi hm = itself-heard (figuresAt a) (depthAt a) i (hears a silentPlan i) (λ u. Nothing) m a (λ u h. hears-none i u hi (omega arith))
 
-  own-rested : (i : ℕ) → i < countAt a → 0 < K → ownAfter a silentPlan i K ≡ withStation a i (rested (figuresAt a) K (stationAt a i))
+  own-rested : (i : ℕ) → i < countAt a → 0 < K
+      → ownAfter a silentPlan i K ≡ withStation a i (rested (figuresAt a) K (stationAt a i))
   own-rested i hi pos =
       let few = r .spread .few in
       let z : K ≡ suc (K - 1) = omega arith in
@@ -169,14 +179,16 @@ module _ (a : List ℕ) (K : ℕ) (r : Readiness a) (s : Silent a K) where
       ∙ silent-itself (figuresAt a) (depthAt a) i a K (omega arith) (r .long) (r .figures) (r .fine i hi) (r .depth .1) (omega (arith, r .clock)) (s .calm i hi) (K - 1) (omega arith)
       ∙ ap (λ (k : ℕ). withStation a i (rested (figuresAt a) k (stationAt a i))) (sym z)
 
-  acts : (i m : ℕ) → i < countAt a → m < K → actAfter a silentPlan i m .outcome ≡ quietly (rested (figuresAt a) (suc m) (stationAt a i)) Rest NoStore
+  acts : (i m : ℕ) → i < countAt a → m < K
+      → actAfter a silentPlan i m .outcome ≡ quietly (rested (figuresAt a) (suc m) (stationAt a i)) Rest NoStore
   unfolding actAfter
   acts i m hi hm =
       let few = r .spread .few in
       ap₂ (λ (h : Heard) (x : List ℕ). actOn (figuresAt a) (depthAt a) i h x .outcome) (hears-none i m hi hm) (own-silent i m hi (omega arith))
       ∙ silent-act (figuresAt a) (depthAt a) i a K (omega arith) (r .long) (r .figures) (r .fine i hi) (r .depth .1) (omega (arith, r .clock)) (s .calm i hi) m hm
 
-  silent-symbol : (f : Figures) (d i : ℕ) (h : Heard) (x : List ℕ) (q : Station) → actOn f d i h x .outcome ≡ quietly q Rest NoStore → actOn f d i h x .symbol ≡ Silence
+  silent-symbol : (f : Figures) (d i : ℕ) (h : Heard) (x : List ℕ) (q : Station)
+      → actOn f d i h x .outcome ≡ quietly q Rest NoStore → actOn f d i h x .symbol ≡ Silence
   unfolding actOn quietly
   silent-symbol f d i h x q e = ap (λ (o : Stepped). symbolOf (frameAt x i (octetsHeld (stationAt x i .transmitter) (stationAt x i .frame))) (o .emission)) e
 
@@ -201,7 +213,8 @@ module _ (a : List ℕ) (K : ℕ) (r : Readiness a) (s : Silent a K) where
   rested-keeps p (suc k) o =
       keeps-trans p (restedAll a K (suc k) a) (restedAll a K k a) a (station-keeps p (restedAll a K k a) k (rested (figuresAt a) K (stationAt a k)) (o k (omega arith))) (rested-keeps p k (λ i h. o i (omega arith)))
 
-  rested-station : (k i : ℕ) → i < k → k ≤ 16 → Keeps (station i) (restedAll a K k a) (withStation a i (rested (figuresAt a) K (stationAt a i)))
+  rested-station : (k i : ℕ) → i < k → k ≤ 16
+      → Keeps (station i) (restedAll a K k a) (withStation a i (rested (figuresAt a) K (stationAt a i)))
   unfolding restedAll turns
   rested-station zero i hi hk = absurd (omega arith)
   rested-station (suc k) i hi hk =
@@ -215,7 +228,9 @@ module _ (a : List ℕ) (K : ℕ) (r : Readiness a) (s : Silent a K) where
   rested-still : (k m : ℕ) → Still (countAt a) k → m ≤ countAt a → getD (restedAll a K m a) k 0 ≡ getD a k 0
   unfolding restedAll turns
   rested-still k zero st hm = refl
-  rested-still k (suc m) st hm = station-still (countAt a) k (r .spread .few) st m (rested (figuresAt a) K (stationAt a m)) (restedAll a K m a) hm ∙ rested-still k m st (omega arith)
+  rested-still k (suc m) st hm =
+      station-still (countAt a) k (r .spread .few) st m (rested (figuresAt a) K (stationAt a m)) (restedAll a K m a) hm
+      ∙ rested-still k m st (omega arith)
 
   line-silent : (j v : ℕ) → lineAfter a silentPlan K j v ≡ lineNow a j v
   unfolding lineAfter cut silentPlan
@@ -269,20 +284,26 @@ module _ (a : List ℕ) (K : ℕ) (r : Readiness a) (s : Silent a K) where
   quiet-words : (m : ℕ) (ws : List ℕ) → m ≤ K → talliedBy a silentPlan m ws ≡ ws
   unfolding talliedBy turns
   quiet-words zero ws h = refl
-  quiet-words (suc m) ws h = ap₂ (λ (es : List Events) (vs : List ℕ). tallied es 16 vs) (quiet-events m h) (quiet-words m ws (omega arith)) ∙ nothing-tallied (countAt a) 16 ws
+  quiet-words (suc m) ws h =
+      ap₂ (λ (es : List Events) (vs : List ℕ). tallied es 16 vs) (quiet-events m h) (quiet-words m ws (omega arith))
+      ∙ nothing-tallied (countAt a) 16 ws
 
-  pub run-jumps : (k m : ℕ) (ws : List ℕ) → 0 < K → clockAt a + K ≤ 16777216 → runOf (K + k) m ws a ≡ runOf k (m + K) ws (jumped K a)
+  pub run-jumps : (k m : ℕ) (ws : List ℕ) → 0 < K → clockAt a + K ≤ 16777216
+      → runOf (K + k) m ws a ≡ runOf k (m + K) ws (jumped K a)
   run-jumps k m ws pos early =
-      run-steps a silentPlan K k m ws r early silence-holds silence-unhurt ∙ ap₂ (runOf k (m + K)) (quiet-words K ws (omega arith)) (silence-jumps pos early)
+      run-steps a silentPlan K k m ws r early silence-holds silence-unhurt
+      ∙ ap₂ (runOf k (m + K)) (quiet-words K ws (omega arith)) (silence-jumps pos early)
 
   quiet-step : (u : ℕ) → u < K → clockAt a + K ≤ 16777216 → eventful (eventsAt (steps u a)) ≡ false
   quiet-step u h early =
-      ap eventful (plan-events a silentPlan K u r early silence-holds (omega arith) ∙ quiet-events u h) ∙ nothing-eventful (countAt a)
+      ap eventful (plan-events a silentPlan K u r early silence-holds (omega arith) ∙ quiet-events u h)
+      ∙ nothing-eventful (countAt a)
 
   pub until-jumps : (k : ℕ) → 0 < K → clockAt a + K ≤ 16777216
       → untilEvent (K + k) a ≡ plus K (untilEvent k (jumped K a))
   until-jumps k pos early =
-      until-steps a K k (λ u h. quiet-step u h early) ∙ ap (λ (x : List ℕ). plus K (untilEvent k x)) (silence-jumps pos early)
+      until-steps a K k (λ u h. quiet-step u h early)
+      ∙ ap (λ (x : List ℕ). plus K (untilEvent k x)) (silence-jumps pos early)
 
   pub jump-planned : 0 < K → clockAt a + K ≤ 16777216 → Planned a silentPlan K (jumped K a)
   jump-planned pos early =

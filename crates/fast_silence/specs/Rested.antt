@@ -128,16 +128,23 @@ module _ (f : Figures) (own : Bool) where
   gap-ends c h = rw (le-leb (gapOf f) c (omega arith))
 
   -- a gap, whatever it has come to
-  gap-goes : (c : ℕ) (w : Bool) → (w ≡ true → c < gapOf f) → defer f (gapTo f own c) false false w ≡ to (gapTo f own (suc c))
+  gap-goes : (c : ℕ) (w : Bool) → (w ≡ true → c < gapOf f)
+      → defer f (gapTo f own c) false false w ≡ to (gapTo f own (suc c))
   gap-goes c true h =
       let g = h refl in
       let e : c + 1 ≡ suc c = omega arith in
-      ap (λ (d : Deference). defer f d false false true) (gap-in c (omega arith)) ∙ gap-more c true g ∙ ap to (rw e) ∙ sym (ap to (gap-in (suc c) (omega arith)))
+      ap (λ (d : Deference). defer f d false false true) (gap-in c (omega arith))
+      ∙ gap-more c true g
+      ∙ ap to (rw e)
+      ∙ sym (ap to (gap-in (suc c) (omega arith)))
   gap-goes c false h =
       by-test (ltb c (gapOf f))
       (λ b. let g = ltb-true c (gapOf f) b in
       let e : c + 1 ≡ suc c = omega arith in
-      ap (λ (d : Deference). defer f d false false false) (gap-in c (omega arith)) ∙ gap-more c false g ∙ ap to (rw e) ∙ sym (ap to (gap-in (suc c) (omega arith))))
+      ap (λ (d : Deference). defer f d false false false) (gap-in c (omega arith))
+      ∙ gap-more c false g
+      ∙ ap to (rw e)
+      ∙ sym (ap to (gap-in (suc c) (omega arith))))
       (λ b. let g = ltb-false c (gapOf f) b in
       by-eq c (gapOf f)
       (λ e. ap (λ (d : Deference). defer f d false false false) (gap-in c (omega arith)) ∙ gap-ends c e ∙ sym (ap to (gap-over (suc c) (omega arith))))
@@ -147,12 +154,14 @@ busy-goes : (f : Figures) (own w : Bool) → defer f (Busy own) false false w �
 unfolding defer busyRule
 busy-goes f own w = refl
 
-defer-goes : (f : Figures) (d : Deference) (m : ℕ) (w : Bool) → 1 ≤ gapOf f → (w ≡ true → m < restsFor f d) → defer f (restedDeference f m d) false false w ≡ to (restedDeference f (suc m) d)
+defer-goes : (f : Figures) (d : Deference) (m : ℕ) (w : Bool) → 1 ≤ gapOf f → (w ≡ true → m < restsFor f d)
+    → defer f (restedDeference f m d) false false w ≡ to (restedDeference f (suc m) d)
 unfolding restedDeference restsFor
 defer-goes f Quiet m true g h = absurd (omega (arith, h refl))
 defer-goes f Quiet m false g h = over-quiet f false
 defer-goes f (Busy own) zero w g h = busy-goes f own w ∙ sym (ap to (gap-in f own 1 g))
-defer-goes f (Busy own) (suc m) w g h = rw (ne-eqb (suc m) 0 (λ z. omega arith), ne-eqb (suc (suc m)) 0 (λ z. omega arith)) (gap-goes f own (suc m) w h)
+defer-goes f (Busy own) (suc m) w g h =
+    rw (ne-eqb (suc m) 0 (λ z. omega arith), ne-eqb (suc (suc m)) 0 (λ z. omega arith)) (gap-goes f own (suc m) w h)
 defer-goes f (Gap n own) m w g h =
     let e : suc (n + m) ≡ n + suc m = omega arith in
     gap-goes f own (n + m) w (λ z. omega (arith, h z)) ∙ ap (λ (c : ℕ). to (gapTo f own c)) e
@@ -160,7 +169,8 @@ defer-goes f (Gap n own) m w g h =
 -- ---- transmitter
 
 -- in K steps a frame that waits does not start
-waits-rests : (f : Figures) (K m : ℕ) (d : Deference) (x : Transmitter) → Lasts f K d x → m < K → waits (restedTransmitter m x) ≡ true → m < restsFor f d
+waits-rests : (f : Figures) (K m : ℕ) (d : Deference) (x : Transmitter) → Lasts f K d x → m < K
+    → waits (restedTransmitter m x) ≡ true → m < restsFor f d
 unfolding restedTransmitter
 waits-rests f K m d NoFrame l h e = absurd (true≢false (sym e))
 waits-rests f K m d Waiting l h e = omega arith
@@ -172,7 +182,8 @@ waits-rests f K m d (Sending k) l h e = absurd l
 waits-rests f K m d (Heading k) l h e = absurd l
 waits-rests f K m d (Jamming k) l h e = absurd l
 
-transmit-goes : (f : Figures) (K m : ℕ) (d : Deference) (x : Transmitter) (z n draw : ℕ) → Lasts f K d x → transmit f (restedTransmitter m x) z n draw false false ≡ resting (restedTransmitter (suc m) x)
+transmit-goes : (f : Figures) (K m : ℕ) (d : Deference) (x : Transmitter) (z n draw : ℕ) → Lasts f K d x
+    → transmit f (restedTransmitter m x) z n draw false false ≡ resting (restedTransmitter (suc m) x)
 unfolding restedTransmitter transmit waitBit backoffBit
 transmit-goes f K m d NoFrame z n draw l = refl
 transmit-goes f K m d Waiting z n draw l = refl
@@ -211,14 +222,16 @@ deferred-more false false h false = refl
 
 -- ---- the step
 
-pub idle-ends : (address buf : List ℕ) (r : Receiver) (e : Bool) → Idle r → receive address buf r Nothing e ≡ deciding r NoReceive
+pub idle-ends : (address buf : List ℕ) (r : Receiver) (e : Bool) → Idle r
+    → receive address buf r Nothing e ≡ deciding r NoReceive
 unfolding receive ended
 idle-ends address buf Listening e i = refl
 idle-ends address buf (Readable n) e i = refl
 idle-ends address buf (Seeking row sp own) e i = absurd i
 idle-ends address buf (Collecting n sp own) e i = absurd i
 
-pub rested-step : (f : Figures) (K m : ℕ) (s : Station) (d draw : ℕ) (buf : List ℕ) → 1 ≤ gapOf f → Rests f K s → m < K → stepped f (rested f m s) d draw buf Nothing ≡ quietly (rested f (suc m) s) Rest NoStore
+pub rested-step : (f : Figures) (K m : ℕ) (s : Station) (d draw : ℕ) (buf : List ℕ) → 1 ≤ gapOf f → Rests f K s → m < K
+    → stepped f (rested f m s) d draw buf Nothing ≡ quietly (rested f (suc m) s) Rest NoStore
 unfolding stepped nextStation triesAfter drawAfter deferredAfter quietly rested
 rested-step f K m s d draw buf g l h =
     rw (

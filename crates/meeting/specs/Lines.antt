@@ -47,7 +47,8 @@ share-adds d c t e j v i T U et eu p q lo hi =
 
 share-none : (t d i j u : ℕ) → share t d i Silence j u ≡ Silence
 unfolding share
-share-none t d i j u = by-test (eqb i j) (λ e. rw e) (λ e. by-test (eqb ((t + d) % 256) (u % 256)) (λ f. rw (e, f)) (λ f. rw (e, f)))
+share-none t d i j u =
+    by-test (eqb i j) (λ e. rw e) (λ e. by-test (eqb ((t + d) % 256) (u % 256)) (λ f. rw (e, f)) (λ f. rw (e, f)))
 
 send-here : (t i : ℕ) (s : Symbol) (j u : ℕ) (x : List ℕ) → j < 16 → 57344 ≤ length x
     → arrivalAt (sendTo t i s j x) j u ≡ joined (arrivalAt x j u) (share t (spaceAt x i j) i s j u)
@@ -91,7 +92,8 @@ pushed-here n t i s j u x hi hn hj room =
 
 -- ---- one station's turn, at a place that is not the present one
 
-settled-here : (n t i j u : ℕ) (r : Act) (x : List ℕ) → i < 16 → n ≤ 16 → j < n → 57344 ≤ length x → Kept (r .outcome .stored) → (u % 256 ≡ t % 256 → ⊥)
+settled-here : (n t i j u : ℕ) (r : Act) (x : List ℕ) → i < 16 → n ≤ 16 → j < n → 57344 ≤ length x
+    → Kept (r .outcome .stored) → (u % 256 ≡ t % 256 → ⊥)
     → arrivalAt (settled n t i r x) j u ≡ joined (arrivalAt x j u) (share t (spaceAt x i j) i (r .symbol) j u)
 unfolding settled
 settled-here n t i j u r x hi hn hj room kept ne =
@@ -103,7 +105,8 @@ settled-here n t i j u r x hi hn hj room kept ne =
     (space-by (placed t i (r .outcome) x) x i j hi (omega arith) (placed-layout t i (r .outcome) x hi kept))
 
 -- and at the present one: it is cleared
-settled-clear : (n t i : ℕ) (r : Act) (x : List ℕ) → i < n → n ≤ 16 → 57344 ≤ length x → Kept (r .outcome .stored) → arrivalAt (settled n t i r x) i t ≡ Nothing
+settled-clear : (n t i : ℕ) (r : Act) (x : List ℕ) → i < n → n ≤ 16 → 57344 ≤ length x → Kept (r .outcome .stored)
+    → arrivalAt (settled n t i r x) i t ≡ Nothing
 unfolding settled
 settled-clear n t i r x hi hn room kept =
     arrival-by (pushed n t i (r .symbol) (placed t i (r .outcome) x)) (placed t i (r .outcome) x) i t
@@ -112,7 +115,8 @@ settled-clear n t i r x hi hn room kept =
 
 -- ---- the turns of all stations
 
-module _ (n t : ℕ) (r : ℕ → Act) (a : List ℕ) (sp : Spread n a) (kept : (i : ℕ) → i < n → Kept (r i .outcome .stored)) (room : 57344 ≤ length a) where
+module _ (n t : ℕ) (r : ℕ → Act) (a : List ℕ) (sp : Spread n a) (kept : (i : ℕ) → i < n → Kept (r i .outcome .stored))
+    (room : 57344 ≤ length a) where
   after : ℕ → List ℕ
   after k = turns (λ i x. settled n t i (r i) x) k a
 
@@ -122,7 +126,8 @@ module _ (n t : ℕ) (r : ℕ → Act) (a : List ℕ) (sp : Spread n a) (kept : 
 
   space-after : (k i j : ℕ) → k ≤ n → i < n → j < n → spaceAt (after k) i j ≡ spaceAt a i j
   unfolding after
-  space-after k i j hk hi hj = space-by (after k) a i j (omega (arith, sp .few)) (omega (arith, sp .few)) (ahead n t r a sp kept room k hk .plan)
+  space-after k i j hk hi hj =
+      space-by (after k) a i j (omega (arith, sp .few)) (omega (arith, sp .few)) (ahead n t r a sp kept room k hk .plan)
 
   pub line-all : (k j u : ℕ) → k ≤ n → j < n → (u % 256 ≡ t % 256 → ⊥)
       → arrivalAt (turns (λ i x. settled n t i (r i) x) k a) j u ≡ met (arrivalAt a j u) (gathered k (λ i. share t (spaceAt a i j) i (r i .symbol) j u))
