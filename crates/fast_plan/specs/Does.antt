@@ -66,15 +66,19 @@ quiet-events r s e o h = ap (λ (c : Stepped). record { sent = c .sent; got = c 
 pub rest-symbol : (f : Figures) (d i : ℕ) (h : Heard) (x : List ℕ) (s : Station) (o : Stored)
     → actOn f d i h x .outcome ≡ quietly s Rest o → actOn f d i h x .symbol ≡ Silence
 unfolding actOn quietly
-rest-symbol f d i h x s o e = ap (λ (c : Stepped). symbolOf (frameAt x i (octetsHeld (stationAt x i .transmitter) (stationAt x i .frame))) (c .emission)) e
+rest-symbol f d i h x s o e = ap
+    (λ (c : Stepped). symbolOf (frameAt x i (octetsHeld (stationAt x i .transmitter) (stationAt x i .frame)))
+    (c .emission)) e
 
 -- a state in closed form
 pub does-by : (a : List ℕ) (P : Plan) (K i : ℕ) (H : ℕ → Heard) (on : ℕ → Station) (em : ℕ → Emission) (st : ℕ → Stored)
     → 0 < K → countAt a ≤ 16 → i < countAt a → 57344 ≤ length a
     → ((s : ℕ) → s < K → hears a P i s ≡ H s) → stationAt a i ≡ on 0 → ((m : ℕ) → m ≤ K → Fit (on m))
     → ((m : ℕ) → on m .address ≡ addressAt a i) → ((m : ℕ) → Kept (st m))
-    → ((m draw : ℕ) (buf : List ℕ) → m < K → stepped (figuresAt a) (on m) (depthAt a) draw buf (H m) ≡ quietly (on (suc m)) (em m) (st m))
-    → ((m : ℕ) → m < K → actOn (figuresAt a) (depthAt a) i (H m) (byItself (figuresAt a) (depthAt a) i H m a) .symbol ≡ P i m)
+    → ((m draw : ℕ) (buf : List ℕ) → m < K → stepped (figuresAt a) (on m) (depthAt a) draw buf (H m) ≡ quietly
+    (on (suc m)) (em m) (st m))
+    → ((m : ℕ) → m < K → actOn (figuresAt a) (depthAt a) i (H m)
+    (byItself (figuresAt a) (depthAt a) i H m a) .symbol ≡ P i m)
     → Does a P K i (λ x. wentTo i st K (on K) x)
 does-by a P K i H on em st pos few hi room same begins fit address kept step symbol =
     let f = figuresAt a in
@@ -88,7 +92,8 @@ does-by a P K i H on em st pos few hi room same begins fit address kept step sym
       emits = λ s h. ap (λ (r : Act). r .symbol) (act-by a P K i H same s h) ∙ symbol s h;
       quiet = λ s h.
           ap eventsOf (act-by a P K i H same s h)
-          ∙ quiet-events (actOn f d i (H s) (byItself f d i H s a)) (on (suc s)) (em s) (st s) (goes-act f d i a K (omega arith) room on H em st begins fit address kept step s h);
+          ∙ quiet-events (actOn f d i (H s) (byItself f d i H s a)) (on (suc s)) (em s) (st s)
+          (goes-act f d i a K (omega arith) room on H em st begins fit address kept step s h);
     }
 
 -- ---- all of them
@@ -98,7 +103,8 @@ none-at n k =
     by-test (ltb k n)
     (λ c. filled-at noEvents (λ i. noEvents) n k noEvents (ltb-true k n c))
     (λ c. let g = ltb-false k n c in
-    let z : k ≡ n + (k - n) = omega arith in ap (λ (m : ℕ). getD (filled noEvents (λ i. noEvents) n) m noEvents) z ∙ filled-past noEvents (λ i. noEvents) n (k - n))
+    let z : k ≡ n + (k - n) = omega arith in ap (λ (m : ℕ). getD (filled noEvents (λ i. noEvents) n) m noEvents) z
+    ∙ filled-past noEvents (λ i. noEvents) n (k - n))
 
 nothing-tallied : (n m : ℕ) (ws : List ℕ) → tallied (filled noEvents (λ i. noEvents) n) m ws ≡ ws
 unfolding tallied turns sentCounted gotCounted

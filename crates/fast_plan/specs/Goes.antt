@@ -47,7 +47,8 @@ pub all-keeps : (p : Part) (i : ℕ) (st : ℕ → Stored) (m : ℕ) (x : List �
     → Keeps p (storedAll i st m x) x
 unfolding storedAll turns
 all-keeps p i st zero x k o = keeps-refl p x
-all-keeps p i st (suc m) x k o = keeps-trans p (storedAll i st (suc m) x) (storedAll i st m x) x (stored-keeps p i (st m) (storedAll i st m x) (k m) o) (all-keeps p i st m x k o)
+all-keeps p i st (suc m) x k o = keeps-trans p (storedAll i st (suc m) x) (storedAll i st m x) x
+    (stored-keeps p i (st m) (storedAll i st m x) (k m) o) (all-keeps p i st m x k o)
 
 -- a record written before or after
 station-stored : (i : ℕ) (o : Stored) (s : Station) (x : List ℕ) → i < 16
@@ -62,9 +63,12 @@ station-all i st zero s x hi = refl
 station-all i st (suc m) s x hi =
     station-stored i (st m) s (storedAll i st m x) hi ∙ ap (withStored i (st m)) (station-all i st m s x hi)
 
-module _ (f : Figures) (d i : ℕ) (a : List ℕ) (K : ℕ) (hi : i < 16) (room : 57344 ≤ length a) (on : ℕ → Station) (H : ℕ → Heard) (em : ℕ → Emission) (st : ℕ → Stored)
-    (begins : stationAt a i ≡ on 0) (fit : (m : ℕ) → m ≤ K → Fit (on m)) (address : (m : ℕ) → on m .address ≡ addressAt a i) (kept : (m : ℕ) → Kept (st m))
-    (step : (m draw : ℕ) (buf : List ℕ) → m < K → stepped f (on m) d draw buf (H m) ≡ quietly (on (suc m)) (em m) (st m)) where
+module _ (f : Figures) (d i : ℕ) (a : List ℕ) (K : ℕ) (hi : i < 16) (room : 57344 ≤ length a) (on : ℕ → Station)
+    (H : ℕ → Heard) (em : ℕ → Emission) (st : ℕ → Stored)
+    (begins : stationAt a i ≡ on 0) (fit : (m : ℕ) → m ≤ K → Fit (on m))
+    (address : (m : ℕ) → on m .address ≡ addressAt a i) (kept : (m : ℕ) → Kept (st m))
+    (step : (m draw : ℕ) (buf : List ℕ) → m < K → stepped f (on m) d draw buf (H m) ≡ quietly (on (suc m)) (em m)
+    (st m)) where
   after : ℕ → List ℕ
   after m = storedAll i st m (withStation a i (on m))
 
@@ -73,7 +77,9 @@ module _ (f : Figures) (d i : ℕ) (a : List ℕ) (K : ℕ) (hi : i < 16) (room 
   there m h =
       let y = withStation a i (on m) in
       let ly : 57344 ≤ length y = omega (arith, length-station a i (on m)) in
-      station-by (storedAll i st m y) y i hi (omega (arith, length-all i st m y)) ly (all-keeps layout i st m y kept (λ p q. omega arith)) (all-keeps (station i) i st m y kept (λ p q. omega arith))
+      station-by (storedAll i st m y) y i hi (omega (arith, length-all i st m y)) ly
+      (all-keeps layout i st m y kept (λ p q. omega arith))
+      (all-keeps (station i) i st m y kept (λ p q. omega arith))
       ∙ station-same a room i (on m) hi (fit m h) (address m)
 
   outcome-by : (m : ℕ) (x : List ℕ) → m < K → stationAt x i ≡ on m
@@ -112,14 +118,17 @@ module _ (f : Figures) (d i : ℕ) (a : List ℕ) (K : ℕ) (hi : i < 16) (room 
       let y = withStation a i (on m) in
       let ly : 57344 ≤ length y = omega (arith, length-station a i (on m)) in
       frame-by (storedAll i st m y) a i z hi hz (omega (arith, length-all i st m y)) room
-      (keeps-trans (frame i) (storedAll i st m y) y a (all-keeps (frame i) i st m y kept (λ p q. omega arith)) (station-keeps (frame i) a i (on m) (λ p q. omega arith)))
+      (keeps-trans (frame i) (storedAll i st m y) y a (all-keeps (frame i) i st m y kept (λ p q. omega arith))
+      (station-keeps (frame i) a i (on m) (λ p q. omega arith)))
 
   symbol-by : (m : ℕ) (x : List ℕ) → m < K → stationAt x i ≡ on m
       → actOn f d i (H m) x .symbol ≡ symbolOf (frameAt x i (octetsHeld (on m .transmitter) (on m .frame))) (em m)
   unfolding actOn outcomeOn quietly
   symbol-by m x h e =
-      ap (λ (o : Stepped). symbolOf (frameAt x i (octetsHeld (stationAt x i .transmitter) (stationAt x i .frame))) (o .emission))
-      (ap (λ (s : Station). stepped f s d (drawAt x i (s .draw)) (bufferAt x i) (H m)) e ∙ step m (drawAt x i (on m .draw)) (bufferAt x i) h)
+      ap (λ (o : Stepped). symbolOf (frameAt x i (octetsHeld (stationAt x i .transmitter) (stationAt x i .frame)))
+      (o .emission))
+      (ap (λ (s : Station). stepped f s d (drawAt x i (s .draw)) (bufferAt x i) (H m)) e ∙ step m
+      (drawAt x i (on m .draw)) (bufferAt x i) h)
       ∙ ap (λ (s : Station). symbolOf (frameAt x i (octetsHeld (s .transmitter) (s .frame))) (em m)) e
 
   pub goes-symbol : (m z : ℕ) → m < K → z ≤ 1536 → octetsHeld (on m .transmitter) (on m .frame) ≡ z

@@ -35,7 +35,8 @@ unfolding eventsAt eventsBy
 plan-events a P K s r early h hs =
     let w : Planned a P s (steps s a) = plan-happens a P s r (omega arith) (holds-less a P K s hs h) in
     let n : countAt (steps s a) ≡ countAt a = count-by (steps s a) a (w .stays 0 (omega arith) .layout) in
-    filled-same noEvents (λ i. eventsOf (actAt (steps s a) i)) (λ i. eventsOf (actAfter a P i s)) (countAt (steps s a)) (λ i hi. ap eventsOf (plan-acts a P K s i r early h hs (omega arith)))
+    filled-same noEvents (λ i. eventsOf (actAt (steps s a) i)) (λ i. eventsOf (actAfter a P i s)) (countAt (steps s a))
+    (λ i hi. ap eventsOf (plan-acts a P K s i r early h hs (omega arith)))
     ∙ ap (filled noEvents (λ i. eventsOf (actAfter a P i s))) n
 
 none-late : (a : List ℕ) (P : Plan) (K s : ℕ) → Unhurt a P K → s < K → some (lateAt (eventsBy a P s)) 16 ≡ false
@@ -44,12 +45,14 @@ none-late a P K s u hs =
     below-none (lateAt (eventsBy a P s)) 16
     (λ i h. by-test (ltb i (countAt a))
     (λ c. let l = ltb-true i (countAt a) c in
-    ap (λ (e : Events). isLate (e .sent)) (filled-at noEvents (λ j. eventsOf (actAfter a P j s)) (countAt a) i noEvents l)
+    ap (λ (e : Events). isLate (e .sent))
+    (filled-at noEvents (λ j. eventsOf (actAfter a P j s)) (countAt a) i noEvents l)
     ∙ u s i hs l)
     (λ c. let l = ltb-false i (countAt a) c in
     let z : i ≡ countAt a + (i - countAt a) = omega arith in
     ap (λ (m : ℕ). isLate (getD (filled noEvents (λ j. eventsOf (actAfter a P j s)) (countAt a)) m noEvents .sent)) z
-    ∙ ap (λ (e : Events). isLate (e .sent)) (filled-past noEvents (λ j. eventsOf (actAfter a P j s)) (countAt a) (i - countAt a))))
+    ∙ ap (λ (e : Events). isLate (e .sent))
+    (filled-past noEvents (λ j. eventsOf (actAfter a P j s)) (countAt a) (i - countAt a))))
 
 -- the words of K steps
 unfoldable pub talliedBy : List ℕ → Plan → ℕ → List ℕ → List ℕ
@@ -75,7 +78,8 @@ run-steps a P (suc K) r m ws ready early h u =
     let q : eventsAt x ≡ eventsBy a P K = plan-events a P (suc K) K ready early h (omega arith) in
     ap (λ (k : ℕ). runOf k m ws a) e
     ∙ run-steps a P K (suc r) m ws ready (omega arith) (holds-less a P (suc K) K (omega arith) h) (unhurt-less K u)
-    ∙ run-one r (m + K) vs x (ap (λ (es : List Events). some (lateAt es) 16) q ∙ none-late a P (suc K) K u (omega arith))
+    ∙ run-one r (m + K) vs x
+    (ap (λ (es : List Events). some (lateAt es) 16) q ∙ none-late a P (suc K) K u (omega arith))
     ∙ ap₂ (λ (l : ℕ) (es : List Events). runOf r l (tallied es 16 vs) (stepArea x)) z q
   where
     unhurt-less : (K : ℕ) → Unhurt a P (suc K) → Unhurt a P K
@@ -102,7 +106,9 @@ until-steps a (suc K) k h =
     let x = steps K a in
     ap (λ (m : ℕ). untilEvent m a) e
     ∙ until-steps a K (suc k) (λ s l. h s (omega arith))
-    ∙ ap (λ (b : Bool). plus K (pick b (record { steps = 1; events = eventsAt x; octets = stepArea x }) (oneMore (untilEvent k (stepArea x))))) (h K (omega arith))
+    ∙ ap (λ (b : Bool). plus K
+    (pick b (record { steps = 1; events = eventsAt x; octets = stepArea x }) (oneMore (untilEvent k (stepArea x)))))
+    (h K (omega arith))
     ∙ one (untilEvent k (stepArea x))
   where
     one : (s : Stretched) → plus K (oneMore s) ≡ plus (suc K) s

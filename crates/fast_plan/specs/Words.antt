@@ -31,4 +31,5 @@ pub words-stationwise : (a : List ℕ) (P : Plan) (K : ℕ) (ws : List ℕ)
 unfolding Nothing-held
 words-stationwise a P K ws =
     as-steps a P K ws
-    ∙ same-order (countOne a P) Nothing-held K 16 (λ k x h. tt) (λ k s i x hs hi h. tt) (λ k s u i j x hs hu hi hj ne h. count-swap a P s u i j x) K (cost K 16) ws (omega arith) (omega arith) tt
+    ∙ same-order (countOne a P) Nothing-held K 16 (λ k x h. tt) (λ k s i x hs hi h. tt)
+    (λ k s u i j x hs hu hi hj ne h. count-swap a P s u i j x) K (cost K 16) ws (omega arith) (omega arith) tt

@@ -183,6 +183,16 @@ pub rested-is : (f : Figures) (m : ℕ) (s : Station) (d : Deference) (x : Trans
     → d ≡ restedDeference f m (s .deference) → x ≡ restedTransmitter m (s .transmitter)
     → w ≡ hasWaited m (s .transmitter)
     → b ≡ (eqb (s .attempts) 0 && w) → df ≡ (s .deferred || b)
-    → record { address = s .address; deference = d; transmitter = x; receiver = s .receiver; frame = s .frame; attempts = s .attempts; draw = s .draw; deferred = df; emitted = false } ≡ rested f m s
+    → record {
+      address = s .address;
+      deference = d;
+      transmitter = x;
+      receiver = s .receiver;
+      frame = s .frame;
+      attempts = s .attempts;
+      draw = s .draw;
+      deferred = df;
+      emitted = false;
+    } ≡ rested f m s
 unfolding rested
 rested-is f m s d x w b df p q r u v = rw (p, q, v, u, r)

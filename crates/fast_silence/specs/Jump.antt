@@ -72,7 +72,8 @@ quiet-left : (i : ℕ) (s : Station) (x : List ℕ) → ownLeft i (quietly s Res
 unfolding ownLeft withCounted happened quietly
 quiet-left i s x = refl
 
-module _ (f : Figures) (d i : ℕ) (a : List ℕ) (K : ℕ) (hi : i < 16) (room : 57344 ≤ length a) (g : Figured f) (v : Fine f d (clockAt a) (stationAt a i)) (few : d ≤ 16) (early : clockAt a < 4294967295)
+module _ (f : Figures) (d i : ℕ) (a : List ℕ) (K : ℕ) (hi : i < 16) (room : 57344 ≤ length a) (g : Figured f)
+    (v : Fine f d (clockAt a) (stationAt a i)) (few : d ≤ 16) (early : clockAt a < 4294967295)
     (l : Rests f K (stationAt a i)) where
   q : Station
   q = stationAt a i
@@ -121,7 +122,8 @@ module _ (f : Figures) (d i : ℕ) (a : List ℕ) (K : ℕ) (hi : i < 16) (room 
 
   -- what it does in step m
   pub silent-act : (m : ℕ) → m < K
-      → actOn f d i Nothing (byItself f d i (λ s. Nothing) m a) .outcome ≡ quietly (rested f (suc m) (stationAt a i)) Rest NoStore
+      → actOn f d i Nothing (byItself f d i (λ s. Nothing) m a) .outcome ≡ quietly (rested f (suc m) (stationAt a i))
+      Rest NoStore
   unfolding byItself turns q
   silent-act zero h = outcome-by 0 a h begins
   silent-act (suc m) h =
@@ -133,7 +135,8 @@ none-at n k =
     by-test (ltb k n)
     (λ c. filled-at noEvents (λ i. noEvents) n k noEvents (ltb-true k n c))
     (λ c. let g = ltb-false k n c in
-    let z : k ≡ n + (k - n) = omega arith in ap (λ (m : ℕ). getD (filled noEvents (λ i. noEvents) n) m noEvents) z ∙ filled-past noEvents (λ i. noEvents) n (k - n))
+    let z : k ≡ n + (k - n) = omega arith in ap (λ (m : ℕ). getD (filled noEvents (λ i. noEvents) n) m noEvents) z
+    ∙ filled-past noEvents (λ i. noEvents) n (k - n))
 
 -- no events are no words
 nothing-tallied : (n m : ℕ) (ws : List ℕ) → tallied (filled noEvents (λ i. noEvents) n) m ws ≡ ws
@@ -167,7 +170,8 @@ module _ (a : List ℕ) (K : ℕ) (r : Readiness a) (s : Silent a K) where
   own-silent : (i m : ℕ) → i < countAt a → m ≤ K
       → ownAfter a silentPlan i m ≡ byItself (figuresAt a) (depthAt a) i (λ u. Nothing) m a
   unfolding ownAfter
-  own-silent i m hi hm = itself-heard (figuresAt a) (depthAt a) i (hears a silentPlan i) (λ u. Nothing) m a (λ u h. hears-none i u hi (omega arith))
+  own-silent i m hi hm = itself-heard (figuresAt a) (depthAt a) i (hears a silentPlan i) (λ u. Nothing) m a
+      (λ u h. hears-none i u hi (omega arith))
 
   own-rested : (i : ℕ) → i < countAt a → 0 < K
       → ownAfter a silentPlan i K ≡ withStation a i (rested (figuresAt a) K (stationAt a i))
@@ -176,7 +180,8 @@ module _ (a : List ℕ) (K : ℕ) (r : Readiness a) (s : Silent a K) where
       let z : K ≡ suc (K - 1) = omega arith in
       own-silent i K hi (omega arith)
       ∙ ap (λ (k : ℕ). byItself (figuresAt a) (depthAt a) i (λ u. Nothing) k a) z
-      ∙ silent-itself (figuresAt a) (depthAt a) i a K (omega arith) (r .long) (r .figures) (r .fine i hi) (r .depth .1) (omega (arith, r .clock)) (s .calm i hi) (K - 1) (omega arith)
+      ∙ silent-itself (figuresAt a) (depthAt a) i a K (omega arith) (r .long) (r .figures) (r .fine i hi) (r .depth .1)
+      (omega (arith, r .clock)) (s .calm i hi) (K - 1) (omega arith)
       ∙ ap (λ (k : ℕ). withStation a i (rested (figuresAt a) k (stationAt a i))) (sym z)
 
   acts : (i m : ℕ) → i < countAt a → m < K
@@ -184,18 +189,23 @@ module _ (a : List ℕ) (K : ℕ) (r : Readiness a) (s : Silent a K) where
   unfolding actAfter
   acts i m hi hm =
       let few = r .spread .few in
-      ap₂ (λ (h : Heard) (x : List ℕ). actOn (figuresAt a) (depthAt a) i h x .outcome) (hears-none i m hi hm) (own-silent i m hi (omega arith))
-      ∙ silent-act (figuresAt a) (depthAt a) i a K (omega arith) (r .long) (r .figures) (r .fine i hi) (r .depth .1) (omega (arith, r .clock)) (s .calm i hi) m hm
+      ap₂ (λ (h : Heard) (x : List ℕ). actOn (figuresAt a) (depthAt a) i h x .outcome) (hears-none i m hi hm)
+      (own-silent i m hi (omega arith))
+      ∙ silent-act (figuresAt a) (depthAt a) i a K (omega arith) (r .long) (r .figures) (r .fine i hi) (r .depth .1)
+      (omega (arith, r .clock)) (s .calm i hi) m hm
 
   silent-symbol : (f : Figures) (d i : ℕ) (h : Heard) (x : List ℕ) (q : Station)
       → actOn f d i h x .outcome ≡ quietly q Rest NoStore → actOn f d i h x .symbol ≡ Silence
   unfolding actOn quietly
-  silent-symbol f d i h x q e = ap (λ (o : Stepped). symbolOf (frameAt x i (octetsHeld (stationAt x i .transmitter) (stationAt x i .frame))) (o .emission)) e
+  silent-symbol f d i h x q e = ap
+      (λ (o : Stepped). symbolOf (frameAt x i (octetsHeld (stationAt x i .transmitter) (stationAt x i .frame)))
+      (o .emission)) e
 
   pub silence-holds : Holds a silentPlan K
   unfolding Holds actAfter silentPlan
   silence-holds u i hu hi =
-      silent-symbol (figuresAt a) (depthAt a) i (hears a silentPlan i u) (ownAfter a silentPlan i u) (rested (figuresAt a) (suc u) (stationAt a i)) (acts i u hi hu)
+      silent-symbol (figuresAt a) (depthAt a) i (hears a silentPlan i u) (ownAfter a silentPlan i u)
+      (rested (figuresAt a) (suc u) (stationAt a i)) (acts i u hi hu)
 
   pub silence-unhurt : Unhurt a silentPlan K
   unfolding Unhurt quietly
@@ -211,7 +221,9 @@ module _ (a : List ℕ) (K : ℕ) (r : Readiness a) (s : Silent a K) where
   unfolding restedAll turns
   rested-keeps p zero o = keeps-refl p a
   rested-keeps p (suc k) o =
-      keeps-trans p (restedAll a K (suc k) a) (restedAll a K k a) a (station-keeps p (restedAll a K k a) k (rested (figuresAt a) K (stationAt a k)) (o k (omega arith))) (rested-keeps p k (λ i h. o i (omega arith)))
+      keeps-trans p (restedAll a K (suc k) a) (restedAll a K k a) a
+      (station-keeps p (restedAll a K k a) k (rested (figuresAt a) K (stationAt a k)) (o k (omega arith)))
+      (rested-keeps p k (λ i h. o i (omega arith)))
 
   rested-station : (k i : ℕ) → i < k → k ≤ 16
       → Keeps (station i) (restedAll a K k a) (withStation a i (rested (figuresAt a) K (stationAt a i)))
@@ -220,10 +232,14 @@ module _ (a : List ℕ) (K : ℕ) (r : Readiness a) (s : Silent a K) where
   rested-station (suc k) i hi hk =
       let y = restedAll a K k a in
       by-eq i k
-      (λ e. subst (λ (j : ℕ). Keeps (station i) (withStation y j (rested (figuresAt a) K (stationAt a j))) (withStation a i (rested (figuresAt a) K (stationAt a i)))) e
-      (station-on i (omega arith) y a (omega (arith, rested-length k, r .long)) (r .long) (rested (figuresAt a) K (stationAt a i)) (rested-keeps (station i) k (λ j h x z. omega arith))))
-      (λ ne. keeps-trans (station i) (withStation y k (rested (figuresAt a) K (stationAt a k))) y (withStation a i (rested (figuresAt a) K (stationAt a i)))
-      (station-keeps (station i) y k (rested (figuresAt a) K (stationAt a k)) (λ x z. ne (omega arith))) (rested-station k i (omega arith) (omega arith)))
+      (λ e. subst (λ (j : ℕ). Keeps (station i) (withStation y j (rested (figuresAt a) K (stationAt a j)))
+      (withStation a i (rested (figuresAt a) K (stationAt a i)))) e
+      (station-on i (omega arith) y a (omega (arith, rested-length k, r .long)) (r .long)
+      (rested (figuresAt a) K (stationAt a i)) (rested-keeps (station i) k (λ j h x z. omega arith))))
+      (λ ne. keeps-trans (station i) (withStation y k (rested (figuresAt a) K (stationAt a k))) y
+      (withStation a i (rested (figuresAt a) K (stationAt a i)))
+      (station-keeps (station i) y k (rested (figuresAt a) K (stationAt a k)) (λ x z. ne (omega arith)))
+      (rested-station k i (omega arith) (omega arith)))
 
   rested-still : (k m : ℕ) → Still (countAt a) k → m ≤ countAt a → getD (restedAll a K m a) k 0 ≡ getD a k 0
   unfolding restedAll turns
@@ -241,7 +257,9 @@ module _ (a : List ℕ) (K : ℕ) (r : Readiness a) (s : Silent a K) where
   line-code j v hj lo up =
       by-test (ltb v 256)
       (λ c. rw c (symbol-code a j (clockAt a + v) (r .codes j (clockAt a + v) hj)))
-      (λ c. let g = ltb-false v 256 c in rw c (symbol-turn a j (clockAt a + v) (clockAt a + v % 256) (omega arith) ∙ s .empty j (v % 256) hj (omega arith) (omega arith)))
+      (λ c. let g = ltb-false v 256 c in rw c
+      (symbol-turn a j (clockAt a + v) (clockAt a + v % 256) (omega arith) ∙ s .empty j (v % 256) hj (omega arith)
+      (omega arith)))
 
   jumped-left : 0 < K → Left a silentPlan K (jumped K a)
   unfolding jumped
@@ -257,14 +275,23 @@ module _ (a : List ℕ) (K : ℕ) (r : Readiness a) (s : Silent a K) where
         own = λ i hi. let w = withStation a i (rested (figuresAt a) K (stationAt a i)) in
             subst (OwnSame i x) (sym (own-rested i hi pos))
             (own-trans i x y w
-            (record { station = clock-keeps (station i) y (clockAt a + K) (λ p q. omega arith); counters = clock-keeps (counters i) y (clockAt a + K) (λ p q. omega arith); buffer = clock-keeps (buffer i) y (clockAt a + K) (λ p q. omega arith) })
+            (record {
+              station = clock-keeps (station i) y (clockAt a + K) (λ p q. omega arith);
+              counters = clock-keeps
+                  (counters i) y (clockAt a + K) (λ p q. omega arith);
+              buffer = clock-keeps (buffer i) y (clockAt a + K)
+                  (λ p q. omega arith);
+            })
             (record {
               station = rested-station n i hi few;
-              counters = keeps-trans (counters i) y a w (rested-keeps (counters i) n (λ j h p q. omega arith)) (keeps-sym (counters i) w a (station-keeps (counters i) a i _ (λ p q. omega arith)));
-              buffer = keeps-trans (buffer i) y a w (rested-keeps (buffer i) n (λ j h p q. omega arith)) (keeps-sym (buffer i) w a (station-keeps (buffer i) a i _ (λ p q. omega arith)));
+              counters = keeps-trans (counters i) y a w (rested-keeps (counters i) n (λ j h p q. omega arith))
+                  (keeps-sym (counters i) w a (station-keeps (counters i) a i _ (λ p q. omega arith)));
+              buffer = keeps-trans (buffer i) y a w (rested-keeps (buffer i) n (λ j h p q. omega arith))
+                  (keeps-sym (buffer i) w a (station-keeps (buffer i) a i _ (λ p q. omega arith)));
             }));
         line = λ j v hj lo up.
-            symbol-by x y j (clockAt a + v) (clock-keeps (place j (clockAt a + v)) y (clockAt a + K) (λ p q. omega arith))
+            symbol-by x y j (clockAt a + v)
+            (clock-keeps (place j (clockAt a + v)) y (clockAt a + K) (λ p q. omega arith))
             ∙ symbol-by y a j (clockAt a + v) (rested-keeps (place j (clockAt a + v)) n (λ i h p q. omega arith))
             ∙ line-code j v hj lo up
             ∙ ap heardCode (sym (line-silent j v));
@@ -274,12 +301,15 @@ module _ (a : List ℕ) (K : ℕ) (r : Readiness a) (s : Silent a K) where
   -- Stage 1
   pub silence-jumps : 0 < K → clockAt a + K ≤ 16777216 → steps K a ≡ jumped K a
   silence-jumps pos early =
-      left-same-area a silentPlan K (steps K a) (jumped K a) (r .spread .few) (planned-left a silentPlan K (steps K a) pos (plan-happens a silentPlan K r early silence-holds)) (jumped-left pos)
+      left-same-area a silentPlan K (steps K a) (jumped K a) (r .spread .few)
+      (planned-left a silentPlan K (steps K a) pos (plan-happens a silentPlan K r early silence-holds))
+      (jumped-left pos)
 
   -- and nothing is counted
   quiet-events : (u : ℕ) → u < K → eventsBy a silentPlan u ≡ filled noEvents (λ i. noEvents) (countAt a)
   unfolding eventsBy quietly
-  quiet-events u h = filled-same noEvents (λ i. eventsOf (actAfter a silentPlan i u)) (λ i. noEvents) (countAt a) (λ i hi. ap (λ (o : Stepped). record { sent = o .sent; got = o .got }) (acts i u hi h))
+  quiet-events u h = filled-same noEvents (λ i. eventsOf (actAfter a silentPlan i u)) (λ i. noEvents) (countAt a)
+      (λ i hi. ap (λ (o : Stepped). record { sent = o .sent; got = o .got }) (acts i u hi h))
 
   quiet-words : (m : ℕ) (ws : List ℕ) → m ≤ K → talliedBy a silentPlan m ws ≡ ws
   unfolding talliedBy turns

@@ -147,8 +147,10 @@ module _ (f : Figures) (own : Bool) where
       ∙ sym (ap to (gap-in (suc c) (omega arith))))
       (λ b. let g = ltb-false c (gapOf f) b in
       by-eq c (gapOf f)
-      (λ e. ap (λ (d : Deference). defer f d false false false) (gap-in c (omega arith)) ∙ gap-ends c e ∙ sym (ap to (gap-over (suc c) (omega arith))))
-      (λ e. ap (λ (d : Deference). defer f d false false false) (gap-over c (omega arith)) ∙ over-quiet ∙ sym (ap to (gap-over (suc c) (omega arith)))))
+      (λ e. ap (λ (d : Deference). defer f d false false false) (gap-in c (omega arith)) ∙ gap-ends c e ∙ sym
+      (ap to (gap-over (suc c) (omega arith))))
+      (λ e. ap (λ (d : Deference). defer f d false false false) (gap-over c (omega arith)) ∙ over-quiet ∙ sym
+      (ap to (gap-over (suc c) (omega arith)))))
 
 busy-goes : (f : Figures) (own w : Bool) → defer f (Busy own) false false w ≡ to (Gap 1 own)
 unfolding defer busyRule
@@ -191,7 +193,8 @@ transmit-goes f K m d (BackingOff w) z n draw l =
     by-test (ltb m w)
     (λ c. let g = ltb-true m w c in
     by-test (ltb (suc m) w)
-    (λ b. let k = ltb-true (suc m) w b in let e : w - m - 1 ≡ w - suc m = omega arith in rw (c, b, lt-leb (w - m) 1 (omega arith), e))
+    (λ b. let k = ltb-true (suc m) w b in let e : w - m - 1 ≡ w - suc
+    m = omega arith in rw (c, b, lt-leb (w - m) 1 (omega arith), e))
     (λ b. let k = ltb-false (suc m) w b in rw (c, b, le-leb (w - m) 1 (omega arith))))
     (λ c. let g = ltb-false m w c in rw (c, le-ltb (suc m) w (omega arith)))
 transmit-goes f K m d (Sending k) z n draw l = absurd l
@@ -235,11 +238,13 @@ pub rested-step : (f : Figures) (K m : ℕ) (s : Station) (d draw : ℕ) (buf : 
 unfolding stepped nextStation triesAfter drawAfter deferredAfter quietly rested
 rested-step f K m s d draw buf g l h =
     rw (
-      defer-goes f (s .deference) m (waits (restedTransmitter m (s .transmitter))) g (waits-rests f K m (s .deference) (s .transmitter) (l .lasts) h),
+      defer-goes f (s .deference) m (waits (restedTransmitter m (s .transmitter))) g
+          (waits-rests f K m (s .deference) (s .transmitter) (l .lasts) h),
       transmit-goes f K m (s .deference) (s .transmitter) (s .frame) (s .attempts) draw (l .lasts),
       idle-ends (s .address) buf (s .receiver) false (l .idle),
       waited-more m (s .transmitter),
-      deferred-more (s .deferred) (eqb (s .attempts) 0) (hasWaited m (s .transmitter)) (waits (restedTransmitter m (s .transmitter))),
+      deferred-more (s .deferred) (eqb (s .attempts) 0) (hasWaited m (s .transmitter))
+          (waits (restedTransmitter m (s .transmitter))),
     )
 
 -- ---- where it begins, and its range
@@ -276,13 +281,31 @@ as-was false false = refl
 pub rested-none : (f : Figures) (d t : ℕ) (s : Station) → Fine f d t s → s .emitted ≡ false → rested f 0 s ≡ s
 unfolding rested
 rested-none f d t s v e =
-    rw (rested-gap f (s .deference) (v .gap), rested-frame f (s .frame) (s .transmitter) (v .number), none-waited f (s .frame) (s .transmitter) (v .number), as-was (s .deferred) (eqb (s .attempts) 0))
-    (λ i. record { address = s .address; deference = s .deference; transmitter = s .transmitter; receiver = s .receiver; frame = s .frame; attempts = s .attempts; draw = s .draw; deferred = s .deferred; emitted = sym e i })
+    rw (
+      rested-gap f (s .deference) (v .gap),
+      rested-frame f (s .frame) (s .transmitter) (v .number),
+      none-waited f
+          (s .frame) (s .transmitter) (v .number),
+      as-was (s .deferred) (eqb (s .attempts) 0),
+    )
+    (λ i. record {
+      address = s .address;
+      deference = s .deference;
+      transmitter = s .transmitter;
+      receiver = s .receiver;
+      frame = s .frame;
+      attempts = s .attempts;
+      draw = s .draw;
+      deferred = s .deferred;
+      emitted = sym e i;
+    })
 
 to-small : (f : Figures) (own : Bool) (c : ℕ) → Figured f → deferenceCount (gapTo f own c) < 65536
 unfolding gapTo gapOf
 to-small f own c g =
-    by-test (leb c (f .gap1 + f .gap2)) (λ b. let h = leb-true c (f .gap1 + f .gap2) b in rw b (omega (arith, g .gap1, g .gap2))) (λ b. rw b (omega arith))
+    by-test (leb c (f .gap1 + f .gap2))
+    (λ b. let h = leb-true c (f .gap1 + f .gap2) b in rw b (omega (arith, g .gap1, g .gap2)))
+    (λ b. rw b (omega arith))
 
 count-small : (f : Figures) (m : ℕ) (d : Deference) → Figured f → deferenceCount (restedDeference f m d) < 65536
 unfolding restedDeference
