@@ -27,7 +27,7 @@ pub fn rests_for(f: Figures, d: Deference) -> u32
     }
 }
 
-fn larger(x: u32, y: u32) -> u32
+pub fn larger(x: u32, y: u32) -> u32
     ensures { λ r. ⌜ r ≡ max x y ⌝ }
 {
     if x < y { y } else { x }

@@ -63,9 +63,16 @@ pub rested-for : (f : Figures) (m K : ℕ) (s : Station) → 0 < K → K ≤ sta
 unfolding stationRests
 rested-for f m K s p h =
     by-test (s .emitted)
-    (λ e. absurd (zero-none K p (ap (λ (b : Bool). pick b 0 (pick (idle (s .receiver)) (framesRest f m (s .deference) (s .transmitter)) 0)) e) h))
+    (λ e. absurd (zero-none K p
+    (ap (λ (b : Bool). pick b 0 (pick (idle (s .receiver)) (framesRest f m (s .deference) (s .transmitter)) 0)) e)
+    h))
     (λ e. by-test (idle (s .receiver))
-    (λ i. record { lasts = frames-last f m K (s .deference) (s .transmitter) p (below K (value e i) h); idle = is-idle (s .receiver) i; silent = e })
+    (λ i. record {
+      lasts = frames-last f m K (s .deference) (s .transmitter) p (below K (value e i) h);
+      idle = is-idle
+          (s .receiver) i;
+      silent = e;
+    })
     (λ i. absurd (zero-none K p (value e i) h)))
   where
     zero-none : (K : ℕ) {v : ℕ} → 0 < K → v ≡ 0 → K ≤ v → ⊥
@@ -75,8 +82,11 @@ rested-for f m K s p h =
     below K {v} {w} e h = omega (arith, e, h)
 
     value : {b c : Bool} → s .emitted ≡ b → idle (s .receiver) ≡ c
-        → pick (s .emitted) 0 (pick (idle (s .receiver)) (framesRest f m (s .deference) (s .transmitter)) 0) ≡ pick b 0 (pick c (framesRest f m (s .deference) (s .transmitter)) 0)
-    value {b} {c} e i = ap (λ (u : Bool). pick u 0 (pick (idle (s .receiver)) (framesRest f m (s .deference) (s .transmitter)) 0)) e ∙ ap (λ (u : Bool). pick b 0 (pick u (framesRest f m (s .deference) (s .transmitter)) 0)) i
+        → pick (s .emitted) 0 (pick (idle (s .receiver)) (framesRest f m (s .deference) (s .transmitter)) 0) ≡ pick b 0
+        (pick c (framesRest f m (s .deference) (s .transmitter)) 0)
+    value {b} {c} e i =
+        ap (λ (u : Bool). pick u 0 (pick (idle (s .receiver)) (framesRest f m (s .deference) (s .transmitter)) 0)) e
+        ∙ ap (λ (u : Bool). pick b 0 (pick u (framesRest f m (s .deference) (s .transmitter)) 0)) i
 
 -- ---- a line: to its first place in use, of m steps asked
 
@@ -157,7 +167,8 @@ lines-fall a m i (suc n) h =
     by-eq i (suc n) (λ e. rw e (omega arith))
     (λ ne. omega (arith, line-most a (linesRest a m n) n, lines-fall a m i n (omega arith)))
 
-stations-one : (a : List ℕ) (m i : ℕ) → stationsRest a m (suc i) ≤ stationRests (figuresAt a) (stationsRest a m i) (stationAt a i)
+stations-one : (a : List ℕ) (m i : ℕ)
+    → stationsRest a m (suc i) ≤ stationRests (figuresAt a) (stationsRest a m i) (stationAt a i)
 unfolding stationsRest
 stations-one a m i = omega arith
 
