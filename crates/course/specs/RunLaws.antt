@@ -8,7 +8,7 @@ use native.Mathlib.Omega.{arith}
 use borrow.Author.Tests.{eq-eqb, ne-eqb, lt-ltb, le-ltb}
 use lib.ListN.{replicate}
 use Rattle.octets.specs.Base.{pick, some, refused, accepted, doneAnswer}
-use Rattle.octets.specs.BaseLaws.{by-eq, some-none, some-more, some-hit}
+use Rattle.octets.specs.BaseLaws.{by-test, by-eq, none-below, some-none, some-more, some-hit}
 use Rattle.octets.specs.NumberLaws.{Octets}
 use Rattle.octets.specs.Turns.{turns}
 use Rattle.tally.specs.TallyLaws.{Bounded, sent-is-bounded, got-is-bounded, start-bounded}
@@ -77,6 +77,17 @@ first-hit t (suc n) i b p q s h =
     by-eq i n
     (λ e. rw (← e, s) refl)
     (λ ne. let k : i < n = omega arith in rw (← some-hit t n i b p q k) (first-hit t n i b p q s k))
+
+pub first-most : (t : ℕ → Bool) (n : ℕ) → first t n ≤ n
+unfolding first
+first-most t zero = omega arith
+first-most t (suc n) = by-test (some t n) (λ e. rw e (omega (arith, first-most t n))) (λ e. rw e (omega arith))
+
+pub below-first : (t : ℕ → Bool) (n s : ℕ) → s < first t n → t s ≡ false
+unfolding first
+below-first t zero s h = absurd (omega arith)
+below-first t (suc n) s h =
+    by-test (some t n) (λ e. below-first t n s (rw e at h)) (λ e. none-below t n s e (rw e at h))
 
 module _ (n t : ℕ) (ws : List ℕ) (a : List ℕ) (R : Ran) where
   -- one step more of those that are left

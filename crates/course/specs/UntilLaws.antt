@@ -42,6 +42,11 @@ module _ (es : List Events) (i : ℕ) where
   unfolding Calm eventful
   calm-end p q h = some-end (λ k. hasEvent (eventAt es k)) 16 i p q h
 
+-- no events are none
+pub none-eventful : eventful (replicate 16 noEvents) ≡ false
+unfolding eventful some hasEvent
+none-eventful = refl
+
 -- ---- steps until an event
 
 -- t steps more, made before

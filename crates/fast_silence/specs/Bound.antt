@@ -18,6 +18,7 @@ use Rattle.state.specs.declared.Station.{Station}
 use Rattle.area.specs.Area.{clockAt, figuresAt, countAt, stationAt, symbolAt}
 use Rattle.pair.specs.Ready.{Readiness}
 use Rattle.course.specs.Run.{first, runOf}
+use Rattle.course.specs.RunLaws.{first-most, below-first}
 use Rattle.course.specs.Until.{untilEvent}
 use Rattle.course.specs.UntilLaws.{plus}
 use Rattle.fast_plan.specs.Plan.{Holds, Planned, steps}
@@ -98,17 +99,6 @@ lineRests a m j = pick (some (used a j) (min m 256)) (first (used a j) (min m 25
 
 not-used : (c : ℕ) → not (eqb c 0) ≡ false → c ≡ 0
 not-used c h = by-test (eqb c 0) (λ e. eqb-true c 0 e) (λ e. absurd (true≢false (sym (ap not e) ∙ h)))
-
-first-most : (t : ℕ → Bool) (n : ℕ) → first t n ≤ n
-unfolding first
-first-most t zero = omega arith
-first-most t (suc n) = by-test (some t n) (λ e. rw e (omega (arith, first-most t n))) (λ e. rw e (omega arith))
-
-below-first : (t : ℕ → Bool) (n s : ℕ) → s < first t n → t s ≡ false
-unfolding first
-below-first t zero s h = absurd (omega arith)
-below-first t (suc n) s h =
-    by-test (some t n) (λ e. below-first t n s (rw e at h)) (λ e. none-below t n s e (rw e at h))
 
 pub line-most : (a : List ℕ) (m j : ℕ) → lineRests a m j ≤ m
 unfolding lineRests

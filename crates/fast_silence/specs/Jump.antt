@@ -63,6 +63,19 @@ restedAll a K k x = turns (λ i y. withStation y i (rested (figuresAt a) K (stat
 unfoldable pub jumped : ℕ → List ℕ → List ℕ
 jumped K a = withClock (restedAll a K (countAt a) a) (clockAt a + K)
 
+module _ (a : List ℕ) (K : ℕ) where
+  pub rested-length : (k : ℕ) → length (restedAll a K k a) ≡ length a
+  unfolding restedAll
+  rested-length k = length-turns _ k a (λ i y. length-station y i (rested (figuresAt a) K (stationAt a i)))
+
+  pub rested-keeps : (p : Part) (k : ℕ) → ((i : ℕ) → i < k → Off p (station i)) → Keeps p (restedAll a K k a) a
+  unfolding restedAll turns
+  rested-keeps p zero o = keeps-refl p a
+  rested-keeps p (suc k) o =
+      keeps-trans p (restedAll a K (suc k) a) (restedAll a K k a) a
+      (station-keeps p (restedAll a K k a) k (rested (figuresAt a) K (stationAt a k)) (o k (omega arith)))
+      (rested-keeps p k (λ i h. o i (omega arith)))
+
 -- ---- one station
 
 unfoldable pub silentPlan : Plan
@@ -213,18 +226,6 @@ module _ (a : List ℕ) (K : ℕ) (r : Readiness a) (s : Silent a K) where
 
   -- ---- what is left
 
-  rested-length : (k : ℕ) → length (restedAll a K k a) ≡ length a
-  unfolding restedAll
-  rested-length k = length-turns _ k a (λ i y. length-station y i (rested (figuresAt a) K (stationAt a i)))
-
-  rested-keeps : (p : Part) (k : ℕ) → ((i : ℕ) → i < k → Off p (station i)) → Keeps p (restedAll a K k a) a
-  unfolding restedAll turns
-  rested-keeps p zero o = keeps-refl p a
-  rested-keeps p (suc k) o =
-      keeps-trans p (restedAll a K (suc k) a) (restedAll a K k a) a
-      (station-keeps p (restedAll a K k a) k (rested (figuresAt a) K (stationAt a k)) (o k (omega arith)))
-      (rested-keeps p k (λ i h. o i (omega arith)))
-
   rested-station : (k i : ℕ) → i < k → k ≤ 16
       → Keeps (station i) (restedAll a K k a) (withStation a i (rested (figuresAt a) K (stationAt a i)))
   unfolding restedAll turns
@@ -234,8 +235,8 @@ module _ (a : List ℕ) (K : ℕ) (r : Readiness a) (s : Silent a K) where
       by-eq i k
       (λ e. subst (λ (j : ℕ). Keeps (station i) (withStation y j (rested (figuresAt a) K (stationAt a j)))
       (withStation a i (rested (figuresAt a) K (stationAt a i)))) e
-      (station-on i (omega arith) y a (omega (arith, rested-length k, r .long)) (r .long)
-      (rested (figuresAt a) K (stationAt a i)) (rested-keeps (station i) k (λ j h x z. omega arith))))
+      (station-on i (omega arith) y a (omega (arith, rested-length a K k, r .long)) (r .long)
+      (rested (figuresAt a) K (stationAt a i)) (rested-keeps a K (station i) k (λ j h x z. omega arith))))
       (λ ne. keeps-trans (station i) (withStation y k (rested (figuresAt a) K (stationAt a k))) y
       (withStation a i (rested (figuresAt a) K (stationAt a i)))
       (station-keeps (station i) y k (rested (figuresAt a) K (stationAt a k)) (λ x z. ne (omega arith)))
@@ -268,7 +269,7 @@ module _ (a : List ℕ) (K : ℕ) (r : Readiness a) (s : Silent a K) where
       let few = r .spread .few in
       let y = restedAll a K n a in
       let x = withClock y (clockAt a + K) in
-      let ly : length y ≡ length a = rested-length n in
+      let ly : length y ≡ length a = rested-length a K n in
       record {
         long = length-clock y (clockAt a + K) ∙ ly;
         stamp = stamped y a (clockAt a + K) (omega (arith, ly, r .long)) (r .long);
@@ -284,15 +285,15 @@ module _ (a : List ℕ) (K : ℕ) (r : Readiness a) (s : Silent a K) where
             })
             (record {
               station = rested-station n i hi few;
-              counters = keeps-trans (counters i) y a w (rested-keeps (counters i) n (λ j h p q. omega arith))
+              counters = keeps-trans (counters i) y a w (rested-keeps a K (counters i) n (λ j h p q. omega arith))
                   (keeps-sym (counters i) w a (station-keeps (counters i) a i _ (λ p q. omega arith)));
-              buffer = keeps-trans (buffer i) y a w (rested-keeps (buffer i) n (λ j h p q. omega arith))
+              buffer = keeps-trans (buffer i) y a w (rested-keeps a K (buffer i) n (λ j h p q. omega arith))
                   (keeps-sym (buffer i) w a (station-keeps (buffer i) a i _ (λ p q. omega arith)));
             }));
         line = λ j v hj lo up.
             symbol-by x y j (clockAt a + v)
             (clock-keeps (place j (clockAt a + v)) y (clockAt a + K) (λ p q. omega arith))
-            ∙ symbol-by y a j (clockAt a + v) (rested-keeps (place j (clockAt a + v)) n (λ i h p q. omega arith))
+            ∙ symbol-by y a j (clockAt a + v) (rested-keeps a K (place j (clockAt a + v)) n (λ i h p q. omega arith))
             ∙ line-code j v hj lo up
             ∙ ap heardCode (sym (line-silent j v));
         rest = λ k st. clock-still y k (clockAt a + K) (st .clock) ∙ rested-still k n st (omega arith);

@@ -6,15 +6,13 @@ use mathlib.Core.List.{List}
 use native.Mathlib.Omega.{arith}
 use borrow.Author.Tests.{ne-eqb, eq-eqb}
 use lib.ListN.{replicate}
-use Rattle.octets.specs.BaseLaws.{below-none}
-use Rattle.octets.specs.Filled.{blank-at}
 use Rattle.area.specs.Area.{clockAt}
 use Rattle.pair.specs.declared.Events.{Events}
-use Rattle.pair.specs.BitTime.{noEvents, eventAt, eventsAt, stepArea}
+use Rattle.pair.specs.BitTime.{noEvents, eventsAt, stepArea}
 use Rattle.pair.specs.Ready.{Readiness, Ready}
 use Rattle.course.specs.RunLaws.{Runnable, run-first, run-next}
-use Rattle.course.specs.Until.{hasEvent, eventful, Stretched, untilEvent}
-use Rattle.course.specs.UntilLaws.{plus, stretch-first, stretch-on, stretch-hit, stretch-end}
+use Rattle.course.specs.Until.{eventful, Stretched, untilEvent}
+use Rattle.course.specs.UntilLaws.{none-eventful, plus, stretch-first, stretch-on, stretch-hit, stretch-end}
 use Rattle.fast_plan.specs.Plan.{Planned}
 use Rattle.fast_silence.specs.Jump.{silentPlan, jumped}
 use Rattle.fast_silence.specs.Bound.{silentFor, silent-most, skipped, silence-until, silence-plans}
@@ -29,11 +27,6 @@ pub record Made (left r : ℕ) (es : List Events) (a b : List ℕ) : Type 0 wher
 
 unfoldable pub Onward : (left r : ℕ) (es : List Events) (a b : List ℕ) → Type 0
 Onward left r es a b = Made left r es a b
-
-none-eventful : eventful (replicate 16 noEvents) ≡ false
-unfolding eventful hasEvent
-none-eventful =
-    below-none (λ i. hasEvent (eventAt (replicate 16 noEvents) i)) 16 (λ i h. ap hasEvent (blank-at 16 i noEvents))
 
 -- ---- a jump
 
