@@ -1,14 +1,15 @@
 -- A law for each way through the code that makes the answer. Assumes nothing.
-use Prim.Native.Nat.{ℕ, _+_, _*_, _<_, _≤_}
+use Prim.Native.Nat.{ℕ, _+_, _-_, _*_, _<_, _≤_}
 use mathlib.Core.Path.{_≡_, refl, sym, _∙_, ap}
 use mathlib.Core.Bool.{Bool, true, false, _||_}
 use mathlib.Core.List.{List, []}
+use native.Mathlib.Nat.{zero-add}
 use native.Mathlib.Omega.{arith}
 use lib.Dec.{ltb}
 use lib.ListN.{length, set, getD, take}
 use lib.Seq.{sets, length-take-le}
 use borrow.Author.Tests.{lt-ltb, le-ltb, le-leb, lt-leb, eq-eqb, ne-eqb, ltb-false}
-use Rattle.octets.specs.Base.{pick, some, Done, refused, accepted, doneAnswer, outcome}
+use Rattle.octets.specs.Base.{pick, some, accepted, doneAnswer, outcome}
 use Rattle.octets.specs.BaseLaws.{some-more, some-hit, by-test}
 use Rattle.octets.specs.Store.{stored-more}
 use Rattle.octets.specs.declared.Done.the-variants.{Refused, Made}
@@ -62,35 +63,33 @@ module _ (ws : List ℕ) (n : ℕ) (strays fall a b : Bool) (room : ℕ) where
         refused-not x h = rw (sym p, sym q, e, le-ltb 64 (windowCount ws) few, sym g, k, x, le-ltb room (9 * windowCount ws) h)
 
 -- where there is no refusal there are at most 64 windows, and the output has room
-pub few-windows : (ws : List ℕ) (n : ℕ) (strays fall : Bool) (room x : ℕ) → x ≡ refusalIn ws n strays fall room → x ≡ 0 → (windowCount ws ≤ 64) × (9 * windowCount ws ≤ room)
+pub room-for : (ws : List ℕ) (n : ℕ) (strays fall : Bool) (room x : ℕ) → x ≡ refusalIn ws n strays fall room → x ≡ 0 → (9 * windowCount ws ≤ 576) × (9 * windowCount ws ≤ room)
 unfolding refusalIn
-few-windows ws n strays fall room x p z = go _ _ _ _ _ refl refl (sym p ∙ z)
+room-for ws n strays fall room x p z =
+    go (some (astrayWindow n ws) (windowCount ws) || strays) (ltb 64 (windowCount ws)) (some (reversedWindow ws) (windowCount ws)) fall (ltb room (9 * windowCount ws)) refl refl (sym p ∙ z)
   where
-    go : (s m r f o : Bool) → m ≡ ltb 64 (windowCount ws) → o ≡ ltb room (9 * windowCount ws) → pick s 10 (pick m 16 (pick r 20 (pick f 21 (pick o 15 0)))) ≡ 0
-        → (windowCount ws ≤ 64) × (9 * windowCount ws ≤ room)
+    go : (s m r f o : Bool) → m ≡ ltb 64 (windowCount ws) → o ≡ ltb room (9 * windowCount ws) → _≡_ {A = ℕ} (pick s 10 (pick m 16 (pick r 20 (pick f 21 (pick o 15 0))))) 0
+        → (9 * windowCount ws ≤ 576) × (9 * windowCount ws ≤ room)
     go true m r f o p q h = absurd (omega arith)
     go false true r f o p q h = absurd (omega arith)
     go false false true f o p q h = absurd (omega arith)
     go false false false true o p q h = absurd (omega arith)
     go false false false false true p q h = absurd (omega arith)
-    go false false false false false p q h = (ltb-false 64 (windowCount ws) (sym p), ltb-false room (9 * windowCount ws) (sym q))
+    go false false false false false p q h = let few = ltb-false 64 (windowCount ws) (sym p) in (omega arith, ltb-false room (9 * windowCount ws) (sym q))
 
 -- ---- the output
 
-pub put-none : (out counts : List ℕ) → out ≡ sets out 0 (take 0 counts)
-put-none out counts = refl
+pub put-more : (s out src : List ℕ) (i : ℕ) → i < length src → s ≡ sets out 0 (take i src) → set s i (getD src i 0) ≡ sets out 0 (take (i + 1) src)
+put-more s out src i h p = ap (λ (k : ℕ). set s k (getD src i 0)) (sym (zero-add i)) ∙ stored-more s out src 0 i h p
 
-pub put-more : (s out counts : List ℕ) (k : ℕ) → k < length counts → s ≡ sets out 0 (take k counts) → set s k (getD counts k 0) ≡ sets out 0 (take (k + 1) counts)
-put-more s out counts k h p = stored-more s out counts 0 k h p
-
-pub put-end : (s out counts : List ℕ) (n k : ℕ) → k ≤ n → n ≤ k → s ≡ sets out 0 (take k counts) → s ≡ sets out 0 (take n counts)
-put-end s out counts n k p q r = let e : k ≡ n = omega arith in rw e at r
+pub put-first : (out new counts : List ℕ) (n : ℕ) → new ≡ sets out 0 (take (n - 0) counts) → new ≡ sets out 0 (take n counts)
+put-first out new counts n p = let e : n - 0 ≡ n = omega arith in rw e at p
 
 module _ (ws : List ℕ) (s : State) (out : List ℕ) (x : ℕ) (p : x ≡ refusalIn ws (s .stations) (s .astray) (s .falls) (length out)) where
   pub closed-refused : (x ≡ 0 → ⊥) → outcome (doneAnswer (Refused x)) out ≡ closedOf ws s out
   unfolding closedOf answered
   closed-refused h = rw (sym p, ne-eqb x 0 h)
 
-  pub closed-made : (new : List ℕ) (m : ℕ) → x ≡ 0 → m ≡ 9 * windowCount ws → new ≡ sets out 0 (take m (s .counts)) → outcome (doneAnswer Made) new ≡ closedOf ws s out
+  pub closed-made : (new : List ℕ) → x ≡ 0 → new ≡ sets out 0 (take (windowCount ws * 9) (s .counts)) → outcome (doneAnswer Made) new ≡ closedOf ws s out
   unfolding closedOf answered
-  closed-made new m z q r = rw (sym p, z, sym q, r)
+  closed-made new z r = let e : windowCount ws * 9 ≡ 9 * windowCount ws = omega arith in rw (sym p, z, sym e) (ap (outcome (accepted [])) r)

@@ -3,7 +3,7 @@
 use log_entry::State;
 use octets::Done;
 ghost use mathlib.Core.Path.{_≡_};
-ghost use Prim.Native.Nat.{_≤_, _/_};
+ghost use Prim.Native.Nat.{_≤_};
 ghost use lib.ListN.{length, take};
 ghost use lib.Seq.{sets};
 ghost use Rattle.octets.specs.Base.{some, doneAnswer, outcome};
@@ -59,14 +59,24 @@ fn refusal(windows: &[u32], n: u32, astray: bool, falls: bool, room: usize) -> u
     0
 }
 
-// The first n counts to the front of the output.
-fn put(out: &mut [u32], counts: &[u32; 576], n: usize)
-    requires { ⌜ (n ≤ 576) × (n ≤ length (now out)) ⌝ }
-    ensures { λ _. ⌜ now (out .exit) ≡ sets (now (out .entry)) 0 (take n (now (counts .entry))) ⌝ }
+// Stores all counts of `src` at the front of the output.
+fn put(out: &mut [u32], src: &[u32])
+    requires { ⌜ length (now src) ≤ length (now out) ⌝ }
+    ensures { λ _. ⌜ now (out .exit) ≡ sets (now (out .entry)) 0 (now (src .entry)) ⌝ }
 {
-    for k in 0..n {
-        out[k] = counts[k];
+    let mut i = 0;
+    while i < src.len() {
+        out[i] = src[i];
+        i += 1;
     }
+}
+
+// Stores the first n counts at the front of the output.
+fn put_first(out: &mut [u32], counts: [u32; 576], n: usize)
+    requires { ⌜ (n ≤ 576) × (n ≤ length (now out)) ⌝ }
+    ensures { λ _. ⌜ now (out .exit) ≡ sets (now (out .entry)) 0 (take n counts) ⌝ }
+{
+    put(out, &counts[0..n]);
 }
 
 // The answer after the last entry, and the counts in the output.
@@ -78,6 +88,6 @@ pub fn closed(s: State, windows: &[u32], out: &mut [u32]) -> Done
         return Done::Refused(x);
     }
     let counts = s.counts;
-    put(out, &counts, 9 * (windows.len() / 3));
+    put_first(out, counts, windows.len() / 3 * 9);
     Done::Made
 }

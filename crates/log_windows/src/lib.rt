@@ -81,7 +81,13 @@ pub fn entered(s: State, windows: &[u32], time: u32, station: u32, event: Event)
     ensures { λ r. ⌜ r ≡ enteredOf (now (windows .entry)) s (record { time = time; station = station; event = event }) ⌝ }
 {
     let mut counts = s.counts;
-    add_all(&mut counts, windows, time, station, log_entry::word_of(event));
+    add_all(
+        &mut counts,
+        windows,
+        time,
+        station,
+        log_entry::word_of(event),
+    );
     State {
         stations: s.stations,
         astray: octets::either(s.astray, s.stations <= station),

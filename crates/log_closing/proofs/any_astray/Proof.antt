@@ -1,49 +1,49 @@
+-- `log_closing::any_astray` meets its contract. Assumes nothing.
+use Prim.Native.Nat.{_≤_, _-_}
+use mathlib.Core.Path.{_≡_, refl}
+use mathlib.Core.Bool.{false}
+use native.Mathlib.Omega.{arith}
+use Rattle.octets.specs.Base.{some}
+use Rattle.octets.specs.BaseLaws.{some-none, some-end}
+use Rattle.log_entry.specs.Log.{windowCount, astrayWindow}
+use Rattle.log_closing.specs.CloseLaws.{astray-more, astray-hit}
 use Rattle.log_closing.proofs.any_astray.Statement.{statement}
 use Rattle.log_closing.proofs.any_astray.Tie as tie
 use Rattle.log_closing.proofs.any_astray.Reads as reads
 use Rattle.log_closing.proofs.any_astray.Lts as lts
 
 abbrev Inv-loop : tie.InvT-loop
-Inv-loop windows n m w₀ w = ?
+Inv-loop windows n m w₀ w = (w ≤ m) × (some (astrayWindow n windows) w ≡ false) × (m ≡ windowCount windows)
 
 abbrev μ-loop : tie.MeasureT-loop
-μ-loop windows n m w₀ w = ?
+μ-loop windows n m w₀ w = m - w
 
--- src/lib.rt:18:5
 loop-holds : tie.Need-loop-holds Inv-loop μ-loop
-loop-holds c = ?
+loop-holds c = (omega arith, some-none _, refl)
 
--- src/lib.rt:19:25
 mul-if1 : tie.Need-mul-if1 Inv-loop μ-loop
-mul-if1 c = ?
+mul-if1 c = omega arith
 
--- src/lib.rt:19:17
 mul-if1-2 : tie.Need-mul-if1-2 Inv-loop μ-loop
-mul-if1-2 c = ?
+mul-if1-2 c = omega arith
 
--- src/lib.rt:19:17
 shared-slice-read-if1 : tie.Need-shared-slice-read-if1 Inv-loop μ-loop
-shared-slice-read-if1 c = ?
+shared-slice-read-if1 c = omega arith
 
--- src/lib.rt:20:13
 returns : tie.Need-returns Inv-loop μ-loop
-returns c = ?
+returns c = search astray-hit
 
--- src/lib.rt:18:9
 add-w : tie.Need-add-w Inv-loop μ-loop
-add-w c = ?
+add-w c = omega arith
 
--- src/lib.rt:18:5
 loop-less : tie.Need-loop-less Inv-loop μ-loop
-loop-less c = ?
+loop-less c = omega arith
 
--- src/lib.rt:18:5
 loop-again : tie.Need-loop-again Inv-loop μ-loop
-loop-again c = ?
+loop-again c = (omega arith, search astray-more, omega arith)
 
--- src/lib.rt:14:1
 returns-2 : tie.Need-returns-2 Inv-loop μ-loop
-returns-2 c = ?
+returns-2 c = search some-end
 
 pub any-astray-spec : {M : Type 1} → statement M
 any-astray-spec =

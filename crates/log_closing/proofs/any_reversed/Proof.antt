@@ -1,69 +1,64 @@
+-- `log_closing::any_reversed` meets its contract. Assumes nothing.
+use Prim.Native.Nat.{_≤_, _-_}
+use mathlib.Core.Path.{_≡_, refl}
+use mathlib.Core.Bool.{false}
+use native.Mathlib.Omega.{arith}
+use Rattle.octets.specs.Base.{some}
+use Rattle.octets.specs.BaseLaws.{some-none, some-end}
+use Rattle.log_entry.specs.Log.{windowCount, reversedWindow}
+use Rattle.log_closing.specs.CloseLaws.{reversed-more, reversed-hit}
 use Rattle.log_closing.proofs.any_reversed.Statement.{statement}
 use Rattle.log_closing.proofs.any_reversed.Tie as tie
 use Rattle.log_closing.proofs.any_reversed.Reads as reads
 use Rattle.log_closing.proofs.any_reversed.Lts as lts
 
 abbrev Inv-loop : tie.InvT-loop
-Inv-loop windows m w₀ w = ?
+Inv-loop windows m w₀ w = (w ≤ m) × (some (reversedWindow windows) w ≡ false) × (m ≡ windowCount windows)
 
 abbrev μ-loop : tie.MeasureT-loop
-μ-loop windows m w₀ w = ?
+μ-loop windows m w₀ w = m - w
 
--- src/lib.rt:31:5
 loop-holds : tie.Need-loop-holds Inv-loop μ-loop
-loop-holds c = ?
+loop-holds c = (omega arith, some-none _, refl)
 
--- src/lib.rt:32:20
 mul-if1 : tie.Need-mul-if1 Inv-loop μ-loop
-mul-if1 c = ?
+mul-if1 c = omega arith
 
--- src/lib.rt:32:20
 add-if1 : tie.Need-add-if1 Inv-loop μ-loop
-add-if1 c = ?
+add-if1 c = omega arith
 
--- src/lib.rt:32:12
 mul-if1-2 : tie.Need-mul-if1-2 Inv-loop μ-loop
-mul-if1-2 c = ?
+mul-if1-2 c = omega arith
 
--- src/lib.rt:32:12
 shared-slice-read-if1 : tie.Need-shared-slice-read-if1 Inv-loop μ-loop
-shared-slice-read-if1 c = ?
+shared-slice-read-if1 c = omega arith
 
--- src/lib.rt:32:41
 mul-if1-3 : tie.Need-mul-if1-3 Inv-loop μ-loop
-mul-if1-3 c = ?
+mul-if1-3 c = omega arith
 
--- src/lib.rt:32:41
 add-if1-2 : tie.Need-add-if1-2 Inv-loop μ-loop
-add-if1-2 c = ?
+add-if1-2 c = omega arith
 
--- src/lib.rt:32:33
 mul-if1-4 : tie.Need-mul-if1-4 Inv-loop μ-loop
-mul-if1-4 c = ?
+mul-if1-4 c = omega arith
 
--- src/lib.rt:32:33
 shared-slice-read-if1-2 : tie.Need-shared-slice-read-if1-2 Inv-loop μ-loop
-shared-slice-read-if1-2 c = ?
+shared-slice-read-if1-2 c = omega arith
 
--- src/lib.rt:33:13
 returns : tie.Need-returns Inv-loop μ-loop
-returns c = ?
+returns c = search reversed-hit
 
--- src/lib.rt:31:9
 add-w : tie.Need-add-w Inv-loop μ-loop
-add-w c = ?
+add-w c = omega arith
 
--- src/lib.rt:31:5
 loop-less : tie.Need-loop-less Inv-loop μ-loop
-loop-less c = ?
+loop-less c = omega arith
 
--- src/lib.rt:31:5
 loop-again : tie.Need-loop-again Inv-loop μ-loop
-loop-again c = ?
+loop-again c = (omega arith, search reversed-more, omega arith)
 
--- src/lib.rt:27:1
 returns-2 : tie.Need-returns-2 Inv-loop μ-loop
-returns-2 c = ?
+returns-2 c = search some-end
 
 pub any-reversed-spec : {M : Type 1} → statement M
 any-reversed-spec =
