@@ -6,9 +6,9 @@ use mathlib.Core.List.{List}
 use lib.Dec.{ltb}
 use lib.ListN.{length, take, drop}
 use borrow.Author.Tests.{ltb-false}
-use Rattle.octets.specs.Base.{pick}
+use Rattle.octets.specs.Base.{some}
 use Rattle.octets.specs.BaseLaws.{by-test}
-use Rattle.log_entry.specs.Log.{windowCount, answers, astray, falls, refusalIn, answered, lookedUp}
+use Rattle.log_entry.specs.Log.{windowCount, astrayWindow, answers, astray, falls, refusalIn, answered, lookedUp}
 use Rattle.log_entry.specs.declared.Entry.{Entry}
 use Rattle.log_entry.specs.declared.State.{State}
 use Rattle.log_windows.specs.Grow.{openedOf, over}
@@ -19,11 +19,7 @@ use Rattle.log_closing.specs.Close.{closedOf}
 many : (ws : List ℕ) (n : ℕ) (strays fall : Bool) (room : ℕ) (c d out : List ℕ) → ltb 64 (windowCount ws) ≡ true
     → answered (refusalIn ws n strays fall room) c out ≡ answered (refusalIn ws n strays fall room) d out
 unfolding refusalIn answered
-many ws n strays fall room c d out h = go _ _ h
-  where
-    go : (s m : Bool) {x : ℕ} → m ≡ true → answered (pick s 10 (pick m 16 x)) c out ≡ answered (pick s 10 (pick m 16 x)) d out
-    go true m h = refl
-    go false m h = rw h
+many ws n strays fall room c d out h = by-test (some (astrayWindow n ws) (windowCount ws) || strays) (λ e. rw e) (λ e. rw (e, h))
 
 -- the state after the whole log
 whole : (n : ℕ) (ws : List ℕ) (es : List Entry) (out : List ℕ) → closedOf ws (over ws (openedOf n) es) out ≡ lookedUp n ws es out
