@@ -1,5 +1,5 @@
 -- A law for each way through the code that makes the answer. Assumes nothing.
-use Prim.Native.Nat.{ℕ, _+_, _-_, _*_, _<_, _≤_}
+use Prim.Native.Nat.{ℕ, _+_, _-_, _*_, _/_, _<_, _≤_}
 use mathlib.Core.Path.{_≡_, refl, sym, _∙_, ap}
 use mathlib.Core.Bool.{Bool, true, false, _||_}
 use mathlib.Core.List.{List, []}
@@ -8,7 +8,7 @@ use native.Mathlib.Omega.{arith}
 use lib.Dec.{ltb}
 use lib.ListN.{length, set, getD, take}
 use lib.Seq.{sets, length-take-le}
-use borrow.Author.Tests.{lt-ltb, le-ltb, le-leb, lt-leb, eq-eqb, ne-eqb, ltb-false}
+use borrow.Author.Tests.{lt-ltb, le-ltb, le-leb, lt-leb, eq-eqb, ne-eqb, ltb-true, ltb-false}
 use Rattle.octets.specs.Base.{pick, some, accepted, doneAnswer, outcome}
 use Rattle.octets.specs.BaseLaws.{some-more, some-hit, by-test}
 use Rattle.octets.specs.Store.{stored-more}
@@ -34,33 +34,17 @@ module _ (ws : List ℕ) (m w : ℕ) where
 
 -- ---- the refusals, in their order
 
-module _ (ws : List ℕ) (n : ℕ) (strays fall a b : Bool) (room : ℕ) where
-  pub refused-10 : a ≡ some (astrayWindow n ws) (windowCount ws) → b ≡ (a || strays) → b ≡ true → 10 ≡ refusalIn ws n strays fall room
-  unfolding refusalIn
-  refused-10 p q e = rw (sym p, sym q, e)
+short-is : (room m : ℕ) → ltb (room / 9) m ≡ ltb room (9 * m)
+short-is room m =
+    by-test (ltb room (9 * m))
+    (λ e. let h = ltb-true room (9 * m) e in lt-ltb (room / 9) m (omega arith) ∙ sym e)
+    (λ e. let h = ltb-false room (9 * m) e in le-ltb (room / 9) m (omega arith) ∙ sym e)
 
-  module _ (p : a ≡ some (astrayWindow n ws) (windowCount ws)) (q : b ≡ (a || strays)) (e : b ≡ false) where
-    pub refused-16 : 64 < windowCount ws → 16 ≡ refusalIn ws n strays fall room
-    unfolding refusalIn
-    refused-16 h = rw (sym p, sym q, e, lt-ltb 64 (windowCount ws) h)
-
-    module _ (few : windowCount ws ≤ 64) where
-      pub refused-20 : (c : Bool) → c ≡ some (reversedWindow ws) (windowCount ws) → c ≡ true → 20 ≡ refusalIn ws n strays fall room
-      unfolding refusalIn
-      refused-20 c g k = rw (sym p, sym q, e, le-ltb 64 (windowCount ws) few, sym g, k)
-
-      module _ (c : Bool) (g : c ≡ some (reversedWindow ws) (windowCount ws)) (k : c ≡ false) where
-        pub refused-21 : fall ≡ true → 21 ≡ refusalIn ws n strays fall room
-        unfolding refusalIn
-        refused-21 x = rw (sym p, sym q, e, le-ltb 64 (windowCount ws) few, sym g, k, x)
-
-        pub refused-15 : fall ≡ false → room < 9 * windowCount ws → 15 ≡ refusalIn ws n strays fall room
-        unfolding refusalIn
-        refused-15 x h = rw (sym p, sym q, e, le-ltb 64 (windowCount ws) few, sym g, k, x, lt-ltb room (9 * windowCount ws) h)
-
-        pub refused-not : fall ≡ false → 9 * windowCount ws ≤ room → 0 ≡ refusalIn ws n strays fall room
-        unfolding refusalIn
-        refused-not x h = rw (sym p, sym q, e, le-ltb 64 (windowCount ws) few, sym g, k, x, le-ltb room (9 * windowCount ws) h)
+pub refusal-is : (ws : List ℕ) (n : ℕ) (strays fall a b c : Bool) (room r₁ r₂ r₃ r₄ r₅ : ℕ) → r₁ ≡ pick b 10 r₂ → b ≡ (a || strays) → a ≡ some (astrayWindow n ws) (windowCount ws)
+    → r₂ ≡ pick (ltb 64 (windowCount ws)) 16 r₃ → r₃ ≡ pick c 20 r₄ → c ≡ some (reversedWindow ws) (windowCount ws) → r₄ ≡ pick fall 21 r₅
+    → r₅ ≡ pick (ltb (room / 9) (windowCount ws)) 15 0 → r₁ ≡ refusalIn ws n strays fall room
+unfolding refusalIn
+refusal-is ws n strays fall a b c room r₁ r₂ r₃ r₄ r₅ e₁ q p e₂ e₃ g e₄ e₅ = rw (e₁, e₂, e₃, e₄, e₅, q, p, g, short-is room (windowCount ws))
 
 -- where there is no refusal there are at most 64 windows, and the output has room
 pub room-for : (ws : List ℕ) (n : ℕ) (strays fall : Bool) (room x : ℕ) → x ≡ refusalIn ws n strays fall room → x ≡ 0 → (9 * windowCount ws ≤ 576) × (9 * windowCount ws ≤ room)

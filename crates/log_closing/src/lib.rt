@@ -6,7 +6,7 @@ ghost use mathlib.Core.Path.{_≡_};
 ghost use Prim.Native.Nat.{_≤_};
 ghost use lib.ListN.{length, take};
 ghost use lib.Seq.{sets};
-ghost use Rattle.octets.specs.Base.{some, doneAnswer, outcome};
+ghost use Rattle.octets.specs.Base.{pick, some, doneAnswer, outcome};
 ghost use Rattle.log_entry.specs.Log.{windowCount, astrayWindow, reversedWindow, refusalIn};
 ghost use Rattle.log_closing.specs.Close.{closedOf};
 
@@ -36,27 +36,31 @@ fn any_reversed(windows: &[u32]) -> bool
     false
 }
 
+// The number x where the test holds, else the other.
+fn number(test: bool, x: u32, other: u32) -> u32
+    ensures { λ r. ⌜ r ≡ pick test x other ⌝ }
+{
+    if test { x } else { other }
+}
+
 // The number of the refusal, 0 where there is none. `astray` and `falls` are what is known of the entries.
 fn refusal(windows: &[u32], n: u32, astray: bool, falls: bool, room: usize) -> u32
     ensures { λ r. ⌜ r ≡ refusalIn (now (windows .entry)) n astray falls room ⌝ }
 {
-    if octets::either(any_astray(windows, n), astray) {
-        return 10;
-    }
     let m = windows.len() / 3;
-    if 64 < m {
-        return 16;
-    }
-    if any_reversed(windows) {
-        return 20;
-    }
-    if falls {
-        return 21;
-    }
-    if room < 9 * m {
-        return 15;
-    }
-    0
+    let strays = octets::either(any_astray(windows, n), astray);
+    let many = 64 < m;
+    let reversed = any_reversed(windows);
+    let short = room / 9 < m;
+    number(
+        strays,
+        10,
+        number(
+            many,
+            16,
+            number(reversed, 20, number(falls, 21, number(short, 15, 0))),
+        ),
+    )
 }
 
 // Stores all counts of `src` at the front of the output.

@@ -89,7 +89,3 @@ refusalIn ws n strays fall room =
 -- a refusal leaves the output as it was; else the counts stand at its front, and what is past them stays
 unfoldable pub answered : (x : ℕ) (counts out : List ℕ) → Outcome
 answered x counts out = pick (eqb x 0) (outcome (accepted []) (sets out 0 counts)) (outcome (refused x) out)
-
--- the windows ws over the log es of N stations: the answer, and the lent output afterwards
-unfoldable pub lookedUp : (n : ℕ) (ws : List ℕ) (es : List Entry) (out : List ℕ) → Outcome
-lookedUp n ws es out = answered (refusalIn ws n (astray n es) (falls 0 es) (length out)) (answers ws es) out

@@ -8,12 +8,13 @@ use lib.ListN.{length, take, drop}
 use borrow.Author.Tests.{ltb-false}
 use Rattle.octets.specs.Base.{some}
 use Rattle.octets.specs.BaseLaws.{by-test}
-use Rattle.log_entry.specs.Log.{windowCount, astrayWindow, answers, astray, falls, refusalIn, answered, lookedUp}
+use Rattle.log_entry.specs.Log.{windowCount, astrayWindow, answers, astray, falls, refusalIn, answered}
 use Rattle.log_entry.specs.declared.Entry.{Entry}
 use Rattle.log_entry.specs.declared.State.{State}
 use Rattle.log_windows.specs.Grow.{openedOf, over}
 use Rattle.log_windows.specs.Whole.{over-end, over-stations, over-astray, over-falls, fresh-is}
 use Rattle.log_closing.specs.Close.{closedOf}
+use Rattle.log_lookup.specs.Lookup.{lookedUp}
 
 -- with more than 64 windows the counts do not matter
 many : (ws : List ℕ) (n : ℕ) (strays fall : Bool) (room : ℕ) (c d out : List ℕ) → ltb 64 (windowCount ws) ≡ true

@@ -52,12 +52,12 @@ use denote.Triple.Walked.{says, Stays, stay-none-slice, stay-none, gave-slice, w
 use denote.Exit.{yes}
 use Rattle.octets.specs.Base.{doneAnswer, outcome}
 use Rattle.octets.specs.declared.Done.{Done}
-use Rattle.log_entry.specs.Log.{lookedUp}
 use Rattle.log_entry.specs.declared.Entry.{Entry}
 use Rattle.log_entry.specs.declared.State.{State}
 use Rattle.log_windows.specs.Grow.{openedOf, enteredOf, over}
 use Rattle.log_windows.specs.Whole.{none, over-next}
 use Rattle.log_closing.specs.Close.{closedOf}
+use Rattle.log_lookup.specs.Lookup.{lookedUp}
 use Rattle.log_lookup.specs.Looked.{looked}
 use Rattle.log_walk.proofs.While.{tests, told}
 use Rattle.log_entry.proofs.Entry as T
