@@ -52,15 +52,8 @@ fn refusal(windows: &[u32], n: u32, astray: bool, falls: bool, room: usize) -> u
     let many = 64 < m;
     let reversed = any_reversed(windows);
     let short = room / 9 < m;
-    number(
-        strays,
-        10,
-        number(
-            many,
-            16,
-            number(reversed, 20, number(falls, 21, number(short, 15, 0))),
-        ),
-    )
+    let rest = number(reversed, 20, number(falls, 21, number(short, 15, 0)));
+    number(strays, 10, number(many, 16, rest))
 }
 
 // Stores all counts of `src` at the front of the output.
