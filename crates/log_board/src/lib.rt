@@ -1,4 +1,5 @@
-// Forty entries in an array, lent as a slice: the one place where a slice of entries is made. Its proof is a walk through its MIR, by hand.
+// Forty entries in an array, lent as a slice: the one place where a slice of entries is made. Its proof is a walk
+// through its MIR, by hand.
 
 use log_entry::Entry;
 use octets::Done;

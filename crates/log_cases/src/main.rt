@@ -1,9 +1,12 @@
-// Stored lookups of an independent model, on standard input, and what they answer. The gate compares it with the file `stdout`.
+// Stored lookups of an independent model, on standard input, and what they answer. The gate compares it with the file
+// `stdout`.
 //
-// The input is one octet, the number of cases, and for each case: N, how many entries (40 at most), how many windows (68 at most), how many windows the output
-// has room for (64 at most), one octet each; then the entries: time (4 octets, high first), station, word (0 to 8), and the windows: station, first time (4), time
-// past the last (4). Where there are fewer than 40 entries, the log is filled up at its end with entries at time 4294967295 of station 0, which no window holds.
-// A line is printed for each: `ok` and for each window its nine counts, parted by commas, or `refused` and the number.
+// The input is one octet, the number of cases, and for each case: N, how many entries (40 at most), how many windows
+// (68 at most), how many windows the output has room for (64 at most), one octet each; then the entries: time (4
+// octets, high first), station, event (1 to 9), and the windows: station, first time (4), time past the last (4). Where
+// there are fewer than 40 entries, the log is filled up at its end with entries at time 4294967295 of station 0, which
+// no window holds. Two lines are printed for each, of the lookup in entries and in octets: `ok` and for each window its
+// nine counts, parted by commas, or `refused` and the number.
 
 use libc::STDIN_FILENO;
 use libc::STDOUT_FILENO;
@@ -27,28 +30,28 @@ fn four(s: &[u8], k: usize) -> u32
 }
 
 fn event_of(word: u32) -> Event {
-    if word == 0 {
+    if word == 1 {
         return Event::Collision(0);
     }
-    if word == 1 {
+    if word == 2 {
         return Event::Late(0);
     }
-    if word == 2 {
+    if word == 3 {
         return Event::Sent(0);
     }
-    if word == 3 {
+    if word == 4 {
         return Event::GivenUp(0);
     }
-    if word == 4 {
+    if word == 5 {
         return Event::GotOk(0);
     }
-    if word == 5 {
+    if word == 6 {
         return Event::GotTooLong(0);
     }
-    if word == 6 {
+    if word == 7 {
         return Event::GotAlignment(0);
     }
-    if word == 7 {
+    if word == 8 {
         return Event::GotCheck(0);
     }
     Event::GotLength(0)
@@ -147,6 +150,13 @@ fn look_and_print(
     print_answer(answer, out, count);
 }
 
+// The same lookup in the octets of the log.
+fn look_in_octets(log: &[u8], n: u32, windows: &[u32], out: &mut [u32], last: usize, count: usize) {
+    let end = least(last, out.len());
+    let answer = log_octets::look_up_octets(log, n, windows, &mut out[0..end]);
+    print_answer(answer, out, count);
+}
+
 // One case at `at`: the place of the next.
 fn run_case(s: &[u8], at: usize) -> usize
     requires { ⌜ at < 1700000 ⌝ }
@@ -161,6 +171,17 @@ fn run_case(s: &[u8], at: usize) -> usize
     let mut out = [0u32; 576];
     let end = least(3 * count, 204);
     look_and_print(log, n, &windows[0..end], &mut out, 9 * room, count);
+    let stop = least(at + 4 + 6 * entries, s.len());
+    let begin = least(at + 4, stop);
+    let mut other = [0u32; 576];
+    look_in_octets(
+        &s[begin..stop],
+        n,
+        &windows[0..end],
+        &mut other,
+        9 * room,
+        count,
+    );
     at + 4 + 6 * entries + 9 * count
 }
 

@@ -1,7 +1,7 @@
--- Many windows over one log (document 02, N14). A log is a list of entries; windows are a list of numbers, three to a window: station, first time, time past the last.
--- Assumes nothing.
+-- Many windows over one log (document 02, N14). A log is a list of entries; windows are a list of numbers, three to a
+-- window: station, first time, time past the last. Assumes nothing.
 use Prim.Native.Nat.{ℕ, suc, _+_, _*_, _/_, _%_, min}
-use mathlib.Core.Bool.{Bool, true, false, _&&_, _||_}
+use mathlib.Core.Bool.{Bool, false, _&&_, _||_}
 use mathlib.Core.List.{List, [], _∷_}
 use lib.Dec.{ltb, leb, eqb}
 use lib.ListN.{length, getD}
@@ -49,7 +49,8 @@ unfoldable pub count : (Entry → Bool) → List Entry → ℕ
 count p [] = 0
 count p (e ∷ es) = pick (p e) (suc (count p es)) (count p es)
 
--- window w looked up alone: how many entries with the word j it holds. A count that would pass the top of 32 bits stops at it
+-- window w looked up alone: how many entries with the word j it holds. A count that would pass the top of 32 bits stops
+-- at it
 unfoldable pub alone : List ℕ → ℕ → ℕ → List Entry → ℕ
 alone ws w j es = min (count (λ e. holds ws w (e .time) (e .station) && eqb (wordOf (e .event)) j) es) 4294967295
 
@@ -76,8 +77,9 @@ unfoldable pub falls : ℕ → List Entry → Bool
 falls t [] = false
 falls t (e ∷ es) = ltb (e .time) t || falls (e .time) es
 
--- the number of the refusal, 0 where there is none: "10 .. comes before them all", then 16, 20, 21; 15 last, for an output with room for fewer than nine counts a window.
--- `strays` and `fall` say whether an entry's station is N or more, and whether the times fall
+-- the number of the refusal, 0 where there is none: "10 .. comes before them all", then 16, 20, 21; 15 last, for an
+-- output with room for fewer than nine counts a window. `strays` and `fall` say whether an entry's station is N or
+-- more, and whether the times fall
 unfoldable pub refusalIn : (ws : List ℕ) (n : ℕ) (strays fall : Bool) (room : ℕ) → ℕ
 refusalIn ws n strays fall room =
     pick (some (astrayWindow n ws) (windowCount ws) || strays) 10

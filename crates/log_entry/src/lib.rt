@@ -1,11 +1,12 @@
-// A log of events: entries with time, station and event, and what is known of a log after its entries so far. The windows that are looked up in a log are
-// numbers, three to a window: station, first time, time past the last.
+// A log of events: entries with time, station and event, and what is known of a log after its entries so far. The
+// windows that are looked up in a log are numbers, three to a window: station, first time, time past the last.
 
 ghost use mathlib.Core.Path.{_≡_};
 ghost use Prim.Native.Nat.{_<_};
 ghost use Rattle.log_entry.specs.Log.{wordOf};
 
-// What a station reported, as document 01 prints it: a transmit event with its bit or its attempts, a receive event with its octets.
+// What a station reported, as document 01 prints it: a transmit event with its bit or its attempts, a receive event
+// with its octets.
 pub enum Event {
     Collision(u32),
     Late(u32),
@@ -24,7 +25,8 @@ pub struct Entry {
     pub event: Event,
 }
 
-// After some entries: N, whether an entry's station was N or more, whether the times fell, the last time, and nine counts for each of 64 windows.
+// After some entries: N, whether an entry's station was N or more, whether the times fell, the last time, and nine
+// counts for each of 64 windows.
 pub struct State {
     pub stations: u32,
     pub astray: bool,

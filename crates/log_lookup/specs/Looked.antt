@@ -1,14 +1,14 @@
 -- The answer from the state after all entries is the one that each window looked up alone gives. Assumes nothing.
 use Prim.Native.Nat.{ℕ, _*_, _≤_}
-use mathlib.Core.Path.{_≡_, refl, sym, _∙_, ap}
-use mathlib.Core.Bool.{Bool, true, false, _||_}
+use mathlib.Core.Path.{_≡_, sym, _∙_, ap}
+use mathlib.Core.Bool.{Bool, true, _||_}
 use mathlib.Core.List.{List}
 use lib.Dec.{ltb}
 use lib.ListN.{length, take, drop}
 use borrow.Author.Tests.{ltb-false}
 use Rattle.octets.specs.Base.{some}
 use Rattle.octets.specs.BaseLaws.{by-test}
-use Rattle.log_entry.specs.Log.{windowCount, astrayWindow, answers, astray, falls, refusalIn, answered}
+use Rattle.log_entry.specs.Log.{windowCount, astrayWindow, astray, falls, refusalIn, answered}
 use Rattle.log_entry.specs.declared.Entry.{Entry}
 use Rattle.log_entry.specs.declared.State.{State}
 use Rattle.log_windows.specs.Grow.{openedOf, over}
@@ -23,7 +23,8 @@ unfolding refusalIn answered
 many ws n strays fall room c d out h = by-test (some (astrayWindow n ws) (windowCount ws) || strays) (λ e. rw e) (λ e. rw (e, h))
 
 -- the state after the whole log
-whole : (n : ℕ) (ws : List ℕ) (es : List Entry) (out : List ℕ) → closedOf ws (over ws (openedOf n) es) out ≡ lookedUp n ws es out
+whole : (n : ℕ) (ws : List ℕ) (es : List Entry) (out : List ℕ)
+    → closedOf ws (over ws (openedOf n) es) out ≡ lookedUp n ws es out
 unfolding closedOf lookedUp openedOf
 whole n ws es out =
     (λ i. answered (refusalIn ws (over-stations ws (openedOf n) es i) (over-astray ws (openedOf n) es i) (over-falls ws (openedOf n) es i) (length out))
@@ -32,5 +33,6 @@ whole n ws es out =
     (many ws n (astray n es) (falls 0 es) (length out) _ _ out)
     (λ e. ap (λ c. answered (refusalIn ws n (astray n es) (falls 0 es) (length out)) c out) (fresh-is n ws es (ltb-false 64 (windowCount ws) e)))
 
-pub looked : (ws : List ℕ) (s : State) (es : List Entry) (n k : ℕ) (out : List ℕ) → length es ≤ k → over ws s (drop k es) ≡ over ws (openedOf n) es → closedOf ws s out ≡ lookedUp n ws es out
+pub looked : (ws : List ℕ) (s : State) (es : List Entry) (n k : ℕ) (out : List ℕ) → length es ≤ k
+    → over ws s (drop k es) ≡ over ws (openedOf n) es → closedOf ws s out ≡ lookedUp n ws es out
 looked ws s es n k out h e = ap (λ x. closedOf ws x out) (sym (over-end ws s es k h) ∙ e) ∙ whole n ws es out

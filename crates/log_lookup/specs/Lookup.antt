@@ -6,6 +6,7 @@ use Rattle.octets.specs.Base.{Outcome}
 use Rattle.log_entry.specs.Log.{answers, astray, falls, refusalIn, answered}
 use Rattle.log_entry.specs.declared.Entry.{Entry}
 
--- the windows ws over the log es of N stations: the answer, and the lent output afterwards. The first entry has none before it, so its time falls below none
+-- the windows ws over the log es of N stations: the answer, and the lent output afterwards. The first entry has none
+-- before it, so its time falls below none
 unfoldable pub lookedUp : (n : ℕ) (ws : List ℕ) (es : List Entry) (out : List ℕ) → Outcome
 lookedUp n ws es out = answered (refusalIn ws n (astray n es) (falls 0 es) (length out)) (answers ws es) out

@@ -1,4 +1,5 @@
--- What the functions that make the tallies grow compute, and the state after a log. That this gives the answers of log_entry/Log is in Whole. Assumes nothing.
+-- What the functions that make the tallies grow compute, and the state after a log. That this gives the answers of
+-- log_entry/Log is in Whole. Assumes nothing.
 use Prim.Native.Nat.{ℕ, _+_, _*_, min}
 use mathlib.Core.Bool.{false, _||_}
 use mathlib.Core.List.{List, [], _∷_}

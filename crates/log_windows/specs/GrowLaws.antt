@@ -1,6 +1,6 @@
 -- A law for each way through the code that makes the tallies grow. Assumes nothing.
 use Prim.Native.Nat.{ℕ, _+_, _*_, _<_, _≤_}
-use mathlib.Core.Path.{_≡_, refl, sym, _∙_, ap}
+use mathlib.Core.Path.{_≡_, sym, _∙_, ap}
 use mathlib.Core.Bool.{Bool, true, false, _||_}
 use mathlib.Core.List.{List}
 use native.Mathlib.Omega.{arith}
@@ -35,7 +35,8 @@ module _ (ws : List ℕ) (w t i : ℕ) where
   in-past h g = rw (eq-eqb (stationOf ws w) i h, le-leb (firstOf ws w) t g)
 
 module _ (ws l : List ℕ) (t i j w : ℕ) (b : Bool) where
-  pub add-in : (one : ℕ) → b ≡ holds ws w t i → b ≡ true → one ≡ capped (getD l (9 * w + j) 0) → set l (9 * w + j) one ≡ added ws t i j w l
+  pub add-in : (one : ℕ) → b ≡ holds ws w t i → b ≡ true → one ≡ capped (getD l (9 * w + j) 0)
+      → set l (9 * w + j) one ≡ added ws t i j w l
   unfolding added
   add-in one p q e = rw (sym p, q, e)
 
@@ -51,11 +52,13 @@ pub used-all : (ws : List ℕ) → windowCount ws ≤ 64 → windowCount ws ≡ 
 unfolding used
 used-all ws h = omega arith
 
-pub all-end : (ws l x : List ℕ) (t i j m w : ℕ) → m ≡ used ws → w ≤ m → m ≤ w → x ≡ turns (λ v y. added ws t i j v y) w l → x ≡ addedAll ws t i j l
+pub all-end : (ws l x : List ℕ) (t i j m w : ℕ) → m ≡ used ws → w ≤ m → m ≤ w
+    → x ≡ turns (λ v y. added ws t i j v y) w l → x ≡ addedAll ws t i j l
 unfolding addedAll
 all-end ws l x t i j m w e p q r = turns-end (λ v y. added ws t i j v y) m w l x p q r ∙ ap (λ k. turns (λ v y. added ws t i j v y) k l) e
 
-pub entered-is : (ws : List ℕ) (s : State) (t i word : ℕ) (v : Event) (c : List ℕ) (a f : Bool) → word ≡ wordOf v → c ≡ addedAll ws t i word (s .counts)
+pub entered-is : (ws : List ℕ) (s : State) (t i word : ℕ) (v : Event) (c : List ℕ) (a f : Bool) → word ≡ wordOf v
+    → c ≡ addedAll ws t i word (s .counts)
     → a ≡ (s .astray || leb (s .stations) i) → f ≡ (s .falls || ltb t (s .last))
     → record { stations = s .stations; astray = a; falls = f; last = t; counts = c } ≡ enteredOf ws s (record { time = t; station = i; event = v })
 unfolding enteredOf

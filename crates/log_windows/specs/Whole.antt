@@ -1,4 +1,5 @@
--- The state after all entries of a log: what it says of them, and that its counts are those of each window looked up alone. Assumes nothing.
+-- The state after all entries of a log: what it says of them, and that its counts are those of each window looked up
+-- alone. Assumes nothing.
 use Prim.Native.Nat.{ℕ, zero, suc, _+_, _*_, _/_, _%_, _<_, _≤_, min}
 use mathlib.Core.Path.{_≡_, refl, sym, _∙_, ap}
 use mathlib.Core.Bool.{Bool, true, false, _&&_, _||_}
@@ -37,13 +38,15 @@ word-small (GotLength x) = omega arith
 abbrev pub none : Entry
 none = record { time = 0; station = 0; event = Collision 0 }
 
-over-suc : (ws : List ℕ) (s : State) (es : List Entry) (k : ℕ) → k < length es → over ws s (drop k es) ≡ over ws (enteredOf ws s (getD es k none)) (drop (suc k) es)
+over-suc : (ws : List ℕ) (s : State) (es : List Entry) (k : ℕ) → k < length es
+    → over ws s (drop k es) ≡ over ws (enteredOf ws s (getD es k none)) (drop (suc k) es)
 unfolding over
 over-suc ws s [] k h = absurd (omega arith)
 over-suc ws s (e ∷ es) zero h = refl
 over-suc ws s (e ∷ es) (suc k) h = over-suc ws s es k (omega arith)
 
-pub over-next : (ws : List ℕ) (s : State) (es : List Entry) (k : ℕ) → k < length es → over ws s (drop k es) ≡ over ws (enteredOf ws s (getD es k none)) (drop (k + 1) es)
+pub over-next : (ws : List ℕ) (s : State) (es : List Entry) (k : ℕ) → k < length es
+    → over ws s (drop k es) ≡ over ws (enteredOf ws s (getD es k none)) (drop (k + 1) es)
 over-next ws s es k h = rw (add-one k) (over-suc ws s es k h)
 
 pub over-end : (ws : List ℕ) (s : State) (es : List Entry) (k : ℕ) → length es ≤ k → over ws s (drop k es) ≡ s
@@ -68,7 +71,8 @@ unfolding over enteredOf
 over-stations ws s [] = refl
 over-stations ws s (e ∷ es) = over-stations ws (enteredOf ws s e) es
 
-pub over-astray : (ws : List ℕ) (s : State) (es : List Entry) → over ws s es .astray ≡ (s .astray || astray (s .stations) es)
+pub over-astray : (ws : List ℕ) (s : State) (es : List Entry)
+    → over ws s es .astray ≡ (s .astray || astray (s .stations) es)
 unfolding over enteredOf astray
 over-astray ws s [] = or-false (s .astray)
 over-astray ws s (e ∷ es) = over-astray ws (enteredOf ws s e) es ∙ or-assoc (s .astray) (leb (s .stations) (e .station)) (astray (s .stations) es)
@@ -114,7 +118,8 @@ over-cell ws s (e ∷ es) c b h =
     ∙ raised-more (hits ws c e) (count (hits ws c) es) (getD (s .counts) c 0)
 
 -- a count is that of its window looked up alone
-cell-alone : (ws : List ℕ) (es : List Entry) (c : ℕ) → c / 9 < windowCount ws → min (count (hits ws c) es) 4294967295 ≡ alone ws (c / 9) (c % 9) es
+cell-alone : (ws : List ℕ) (es : List Entry) (c : ℕ) → c / 9 < windowCount ws
+    → min (count (hits ws c) es) 4294967295 ≡ alone ws (c / 9) (c % 9) es
 unfolding alone
 cell-alone ws es c h =
     ap (λ y. min (count (λ x. y && (holds ws (c / 9) (x .time) (x .station) && eqb (wordOf (x .event)) (c % 9))) es) 4294967295) (lt-ltb (c / 9) (windowCount ws) h)
@@ -124,7 +129,8 @@ cell-alone ws es c h =
 abbrev fresh : ℕ → List ℕ → List Entry → List ℕ
 fresh n ws es = over ws (openedOf n) es .counts
 
-fresh-cell : (n : ℕ) (ws : List ℕ) (es : List Entry) (c : ℕ) → c < 576 → c / 9 < windowCount ws → getD (fresh n ws es) c 0 ≡ alone ws (c / 9) (c % 9) es
+fresh-cell : (n : ℕ) (ws : List ℕ) (es : List Entry) (c : ℕ) → c < 576 → c / 9 < windowCount ws
+    → getD (fresh n ws es) c 0 ≡ alone ws (c / 9) (c % 9) es
 unfolding openedOf
 fresh-cell n ws es c b h =
     over-cell ws (openedOf n) es c b (length-replicate {A = ℕ} 576 0)
@@ -142,7 +148,8 @@ length-tabulated f i zero = refl
 length-tabulated f i (suc n) = ap suc (length-tabulated f (suc i) n)
 
 -- "each answer is that of the window looked up alone"
-pub fresh-is : (n : ℕ) (ws : List ℕ) (es : List Entry) → windowCount ws ≤ 64 → take (9 * windowCount ws) (fresh n ws es) ≡ answers ws es
+pub fresh-is : (n : ℕ) (ws : List ℕ) (es : List Entry) → windowCount ws ≤ 64
+    → take (9 * windowCount ws) (fresh n ws es) ≡ answers ws es
 unfolding answers
 fresh-is n ws es h =
     ext-getD 0 (take (9 * windowCount ws) (fresh n ws es)) _ (long ∙ sym (length-tabulated _ 0 (9 * windowCount ws)))

@@ -1,7 +1,7 @@
--- `log_board::look_up_all` meets its contract: a walk of its MIR. The array stands in a local; it is lent as a `&[Entry]` for a lifetime that is made for the call of
--- `log_lookup::look_up`, and taken back once that has returned, so that the local can be freed. The output goes to the callee at its own lifetime, share and name.
--- All that the proof knows of `look_up` is that it meets its contract.
--- Assumes nothing.
+-- `log_board::look_up_all` meets its contract: a walk of its MIR. The array stands in a local; it is lent as a
+-- `&[Entry]` for a lifetime that is made for the call of `log_lookup::look_up`, and taken back once that has returned,
+-- so that the local can be freed. The output goes to the callee at its own lifetime, share and name. All that the proof
+-- knows of `look_up` is that it meets its contract. Assumes nothing.
 use mathlib.Core.Path.{_≡_, refl, sym}
 use Prim.Native.Nat.{ℕ, _<_, _^_}
 use native.Mathlib.Omega.{arith}
@@ -185,9 +185,11 @@ module _ {M : Type 1} (𝓤 : URA M) (H : Heap 𝓤) (A : Atoms 𝓤) (W : Given
         move ! (13 ∷ 3 ∷ []) $ join ! $ use1 W (‵ (Cells l₅ (length es))) (into l₅ len) $ lft-new ! tt (λ ν. move ! (1 ∷ []) $
         use1 W (later (some (λ (δ : GName). ‵ (OwnLog l₅ ν δ (length es)) ⊛ ‵ (flent (ν ∷ []) (Cells l₅ (length es)))))) (lends-shr-slice 𝓤 H A W RE (named 0) (ν ∷ []) fullShare es l₅ 0 room) $ await ! tt $ pick ! (λ δ. split ! $
         rewrite ! 0 (λ (c : ℕ). ‵ (OwnLog l₅ ν δ c)) len refl $
-        -- [log; what is lent; ν's token; output; true; windows; array; _9; …; _8; …; _7; …; _6; …; _5's end; _4; …; .. _0; …; the tokens]
+        -- [log; what is lent; ν's token; output; true; windows; array; _9; …; _8; …; _7; …; _6; …; _5's end; _4; …; ..
+        -- _0; …; the tokens]
         move ! (2 ∷ 26 ∷ 0 ∷ 5 ∷ 3 ∷ []) $ group ! 5 $ use1 W (raw (LookUp 𝓤 H A mem run .pre (to l₅ ν δ)) ⊛ ‵ OwnWin) (ask l₅ ν δ gn) $ split ! $
-        -- [what `look_up` asks; windows; what is lent; true; array; _9; …; _8; …; _7; …; _6; …; _5's end; _4; …; .. _0; …]
+        -- [what `look_up` asks; windows; what is lent; true; array; _9; …; _8; …; _7; …; _6; …; _5's end; _4; …; .. _0;
+        -- …]
         calls-at ! fm (LookUp 𝓤 H A mem run) known (to l₅ ν δ) (and-then ! (load ! (from ! (stop !)) (look ! 9 refl)) (and-then ! (load ! (from ! (stop !)) (look ! 18 refl)) (and-then ! (load ! (from ! (stop !)) (look ! 16 refl)) (and-then ! (load ! (from ! (stop !)) (look ! 5 refl)) (no-more !))))) (λ w.
         use1 W (later (some (λ (r : Done). ((‵ (flft (ν ∷ []) fullShare) ⊛ Toks) ⊛ ‵ (RT .own r (w ∷ []))) ⊛ raw (ensured 𝓤 H A g.ended (g.clauses 𝓤 H A mem run) (ν ∷ [], (μ, (θ, tt))) (log l₅ δ, (n, (y, (z, tt)))) tt r)))) (id⊢ 𝓤 _) $ await ! tt $ pick ! (λ r.
         -- what `look_up` ensures, at some last list
@@ -196,9 +198,11 @@ module _ {M : Type 1} (𝓤 : URA M) (H : Heap 𝓤) (A : Atoms 𝓤) (W : Given
         -- [the last list; true; the tokens and the result; windows; what is lent; true; array; _9; …]
         move ! (1 ∷ []) $ drop ! $ move ! (1 ∷ []) $ split ! $ move ! (1 ∷ []) $
         peeks ! RT (Is RT) (shows 𝓤 H A RT) r (w ∷ []) (λ out. land ! (from ! (stop !)) (init ! 24 refl (EL.lawful R.the-type R′.the-laws 𝓤 H A W tt .typed r _ out .0)) $
-        -- [the result's; the tokens; the last list; windows; what is lent; true; array; _9; …]: the lifetime is ended, and the array is back
+        -- [the result's; the tokens; the last list; windows; what is lent; true; array; _9; …]: the lifetime is ended,
+        -- and the array is back
         move ! (1 ∷ []) $ split ! $ lft-end ! tt $ move ! (0 ∷ 5 ∷ []) $ lent-back ! tt $ use1 W (‵ (fat fullShare arrTy l₅ 0 va) ⊛ ‵ OwnArr) (back l₅ len) $ split ! $
-        -- [_5; array; the tokens; the result's; the last list; windows; true; array; _9; …; _8; …; _7; …; _6; …; _5's end; _4; …; .. _0; …]
+        -- [_5; array; the tokens; the result's; the last list; windows; true; array; _9; …; _8; …; _7; …; _6; …; _5's
+        -- end; _4; …; .. _0; …]
         returns ! (look ! 25 refl) $ forget ! 0 refl $ forget ! 8 refl $ forget ! 10 refl $ forget ! 12 refl $ forget ! 14 refl $ forget ! 17 refl $ forget ! 19 refl $ forget ! 21 refl $ forget ! 23 refl $ forget ! 25 refl $
         move ! (25 ∷ 26 ∷ []) $ free1 ! $ move ! (23 ∷ 24 ∷ []) $ free1 ! $ move ! (21 ∷ 22 ∷ []) $ free1 ! $ move ! (19 ∷ 20 ∷ []) $ free1 ! $ move ! (17 ∷ 18 ∷ []) $ free1 ! $ move ! (0 ∷ 16 ∷ []) $ free1 ! $ move ! (13 ∷ 14 ∷ []) $ free1 ! $ move ! (11 ∷ 12 ∷ []) $ free1 ! $ move ! (9 ∷ 10 ∷ []) $ free1 ! $ move ! (7 ∷ 8 ∷ []) $ free1 ! $ free0 ! $
         -- [array; the tokens; the result's; the last list; windows; true; array]

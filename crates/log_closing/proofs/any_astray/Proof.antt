@@ -9,8 +9,6 @@ use Rattle.log_entry.specs.Log.{windowCount, astrayWindow}
 use Rattle.log_closing.specs.CloseLaws.{astray-more, astray-hit}
 use Rattle.log_closing.proofs.any_astray.Statement.{statement}
 use Rattle.log_closing.proofs.any_astray.Tie as tie
-use Rattle.log_closing.proofs.any_astray.Reads as reads
-use Rattle.log_closing.proofs.any_astray.Lts as lts
 
 abbrev Inv-loop : tie.InvT-loop
 Inv-loop windows n m w₀ w = (w ≤ m) × (some (astrayWindow n windows) w ≡ false) × (m ≡ windowCount windows)

@@ -9,8 +9,6 @@ use Rattle.log_entry.specs.Log.{windowCount, reversedWindow}
 use Rattle.log_closing.specs.CloseLaws.{reversed-more, reversed-hit}
 use Rattle.log_closing.proofs.any_reversed.Statement.{statement}
 use Rattle.log_closing.proofs.any_reversed.Tie as tie
-use Rattle.log_closing.proofs.any_reversed.Reads as reads
-use Rattle.log_closing.proofs.any_reversed.Lts as lts
 
 abbrev Inv-loop : tie.InvT-loop
 Inv-loop windows m w₀ w = (w ≤ m) × (some (reversedWindow windows) w ≡ false) × (m ≡ windowCount windows)

@@ -1,7 +1,7 @@
--- `log_lookup::look_up` meets its contract: a walk of its MIR. The state is made by `opened`, each entry is read and handed to `entered`, and `closed` makes the answer and writes the
--- output, which goes to it at its own lifetime, share and name. All that the proof knows of the three is that each meets its contract.
--- The loop's variant is a `Turn`: what is known where a turn begins.
--- Assumes nothing.
+-- `log_lookup::look_up` meets its contract: a walk of its MIR. The state is made by `opened`, each entry is read and
+-- handed to `entered`, and `closed` makes the answer and writes the output, which goes to it at its own lifetime, share
+-- and name. All that the proof knows of the three is that each meets its contract. The loop's variant is a `Turn`: what
+-- is known where a turn begins. Assumes nothing.
 use mathlib.Core.Path.{_≡_, refl, sym, _∙_}
 use Prim.Native.Nat.{ℕ, _+_, _-_, _*_, _<_, _≤_, _^_}
 use native.Mathlib.Omega.{arith}
@@ -255,7 +255,8 @@ module _ {M : Type 1} (𝓤 : URA M) (H : Heap 𝓤) (A : Atoms 𝓤) (W : Given
       abbrev E : Env 𝓤 H
       E = (R′.mir, l₀) ∷ (logTy, l₁) ∷ (tyInt w32, l₂) ∷ (winTy, l₃) ∷ (outTy, l₄) ∷ (S′.mir, l₅) ∷ (tyInt w64, l₆) ∷ (T′.mir, l₇) ∷ (tyInt w64, l₈) ∷ (tyBool, l₉) ∷ (tyPtr, l₁₀) ∷ (T′.mir, l₁₁) ∷ (tyRef erased mut (tyInt w32), l₁₂) ∷ (lentTy, l₁₃) ∷ []
 
-      -- the invariant: what the state owns, the tokens of log and windows, these, the locals, the last first, and the output with its token
+      -- the invariant: what the state owns, the tokens of log and windows, these, the locals, the last first, and the
+      -- output with its token
       abbrev At : Known → List (Item 𝓤)
       At t = ‵ (RS .own (t .s) (t .u ∷ [])) ∷ ‵ (flft κ q) ∷ Tok ∷ ‵ OwnLog ∷ ‵ OwnWin
           ∷ ‵ (froom lentTy l₁₃ 0) ∷ ‵ (fdies lentTy l₁₃) ∷ ‵ (froom (tyRef erased mut (tyInt w32)) l₁₂ 0) ∷ ‵ (fdies (tyRef erased mut (tyInt w32)) l₁₂)
@@ -271,7 +272,8 @@ module _ {M : Type 1} (𝓤 : URA M) (H : Heap 𝓤) (A : Atoms 𝓤) (W : Given
           assigns ! (of-opd ! (load ! (from ! (fld ! refl (stop !))) (look-in ! 29 (sub ! 1 refl (whole !))))) (from ! (stop !)) (init ! 15 refl (tt, record { fits = gl .0 })) $
           assigns ! (bin ! (load ! (from ! (stop !)) (look ! 19 refl)) (load ! (from ! (stop !)) (look ! 15 refl)) tt) (from ! (stop !)) (init ! 13 refl (tt, tt)) $
           tests ! (load ! (from ! (stop !)) (look ! 13 refl))
-          -- an entry is left: its place is computed, the borrow is looked into, the entry is taken out of the row, copied and put back
+          -- an entry is left: its place is computed, the borrow is looked into, the entry is taken out of the row,
+          -- copied and put back
           (λ h.
           assigns ! (bin ! (load ! (from ! (stop !)) (look ! 19 refl)) (lit ! tt) (record { fits = place-fits t (left t h) })) (from ! (stop !)) (store ! 15 refl (tt, record { fits = place-fits t (left t h) })) $
           assigns ! (bin ! (load ! (from ! (fld ! refl (stop !))) (look-in ! 29 (sub ! 0 refl (whole !)))) (load ! (from ! (stop !)) (look ! 15 refl)) tt) (from ! (stop !)) (init ! 11 refl (tt, tt)) $
@@ -279,14 +281,17 @@ module _ {M : Type 1} (𝓤 : URA M) (H : Heap 𝓤) (A : Atoms 𝓤) (W : Given
           move ! (3 ∷ []) $ fsplit ! $ move ! (1 ∷ []) $ fsplit ! $ move ! (1 ∷ 4 ∷ []) $
           looks-slice ! tt RE (Is RE) (shows 𝓤 H A RE) (LL.vals T.the-type T′.the-laws) (LL.tells T.the-type T′.the-laws) (LL.copy T.the-type T′.the-copy 𝓤 H A W) es b o (λ q′.
           elem-out ! RE (Is RE) (shows 𝓤 H A RE) (LL.vals T.the-type T′.the-laws) (LL.tells T.the-type T′.the-laws) q′ es (t .k) none b o (left t h) (λ is.
-          -- [the entry's cell; what it owns; the others; what shuts; the fractured borrow; res; log's fact; the state's; windows' token; windows; _13; …]
+          -- [the entry's cell; what it owns; the others; what shuts; the fractured borrow; res; log's fact; the
+          -- state's; windows' token; windows; _13; …]
           assigns ! (of-opd ! (load ! (from ! (hop ! (look ! 16 refl) (stop !))) (look-raw ! 0 refl))) (from ! (stop !)) (init ! 14 refl (LL.lawful T.the-type T′.the-laws 𝓤 H A W .typed (e t) _ is .0)) $
           assigns ! (of-opd ! (load ! (from ! (stop !)) (look ! 14 refl))) (from ! (stop !)) (init ! 22 refl (LL.lawful T.the-type T′.the-laws 𝓤 H A W .typed (e t) _ is .0)) $
           move ! (1 ∷ []) $ use1 W (‵ (RE .own (e t) (v t ∷ [])) ⊛ ‵ (RE .own (e t) (v t ∷ []))) (LL.copy T.the-type T′.the-copy 𝓤 H A W .twice (e t) (v t ∷ [])) $ split ! $ move ! (2 ∷ 0 ∷ 3 ∷ []) $
           elem-back ! RE q′ es (t .k) none (v t ∷ []) b o (left t h) $ move ! (0 ∷ 2 ∷ []) $ shuts-slice ! tt RE q′ es b o $
-          -- [log's token; what the entry owns; the fractured borrow; res; log's fact; the state's; windows' token; windows; _13; …]: the log is put together again
+          -- [log's token; what the entry owns; the fractured borrow; res; log's fact; the state's; windows' token;
+          -- windows; _13; …]: the log is put together again
           move ! (3 ∷ 2 ∷ []) $ fjoin ! $ move ! (3 ∷ 0 ∷ []) $ fjoin ! $
-          -- [log; log's token; what the entry owns; the state's; windows' token; windows; _13; …]: the entry is taken apart, and `entered` is called
+          -- [log; log's token; what the entry owns; the state's; windows' token; windows; _13; …]: the entry is taken
+          -- apart, and `entered` is called
           move ! (2 ∷ []) $ use1 W (given (v t ∷ [] ≡ v t ∷ []) (‵ (OwnFields (e t)))) (own-open 𝓤 H A W T.the-type T′.the-laws (fields (e t)) (v t)) $ learn ! (λ _.
           move ! (3 ∷ 0 ∷ 4 ∷ 5 ∷ []) $ group ! 4 $ use1 W (raw (Entered 𝓤 H A mem run .pre (to-entered (t .s) (t .u) (e t))) ⊛ ‵ OwnWin) (ask-entered (t .s) (t .u) (e t)) $ split ! $
           calls-at ! (fmOf 𝓤 H (W .laws) 𝓣) (Entered 𝓤 H A mem run) known-entered (to-entered (t .s) (t .u) (e t))
@@ -357,7 +362,8 @@ module _ {M : Type 1} (𝓤 : URA M) (H : Heap 𝓤) (A : Atoms 𝓤) (W : Given
         move ! (32 ∷ []) $ split ! $ move ! (1 ∷ []) $ split ! $ move ! (1 ∷ []) $ split ! $
         -- [the output's token; true; windows' token; log's token; output; true; windows; log; _13; …]
         move ! (2 ∷ 1 ∷ []) $ join ! $ move ! (4 ∷ []) $ drop ! $
-        -- [windows' token; the output's token; log's token; output; windows; log; _13; …]: output and its token go to the end
+        -- [windows' token; the output's token; log's token; output; windows; log; _13; …]: output and its token go to
+        -- the end
         move ! (2 ∷ 0 ∷ 4 ∷ 5 ∷ 6 ∷ 7 ∷ 8 ∷ 9 ∷ 10 ∷ 11 ∷ 12 ∷ 13 ∷ 14 ∷ 15 ∷ 16 ∷ 17 ∷ 18 ∷ 19 ∷ 20 ∷ 21 ∷ 22 ∷ 23 ∷ 24 ∷ 25 ∷ 26 ∷ 27 ∷ 28 ∷ 29 ∷ 30 ∷ 31 ∷ 32 ∷ 33 ∷ []) $
         use0 W (raw (Opened 𝓤 H A mem run .pre to-opened)) (ask-opened gn) $
         calls-at ! (fmOf 𝓤 H (W .laws) 𝓣) (Opened 𝓤 H A mem run) known-opened to-opened (and-then ! (load ! (from ! (stop !)) (look ! 27 refl)) (no-more !)) (λ w.
