@@ -25,7 +25,7 @@ use crate::events::{Event, Events, Ran, Word, WORDS};
 use crate::frame::{self, Status, HEADER, LARGEST_FRAME};
 use crate::layout::{self, Address, Layout, Place};
 use crate::plain::{Counters, Deference, Heard, Receiver, Row, Station, Symbol, Transmitter, World, AHEAD};
-use crate::{Refusal, LAST_CLOCK, STATIONS};
+use crate::{program, Refusal, LAST_CLOCK, STATIONS};
 
 pub const AREA: usize = 57_344;
 
@@ -392,6 +392,40 @@ pub fn read_sheet(sheet: &[u8], out: &mut [u8]) -> Answer {
     Ok(used as u32)
 }
 
+/// The layout as [`read_sheet`] writes it.
+pub fn check_layout(octets: &[u8]) -> Answer {
+    if octets.len() < 192 {
+        return Err(3);
+    }
+    let n = word(octets, 24);
+    let places = octets[32..192].chunks_exact(10).take(n.min(16) as usize);
+    let layout = Layout {
+        slot: word(octets, 0),
+        gap1: word(octets, 4),
+        gap2: word(octets, 8),
+        jam: word(octets, 12),
+        attempt_limit: word(octets, 16),
+        backoff_limit: word(octets, 20),
+        places: places
+            .map(|place| Place { position: word(place, 0), address: place[4..].try_into().expect("six") })
+            .collect(),
+    };
+    match layout.check() {
+        Err(5) => Err(5),
+        _ if n > 16 => Err(6),
+        checked => checked.map(|()| 0),
+    }
+}
+
+/// The layout as [`read_sheet`] writes it, then D, where the draws begin, the number of offers, where the first begins, the bit times.
+pub fn read_plan(input: &[u8], out: &mut [u8]) -> Answer {
+    let numbers = program::numbers(input)?;
+    room(out, 212)?;
+    read_sheet(input, &mut out[..192])?;
+    put_words(&mut out[192..], &numbers);
+    Ok(0)
+}
+
 pub fn fits(sheet: &[u8]) -> Answer {
     layout::fits(sheet).map(u32::from)
 }
@@ -416,6 +450,11 @@ fn status_code(status: Status) -> u32 {
 
 pub fn status(frame: &[u8], excess: u32) -> Answer {
     frame::open(frame, excess).map(status_code)
+}
+
+pub fn reception_status(frame: &[u8], excess: u32, spoiled: u32) -> Answer {
+    frame::open(frame, excess)?;
+    Ok(status_code(frame::opened(frame, frame.len(), excess, spoiled != 0)))
 }
 
 pub fn client_data(frame: &[u8], excess: u32, out: &mut [u8]) -> Answer {

@@ -5,6 +5,7 @@
 //! - [`area`]: the same calls on a work area of 57,344 octets, by decoding it into the plain engine
 //! - [`fast`]: the fast engine, with a delay ring for each station
 //! - [`program`]: the run program, over either engine
+//! - [`rng`]: the generator that cases and rows come from
 //! - [`ours`]: the project's own library, through its C interface
 
 pub mod area;
@@ -17,6 +18,7 @@ pub mod layout;
 pub mod ours;
 pub mod plain;
 pub mod program;
+pub mod rng;
 
 /// The number of a refusal (document 01, "Refusals, in checking order").
 pub type Refusal = u32;

@@ -85,6 +85,58 @@ pub fn counters(area: &[u8], station: u32, out: &mut [u8]) -> Answer {
     answer(unsafe { c::wisavulome_counters(area.as_ptr(), area.len(), station, out.as_mut_ptr(), out.len()) })
 }
 
+pub fn reception_status(frame: &[u8], excess: u32, spoiled: u32) -> Answer {
+    answer(unsafe { c::wisavulome_reception_status(frame.as_ptr(), frame.len(), excess, spoiled) })
+}
+
+pub fn check_area(area: &[u8]) -> Answer {
+    answer(unsafe { c::wisavulome_check_area(area.as_ptr(), area.len()) })
+}
+
+pub fn check_layout(layout: &[u8]) -> Answer {
+    answer(unsafe { c::wisavulome_check_layout(layout.as_ptr(), layout.len()) })
+}
+
+pub fn read_plan(input: &[u8], out: &mut [u8]) -> Answer {
+    answer(unsafe { c::wisavulome_read_plan(input.as_ptr(), input.len(), out.as_mut_ptr(), out.len()) })
+}
+
+pub fn begin(input: &[u8], area: &mut [u8], progress: &mut [u8], out: &mut [u8]) -> Answer {
+    answer(unsafe {
+        c::wisavulome_begin(
+            input.as_ptr(),
+            input.len(),
+            area.as_mut_ptr(),
+            area.len(),
+            progress.as_mut_ptr(),
+            progress.len(),
+            out.as_mut_ptr(),
+            out.len(),
+        )
+    })
+}
+
+pub fn advance(input: &[u8], area: &mut [u8], progress: &mut [u8], out: &mut [u8]) -> Answer {
+    answer(unsafe {
+        c::wisavulome_advance(
+            input.as_ptr(),
+            input.len(),
+            area.as_mut_ptr(),
+            area.len(),
+            progress.as_mut_ptr(),
+            progress.len(),
+            out.as_mut_ptr(),
+            out.len(),
+        )
+    })
+}
+
+pub fn print(input: &[u8], area: &mut [u8], out: &mut [u8]) -> Answer {
+    answer(unsafe {
+        c::wisavulome_print(input.as_ptr(), input.len(), area.as_mut_ptr(), area.len(), out.as_mut_ptr(), out.len())
+    })
+}
+
 /// All 32 bits are the answer.
 pub fn crc32(data: &[u8]) -> u32 {
     unsafe { c::wisavulome_crc32(data.as_ptr(), data.len()) }

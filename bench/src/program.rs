@@ -103,6 +103,16 @@ fn read_plan(input: &[u8]) -> Result<Plan<'_>, Refusal> {
     Ok(Plan { layout, draws, offers, bit_times })
 }
 
+/// D, where the draws begin, the number of offers, where the first begins, the bit times.
+pub fn numbers(input: &[u8]) -> Result<[u32; 5], Refusal> {
+    let plan = read_plan(input)?;
+    let (layout, used) = layout::read_sheet(input)?;
+    let depth = plan.draws[0].len();
+    let drawn = used + 1;
+    let first = drawn + 2 * layout.places.len() * depth + 2;
+    Ok([depth as u32, drawn as u32, plan.offers.len() as u32, first as u32, plan.bit_times])
+}
+
 /// What the run program prints for an input.
 pub fn printed<E: Engine>(input: &[u8]) -> Vec<u8> {
     match read_plan(input) {

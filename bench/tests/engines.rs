@@ -2,7 +2,7 @@
 
 mod common;
 
-use common::{by_station, cases, draws, number, offer, same_area, setting, sheet, Rng, Setting};
+use common::{by_station, cases, draws, number, offer, run_input, same_area, setting, sheet, Rng, Setting};
 use wisavulome_bench::area::{self, AREA};
 use wisavulome_bench::fast::Fast;
 use wisavulome_bench::layout;
@@ -51,32 +51,7 @@ fn plain_and_fast_runs() {
 fn plain_and_fast_print_the_same() {
     for case in 0..cases(800) {
         let rng = &mut Rng::new(2, case);
-        let mut input = sheet(rng);
-        let (layout, _) = layout::read_sheet(&input).expect("a sheet that is not refused");
-        let depth = rng.edgy(1, 16);
-        input.push(depth as u8);
-        input.extend(draws(rng, layout.places.len(), depth as usize));
-        let count = rng.range(0, 12);
-        input.extend((count as u16).to_be_bytes());
-        let mut time = 0;
-        for _ in 0..count {
-            let offer = offer(rng, &layout, true);
-            time += if rng.one_in(3) { rng.range(0, 800) } else { rng.range(0, 10) };
-            input.extend(time.to_be_bytes());
-            input.push(offer.station as u8);
-            input.extend(area::address(offer.destination));
-            input.extend(offer.value.to_be_bytes());
-            input.extend((offer.data.len() as u16).to_be_bytes());
-            input.extend(offer.data);
-        }
-        input.extend(rng.range(0, 6000).to_be_bytes());
-        if rng.one_in(4) {
-            input = common::damaged(rng, &input);
-        }
-        // A damaged count of bit times may ask for more steps than a test can make.
-        if input.len() < 4 || u32::from_be_bytes(input[input.len() - 4..].try_into().expect("four")) > 10_000 {
-            continue;
-        }
+        let Some(input) = run_input(rng) else { continue };
         assert_eq!(printed::<Fast>(&input), printed::<World>(&input), "case {case}");
     }
 }

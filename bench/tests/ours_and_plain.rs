@@ -5,11 +5,12 @@ mod common;
 use std::fmt::Debug;
 
 use common::{
-    by_station, cases, damaged, damaged_sheet, draws, made_up_area, offer, same_area, setting, sheet, Rng, Setting,
+    by_station, cases, damaged, damaged_sheet, draws, made_up_area, offer, run_input, same_area, setting, sheet, Rng,
+    Setting,
 };
 use wisavulome_bench::area::{self, AREA};
 use wisavulome_bench::plain::World;
-use wisavulome_bench::{crc, frame, layout, ours};
+use wisavulome_bench::{crc, frame, layout, ours, program};
 
 /// A buffer to lend: often as long as asked, else shorter or longer, and never zeros.
 fn lent(rng: &mut Rng, enough: usize) -> Vec<u8> {
@@ -78,6 +79,106 @@ fn sheets() {
     tally.demand(&[0, 3, 4, 5, 6, 7, 8, 15]);
 }
 
+/// Layouts as a sheet's octets give them, and damaged ones.
+#[test]
+fn layouts() {
+    let mut tally = Tally::default();
+    for case in 0..cases(20_000) {
+        let rng = &mut Rng::new(15, case);
+        let mut octets = vec![0; 192];
+        area::read_sheet(&sheet(rng), &mut octets).expect("a sheet that is not refused");
+        for _ in 0..rng.range(0, 2) {
+            let word = rng.pick(&[0, 1, 2, 3, 4, 5, 6, 8]);
+            let at = if word == 8 { 32 + rng.below(150) as usize } else { 4 * word + 2 };
+            octets[at] = rng.pick(&[0, 1, 2, 255]);
+            octets[at + 1] = rng.next() as u8;
+        }
+        if rng.one_in(20) {
+            octets.truncate(rng.range(0, 191) as usize);
+        }
+        let checked = ours::check_layout(&octets);
+        assert_eq!(checked, area::check_layout(&octets), "case {case}, layout {octets:02X?}");
+        tally.note(checked);
+    }
+    tally.demand(&[0, 3, 5, 6, 7, 8]);
+}
+
+/// Run inputs: what is read of them, and what is printed for them, whole and piece by piece.
+#[test]
+fn run_inputs() {
+    let mut tally = Tally::default();
+    for case in 0..cases(400) {
+        let rng = &mut Rng::new(16, case);
+        let Some(input) = run_input(rng) else { continue };
+        let context = || format!("case {case}");
+        let out = lent(rng, 212);
+        let read = |out: &mut [u8]| ours::read_plan(&input, out);
+        tally.note(same_out(&out, &context, read, |out| area::read_plan(&input, out)));
+
+        let text = program::printed::<World>(&input);
+        let before = rng.octets(AREA + 9);
+        let mut area = before.clone();
+        let out = lent(rng, text.len());
+        let printed = same_out(
+            &out,
+            &context,
+            |out| ours::print(&input, &mut area, out),
+            |out| {
+                out.get_mut(..text.len()).ok_or(15u32)?.copy_from_slice(&text);
+                Ok(text.len() as u32)
+            },
+        );
+        tally.note(printed);
+        let (mut pieces, mut own) = (Vec::new(), before.clone());
+        let (mut progress, mut piece) = (rng.octets(16), rng.octets(2048));
+        let mut size = ours::begin(&input, &mut own, &mut progress, &mut piece).expect("the first piece");
+        pieces.extend(&piece[..size as usize]);
+        while area::word(&progress, 12) == 0 {
+            size = ours::advance(&input, &mut own, &mut progress, &mut piece).expect("the next piece");
+            pieces.extend(&piece[..size as usize]);
+        }
+        assert_eq!(String::from_utf8_lossy(&pieces), String::from_utf8_lossy(&text), "{}", context());
+        let left = if printed.is_ok() { &own } else { &before };
+        assert!(area == *left, "{}: the area", context());
+    }
+    tally.demand(&[0, 3, 9, 15, 16]);
+}
+
+/// A place, an area or an output that is too short, and a place of any octets: a refusal changes nothing.
+#[test]
+fn places_of_runs() {
+    let mut tally = Tally::default();
+    for case in 0..cases(4_000) {
+        let rng = &mut Rng::new(17, case);
+        let Some(input) = run_input(rng) else { continue };
+        let mut area = if rng.one_in(8) { lent(rng, AREA) } else { rng.octets(AREA) };
+        let mut progress = rng.octets(16);
+        let mut out = rng.octets(2048);
+        if area.len() >= AREA {
+            ours::begin(&input, &mut area, &mut progress, &mut out).expect("the first piece");
+        }
+        match rng.below(6) {
+            0 => progress.truncate(rng.below(16) as usize),
+            1 => out.truncate(rng.below(2048) as usize),
+            2 => progress[8] = 2,
+            3 => progress[..4].copy_from_slice(&rng.pick(&[16_384u32, u32::MAX, 0]).to_be_bytes()),
+            4 if area.len() > 4 => area[4] = 255,
+            _ => {}
+        }
+        let before = (area.clone(), progress.clone(), out.clone());
+        let check = area::check_area(&area);
+        let answer = ours::advance(&input, &mut area, &mut progress, &mut out);
+        tally.note(answer);
+        if answer.is_err() {
+            assert!((area, progress.clone(), out) == before, "case {case}: a refusal that changes what was lent");
+        }
+        if check != 0 || progress.len() < 16 {
+            assert_eq!(answer, Err(if check == 0 { 15 } else { check }), "case {case}");
+        }
+    }
+    tally.demand(&[0, 1, 2, 13, 15, 16]);
+}
+
 #[test]
 fn frames() {
     let mut tally = Tally::default();
@@ -127,6 +228,9 @@ fn frames() {
         let excess = if rng.one_in(3) { rng.edgy(0, 8) } else { 0 };
         let status = ours::status(&octets, excess);
         assert_eq!(status, area::status(&octets, excess), "{}", context());
+        let spoiled = rng.pick(&[0, 1, u32::MAX]);
+        let reception = ours::reception_status(&octets, excess, spoiled);
+        assert_eq!(reception, area::reception_status(&octets, excess, spoiled), "{}", context());
         if let Ok(status) = status {
             statuses[status as usize] += 1;
         }
@@ -359,6 +463,7 @@ fn made_up_areas() {
         }
         let mut plain_area = ours_area.clone();
         let check = area::check_area(&plain_area);
+        assert_eq!(ours::check_area(&ours_area), if check == 0 { Ok(0) } else { Err(check) }, "case {case}: check");
         let calls = if check == 0 { rng.range(1, 6) } else { rng.range(1, 3) };
         for call in 0..calls {
             let stations = plain_area.get(32..36).map_or(2, |_| area::word(&plain_area, 32)).clamp(1, 16);

@@ -1,80 +1,19 @@
-//! A deterministic generator, and what the tests make with it.
+//! What the tests make with a deterministic generator.
 #![allow(dead_code)]
 
 use wisavulome_bench::area::{self, put_word, word, AREA};
 use wisavulome_bench::crc;
 use wisavulome_bench::frame;
 use wisavulome_bench::layout::{self, Layout};
+use wisavulome_bench::program;
 use wisavulome_bench::LAST_CLOCK;
+
+pub use wisavulome_bench::rng::Rng;
 
 /// How many cases a test makes: its own number, scaled by BENCH_CASES in percent (100 if unset).
 pub fn cases(usual: u64) -> u64 {
     let percent = std::env::var("BENCH_CASES").ok().map_or(100, |text| text.parse().expect("BENCH_CASES is a number"));
     (usual * percent / 100).max(1)
-}
-
-/// SplitMix64.
-#[derive(Clone)]
-pub struct Rng(u64);
-
-impl Rng {
-    /// The generator of one case of one test.
-    pub fn new(test: u64, case: u64) -> Rng {
-        let mut rng = Rng(test << 32 ^ case);
-        rng.next();
-        rng
-    }
-
-    pub fn next(&mut self) -> u64 {
-        self.0 = self.0.wrapping_add(0x9E37_79B9_7F4A_7C15);
-        let mut z = self.0;
-        z = (z ^ z >> 30).wrapping_mul(0xBF58_476D_1CE4_E5B9);
-        z = (z ^ z >> 27).wrapping_mul(0x94D0_49BB_1331_11EB);
-        z ^ z >> 31
-    }
-
-    pub fn below(&mut self, bound: u64) -> u64 {
-        self.next() % bound
-    }
-
-    /// One of `first..=last`.
-    pub fn range(&mut self, first: u32, last: u32) -> u32 {
-        first + self.below(u64::from(last - first) + 1) as u32
-    }
-
-    /// One of `first..=last`, its ends more often.
-    pub fn edgy(&mut self, first: u32, last: u32) -> u32 {
-        match self.below(8) {
-            0 => first,
-            1 => last,
-            2 => first + u32::from(first < last),
-            3 => last - u32::from(first < last),
-            _ => self.range(first, last),
-        }
-    }
-
-    pub fn one_in(&mut self, n: u64) -> bool {
-        self.below(n) == 0
-    }
-
-    pub fn flag(&mut self) -> u32 {
-        self.below(2) as u32
-    }
-
-    pub fn pick<T: Copy>(&mut self, from: &[T]) -> T {
-        from[self.below(from.len() as u64) as usize]
-    }
-
-    pub fn octets(&mut self, size: usize) -> Vec<u8> {
-        (0..size).map(|_| self.next() as u8).collect()
-    }
-
-    pub fn fill(&mut self, octets: &mut [u8]) {
-        for chunk in octets.chunks_mut(8) {
-            let bits = self.next().to_le_bytes();
-            chunk.copy_from_slice(&bits[..chunk.len()]);
-        }
-    }
 }
 
 // ---- sheets
@@ -571,4 +510,35 @@ pub fn same_area(ours: &[u8], plain: &[u8], context: &dyn Fn() -> String) {
         .map(|at| format!("{}: ours {}, plain {}", place_name(at), ours[at], plain[at]))
         .collect();
     panic!("{}: areas differ\n{}", context(), differences.join("\n"));
+}
+
+/// A whole run input, damaged or not; none where it may ask for more steps than a test can make.
+pub fn run_input(rng: &mut Rng) -> Option<Vec<u8>> {
+    let mut input = sheet(rng);
+    let (layout, _) = layout::read_sheet(&input).expect("a sheet that is not refused");
+    let depth = rng.edgy(1, 16);
+    input.push(depth as u8);
+    input.extend(draws(rng, layout.places.len(), depth as usize));
+    let count = rng.range(0, 12);
+    input.extend((count as u16).to_be_bytes());
+    let mut time = 0;
+    for _ in 0..count {
+        let offer = offer(rng, &layout, true);
+        time += if rng.one_in(3) { rng.range(0, 800) } else { rng.range(0, 10) };
+        input.extend(time.to_be_bytes());
+        input.push(offer.station as u8);
+        input.extend(area::address(offer.destination));
+        input.extend(offer.value.to_be_bytes());
+        input.extend((offer.data.len() as u16).to_be_bytes());
+        input.extend(offer.data);
+    }
+    input.extend(rng.range(0, 6000).to_be_bytes());
+    if rng.one_in(4) {
+        input = damaged(rng, &input);
+    }
+    // A damaged count of bit times may ask for more steps than a test can make.
+    if program::numbers(&input).is_ok_and(|numbers| numbers[4] > 10_000) {
+        return None;
+    }
+    Some(input)
 }

@@ -22,7 +22,7 @@ use Rattle.opener.specs.Open.{statusAnswer, opened}
 use Rattle.valid.specs.Valid.{areaRefusal}
 use Rattle.sheet.specs.Sheet.{sheetSize, countIn}
 use Rattle.input.specs.declared.Plan.{Plan}
-use Rattle.input.specs.Plan.{offerPlace, offersPlace, timesIn, drawsWrong, planWrong, lastRefusal, afterSheet, sheetRefusal, planRefusal, Planned, planRead, planReading, verdictAnswer}
+use Rattle.input.specs.Plan.{offerPlace, offersPlace, timesIn, drawsWrong, planWrong, lastRefusal, afterSheet, sheetRefusal, planRefusal, Planned, unless as whole, planRead, planReading, verdictAnswer}
 use Rattle.input.specs.PlanTheorems.{reading-right}
 use Rattle.answers.specs.Answers.{replied, valueOf, layoutPut}
 use Rattle.calls.specs.Calls.{given, kept}
@@ -56,7 +56,8 @@ pub figures-read : (l : List ℕ) (a b c d e f : ℕ) → a ≡ get 4 l 0 → b 
 unfolding figuresWritten
 figures-read l a b c d e f p q r s t u = λ i. record { slot = p i; gap1 = q i; gap2 = r i; jam = s i; limit = t i; backoff = u i }
 
-pub tap-read : (l d : List ℕ) (i x : ℕ) → x ≡ get 4 l (32 + 10 * i) → d ≡ part l (36 + 10 * i) 6 → record { position = x; address = d } ≡ tapWritten l i
+pub tap-read : (l d : List ℕ) (i x : ℕ) → x ≡ get 4 l (32 + 10 * i) → d ≡ part l (36 + 10 * i) 6
+    → record { position = x; address = d } ≡ tapWritten l i
 unfolding tapWritten
 tap-read l d i x p q = λ j. record { position = p j; address = q j }
 
@@ -129,7 +130,8 @@ module _ (l : List ℕ) (p : Plan) (n : ℕ) (q : n ≡ numberOf (verdictAnswer 
   unfolding planGiven
   plan-short out r t h z = refuses-short 212 r out (kept out) _ t h ∙ passes (numberOf (planRead l .answer)) 0 0 (kept out) _ (number-is ∙ z)
 
-  pub plan-made : (out x y ws : List ℕ) → ws ≡ planWords (planReading p) → x ≡ layoutPut (p .layout) out → y ≡ putWords (length ws) x 192 ws → length ws ≡ 5 → 212 ≤ length out → n ≡ 0
+  pub plan-made : (out x y ws : List ℕ) → ws ≡ planWords (planReading p) → x ≡ layoutPut (p .layout) out
+      → y ≡ putWords (length ws) x 192 ws → length ws ≡ 5 → 212 ≤ length out → n ≡ 0
       → given 0 y ≡ planGiven l out
   unfolding planGiven
   plan-made out x y ws w s t m h z =

@@ -61,7 +61,8 @@ abbrev pub courseOf : Course → (ws a : List ℕ) → Ran
 courseOf r ws a = record { answer = accepted []; steps = r .steps; words = ws; ended = r .ended; octets = a }
 
 abbrev pub runOutcome : RunAnswer → List ℕ → Ran
-runOutcome r a = record { answer = doneAnswer (r .done); steps = r .steps; words = r .words; ended = r .ended; octets = a }
+runOutcome r a =
+    record { answer = doneAnswer (r .done); steps = r .steps; words = r .words; ended = r .ended; octets = a }
 
 abbrev pub unrun : ℕ → List ℕ → Ran
 unrun k a = record { answer = refused k; steps = 0; words = replicate 9 0; ended = how.All; octets = a }

@@ -8,7 +8,7 @@ use native.Mathlib.Omega.{arith}
 use borrow.Author.Tests.{eq-eqb, ne-eqb, lt-ltb, le-ltb}
 use lib.ListN.{replicate}
 use Rattle.octets.specs.Base.{pick, some, refused, accepted, doneAnswer}
-use Rattle.octets.specs.BaseLaws.{by-eq, some-none, some-more, some-hit}
+use Rattle.octets.specs.BaseLaws.{by-test, by-eq, none-below, some-none, some-more, some-hit}
 use Rattle.octets.specs.NumberLaws.{Octets}
 use Rattle.octets.specs.Turns.{turns}
 use Rattle.tally.specs.TallyLaws.{Bounded, sent-is-bounded, got-is-bounded, start-bounded}
@@ -64,8 +64,10 @@ module _ (n t : ℕ) (a : List ℕ) where
 pub run-zero : (n : ℕ) (ws a : List ℕ) → runOf (n - 0) 0 ws a ≡ runOf n 0 ws a
 run-zero n ws a = let e : n - 0 ≡ n = omega arith in ap (λ (k : ℕ). runOf k 0 ws a) e
 
-pub next-bounded : (es : List Events) (ws vs : List ℕ) (t : ℕ) → vs ≡ tallied es 16 ws → Bounded ws (32 * t) → Bounded vs (32 * (t + 1))
-next-bounded es ws vs t p h = let e : 32 * t + 2 * 16 ≡ 32 * (t + 1) = omega arith in rw p (subst (Bounded (tallied es 16 ws)) e (tallied-bounded es 16 (32 * t) ws h))
+pub next-bounded : (es : List Events) (ws vs : List ℕ) (t : ℕ) → vs ≡ tallied es 16 ws → Bounded ws (32 * t)
+    → Bounded vs (32 * (t + 1))
+next-bounded es ws vs t p h = let e : 32 * t + 2 * 16 ≡ 32 * (t + 1) = omega arith in rw p
+    (subst (Bounded (tallied es 16 ws)) e (tallied-bounded es 16 (32 * t) ws h))
 
 -- the first that passes
 pub first-hit : (t : ℕ → Bool) (n i : ℕ) (b : Bool) → b ≡ t i → b ≡ true → some t i ≡ false → i < n → first t n ≡ i
@@ -76,33 +78,56 @@ first-hit t (suc n) i b p q s h =
     (λ e. rw (← e, s) refl)
     (λ ne. let k : i < n = omega arith in rw (← some-hit t n i b p q k) (first-hit t n i b p q s k))
 
+pub first-most : (t : ℕ → Bool) (n : ℕ) → first t n ≤ n
+unfolding first
+first-most t zero = omega arith
+first-most t (suc n) = by-test (some t n) (λ e. rw e (omega (arith, first-most t n))) (λ e. rw e (omega arith))
+
+pub below-first : (t : ℕ → Bool) (n s : ℕ) → s < first t n → t s ≡ false
+unfolding first
+below-first t zero s h = absurd (omega arith)
+below-first t (suc n) s h =
+    by-test (some t n) (λ e. below-first t n s (rw e at h)) (λ e. none-below t n s e (rw e at h))
+
 module _ (n t : ℕ) (ws : List ℕ) (a : List ℕ) (R : Ran) where
   -- one step more of those that are left
   pub turn : (k : ℕ) → k ≡ n - t → t < n → runOf (n - t) t ws a ≡ R
       → pick (some (lateAt (eventsAt a)) 16)
-      (record { answer = accepted []; steps = t + 1; words = tallied (eventsAt a) 16 ws; ended = how.Late t (first (lateAt (eventsAt a)) 16); octets = stepArea a })
+      (record {
+        answer = accepted [];
+        steps = t + 1;
+        words = tallied (eventsAt a) 16 ws;
+        ended = how.Late t
+            (first (lateAt (eventsAt a)) 16);
+        octets = stepArea a;
+      })
       (runOf (n - (t + 1)) (t + 1) (tallied (eventsAt a) 16 ws) (stepArea a)) ≡ R
   unfolding runOf
   turn zero e h p = absurd (omega arith)
   turn (suc k) e h p = let z : n - (t + 1) ≡ k = omega arith in rw z (rw (← e) at p)
 
-  pub run-on : (es : List Events) (vs b : List ℕ) (i : ℕ) → b ≡ stepArea a → es ≡ eventsAt a → vs ≡ tallied es 16 ws → some (lateAt es) i ≡ false → i ≤ 16 → 16 ≤ i → t < n
+  pub run-on : (es : List Events) (vs b : List ℕ) (i : ℕ) → b ≡ stepArea a → es ≡ eventsAt a → vs ≡ tallied es 16 ws
+      → some (lateAt es) i ≡ false → i ≤ 16 → 16 ≤ i → t < n
       → runOf (n - t) t ws a ≡ R → runOf (n - (t + 1)) (t + 1) vs b ≡ R
   run-on es vs b i eb ee ev s lo up h p =
       let z : i ≡ 16 = omega arith in
-      let f : some (lateAt (eventsAt a)) 16 ≡ false = ap (λ (x : List Events). some (lateAt x) 16) (sym ee) ∙ ap (some (lateAt es)) (sym z) ∙ s in
+      let f : some (lateAt (eventsAt a)) 16 ≡ false = ap (λ (x : List Events). some (lateAt x) 16) (sym ee) ∙ ap
+      (some (lateAt es)) (sym z) ∙ s in
       rw (eb, ev, ee) (rw f at (turn (n - t) refl h p))
 
-  pub run-late : (es : List Events) (vs b : List ℕ) (i : ℕ) (c : Bool) → b ≡ stepArea a → es ≡ eventsAt a → vs ≡ tallied es 16 ws → c ≡ lateAt es i → c ≡ true
+  pub run-late : (es : List Events) (vs b : List ℕ) (i : ℕ) (c : Bool) → b ≡ stepArea a → es ≡ eventsAt a
+      → vs ≡ tallied es 16 ws → c ≡ lateAt es i → c ≡ true
       → some (lateAt es) i ≡ false → i < 16 → t < n → runOf (n - t) t ws a ≡ R
       → record { answer = accepted []; steps = t + 1; words = vs; ended = how.Late (t + 1 - 1) i; octets = b } ≡ R
   run-late es vs b i c eb ee ev ec et s hi h p =
       let z : t + 1 - 1 ≡ t = omega arith in
-      let hit : some (lateAt (eventsAt a)) 16 ≡ true = sym (some-hit (lateAt (eventsAt a)) 16 i c (ec ∙ ap (λ (x : List Events). lateAt x i) ee) et hi) in
+      let hit : some (lateAt (eventsAt a)) 16 ≡ true = sym
+      (some-hit (lateAt (eventsAt a)) 16 i c (ec ∙ ap (λ (x : List Events). lateAt x i) ee) et hi) in
       let at : first (lateAt es) 16 ≡ i = first-hit (lateAt es) 16 i c ec et s hi in
       rw (z, eb, ev, ← at, ee) (rw hit at (turn (n - t) refl h p))
 
-  pub run-end : (e : Ended) → e ≡ how.All → n ≤ t → runOf (n - t) t ws a ≡ R → record { answer = accepted []; steps = t; words = ws; ended = e; octets = a } ≡ R
+  pub run-end : (e : Ended) → e ≡ how.All → n ≤ t → runOf (n - t) t ws a ≡ R
+      → record { answer = accepted []; steps = t; words = ws; ended = e; octets = a } ≡ R
   unfolding runOf
   run-end e q h p = let z : n - t ≡ 0 = omega arith in rw q (rw z at p)
 
@@ -125,10 +150,12 @@ module _ (es : List Events) (i : ℕ) (e : Events) (b : Bool) (p : b ≡ isLate 
 
   -- it has one: the run ends
   pub run-found : (n t : ℕ) (ws a vs y : List ℕ) (R : Ran) (w : Ended) → b ≡ true → w ≡ how.Late (t + 1 - 1) i
-      → y ≡ stepArea a → es ≡ eventsAt a → vs ≡ tallied es 16 ws → NoneLate es i → i < 16 → t < n → runOf (n - t) t ws a ≡ R
+      → y ≡ stepArea a → es ≡ eventsAt a → vs ≡ tallied es 16 ws → NoneLate es i → i < 16 → t < n
+      → runOf (n - t) t ws a ≡ R
       → record { answer = accepted []; steps = t + 1; words = vs; ended = w; octets = y } ≡ R
   unfolding NoneLate
-  run-found n t ws a vs y R w r ew ey ee ev h hi lt g = rw ew (run-late n t ws a R es vs y i b ey ee ev late-is r h hi lt g)
+  run-found n t ws a vs y R w r ew ey ee ev h hi lt g =
+      rw ew (run-late n t ws a R es vs y i b ey ee ev late-is r h hi lt g)
 
 -- no station has one: the run goes on
 pub run-searched : (n t : ℕ) (ws a : List ℕ) (R : Ran) (es : List Events) (vs b : List ℕ) (i : ℕ) → b ≡ stepArea a
@@ -152,22 +179,28 @@ run-clock n t a h g = omega (arith, h .1)
 -- ---- the call
 
 module _ (a : List ℕ) (k n : ℕ) where
-  pub ran-area : (r : RunAnswer) → doneAnswer (r .done) ≡ refused k → r .steps ≡ 0 → r .words ≡ replicate 9 0 → r .ended ≡ how.All → k ≡ areaRefusal a → (k ≡ 0 → ⊥)
+  pub ran-area : (r : RunAnswer) → doneAnswer (r .done) ≡ refused k → r .steps ≡ 0 → r .words ≡ replicate 9 0
+      → r .ended ≡ how.All → k ≡ areaRefusal a → (k ≡ 0 → ⊥)
       → runOutcome r a ≡ ran a n
   unfolding ran
-  ran-area r p q s t e h = (λ i. record { answer = p i; steps = q i; words = s i; ended = t i; octets = a }) ∙ rw (← e, ne-eqb k 0 h)
+  ran-area r p q s t e h =
+      (λ i. record { answer = p i; steps = q i; words = s i; ended = t i; octets = a }) ∙ rw (← e, ne-eqb k 0 h)
 
-  pub ran-over : (r : RunAnswer) (c : ℕ) → doneAnswer (r .done) ≡ refused 13 → r .steps ≡ 0 → r .words ≡ replicate 9 0 → r .ended ≡ how.All → k ≡ areaRefusal a → k ≡ 0
+  pub ran-over : (r : RunAnswer) (c : ℕ) → doneAnswer (r .done) ≡ refused 13 → r .steps ≡ 0 → r .words ≡ replicate 9 0
+      → r .ended ≡ how.All → k ≡ areaRefusal a → k ≡ 0
       → c ≡ clockAt a → 16777216 - c < n → runOutcome r a ≡ ran a n
   unfolding ran
   ran-over r c p q s t e h ec g =
-      (λ i. record { answer = p i; steps = q i; words = s i; ended = t i; octets = a }) ∙ rw (← e, eq-eqb k 0 h, ← ec, lt-ltb 16777216 (c + n) (omega arith))
+      (λ i. record { answer = p i; steps = q i; words = s i; ended = t i; octets = a })
+      ∙ rw (← e, eq-eqb k 0 h, ← ec, lt-ltb 16777216 (c + n) (omega arith))
 
-  pub ran-made : (R : Ran) (c : ℕ) → R ≡ runOf n 0 (replicate 9 0) a → k ≡ areaRefusal a → k ≡ 0 → c ≡ clockAt a → c ≤ 16777216 → n ≤ 16777216 - c → R ≡ ran a n
+  pub ran-made : (R : Ran) (c : ℕ) → R ≡ runOf n 0 (replicate 9 0) a → k ≡ areaRefusal a → k ≡ 0 → c ≡ clockAt a
+      → c ≤ 16777216 → n ≤ 16777216 - c → R ≡ ran a n
   unfolding ran
   ran-made R c p e h ec l g = p ∙ rw (← e, eq-eqb k 0 h, ← ec, le-ltb 16777216 (c + n) (omega arith))
 
-pub run-allowed : (a : List ℕ) (k n c : ℕ) → k ≡ areaRefusal a → k ≡ 0 → Octets a → c ≡ clockAt a → n ≤ 16777216 - c → Runnable n a
+pub run-allowed : (a : List ℕ) (k n c : ℕ) → k ≡ areaRefusal a → k ≡ 0 → Octets a → c ≡ clockAt a → n ≤ 16777216 - c
+    → Runnable n a
 unfolding Runnable
 run-allowed a k n c e h o ec g = let r = passes-ready a o (sym e ∙ h) .ready in (r, omega (arith, r .clock))
 

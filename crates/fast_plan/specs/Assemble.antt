@@ -35,11 +35,13 @@ module _ (n i : ℕ) (few : n ≤ 16) (hi : i < n) (st : ℕ → Stored) (kept :
   all-still zero k x s = refl
   all-still (suc m) k x s = stored-still n k few s i (st m) (storedAll i st m x) hi (kept m) ∙ all-still m k x s
 
-  all-on : (m : ℕ) (x y : List ℕ) → 57344 ≤ length x → 57344 ≤ length y → Keeps (buffer i) x y → Keeps (buffer i) (storedAll i st m x) (storedAll i st m y)
+  all-on : (m : ℕ) (x y : List ℕ) → 57344 ≤ length x → 57344 ≤ length y → Keeps (buffer i) x y
+      → Keeps (buffer i) (storedAll i st m x) (storedAll i st m y)
   unfolding storedAll turns
   all-on zero x y lx ly e = e
   all-on (suc m) x y lx ly e =
-      stored-on i (omega arith) (storedAll i st m x) (storedAll i st m y) (omega (arith, length-all i st m x)) (omega (arith, length-all i st m y)) (st m) (kept m) (all-on m x y lx ly e)
+      stored-on i (omega arith) (storedAll i st m x) (storedAll i st m y) (omega (arith, length-all i st m x))
+      (omega (arith, length-all i st m y)) (st m) (kept m) (all-on m x y lx ly e)
 
   over : (p : Part) (u v w z : List ℕ) → Keeps p u v → Keeps p z w → Keeps p v w → Keeps p u z
   over p u v w z a b c = keeps-trans p u v z a (keeps-trans p v w z c (keeps-sym p z w b))
@@ -49,18 +51,25 @@ module _ (n i : ℕ) (few : n ≤ 16) (hi : i < n) (st : ℕ → Stored) (kept :
   went-own m s =
       record {
         long = λ x. length-all i st m (withStation x i s) ∙ length-station x i s;
-        off = λ p x a b c. keeps-trans p (wentTo i st m s x) (withStation x i s) x (all-keeps p i st m (withStation x i s) kept c) (station-keeps p x i s a);
+        off = λ p x a b c. keeps-trans p (wentTo i st m s x) (withStation x i s) x
+            (all-keeps p i st m (withStation x i s) kept c) (station-keeps p x i s a);
         still = λ k x q. all-still m k (withStation x i s) q ∙ station-still n k few q i s x hi;
         on = λ x y lx ly e.
             let u = withStation x i s in
             let v = withStation y i s in
             record {
-              station = over (station i) (wentTo i st m s x) u v (wentTo i st m s y) (all-keeps (station i) i st m u kept (λ p q. omega arith)) (all-keeps (station i) i st m v kept (λ p q. omega arith))
+              station = over (station i) (wentTo i st m s x) u v (wentTo i st m s y)
+                  (all-keeps (station i) i st m u kept (λ p q. omega arith))
+                  (all-keeps (station i) i st m v kept (λ p q. omega arith))
                   (station-on i (omega arith) x y lx ly s (e .station));
-              counters = over (counters i) (wentTo i st m s x) u v (wentTo i st m s y) (all-keeps (counters i) i st m u kept (λ p q. omega arith)) (all-keeps (counters i) i st m v kept (λ p q. omega arith))
-                  (over (counters i) u x y v (station-keeps (counters i) x i s (λ p q. omega arith)) (station-keeps (counters i) y i s (λ p q. omega arith)) (e .counters));
+              counters = over (counters i) (wentTo i st m s x) u v (wentTo i st m s y)
+                  (all-keeps (counters i) i st m u kept (λ p q. omega arith))
+                  (all-keeps (counters i) i st m v kept (λ p q. omega arith))
+                  (over (counters i) u x y v (station-keeps (counters i) x i s (λ p q. omega arith))
+                  (station-keeps (counters i) y i s (λ p q. omega arith)) (e .counters));
               buffer = all-on m u v (omega (arith, length-station x i s)) (omega (arith, length-station y i s))
-                  (over (buffer i) u x y v (station-keeps (buffer i) x i s (λ p q. omega arith)) (station-keeps (buffer i) y i s (λ p q. omega arith)) (e .buffer));
+                  (over (buffer i) u x y v (station-keeps (buffer i) x i s (λ p q. omega arith))
+                  (station-keeps (buffer i) y i s (λ p q. omega arith)) (e .buffer));
             };
       }
 
@@ -85,7 +94,8 @@ left-own n i o few hi k =
 
 -- ---- all stations
 
-module _ (n : ℕ) (few : n ≤ 16) (G : ℕ → List ℕ → List ℕ) (own : (i : ℕ) → i < n → Own n i (G i)) (a : List ℕ) (room : 57344 ≤ length a) where
+module _ (n : ℕ) (few : n ≤ 16) (G : ℕ → List ℕ → List ℕ) (own : (i : ℕ) → i < n → Own n i (G i)) (a : List ℕ)
+    (room : 57344 ≤ length a) where
   abbrev pub each : ℕ → List ℕ
   each k = turns G k a
 
@@ -104,7 +114,9 @@ module _ (n : ℕ) (few : n ≤ 16) (G : ℕ → List ℕ → List ℕ) (own : (
   unfolding turns
   each-line zero i u h hi = keeps-refl (place i u) a
   each-line (suc k) i u h hi =
-      keeps-trans (place i u) (each (suc k)) (each k) a (own k h .off (place i u) (each k) (λ p q. omega arith) (λ p q. omega arith) (λ p q. omega arith)) (each-line k i u (omega arith) hi)
+      keeps-trans (place i u) (each (suc k)) (each k) a
+      (own k h .off (place i u) (each k) (λ p q. omega arith) (λ p q. omega arith) (λ p q. omega arith))
+      (each-line k i u (omega arith) hi)
 
   each-ahead : (k i : ℕ) → k ≤ i → i < n → OwnSame i (each k) a
   unfolding turns
@@ -112,9 +124,12 @@ module _ (n : ℕ) (few : n ≤ 16) (G : ℕ → List ℕ → List ℕ) (own : (
   each-ahead (suc k) i h hi =
       own-trans i (each (suc k)) (each k) a
       (record {
-        station = own k (omega arith) .off (station i) (each k) (λ p q. omega arith) (λ p q. omega arith) (λ p q. omega arith);
-        counters = own k (omega arith) .off (counters i) (each k) (λ p q. omega arith) (λ p q. omega arith) (λ p q. omega arith);
-        buffer = own k (omega arith) .off (buffer i) (each k) (λ p q. omega arith) (λ p q. omega arith) (λ p q. omega arith);
+        station = own k (omega arith) .off (station i) (each k) (λ p q. omega arith) (λ p q. omega arith)
+            (λ p q. omega arith);
+        counters = own k (omega arith) .off (counters i) (each k) (λ p q. omega arith) (λ p q. omega arith)
+            (λ p q. omega arith);
+        buffer = own k (omega arith) .off (buffer i) (each k) (λ p q. omega arith) (λ p q. omega arith)
+            (λ p q. omega arith);
       })
       (each-ahead k i (omega arith) hi)
 
@@ -123,11 +138,15 @@ module _ (n : ℕ) (few : n ≤ 16) (G : ℕ → List ℕ → List ℕ) (own : (
   each-own zero i h hk = absurd (omega arith)
   each-own (suc k) i h hk =
       by-eq i k
-      (λ e. subst (λ (j : ℕ). OwnSame i (G j (each k)) (G i a)) e (own i (omega arith) .on (each k) a (omega (arith, each-long k (omega arith))) room (each-ahead k i (omega arith) (omega arith))))
+      (λ e. subst (λ (j : ℕ). OwnSame i (G j (each k)) (G i a)) e
+      (own i (omega arith) .on (each k) a (omega (arith, each-long k (omega arith))) room
+      (each-ahead k i (omega arith) (omega arith))))
       (λ ne. own-trans i (each (suc k)) (each k) (G i a)
       (record {
-        station = own k hk .off (station i) (each k) (λ p q. ne (omega arith)) (λ p q. omega arith) (λ p q. omega arith);
-        counters = own k hk .off (counters i) (each k) (λ p q. omega arith) (λ p q. ne (omega arith)) (λ p q. omega arith);
+        station = own k hk .off (station i) (each k) (λ p q. ne (omega arith)) (λ p q. omega arith)
+            (λ p q. omega arith);
+        counters = own k hk .off (counters i) (each k) (λ p q. omega arith) (λ p q. ne (omega arith))
+            (λ p q. omega arith);
         buffer = own k hk .off (buffer i) (each k) (λ p q. omega arith) (λ p q. omega arith) (λ p q. ne (omega arith));
       })
       (each-own k i (omega arith) (omega arith)))
@@ -136,7 +155,8 @@ module _ (n : ℕ) (few : n ≤ 16) (G : ℕ → List ℕ → List ℕ) (own : (
 unfoldable pub assembled : List ℕ → Plan → (K : ℕ) → (G : ℕ → List ℕ → List ℕ) → List ℕ
 assembled a P K G = withClock (linesAll a P K (countAt a) (turns G (countAt a) a)) (clockAt a + K)
 
-pub assembled-left : (a : List ℕ) (P : Plan) (K : ℕ) (G : ℕ → List ℕ → List ℕ) → countAt a ≤ 16 → 57344 ≤ length a → ((i : ℕ) → i < countAt a → Own (countAt a) i (G i))
+pub assembled-left : (a : List ℕ) (P : Plan) (K : ℕ) (G : ℕ → List ℕ → List ℕ) → countAt a ≤ 16 → 57344 ≤ length a
+    → ((i : ℕ) → i < countAt a → Own (countAt a) i (G i))
     → ((i : ℕ) → i < countAt a → ownAfter a P i K ≡ G i a) → Left a P K (assembled a P K G)
 unfolding assembled
 assembled-left a P K G few room own is =
@@ -150,20 +170,31 @@ assembled-left a P K G few room own is =
       stamp = stamped l a (clockAt a + K) (omega (arith, ll, lo)) room;
       own = λ i hi.
           own-trans i (withClock l (clockAt a + K)) l (ownAfter a P i K)
-          (record { station = clock-keeps (station i) l (clockAt a + K) (λ p q. omega arith); counters = clock-keeps (counters i) l (clockAt a + K) (λ p q. omega arith); buffer = clock-keeps (buffer i) l (clockAt a + K) (λ p q. omega arith) })
-          (own-trans i l o (ownAfter a P i K) (lines-own a P K n o i (omega arith) few) (subst (OwnSame i o) (sym (is i hi)) (each-own n few G own a room n i hi (omega arith))));
+          (record {
+            station = clock-keeps (station i) l (clockAt a + K) (λ p q. omega arith);
+            counters = clock-keeps
+                (counters i) l (clockAt a + K) (λ p q. omega arith);
+            buffer = clock-keeps (buffer i) l (clockAt a + K)
+                (λ p q. omega arith);
+          })
+          (own-trans i l o (ownAfter a P i K) (lines-own a P K n o i (omega arith) few)
+          (subst (OwnSame i o) (sym (is i hi)) (each-own n few G own a room n i hi (omega arith))));
       line = λ j v hj low up.
           let z : clockAt a + v ≡ clockAt a + K + (v - K) = omega arith in
           let y : K + (v - K) ≡ v = omega arith in
-          symbol-by (withClock l (clockAt a + K)) l j (clockAt a + v) (clock-keeps (place j (clockAt a + v)) l (clockAt a + K) (λ p q. omega arith))
+          symbol-by (withClock l (clockAt a + K)) l j (clockAt a + v)
+          (clock-keeps (place j (clockAt a + v)) l (clockAt a + K) (λ p q. omega arith))
           ∙ ap (symbolAt l j) z
           ∙ lines-set a P K n o j (v - K) hj few (omega (arith, lo)) (omega arith)
           ∙ ap (λ (c : ℕ). heardCode (lineAfter a P K j c)) y;
-      rest = λ k st. clock-still l k (clockAt a + K) (st .clock) ∙ lines-still n k st a P K n o (omega arith) ∙ each-still n few G own a room n k (omega arith) st;
+      rest = λ k st. clock-still l k (clockAt a + K) (st .clock) ∙ lines-still n k st a P K n o (omega arith)
+          ∙ each-still n few G own a room n k (omega arith) st;
     }
 
-pub steps-assembled : (a : List ℕ) (P : Plan) (K : ℕ) (G : ℕ → List ℕ → List ℕ) → 0 < K → Readiness a → clockAt a + K ≤ 16777216 → Holds a P K → ((i : ℕ) → i < countAt a → Own (countAt a) i (G i))
+pub steps-assembled : (a : List ℕ) (P : Plan) (K : ℕ) (G : ℕ → List ℕ → List ℕ) → 0 < K → Readiness a
+    → clockAt a + K ≤ 16777216 → Holds a P K → ((i : ℕ) → i < countAt a → Own (countAt a) i (G i))
     → ((i : ℕ) → i < countAt a → ownAfter a P i K ≡ G i a) → steps K a ≡ assembled a P K G
 steps-assembled a P K G pos r early h own is =
-    left-same-area a P K (steps K a) (assembled a P K G) (r .spread .few) (planned-left a P K (steps K a) pos (plan-happens a P K r early h))
+    left-same-area a P K (steps K a) (assembled a P K G) (r .spread .few)
+    (planned-left a P K (steps K a) pos (plan-happens a P K r early h))
     (assembled-left a P K G (r .spread .few) (r .long) own is)

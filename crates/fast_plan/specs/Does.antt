@@ -53,23 +53,32 @@ module _ (a : List ℕ) (P : Plan) (K i : ℕ) (H : ℕ → Heard) (same : (s : 
   unfolding ownAfter
   own-by m h = itself-heard (figuresAt a) (depthAt a) i (hears a P i) H m a (λ s l. same s (omega arith))
 
-  act-by : (m : ℕ) → m < K → actAfter a P i m ≡ actOn (figuresAt a) (depthAt a) i (H m) (byItself (figuresAt a) (depthAt a) i H m a)
+  act-by : (m : ℕ) → m < K
+      → actAfter a P i m ≡ actOn (figuresAt a) (depthAt a) i (H m) (byItself (figuresAt a) (depthAt a) i H m a)
   unfolding actAfter
-  act-by m h = ap₂ (λ (e : Heard) (x : List ℕ). actOn (figuresAt a) (depthAt a) i e x) (same m h) (own-by m (omega arith))
+  act-by m h =
+      ap₂ (λ (e : Heard) (x : List ℕ). actOn (figuresAt a) (depthAt a) i e x) (same m h) (own-by m (omega arith))
 
 pub quiet-events : (r : Act) (s : Station) (e : Emission) (o : Stored) → r .outcome ≡ quietly s e o → eventsOf r ≡ noEvents
 unfolding quietly
 quiet-events r s e o h = ap (λ (c : Stepped). record { sent = c .sent; got = c .got }) h
 
-pub rest-symbol : (f : Figures) (d i : ℕ) (h : Heard) (x : List ℕ) (s : Station) (o : Stored) → actOn f d i h x .outcome ≡ quietly s Rest o → actOn f d i h x .symbol ≡ Silence
+pub rest-symbol : (f : Figures) (d i : ℕ) (h : Heard) (x : List ℕ) (s : Station) (o : Stored)
+    → actOn f d i h x .outcome ≡ quietly s Rest o → actOn f d i h x .symbol ≡ Silence
 unfolding actOn quietly
-rest-symbol f d i h x s o e = ap (λ (c : Stepped). symbolOf (frameAt x i (octetsHeld (stationAt x i .transmitter) (stationAt x i .frame))) (c .emission)) e
+rest-symbol f d i h x s o e = ap
+    (λ (c : Stepped). symbolOf (frameAt x i (octetsHeld (stationAt x i .transmitter) (stationAt x i .frame)))
+    (c .emission)) e
 
 -- a state in closed form
-pub does-by : (a : List ℕ) (P : Plan) (K i : ℕ) (H : ℕ → Heard) (on : ℕ → Station) (em : ℕ → Emission) (st : ℕ → Stored) → 0 < K → countAt a ≤ 16 → i < countAt a → 57344 ≤ length a
-    → ((s : ℕ) → s < K → hears a P i s ≡ H s) → stationAt a i ≡ on 0 → ((m : ℕ) → m ≤ K → Fit (on m)) → ((m : ℕ) → on m .address ≡ addressAt a i) → ((m : ℕ) → Kept (st m))
-    → ((m draw : ℕ) (buf : List ℕ) → m < K → stepped (figuresAt a) (on m) (depthAt a) draw buf (H m) ≡ quietly (on (suc m)) (em m) (st m))
-    → ((m : ℕ) → m < K → actOn (figuresAt a) (depthAt a) i (H m) (byItself (figuresAt a) (depthAt a) i H m a) .symbol ≡ P i m)
+pub does-by : (a : List ℕ) (P : Plan) (K i : ℕ) (H : ℕ → Heard) (on : ℕ → Station) (em : ℕ → Emission) (st : ℕ → Stored)
+    → 0 < K → countAt a ≤ 16 → i < countAt a → 57344 ≤ length a
+    → ((s : ℕ) → s < K → hears a P i s ≡ H s) → stationAt a i ≡ on 0 → ((m : ℕ) → m ≤ K → Fit (on m))
+    → ((m : ℕ) → on m .address ≡ addressAt a i) → ((m : ℕ) → Kept (st m))
+    → ((m draw : ℕ) (buf : List ℕ) → m < K → stepped (figuresAt a) (on m) (depthAt a) draw buf (H m) ≡ quietly
+    (on (suc m)) (em m) (st m))
+    → ((m : ℕ) → m < K → actOn (figuresAt a) (depthAt a) i (H m)
+    (byItself (figuresAt a) (depthAt a) i H m a) .symbol ≡ P i m)
     → Does a P K i (λ x. wentTo i st K (on K) x)
 does-by a P K i H on em st pos few hi room same begins fit address kept step symbol =
     let f = figuresAt a in
@@ -92,14 +101,16 @@ none-at n k =
     by-test (ltb k n)
     (λ c. filled-at noEvents (λ i. noEvents) n k noEvents (ltb-true k n c))
     (λ c. let g = ltb-false k n c in
-    let z : k ≡ n + (k - n) = omega arith in ap (λ (m : ℕ). getD (filled noEvents (λ i. noEvents) n) m noEvents) z ∙ filled-past noEvents (λ i. noEvents) n (k - n))
+    let z : k ≡ n + (k - n) = omega arith in ap (λ (m : ℕ). getD (filled noEvents (λ i. noEvents) n) m noEvents) z
+    ∙ filled-past noEvents (λ i. noEvents) n (k - n))
 
 pub nothing-tallied : (n m : ℕ) (ws : List ℕ) → tallied (filled noEvents (λ i. noEvents) n) m ws ≡ ws
 unfolding tallied turns sentCounted gotCounted
 nothing-tallied n zero ws = refl
 nothing-tallied n (suc m) ws = rw (none-at n m) (nothing-tallied n m ws)
 
-module _ (a : List ℕ) (P : Plan) (K : ℕ) (G : ℕ → List ℕ → List ℕ) (pos : 0 < K) (r : Readiness a) (early : clockAt a + K ≤ 16777216) (all : (i : ℕ) → i < countAt a → Does a P K i (G i)) where
+module _ (a : List ℕ) (P : Plan) (K : ℕ) (G : ℕ → List ℕ → List ℕ) (pos : 0 < K) (r : Readiness a)
+    (early : clockAt a + K ≤ 16777216) (all : (i : ℕ) → i < countAt a → Does a P K i (G i)) where
   pub done-holds : Holds a P K
   unfolding Holds
   done-holds s i hs hi = all i hi .emits s hs
@@ -120,12 +131,17 @@ module _ (a : List ℕ) (P : Plan) (K : ℕ) (G : ℕ → List ℕ → List ℕ)
 
   quiet-by : (u : ℕ) → u < K → eventsBy a P u ≡ filled noEvents (λ i. noEvents) (countAt a)
   unfolding eventsBy
-  quiet-by u h = filled-same noEvents (λ i. eventsOf (actAfter a P i u)) (λ i. noEvents) (countAt a) (λ i hi. all i hi .quiet u h)
+  quiet-by u h =
+      filled-same noEvents (λ i. eventsOf (actAfter a P i u)) (λ i. noEvents) (countAt a) (λ i hi. all i hi .quiet u h)
 
   words-by : (m : ℕ) (ws : List ℕ) → m ≤ K → talliedBy a P m ws ≡ ws
   unfolding talliedBy turns
   words-by zero ws h = refl
-  words-by (suc m) ws h = ap₂ (λ (es : List Events) (vs : List ℕ). tallied es 16 vs) (quiet-by m h) (words-by m ws (omega arith)) ∙ nothing-tallied (countAt a) 16 ws
+  words-by (suc m) ws h =
+      ap₂ (λ (es : List Events) (vs : List ℕ). tallied es 16 vs) (quiet-by m h) (words-by m ws (omega arith))
+      ∙ nothing-tallied (countAt a) 16 ws
 
   pub run-done : (k m : ℕ) (ws : List ℕ) → runOf (K + k) m ws a ≡ runOf k (m + K) ws (assembled a P K G)
-  run-done k m ws = run-steps a P K k m ws r early done-holds done-unhurt ∙ ap₂ (runOf k (m + K)) (words-by K ws (omega arith)) steps-done
+  run-done k m ws =
+      run-steps a P K k m ws r early done-holds done-unhurt
+      ∙ ap₂ (runOf k (m + K)) (words-by K ws (omega arith)) steps-done

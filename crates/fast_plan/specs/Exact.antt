@@ -29,7 +29,8 @@ code-back c h =
     (λ e₀. by-test (eqb c 1) (λ e. rw (e₀, e) (sym (eqb-true c 1 e)))
     (λ e₁. by-test (eqb c 2) (λ e. rw (e₀, e₁, e) (sym (eqb-true c 2 e)))
     (λ e₂. by-test (eqb c 3) (λ e. rw (e₀, e₁, e₂, e) (sym (eqb-true c 3 e)))
-    (λ e₃. rw (e₀, e₁, e₂, e₃) (omega (arith, eqb-false c 0 e₀, eqb-false c 1 e₁, eqb-false c 2 e₂, eqb-false c 3 e₃))))))
+    (λ e₃. rw (e₀, e₁, e₂, e₃)
+    (omega (arith, eqb-false c 0 e₀, eqb-false c 1 e₁, eqb-false c 2 e₂, eqb-false c 3 e₃))))))
 
 pub symbol-code : (x : List ℕ) (j u : ℕ) → symbolAt x j u ≤ 4 → symbolAt x j u ≡ heardCode (arrivalAt x j u)
 unfolding arrivalAt
@@ -49,7 +50,8 @@ pub record Left (a : List ℕ) (P : Plan) (K : ℕ) (x : List ℕ) : Type 0 wher
   pub long : length x ≡ length a
   pub stamp : Same 0 4 x (withClock a (clockAt a + K))
   pub own : (i : ℕ) → i < countAt a → OwnSame i x (ownAfter a P i K)
-  pub line : (j v : ℕ) → j < countAt a → K ≤ v → v < K + 256 → symbolAt x j (clockAt a + v) ≡ heardCode (lineAfter a P K j v)
+  pub line : (j v : ℕ) → j < countAt a → K ≤ v → v < K + 256
+      → symbolAt x j (clockAt a + v) ≡ heardCode (lineAfter a P K j v)
   pub rest : (k : ℕ) → Still (countAt a) k → getD x k 0 ≡ getD a k 0
 
 pub planned-left : (a : List ℕ) (P : Plan) (K : ℕ) (x : List ℕ) → 0 < K → Planned a P K x → Left a P K x
@@ -59,7 +61,9 @@ planned-left a P K x h w =
       stamp = w .stamp h;
       own = w .own;
       line = λ j v hj lo up.
-          symbol-code x j (clockAt a + v) (w .ready .codes j (clockAt a + v) (omega (arith, count-by x a (w .stays 0 (omega arith) .layout)))) ∙ ap heardCode (w .line j v hj lo up);
+          symbol-code x j (clockAt a + v)
+          (w .ready .codes j (clockAt a + v) (omega (arith, count-by x a (w .stays 0 (omega arith) .layout))))
+          ∙ ap heardCode (w .line j v hj lo up);
       rest = w .rest;
     }
 
@@ -75,22 +79,33 @@ by-place : {C : Type 0} (n k : ℕ) → n ≤ 16 → (k < 4 → C)
     → (Still n k → C) → C
 by-place n k few t c s l b r =
     by-lt k 4 t
-    (λ h₀. by-lt k 1024 (λ h. r (still h₀ (λ i hi p q. omega arith) (λ i hi p q. omega arith) (λ i hi p q. omega arith) (λ i hi p q. omega arith)))
+    (λ h₀. by-lt k 1024 (λ h. r
+    (still h₀ (λ i hi p q. omega arith) (λ i hi p q. omega arith) (λ i hi p q. omega arith)
+    (λ i hi p q. omega arith)))
     (λ h₁. by-lt k (1024 + 64 * n) (λ h. c ((k - 1024) / 64) (omega arith) (omega arith) (omega arith))
-    (λ h₂. by-lt k 2048 (λ h. r (still h₀ (λ i hi p q. omega arith) (λ i hi p q. omega arith) (λ i hi p q. omega arith) (λ i hi p q. omega arith)))
+    (λ h₂. by-lt k 2048 (λ h. r
+    (still h₀ (λ i hi p q. omega arith) (λ i hi p q. omega arith) (λ i hi p q. omega arith)
+    (λ i hi p q. omega arith)))
     (λ h₃. by-lt k (2048 + 64 * n) (λ h. s ((k - 2048) / 64) (omega arith) (omega arith) (omega arith))
-    (λ h₄. by-lt k 4096 (λ h. r (still h₀ (λ i hi p q. omega arith) (λ i hi p q. omega arith) (λ i hi p q. omega arith) (λ i hi p q. omega arith)))
+    (λ h₄. by-lt k 4096 (λ h. r
+    (still h₀ (λ i hi p q. omega arith) (λ i hi p q. omega arith) (λ i hi p q. omega arith)
+    (λ i hi p q. omega arith)))
     (λ h₅. by-lt k (4096 + 256 * n) (λ h. l ((k - 4096) / 256) (omega arith) (omega arith) (omega arith))
-    (λ h₆. by-lt k 32768 (λ h. r (still h₀ (λ i hi p q. omega arith) (λ i hi p q. omega arith) (λ i hi p q. omega arith) (λ i hi p q. omega arith)))
+    (λ h₆. by-lt k 32768
+    (λ h. r (still h₀ (λ i hi p q. omega arith) (λ i hi p q. omega arith) (λ i hi p q. omega arith)
+    (λ i hi p q. omega arith)))
     (λ h₇. by-lt k (32768 + 1536 * n) (λ h. b ((k - 32768) / 1536) (omega arith) (omega arith) (omega arith))
-    (λ h. r (still h₀ (λ i hi p q. omega arith) (λ i hi p q. omega arith) (λ i hi p q. omega arith) (λ i hi p q. omega arith)))))))))))
+    (λ h. r (still h₀ (λ i hi p q. omega arith) (λ i hi p q. omega arith) (λ i hi p q. omega arith)
+    (λ i hi p q. omega arith)))))))))))
   where
-    still : 4 ≤ k → ((i : ℕ) → i < n → Apart k 1 (2048 + 64 * i) 64) → ((i : ℕ) → i < n → Apart k 1 (1024 + 64 * i) 64) → ((i : ℕ) → i < n → Apart k 1 (32768 + 1536 * i) 1536)
+    still : 4 ≤ k → ((i : ℕ) → i < n → Apart k 1 (2048 + 64 * i) 64) → ((i : ℕ) → i < n → Apart k 1 (1024 + 64 * i) 64)
+        → ((i : ℕ) → i < n → Apart k 1 (32768 + 1536 * i) 1536)
         → ((i : ℕ) → i < n → Apart k 1 (4096 + 256 * i) 256) → Still n k
     still p q u v w = record { clock = p; station = q; counters = u; buffer = v; line = w }
 
 -- two that are so described are one
-pub left-same-area : (a : List ℕ) (P : Plan) (K : ℕ) (x y : List ℕ) → countAt a ≤ 16 → Left a P K x → Left a P K y → x ≡ y
+pub left-same-area : (a : List ℕ) (P : Plan) (K : ℕ) (x y : List ℕ) → countAt a ≤ 16 → Left a P K x → Left a P K y
+    → x ≡ y
 unfolding Same Keeps
 left-same-area a P K x y few p q =
     ext-getD 0 x y (p .long ∙ sym (q .long))
@@ -131,57 +146,74 @@ planned a P K = withClock (linesAll a P K (countAt a) (ownAll a P K (countAt a) 
 
 length-line : (j u : ℕ) (g : ℕ → Heard) (m : ℕ) (x : List ℕ) → length (lineOf j u g m x) ≡ length x
 unfolding lineOf
-length-line j u g m x = length-turns (λ v y. withArrival y j (u + v) (g v)) m x (λ v y. length-arrival y j (u + v) (g v))
+length-line j u g m x =
+    length-turns (λ v y. withArrival y j (u + v) (g v)) m x (λ v y. length-arrival y j (u + v) (g v))
 
 pub length-lines : (a : List ℕ) (P : Plan) (K k : ℕ) (x : List ℕ) → length (linesAll a P K k x) ≡ length x
 unfolding linesAll
-length-lines a P K k x = length-turns _ k x (λ j y. length-line j (clockAt a + K) (λ v. lineAfter a P K j (K + v)) 256 y)
+length-lines a P K k x =
+    length-turns _ k x (λ j y. length-line j (clockAt a + K) (λ v. lineAfter a P K j (K + v)) 256 y)
 
-symbol-set : (x : List ℕ) (j u : ℕ) (h : Heard) → j < 16 → 57344 ≤ length x → symbolAt (withArrival x j u h) j u ≡ heardCode h
+symbol-set : (x : List ℕ) (j u : ℕ) (h : Heard) → j < 16 → 57344 ≤ length x
+    → symbolAt (withArrival x j u h) j u ≡ heardCode h
 unfolding symbolAt withArrival
 symbol-set x j u h hj room = getD-set-same x (4096 + 256 * j + u % 256) (heardCode h) 0 (omega arith)
 
-symbol-other : (x : List ℕ) (j u : ℕ) (h : Heard) (i v : ℕ) → (j ≡ i → u % 256 ≡ v % 256 → ⊥) → symbolAt (withArrival x j u h) i v ≡ symbolAt x i v
+symbol-other : (x : List ℕ) (j u : ℕ) (h : Heard) (i v : ℕ) → (j ≡ i → u % 256 ≡ v % 256 → ⊥)
+    → symbolAt (withArrival x j u h) i v ≡ symbolAt x i v
 unfolding symbolAt withArrival
-symbol-other x j u h i v ne = getD-set-other x (4096 + 256 * j + u % 256) (4096 + 256 * i + v % 256) (heardCode h) 0 (λ z. ne (omega arith) (omega arith))
+symbol-other x j u h i v ne = getD-set-other x (4096 + 256 * j + u % 256) (4096 + 256 * i + v % 256) (heardCode h) 0
+    (λ z. ne (omega arith) (omega arith))
 
-line-set : (j u : ℕ) (g : ℕ → Heard) (m : ℕ) (x : List ℕ) (v : ℕ) → j < 16 → 57344 ≤ length x → m ≤ 256 → v < m → symbolAt (lineOf j u g m x) j (u + v) ≡ heardCode (g v)
+line-set : (j u : ℕ) (g : ℕ → Heard) (m : ℕ) (x : List ℕ) (v : ℕ) → j < 16 → 57344 ≤ length x → m ≤ 256 → v < m
+    → symbolAt (lineOf j u g m x) j (u + v) ≡ heardCode (g v)
 unfolding lineOf turns
 line-set j u g zero x v hj room hm hv = absurd (omega arith)
 line-set j u g (suc m) x v hj room hm hv =
     by-eq v m
     (λ z. rw z (symbol-set (lineOf j u g m x) j (u + m) (g m) hj (omega (arith, length-line j u g m x))))
-    (λ z. symbol-other (lineOf j u g m x) j (u + m) (g m) j (u + v) (λ e y. omega arith) ∙ line-set j u g m x v hj room (omega arith) (omega arith))
+    (λ z. symbol-other (lineOf j u g m x) j (u + m) (g m) j (u + v) (λ e y. omega arith) ∙ line-set j u g m x v hj room
+    (omega arith) (omega arith))
 
-line-other : (j u : ℕ) (g : ℕ → Heard) (m : ℕ) (x : List ℕ) (i v : ℕ) → (j ≡ i → ⊥) → symbolAt (lineOf j u g m x) i v ≡ symbolAt x i v
+line-other : (j u : ℕ) (g : ℕ → Heard) (m : ℕ) (x : List ℕ) (i v : ℕ) → (j ≡ i → ⊥)
+    → symbolAt (lineOf j u g m x) i v ≡ symbolAt x i v
 unfolding lineOf turns
 line-other j u g zero x i v ne = refl
-line-other j u g (suc m) x i v ne = symbol-other (lineOf j u g m x) j (u + m) (g m) i v (λ e y. ne e) ∙ line-other j u g m x i v ne
+line-other j u g (suc m) x i v ne =
+    symbol-other (lineOf j u g m x) j (u + m) (g m) i v (λ e y. ne e) ∙ line-other j u g m x i v ne
 
-pub lines-set : (a : List ℕ) (P : Plan) (K k : ℕ) (x : List ℕ) (j v : ℕ) → j < k → k ≤ 16 → 57344 ≤ length x → v < 256 → symbolAt (linesAll a P K k x) j (clockAt a + K + v) ≡ heardCode (lineAfter a P K j (K + v))
+pub lines-set : (a : List ℕ) (P : Plan) (K k : ℕ) (x : List ℕ) (j v : ℕ) → j < k → k ≤ 16 → 57344 ≤ length x → v < 256
+    → symbolAt (linesAll a P K k x) j (clockAt a + K + v) ≡ heardCode (lineAfter a P K j (K + v))
 unfolding linesAll turns
 lines-set a P K zero x j v hj hk room hv = absurd (omega arith)
 lines-set a P K (suc k) x j v hj hk room hv =
     by-eq j k
-    (λ z. rw z (line-set k (clockAt a + K) (λ w. lineAfter a P K k (K + w)) 256 (linesAll a P K k x) v hk (omega (arith, length-lines a P K k x)) (omega arith) hv))
-    (λ z. line-other k (clockAt a + K) (λ w. lineAfter a P K k (K + w)) 256 (linesAll a P K k x) j (clockAt a + K + v) (λ e. z (sym e)) ∙ lines-set a P K k x j v (omega arith) (omega arith) room hv)
+    (λ z. rw z (line-set k (clockAt a + K) (λ w. lineAfter a P K k (K + w)) 256 (linesAll a P K k x) v hk
+    (omega (arith, length-lines a P K k x)) (omega arith) hv))
+    (λ z. line-other k (clockAt a + K) (λ w. lineAfter a P K k (K + w)) 256 (linesAll a P K k x) j (clockAt a + K + v)
+    (λ e. z (sym e)) ∙ lines-set a P K k x j v (omega arith) (omega arith) room hv)
 
 -- what lines keep
-line-keeps : (p : Part) (j u : ℕ) (g : ℕ → Heard) (m : ℕ) (x : List ℕ) → ((v : ℕ) → Off p (place j v)) → Keeps p (lineOf j u g m x) x
+line-keeps : (p : Part) (j u : ℕ) (g : ℕ → Heard) (m : ℕ) (x : List ℕ) → ((v : ℕ) → Off p (place j v))
+    → Keeps p (lineOf j u g m x) x
 unfolding lineOf turns
 line-keeps p j u g zero x o = keeps-refl p x
 line-keeps p j u g (suc m) x o =
-    keeps-trans p (withArrival (lineOf j u g m x) j (u + m) (g m)) (lineOf j u g m x) x (arrival-keeps p (lineOf j u g m x) j (u + m) (g m) (o (u + m))) (line-keeps p j u g m x o)
+    keeps-trans p (withArrival (lineOf j u g m x) j (u + m) (g m)) (lineOf j u g m x) x
+    (arrival-keeps p (lineOf j u g m x) j (u + m) (g m) (o (u + m))) (line-keeps p j u g m x o)
 
-lines-keep : (p : Part) (a : List ℕ) (P : Plan) (K k : ℕ) (x : List ℕ) → ((j v : ℕ) → j < k → Off p (place j v)) → Keeps p (linesAll a P K k x) x
+lines-keep : (p : Part) (a : List ℕ) (P : Plan) (K k : ℕ) (x : List ℕ) → ((j v : ℕ) → j < k → Off p (place j v))
+    → Keeps p (linesAll a P K k x) x
 unfolding linesAll turns
 lines-keep p a P K zero x o = keeps-refl p x
 lines-keep p a P K (suc k) x o =
     let y = linesAll a P K k x in
-    keeps-trans p (lineOf k (clockAt a + K) (λ v. lineAfter a P K k (K + v)) 256 y) y x (line-keeps p k (clockAt a + K) (λ v. lineAfter a P K k (K + v)) 256 y (λ v. o k v (omega arith)))
+    keeps-trans p (lineOf k (clockAt a + K) (λ v. lineAfter a P K k (K + v)) 256 y) y x
+    (line-keeps p k (clockAt a + K) (λ v. lineAfter a P K k (K + v)) 256 y (λ v. o k v (omega arith)))
     (lines-keep p a P K k x (λ j v h. o j v (omega arith)))
 
-pub lines-own : (a : List ℕ) (P : Plan) (K k : ℕ) (x : List ℕ) (i : ℕ) → i < 16 → k ≤ 16 → OwnSame i (linesAll a P K k x) x
+pub lines-own : (a : List ℕ) (P : Plan) (K k : ℕ) (x : List ℕ) (i : ℕ) → i < 16 → k ≤ 16
+    → OwnSame i (linesAll a P K k x) x
 lines-own a P K k x i hi hk =
     record {
       station = lines-keep (station i) a P K k x (λ j v h p q. omega arith);
@@ -189,15 +221,21 @@ lines-own a P K k x i hi hk =
       buffer = lines-keep (buffer i) a P K k x (λ j v h p q. omega arith);
     }
 
-line-still : (n k : ℕ) → Still n k → (j u : ℕ) (g : ℕ → Heard) (m : ℕ) (x : List ℕ) → j < n → getD (lineOf j u g m x) k 0 ≡ getD x k 0
+line-still : (n k : ℕ) → Still n k → (j u : ℕ) (g : ℕ → Heard) (m : ℕ) (x : List ℕ) → j < n
+    → getD (lineOf j u g m x) k 0 ≡ getD x k 0
 unfolding lineOf turns withArrival
 line-still n k st j u g zero x hj = refl
-line-still n k st j u g (suc m) x hj = getD-set-other (lineOf j u g m x) _ k _ 0 (λ z. st .line j hj (omega arith) (omega arith)) ∙ line-still n k st j u g m x hj
+line-still n k st j u g (suc m) x hj =
+    getD-set-other (lineOf j u g m x) _ k _ 0 (λ z. st .line j hj (omega arith) (omega arith))
+    ∙ line-still n k st j u g m x hj
 
-pub lines-still : (n k : ℕ) → Still n k → (a : List ℕ) (P : Plan) (K m : ℕ) (x : List ℕ) → m ≤ n → getD (linesAll a P K m x) k 0 ≡ getD x k 0
+pub lines-still : (n k : ℕ) → Still n k → (a : List ℕ) (P : Plan) (K m : ℕ) (x : List ℕ) → m ≤ n
+    → getD (linesAll a P K m x) k 0 ≡ getD x k 0
 unfolding linesAll turns
 lines-still n k st a P K zero x hm = refl
-lines-still n k st a P K (suc m) x hm = line-still n k st m (clockAt a + K) (λ v. lineAfter a P K m (K + v)) 256 (linesAll a P K m x) hm ∙ lines-still n k st a P K m x (omega arith)
+lines-still n k st a P K (suc m) x hm =
+    line-still n k st m (clockAt a + K) (λ v. lineAfter a P K m (K + v)) 256 (linesAll a P K m x) hm
+    ∙ lines-still n k st a P K m x (omega arith)
 
 -- ---- the stations by themselves
 
@@ -210,20 +248,29 @@ unfolding ownAll turns
 own-keeps p a P m zero x o = keeps-refl p x
 own-keeps p a P m (suc k) x o =
     let y = ownAll a P m k x in
-    keeps-trans p (byItself (figuresAt a) (depthAt a) k (hears a P k) m y) y x (itself-keeps p (figuresAt a) (depthAt a) k (hears a P k) m y (o k (omega arith))) (own-keeps p a P m k x (λ j h. o j (omega arith)))
+    keeps-trans p (byItself (figuresAt a) (depthAt a) k (hears a P k) m y) y x
+    (itself-keeps p (figuresAt a) (depthAt a) k (hears a P k) m y (o k (omega arith)))
+    (own-keeps p a P m k x (λ j h. o j (omega arith)))
 
 -- those after it leave its parts alone, and those before it too
-own-ahead : (a : List ℕ) (P : Plan) (m k : ℕ) (x : List ℕ) (i : ℕ) → i < 16 → k ≤ i → OwnSame i (ownAll a P m k x) x × Stays i (ownAll a P m k x) x
+own-ahead : (a : List ℕ) (P : Plan) (m k : ℕ) (x : List ℕ) (i : ℕ) → i < 16 → k ≤ i
+    → OwnSame i (ownAll a P m k x) x × Stays i (ownAll a P m k x) x
 own-ahead a P m k x i hi hk = (
   record {
-    station = own-keeps (station i) a P m k x (λ j h. record { station = λ p q. omega arith; counters = λ p q. omega arith; buffer = λ p q. omega arith });
-    counters = own-keeps (counters i) a P m k x (λ j h. record { station = λ p q. omega arith; counters = λ p q. omega arith; buffer = λ p q. omega arith });
-    buffer = own-keeps (buffer i) a P m k x (λ j h. record { station = λ p q. omega arith; counters = λ p q. omega arith; buffer = λ p q. omega arith });
+    station = own-keeps (station i) a P m k x
+        (λ j h. record { station = λ p q. omega arith; counters = λ p q. omega arith; buffer = λ p q. omega arith });
+    counters = own-keeps (counters i) a P m k x
+        (λ j h. record { station = λ p q. omega arith; counters = λ p q. omega arith; buffer = λ p q. omega arith });
+    buffer = own-keeps (buffer i) a P m k x
+        (λ j h. record { station = λ p q. omega arith; counters = λ p q. omega arith; buffer = λ p q. omega arith });
   },
   record {
-    layout = own-keeps layout a P m k x (λ j h. record { station = λ p q. omega arith; counters = λ p q. omega arith; buffer = λ p q. omega arith });
-    draws = own-keeps draws a P m k x (λ j h. record { station = λ p q. omega arith; counters = λ p q. omega arith; buffer = λ p q. omega arith });
-    frame = own-keeps (frame i) a P m k x (λ j h. record { station = λ p q. omega arith; counters = λ p q. omega arith; buffer = λ p q. omega arith });
+    layout = own-keeps layout a P m k x
+        (λ j h. record { station = λ p q. omega arith; counters = λ p q. omega arith; buffer = λ p q. omega arith });
+    draws = own-keeps draws a P m k x
+        (λ j h. record { station = λ p q. omega arith; counters = λ p q. omega arith; buffer = λ p q. omega arith });
+    frame = own-keeps (frame i) a P m k x
+        (λ j h. record { station = λ p q. omega arith; counters = λ p q. omega arith; buffer = λ p q. omega arith });
   },
 )
 
@@ -235,31 +282,41 @@ own-built a P m (suc k) i hi hk room dr =
     let z = byItself (figuresAt a) (depthAt a) k (hears a P k) m y in
     by-eq i k
     (λ e. let q = own-ahead a P m k a i (omega arith) (omega arith) in
-    subst (λ (j : ℕ). OwnSame i (byItself (figuresAt a) (depthAt a) j (hears a P j) m y) (byItself (figuresAt a) (depthAt a) i (hears a P i) m a)) e
-    (itself-same (figuresAt a) (depthAt a) i (hears a P i) m y a (omega arith) (omega (arith, length-own a P m k a)) room dr (q .1) (q .0)))
+    subst (λ (j : ℕ). OwnSame i (byItself (figuresAt a) (depthAt a) j (hears a P j) m y)
+    (byItself (figuresAt a) (depthAt a) i (hears a P i) m a)) e
+    (itself-same (figuresAt a) (depthAt a) i (hears a P i) m y a (omega arith) (omega (arith, length-own a P m k a))
+    room dr (q .1) (q .0)))
     (λ ne. own-trans i z y (byItself (figuresAt a) (depthAt a) i (hears a P i) m a)
     (record {
-      station = itself-keeps (station i) (figuresAt a) (depthAt a) k (hears a P k) m y (record { station = λ p q. ne (omega arith); counters = λ p q. omega arith; buffer = λ p q. omega arith });
-      counters = itself-keeps (counters i) (figuresAt a) (depthAt a) k (hears a P k) m y (record { station = λ p q. omega arith; counters = λ p q. ne (omega arith); buffer = λ p q. omega arith });
-      buffer = itself-keeps (buffer i) (figuresAt a) (depthAt a) k (hears a P k) m y (record { station = λ p q. omega arith; counters = λ p q. omega arith; buffer = λ p q. ne (omega arith) });
+      station = itself-keeps (station i) (figuresAt a) (depthAt a) k (hears a P k) m y
+          (record { station = λ p q. ne (omega arith); counters = λ p q. omega arith; buffer = λ p q. omega arith });
+      counters = itself-keeps (counters i) (figuresAt a) (depthAt a) k (hears a P k) m y
+          (record { station = λ p q. omega arith; counters = λ p q. ne (omega arith); buffer = λ p q. omega arith });
+      buffer = itself-keeps (buffer i) (figuresAt a) (depthAt a) k (hears a P k) m y
+          (record { station = λ p q. omega arith; counters = λ p q. omega arith; buffer = λ p q. ne (omega arith) });
     })
     (own-built a P m k i (omega arith) (omega arith) room dr))
 
-itself-still : (n k : ℕ) (few : n ≤ 16) → Still n k → (a : List ℕ) (P : Plan) (i m : ℕ) (x : List ℕ) → i < n → getD (byItself (figuresAt a) (depthAt a) i (hears a P i) m x) k 0 ≡ getD x k 0
+itself-still : (n k : ℕ) (few : n ≤ 16) → Still n k → (a : List ℕ) (P : Plan) (i m : ℕ) (x : List ℕ) → i < n
+    → getD (byItself (figuresAt a) (depthAt a) i (hears a P i) m x) k 0 ≡ getD x k 0
 unfolding byItself turns ownTurn
 itself-still n k few st a P i zero x hi = refl
 itself-still n k few st a P i (suc m) x hi =
     let y = byItself (figuresAt a) (depthAt a) i (hears a P i) m x in
-    left-still n k few st i (actOn (figuresAt a) (depthAt a) i (hears a P i m) y .outcome) y hi (on-kept (figuresAt a) (depthAt a) i (hears a P i m) y) ∙ itself-still n k few st a P i m x hi
+    left-still n k few st i (actOn (figuresAt a) (depthAt a) i (hears a P i m) y .outcome) y hi
+    (on-kept (figuresAt a) (depthAt a) i (hears a P i m) y)
+    ∙ itself-still n k few st a P i m x hi
 
 pub own-still : (n k : ℕ) (few : n ≤ 16) → Still n k → (a : List ℕ) (P : Plan) (m c : ℕ) (x : List ℕ) → c ≤ n → getD (ownAll a P m c x) k 0 ≡ getD x k 0
 unfolding ownAll turns
 own-still n k few st a P m zero x hc = refl
-own-still n k few st a P m (suc c) x hc = itself-still n k few st a P c m (ownAll a P m c x) hc ∙ own-still n k few st a P m c x (omega arith)
+own-still n k few st a P m (suc c) x hc =
+    itself-still n k few st a P c m (ownAll a P m c x) hc ∙ own-still n k few st a P m c x (omega arith)
 
 -- ---- what is built is so described
 
-pub planned-built : (a : List ℕ) (P : Plan) (K : ℕ) → countAt a ≤ 16 → 57344 ≤ length a → ((s i : ℕ) → s < K → i < countAt a → Drawn (stationAt (ownAfter a P i s) i)) → Left a P K (planned a P K)
+pub planned-built : (a : List ℕ) (P : Plan) (K : ℕ) → countAt a ≤ 16 → 57344 ≤ length a
+    → ((s i : ℕ) → s < K → i < countAt a → Drawn (stationAt (ownAfter a P i s) i)) → Left a P K (planned a P K)
 unfolding planned
 planned-built a P K few room dr =
     let n = countAt a in
@@ -272,16 +329,25 @@ planned-built a P K few room dr =
       stamp = stamped l a (clockAt a + K) (omega (arith, ll, lo)) room;
       own = λ i hi.
           own-trans i (withClock l (clockAt a + K)) l (ownAfter a P i K)
-          (record { station = clock-keeps (station i) l (clockAt a + K) (λ p q. omega arith); counters = clock-keeps (counters i) l (clockAt a + K) (λ p q. omega arith); buffer = clock-keeps (buffer i) l (clockAt a + K) (λ p q. omega arith) })
-          (own-trans i l o (ownAfter a P i K) (lines-own a P K n o i (omega arith) few) (own-built a P K n i hi few room (λ s h. dr s i h hi)));
+          (record {
+            station = clock-keeps (station i) l (clockAt a + K) (λ p q. omega arith);
+            counters = clock-keeps
+                (counters i) l (clockAt a + K) (λ p q. omega arith);
+            buffer = clock-keeps (buffer i) l (clockAt a + K)
+                (λ p q. omega arith);
+          })
+          (own-trans i l o (ownAfter a P i K) (lines-own a P K n o i (omega arith) few)
+          (own-built a P K n i hi few room (λ s h. dr s i h hi)));
       line = λ j v hj low up.
           let z : clockAt a + v ≡ clockAt a + K + (v - K) = omega arith in
           let y : K + (v - K) ≡ v = omega arith in
-          symbol-by (withClock l (clockAt a + K)) l j (clockAt a + v) (clock-keeps (place j (clockAt a + v)) l (clockAt a + K) (λ p q. omega arith))
+          symbol-by (withClock l (clockAt a + K)) l j (clockAt a + v)
+          (clock-keeps (place j (clockAt a + v)) l (clockAt a + K) (λ p q. omega arith))
           ∙ ap (symbolAt l j) z
           ∙ lines-set a P K n o j (v - K) hj few (omega (arith, lo)) (omega arith)
           ∙ ap (λ (c : ℕ). heardCode (lineAfter a P K j c)) y;
-      rest = λ k st. clock-still l k (clockAt a + K) (st .clock) ∙ lines-still n k st a P K n o (omega arith) ∙ own-still n k few st a P K n a (omega arith);
+      rest = λ k st. clock-still l k (clockAt a + K) (st .clock) ∙ lines-still n k st a P K n o (omega arith)
+          ∙ own-still n k few st a P K n a (omega arith);
     }
 
 -- ---- Theorem 1, as octets

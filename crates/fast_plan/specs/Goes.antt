@@ -34,7 +34,8 @@ storedAll i st m x = turns (λ s y. withStored i (st s) y) m x
 unfoldable pub wentTo : ℕ → (ℕ → Stored) → (m : ℕ) → Station → List ℕ → List ℕ
 wentTo i st m s x = storedAll i st m (withStation x i s)
 
-quiet-left : (i : ℕ) (s : Station) (e : Emission) (o : Stored) (x : List ℕ) → ownLeft i (quietly s e o) x ≡ withStored i o (withStation x i s)
+quiet-left : (i : ℕ) (s : Station) (e : Emission) (o : Stored) (x : List ℕ)
+    → ownLeft i (quietly s e o) x ≡ withStored i o (withStation x i s)
 unfolding ownLeft withCounted happened quietly
 quiet-left i s e o x = refl
 
@@ -42,20 +43,24 @@ pub length-all : (i : ℕ) (st : ℕ → Stored) (m : ℕ) (x : List ℕ) → le
 unfolding storedAll
 length-all i st m x = length-turns _ m x (λ s y. length-stored i (st s) y)
 
-pub all-keeps : (p : Part) (i : ℕ) (st : ℕ → Stored) (m : ℕ) (x : List ℕ) → ((s : ℕ) → Kept (st s)) → Off p (buffer i) → Keeps p (storedAll i st m x) x
+pub all-keeps : (p : Part) (i : ℕ) (st : ℕ → Stored) (m : ℕ) (x : List ℕ) → ((s : ℕ) → Kept (st s)) → Off p (buffer i)
+    → Keeps p (storedAll i st m x) x
 unfolding storedAll turns
 all-keeps p i st zero x k o = keeps-refl p x
-all-keeps p i st (suc m) x k o = keeps-trans p (storedAll i st (suc m) x) (storedAll i st m x) x (stored-keeps p i (st m) (storedAll i st m x) (k m) o) (all-keeps p i st m x k o)
+all-keeps p i st (suc m) x k o = keeps-trans p (storedAll i st (suc m) x) (storedAll i st m x) x
+    (stored-keeps p i (st m) (storedAll i st m x) (k m) o) (all-keeps p i st m x k o)
 
 -- a record written before or after
-station-stored : (i : ℕ) (o : Stored) (s : Station) (x : List ℕ) → i < 16 → withStation (withStored i o x) i s ≡ withStored i o (withStation x i s)
+station-stored : (i : ℕ) (o : Stored) (s : Station) (x : List ℕ) → i < 16
+    → withStation (withStored i o x) i s ≡ withStored i o (withStation x i s)
 station-stored i NoStore s x hi = refl
 station-stored i (Store k b) s x hi = station-bit x i hi s k b
 
 pub station-all : (i : ℕ) (st : ℕ → Stored) (m : ℕ) (s : Station) (x : List ℕ) → i < 16 → withStation (storedAll i st m x) i s ≡ storedAll i st m (withStation x i s)
 unfolding storedAll turns
 station-all i st zero s x hi = refl
-station-all i st (suc m) s x hi = station-stored i (st m) s (storedAll i st m x) hi ∙ ap (withStored i (st m)) (station-all i st m s x hi)
+station-all i st (suc m) s x hi =
+    station-stored i (st m) s (storedAll i st m x) hi ∙ ap (withStored i (st m)) (station-all i st m s x hi)
 
 module _ (f : Figures) (d i : ℕ) (a : List ℕ) (K : ℕ) (hi : i < 16) (room : 57344 ≤ length a) (on : ℕ → Station) (H : ℕ → Heard) (em : ℕ → Emission) (st : ℕ → Stored)
     (begins : stationAt a i ≡ on 0) (fit : (m : ℕ) → m ≤ K → Fit (on m)) (address : (m : ℕ) → on m .address ≡ addressAt a i) (kept : (m : ℕ) → Kept (st m))
@@ -68,7 +73,9 @@ module _ (f : Figures) (d i : ℕ) (a : List ℕ) (K : ℕ) (hi : i < 16) (room 
   there m h =
       let y = withStation a i (on m) in
       let ly : 57344 ≤ length y = omega (arith, length-station a i (on m)) in
-      station-by (storedAll i st m y) y i hi (omega (arith, length-all i st m y)) ly (all-keeps layout i st m y kept (λ p q. omega arith)) (all-keeps (station i) i st m y kept (λ p q. omega arith))
+      station-by (storedAll i st m y) y i hi (omega (arith, length-all i st m y)) ly
+      (all-keeps layout i st m y kept (λ p q. omega arith))
+      (all-keeps (station i) i st m y kept (λ p q. omega arith))
       ∙ station-same a room i (on m) hi (fit m h) (address m)
 
   -- in the first turn the buffer is what it was
@@ -117,7 +124,8 @@ module _ (f : Figures) (d i : ℕ) (a : List ℕ) (K : ℕ) (hi : i < 16) (room 
       let y = withStation a i (on m) in
       let ly : 57344 ≤ length y = omega (arith, length-station a i (on m)) in
       frame-by (storedAll i st m y) a i z hi hz (omega (arith, length-all i st m y)) room
-      (keeps-trans (frame i) (storedAll i st m y) y a (all-keeps (frame i) i st m y kept (λ p q. omega arith)) (station-keeps (frame i) a i (on m) (λ p q. omega arith)))
+      (keeps-trans (frame i) (storedAll i st m y) y a (all-keeps (frame i) i st m y kept (λ p q. omega arith))
+      (station-keeps (frame i) a i (on m) (λ p q. omega arith)))
 
   symbol-by : (m : ℕ) (x : List ℕ) → m < K → stationAt x i ≡ on m → First m x → actOn f d i (H m) x .symbol ≡ symbolOf (frameAt x i (octetsHeld (on m .transmitter) (on m .frame))) (em m)
   unfolding actOn outcomeOn quietly First
@@ -126,7 +134,8 @@ module _ (f : Figures) (d i : ℕ) (a : List ℕ) (K : ℕ) (hi : i < 16) (room 
       (ap (λ (s : Station). stepped f s d (drawAt x i (s .draw)) (bufferAt x i) (H m)) e ∙ step m (drawAt x i (on m .draw)) (bufferAt x i) h z)
       ∙ ap (λ (s : Station). symbolOf (frameAt x i (octetsHeld (s .transmitter) (s .frame))) (em m)) e
 
-  pub goes-symbol : (m z : ℕ) → m < K → z ≤ 1536 → octetsHeld (on m .transmitter) (on m .frame) ≡ z → actOn f d i (H m) (byItself f d i H m a) .symbol ≡ symbolOf (frameAt a i z) (em m)
+  pub goes-symbol : (m z : ℕ) → m < K → z ≤ 1536 → octetsHeld (on m .transmitter) (on m .frame) ≡ z
+      → actOn f d i (H m) (byItself f d i H m a) .symbol ≡ symbolOf (frameAt a i z) (em m)
   unfolding byItself turns after wentTo
   goes-symbol zero z h hz e = symbol-by 0 a h begins is-first ∙ ap (λ (w : ℕ). symbolOf (frameAt a i w) (em 0)) e
   goes-symbol (suc m) z h hz e =

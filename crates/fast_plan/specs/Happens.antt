@@ -61,7 +61,8 @@ module _ (P : Plan) where
       (λ c. let h = ltb-true s K c in cut-in K i s h ∙ sym (cut-in (suc K) i s (omega arith)))
       (λ c. let h = ltb-false s K c in cut-none K i s h ∙ sym (cut-none (suc K) i s (omega arith)))))
 
-reaches-by : (d : ℕ → ℕ → ℕ) (E F : ℕ → ℕ → Symbol) (j u i : ℕ) → ((i ≡ j → ⊥) → d i j ≤ u → E i (u - d i j) ≡ F i (u - d i j)) → reaches d E j u i ≡ reaches d F j u i
+reaches-by : (d : ℕ → ℕ → ℕ) (E F : ℕ → ℕ → Symbol) (j u i : ℕ)
+    → ((i ≡ j → ⊥) → d i j ≤ u → E i (u - d i j) ≡ F i (u - d i j)) → reaches d E j u i ≡ reaches d F j u i
 unfolding reaches
 reaches-by d E F j u i h =
     by-eq i j (λ z. rw (eq-eqb i j z))
@@ -69,56 +70,70 @@ reaches-by d E F j u i h =
     (λ c. rw (ne-eqb i j z, c) (h z (leb-true (d i j) u c)))
     (λ c. rw (ne-eqb i j z, c)))
 
-pub heard-by : (N : Net) (E F : ℕ → ℕ → Symbol) (j u : ℕ) → ((i : ℕ) → i < N .n → (i ≡ j → ⊥) → N .d i j ≤ u → E i (u - N .d i j) ≡ F i (u - N .d i j)) → heard N E j u ≡ heard N F j u
+pub heard-by : (N : Net) (E F : ℕ → ℕ → Symbol) (j u : ℕ)
+    → ((i : ℕ) → i < N .n → (i ≡ j → ⊥) → N .d i j ≤ u → E i (u - N .d i j) ≡ F i (u - N .d i j))
+    → heard N E j u ≡ heard N F j u
 unfolding heard
-heard-by N E F j u h = gathered-same (N .n) (reaches (N .d) E j u) (reaches (N .d) F j u) (λ i l. reaches-by (N .d) E F j u i (h i l))
+heard-by N E F j u h =
+    gathered-same (N .n) (reaches (N .d) E j u) (reaches (N .d) F j u) (λ i l. reaches-by (N .d) E F j u i (h i l))
 
 pub heard-none : (N : Net) (E : ℕ → ℕ → Symbol) (j u : ℕ) → ((i s : ℕ) → E i s ≡ Silence) → heard N E j u ≡ Nothing
 unfolding heard reaches
 heard-none N E j u h =
     gathered-none (N .n) _
-    (λ i l. by-test (eqb i j) (λ b. rw b) (λ b. by-test (leb (N .d i j) u) (λ c. rw (b, c) (h i (u - N .d i j))) (λ c. rw (b, c))))
+    (λ i l. by-test (eqb i j) (λ b. rw b)
+    (λ b. by-test (leb (N .d i j) u) (λ c. rw (b, c) (h i (u - N .d i j))) (λ c. rw (b, c))))
 
 module _ (a : List ℕ) (sp : Spread (countAt a) a) (P : Plan) where
   -- what is heard in step s is on its way before it
   hears-line : (s j : ℕ) → j < countAt a → lineAfter a P s j s ≡ hears a P j s
   unfolding lineAfter hears netOf
   hears-line s j hj =
-      ap (met (lineNow a j s)) (heard-by (netOf a) (cut s P) P j s (λ i hi ne le. cut-in P s i (s - spaceAt a i j) (omega (arith, sp .pos i j hi hj ne))))
+      ap (met (lineNow a j s))
+      (heard-by (netOf a) (cut s P) P j s
+      (λ i hi ne le. cut-in P s i (s - spaceAt a i j) (omega (arith, sp .pos i j hi hj ne))))
 
-  line-grown : (K j v : ℕ) → lineAfter a P (suc K) j v ≡ met (lineAfter a P K j v) (gathered (countAt a) (adds (spaceAt a) K (λ i. P i K) j v))
+  line-grown : (K j v : ℕ)
+      → lineAfter a P (suc K) j v ≡ met (lineAfter a P K j v)
+      (gathered (countAt a) (adds (spaceAt a) K (λ i. P i K) j v))
   unfolding lineAfter netOf
   line-grown K j v =
       ap (met (lineNow a j v))
-      (heard-by (netOf a) (cut (suc K) P) (grown K (λ i. P i K) (cut K P)) j v (λ i hi ne le. sym (cut-grown P K i (v - spaceAt a i j)))
+      (heard-by (netOf a) (cut (suc K) P) (grown K (λ i. P i K) (cut K P)) j v
+      (λ i hi ne le. sym (cut-grown P K i (v - spaceAt a i j)))
       ∙ heard-grown (netOf a) K (λ i. P i K) (cut K P) j v (λ i s h. cut-none P K i s h))
-      ∙ sym (met-group (lineNow a j v) (heard (netOf a) (cut K P) j v) (gathered (countAt a) (adds (spaceAt a) K (λ i. P i K) j v)))
+      ∙ sym (met-group (lineNow a j v) (heard (netOf a) (cut K P) j v)
+      (gathered (countAt a) (adds (spaceAt a) K (λ i. P i K) j v)))
 
   -- the place that is free again
   line-free : (K j : ℕ) → j < countAt a → lineAfter a P (suc K) j (K + 256) ≡ Nothing
   unfolding lineAfter lineNow netOf
   line-free K j hj =
       rw (le-ltb (K + 256) 256 (omega arith))
-      (heard-far (netOf a) (suc K) (cut (suc K) P) j (K + 256) (λ i s h. cut-none P (suc K) i s h) (λ i hi. omega (arith, sp .near i j hi hj)))
+      (heard-far (netOf a) (suc K) (cut (suc K) P) j (K + 256) (λ i s h. cut-none P (suc K) i s h)
+      (λ i hi. omega (arith, sp .near i j hi hj)))
 
   line-start : (j v : ℕ) → v < 256 → lineAfter a P 0 j v ≡ arrivalAt a j (clockAt a + v)
   unfolding lineAfter lineNow netOf
   line-start j v h =
       rw (lt-ltb v 256 h)
       (ap (met (arrivalAt a j (clockAt a + v)))
-      (heard-none (netOf a) (cut 0 P) j v (λ i s. cut-none P 0 i s (omega arith))) ∙ met-none (arrivalAt a j (clockAt a + v)))
+      (heard-none (netOf a) (cut 0 P) j v (λ i s. cut-none P 0 i s (omega arith)))
+      ∙ met-none (arrivalAt a j (clockAt a + v)))
 
 -- ---- octets that no turn writes
 
 module _ (n k : ℕ) (few : n ≤ 16) (still : Still n k) where
   send-still : (t i : ℕ) (s : Symbol) (j : ℕ) (x : List ℕ) → j < n → getD (sendTo t i s j x) k 0 ≡ getD x k 0
   unfolding sendTo withArrival
-  send-still t i s j x hj = by-test (eqb j i) (λ e. rw e) (λ e. rw e (getD-set-other x _ k _ 0 (λ z. still .line j hj (omega arith) (omega arith))))
+  send-still t i s j x hj = by-test (eqb j i) (λ e. rw e)
+      (λ e. rw e (getD-set-other x _ k _ 0 (λ z. still .line j hj (omega arith) (omega arith))))
 
   sends-still : (t i : ℕ) (s : Symbol) (m : ℕ) (x : List ℕ) → m ≤ n → getD (turns (sendTo t i s) m x) k 0 ≡ getD x k 0
   unfolding turns
   sends-still t i s zero x hm = refl
-  sends-still t i s (suc m) x hm = send-still t i s m (turns (sendTo t i s) m x) hm ∙ sends-still t i s m x (omega arith)
+  sends-still t i s (suc m) x hm =
+      send-still t i s m (turns (sendTo t i s) m x) hm ∙ sends-still t i s m x (omega arith)
 
   pushed-still : (t i : ℕ) (s : Symbol) (x : List ℕ) → getD (pushed n t i s x) k 0 ≡ getD x k 0
   unfolding pushed
@@ -131,11 +146,14 @@ module _ (n k : ℕ) (few : n ≤ 16) (still : Still n k) where
 
   counted-still : (i : ℕ) (o : Stepped) (x : List ℕ) → i < n → getD (withCounted i o x) k 0 ≡ getD x k 0
   unfolding withCounted withCounters Same
-  counted-still i o x hi = by-test (happened o) (λ e. rw e (words-leave k 1 16 (1024 + 64 * i) x _ (λ p q. still .counters i hi (omega arith) (omega arith)) k (omega arith) (omega arith))) (λ e. rw e)
+  counted-still i o x hi = by-test (happened o)
+      (λ e. rw e (words-leave k 1 16 (1024 + 64 * i) x _ (λ p q. still .counters i hi (omega arith) (omega arith)) k
+      (omega arith) (omega arith))) (λ e. rw e)
 
   pub station-still : (i : ℕ) (s : Station) (x : List ℕ) → i < n → getD (withStation x i s) k 0 ≡ getD x k 0
   unfolding withStation Same
-  station-still i s x hi = words-leave k 1 14 (2048 + 64 * i) x _ (λ p q. still .station i hi (omega arith) (omega arith)) k (omega arith) (omega arith)
+  station-still i s x hi = words-leave k 1 14 (2048 + 64 * i) x _
+      (λ p q. still .station i hi (omega arith) (omega arith)) k (omega arith) (omega arith)
 
   pub arrival-still : (t i : ℕ) (h : Heard) (x : List ℕ) → i < n → getD (withArrival x i t h) k 0 ≡ getD x k 0
   unfolding withArrival
@@ -145,35 +163,68 @@ module _ (n k : ℕ) (few : n ≤ 16) (still : Still n k) where
   unfolding ownLeft
   left-still i o x hi h = stored-still i (o .stored) _ hi h ∙ counted-still i o _ hi ∙ station-still i (o .station) x hi
 
-  settled-still : (t i : ℕ) (r : Act) (x : List ℕ) → i < n → Kept (r .outcome .stored) → getD (settled n t i r x) k 0 ≡ getD x k 0
+  settled-still : (t i : ℕ) (r : Act) (x : List ℕ) → i < n → Kept (r .outcome .stored)
+      → getD (settled n t i r x) k 0 ≡ getD x k 0
   unfolding settled placed
   settled-still t i r x hi h =
-      pushed-still t i (r .symbol) _ ∙ arrival-still t i Nothing _ hi ∙ stored-still i (r .outcome .stored) _ hi h ∙ counted-still i (r .outcome) _ hi ∙ station-still i (r .outcome .station) x hi
+      pushed-still t i (r .symbol) _
+      ∙ arrival-still t i Nothing _ hi
+      ∙ stored-still i (r .outcome .stored) _ hi h
+      ∙ counted-still i (r .outcome) _ hi
+      ∙ station-still i (r .outcome .station) x hi
 
-  turns-still : (t : ℕ) (r : ℕ → Act) (m : ℕ) (x : List ℕ) → m ≤ n → ((i : ℕ) → i < n → Kept (r i .outcome .stored)) → getD (turns (λ i y. settled n t i (r i) y) m x) k 0 ≡ getD x k 0
+  turns-still : (t : ℕ) (r : ℕ → Act) (m : ℕ) (x : List ℕ) → m ≤ n → ((i : ℕ) → i < n → Kept (r i .outcome .stored))
+      → getD (turns (λ i y. settled n t i (r i) y) m x) k 0 ≡ getD x k 0
   unfolding turns
   turns-still t r zero x hm h = refl
   turns-still t r (suc m) x hm h = settled-still t m (r m) _ hm (h m hm) ∙ turns-still t r m x (omega arith) h
 
 -- ---- a station's own parts after the turns of all
 
-module _ (n t : ℕ) (r : ℕ → Act) (x : List ℕ) (sp : Spread n x) (kept : (i : ℕ) → i < n → Kept (r i .outcome .stored)) (room : 57344 ≤ length x) where
-  part-own : (p : Part) (i : ℕ) → i < n → ((j : ℕ) → j < n → (j ≡ i → ⊥) → Foreign p t j) → ((j u : ℕ) → j < n → Off p (place j u))
-      → Keeps p (turns (λ j y. settled n t j (r j) y) n x) (ownLeft i (r i .outcome) (turns (λ j y. settled n t j (r j) y) i x))
+module _ (n t : ℕ) (r : ℕ → Act) (x : List ℕ) (sp : Spread n x) (kept : (i : ℕ) → i < n → Kept (r i .outcome .stored))
+    (room : 57344 ≤ length x) where
+  part-own : (p : Part) (i : ℕ) → i < n → ((j : ℕ) → j < n → (j ≡ i → ⊥) → Foreign p t j)
+      → ((j u : ℕ) → j < n → Off p (place j u))
+      → Keeps p (turns (λ j y. settled n t j (r j) y) n x)
+      (ownLeft i (r i .outcome) (turns (λ j y. settled n t j (r j) y) i x))
   unfolding placed ownLeft
   part-own p i hi q o =
       let y = turns (λ j y. settled n t j (r j) y) i x in
-      keeps-trans p (turns (λ j y. settled n t j (r j) y) n x) (placed t i (r i .outcome) y) (ownLeft i (r i .outcome) y)
+      keeps-trans p (turns (λ j y. settled n t j (r j) y) n x) (placed t i (r i .outcome) y)
+      (ownLeft i (r i .outcome) y)
       (own n t r x sp kept room p i n (omega arith) hi q o)
       (arrival-keeps p (ownLeft i (r i .outcome) y) i t Nothing (o i t hi))
 
-  turns-own : (i : ℕ) → i < n → OwnSame i (turns (λ j y. settled n t j (r j) y) n x) (ownLeft i (r i .outcome) (turns (λ j y. settled n t j (r j) y) i x))
+  turns-own : (i : ℕ) → i < n
+      → OwnSame i (turns (λ j y. settled n t j (r j) y) n x)
+      (ownLeft i (r i .outcome) (turns (λ j y. settled n t j (r j) y) i x))
   turns-own i hi =
       let few = sp .few in
       record {
-        station = part-own (station i) i hi (λ j h ne. record { station = λ p q. ne (omega arith); counters = λ p q. omega arith; buffer = λ p q. omega arith; place = λ p q. omega arith }) (λ j u h p q. omega arith);
-        counters = part-own (counters i) i hi (λ j h ne. record { station = λ p q. omega arith; counters = λ p q. ne (omega arith); buffer = λ p q. omega arith; place = λ p q. omega arith }) (λ j u h p q. omega arith);
-        buffer = part-own (buffer i) i hi (λ j h ne. record { station = λ p q. omega arith; counters = λ p q. omega arith; buffer = λ p q. ne (omega arith); place = λ p q. omega arith }) (λ j u h p q. omega arith);
+        station = part-own (station i) i hi
+            (λ j h ne. record {
+              station = λ p q. ne (omega arith);
+              counters = λ p q. omega arith;
+              buffer = λ p q.
+                  omega arith;
+              place = λ p q. omega arith;
+            }) (λ j u h p q. omega arith);
+        counters = part-own (counters i) i hi
+            (λ j h ne. record {
+              station = λ p q. omega arith;
+              counters = λ p q. ne (omega arith);
+              buffer = λ p q.
+                  omega arith;
+              place = λ p q. omega arith;
+            }) (λ j u h p q. omega arith);
+        buffer = part-own (buffer i) i hi
+            (λ j h ne. record {
+              station = λ p q. omega arith;
+              counters = λ p q. omega arith;
+              buffer = λ p q. ne
+                  (omega arith);
+              place = λ p q. omega arith;
+            }) (λ j u h p q. omega arith);
       }
 
   -- before its turn they are as they were
@@ -181,12 +232,18 @@ module _ (n t : ℕ) (r : ℕ → Act) (x : List ℕ) (sp : Spread n x) (kept : 
   ahead-own i hi =
       let few = sp .few in
       let v = ahead n t r x sp kept room i (omega arith) in
-      record { station = v .record-of i (omega arith) (omega arith); counters = v .counts-of i (omega arith) (omega arith); buffer = v .buffer-of i (omega arith) (omega arith) }
+      record {
+        station = v .record-of i (omega arith) (omega arith);
+        counters = v .counts-of i (omega arith)
+            (omega arith);
+        buffer = v .buffer-of i (omega arith) (omega arith);
+      }
 
 -- ---- one step more
 
 front : (v l : List ℕ) (k : ℕ) → k < length v → length v ≤ length l → getD (sets l 0 v) k 0 ≡ getD v k 0
-front v l k h g = let z : k ≡ 0 + k = omega arith in ap (λ (i : ℕ). getD (sets l 0 v) i 0) z ∙ octet-same v l 0 k h (omega arith)
+front v l k h g =
+    let z : k ≡ 0 + k = omega arith in ap (λ (i : ℕ). getD (sets l 0 v) i 0) z ∙ octet-same v l 0 k h (omega arith)
 
 -- the clock's octets go by the clock alone
 pub stamped : (x y : List ℕ) (c : ℕ) → 57344 ≤ length x → 57344 ≤ length y → Same 0 4 (withClock x c) (withClock y c)
@@ -198,7 +255,10 @@ stamped x y c lx ly k lo up =
 pub drawn : (x : List ℕ) → Readiness x → (i : ℕ) → i < countAt x → Drawn (stationAt x i)
 drawn x r i h =
     let w = r .fine i h in
-    record { draw = omega (arith, w .draw, r .depth); held = omega (arith, held-small (stationAt x i .frame) (stationAt x i .transmitter) (w .frame)) }
+    record {
+      draw = omega (arith, w .draw, r .depth);
+      held = omega (arith, held-small (stationAt x i .frame) (stationAt x i .transmitter) (w .frame));
+    }
 
 module _ (a : List ℕ) (sp : Spread (countAt a) a) (P : Plan) (K : ℕ) (x : List ℕ) (w : Planned a P K x) where
   lay : Keeps layout x a
@@ -220,11 +280,14 @@ module _ (a : List ℕ) (sp : Spread (countAt a) a) (P : Plan) (K : ℕ) (x : Li
   own-stays : (i : ℕ) → i < 16 → Stays i (ownAfter a P i K) x
   unfolding ownAfter
   own-stays i hi =
-      stays-trans i (byItself (figuresAt a) (depthAt a) i (hears a P i) K a) a x (itself-stays (figuresAt a) (depthAt a) i (hears a P i) K a hi) (stays-sym i x a (w .stays i hi))
+      stays-trans i (byItself (figuresAt a) (depthAt a) i (hears a P i) K a) a x
+      (itself-stays (figuresAt a) (depthAt a) i (hears a P i) K a hi) (stays-sym i x a (w .stays i hi))
 
   -- each station is what it is by itself
   pub planned-station : (i : ℕ) → i < 16 → i < countAt a → stationAt x i ≡ stationAt (ownAfter a P i K) i
-  planned-station i hi h = sym (station-by (ownAfter a P i K) x i hi (own-room i) room (own-stays i hi .layout) (own-sym i x (ownAfter a P i K) (w .own i h) .station))
+  planned-station i hi h = sym
+      (station-by (ownAfter a P i K) x i hi (own-room i) room (own-stays i hi .layout)
+      (own-sym i x (ownAfter a P i K) (w .own i h) .station))
 
   -- what each station does is what it does by itself
   pub act-planned : (i : ℕ) → i < countAt a → actAt x i ≡ actAfter a P i K
@@ -234,11 +297,13 @@ module _ (a : List ℕ) (sp : Spread (countAt a) a) (P : Plan) (K : ℕ) (x : Li
       let hi : i < 16 = omega arith in
       let f : figuresAt x ≡ figuresAt a = figures-by x a lay in
       let d : depthAt x ≡ depthAt a = depth-by x a (w .depth) in
-      let e : arrivalAt x i (clockAt x) ≡ hears a P i K = ap (arrivalAt x i) (w .time) ∙ w .line i K h (omega arith) (omega arith) ∙ hears-line a sp P K i h in
+      let e : arrivalAt x i (clockAt x) ≡ hears a P i K = ap (arrivalAt x i) (w .time) ∙ w .line i K h (omega arith)
+      (omega arith) ∙ hears-line a sp P K i h in
       ap₂ (λ (g : Figures) (m : ℕ). actIn g m (clockAt x) x i) f d
       ∙ act-heard (figuresAt a) (depthAt a) (clockAt x) i x
       ∙ ap (λ (y : Heard). actOn (figuresAt a) (depthAt a) i y x) e
-      ∙ sym (on-same (figuresAt a) (depthAt a) i (hears a P i K) (ownAfter a P i K) x hi (own-room i) room (drawn x (w .ready) i (below i h)) (own-stays i hi)
+      ∙ sym (on-same (figuresAt a) (depthAt a) i (hears a P i K) (ownAfter a P i K) x hi (own-room i) room
+      (drawn x (w .ready) i (below i h)) (own-stays i hi)
       (own-sym i x (ownAfter a P i K) (w .own i h)))
 
   turned : List ℕ
@@ -254,40 +319,62 @@ module _ (a : List ℕ) (sp : Spread (countAt a) a) (P : Plan) (K : ℕ) (x : Li
       let y = turns (λ j z. settled n (clockAt x) j (actAt x j) z) i x in
       let o = actAt x i .outcome in
       let b = ownAfter a P i K in
-      let ly : 57344 ≤ length y = omega (arith, length-after n (clockAt x) (actAt x) x (r .spread) (kept-at x) room i, room) in
+      let ly : 57344 ≤ length
+      y = omega (arith, length-after n (clockAt x) (actAt x) x (r .spread) (kept-at x) room i, room) in
       let one : OwnSame i (stepArea x) turned =
-      record { station = clock-keeps (station i) turned (clockAt x + 1) (λ p q. omega arith); counters = clock-keeps (counters i) turned (clockAt x + 1) (λ p q. omega arith); buffer = clock-keeps (buffer i) turned (clockAt x + 1) (λ p q. omega arith) } in
-      let two : OwnSame i turned (ownLeft i o y) = turns-own n (clockAt x) (actAt x) x (r .spread) (kept-at x) room i (below i h) in
-      let near : OwnSame i y b = own-trans i y x b (ahead-own n (clockAt x) (actAt x) x (r .spread) (kept-at x) room i (below i h)) (w .own i h) in
-      let three : OwnSame i (ownLeft i o y) (ownLeft i o b) = left-same i o y b hi ly (own-room i) (kept-at x i (below i h)) near in
+      record {
+        station = clock-keeps (station i) turned (clockAt x + 1) (λ p q. omega arith);
+        counters = clock-keeps
+            (counters i) turned (clockAt x + 1) (λ p q. omega arith);
+        buffer = clock-keeps (buffer i) turned
+            (clockAt x + 1) (λ p q. omega arith);
+      } in
+      let two : OwnSame i turned (ownLeft i o y) = turns-own n (clockAt x) (actAt x) x (r .spread) (kept-at x) room i
+      (below i h) in
+      let near : OwnSame i y b = own-trans i y x b
+      (ahead-own n (clockAt x) (actAt x) x (r .spread) (kept-at x) room i (below i h)) (w .own i h) in
+      let three : OwnSame i (ownLeft i o y) (ownLeft i o b) = left-same i o y b hi ly (own-room i)
+      (kept-at x i (below i h)) near in
       let four : ownLeft i o b ≡ byItself (figuresAt a) (depthAt a) i (hears a P i) (suc K) a =
-      ap (λ (c : Act). ownLeft i (c .outcome) b) (act-planned i h) ∙ sym (by-itself-more (figuresAt a) (depthAt a) i (hears a P i) K a) in
-      own-trans i (stepArea x) turned (ownAfter a P i (suc K)) one (own-trans i turned (ownLeft i o y) (ownAfter a P i (suc K)) two (subst (OwnSame i (ownLeft i o y)) four three))
+      ap (λ (c : Act). ownLeft i (c .outcome) b) (act-planned i h) ∙ sym
+      (by-itself-more (figuresAt a) (depthAt a) i (hears a P i) K a) in
+      own-trans i (stepArea x) turned (ownAfter a P i (suc K)) one
+      (own-trans i turned (ownLeft i o y) (ownAfter a P i (suc K)) two
+      (subst (OwnSame i (ownLeft i o y)) four three))
 
   -- ---- the lines
 
   after-clock : (j u : ℕ) → arrivalAt (stepArea x) j u ≡ arrivalAt turned j u
   unfolding stepArea turned
-  after-clock j u = arrival-by (stepArea x) turned j u (clock-keeps (place j u) turned (clockAt x + 1) (λ p q. omega arith))
+  after-clock j u =
+      arrival-by (stepArea x) turned j u (clock-keeps (place j u) turned (clockAt x + 1) (λ p q. omega arith))
 
   module _ (holds : (i : ℕ) → i < countAt a → actAfter a P i K .symbol ≡ P i K) where
     one-share : (j v i : ℕ) → j < countAt a → i < countAt a → K < v → v < K + 256
-        → share (clockAt x) (spaceAt x i j) i (actAt x i .symbol) j (clockAt a + v) ≡ adds (spaceAt a) K (λ m. P m K) j v i
+        → share (clockAt x) (spaceAt x i j) i (actAt x i .symbol) j (clockAt a + v) ≡ adds (spaceAt a) K (λ m. P m K) j
+        v i
     one-share j v i hj hi lo up =
         let few = sp .few in
-        ap₂ (λ (c d : ℕ). share c d i (actAt x i .symbol) j (clockAt a + v)) (w .time) (space-by x a i j (omega arith) (omega arith) lay)
-        ∙ ap (λ (s : Symbol). share (clockAt a + K) (spaceAt a i j) i s j (clockAt a + v)) (ap (λ (c : Act). c .symbol) (act-planned i hi) ∙ holds i hi)
-        ∙ share-adds (spaceAt a) (clockAt a) K (λ m. P m K) j v i _ _ refl refl (sp .pos i j hi hj) (sp .near i j hi hj) lo up
+        ap₂ (λ (c d : ℕ). share c d i (actAt x i .symbol) j (clockAt a + v)) (w .time)
+        (space-by x a i j (omega arith) (omega arith) lay)
+        ∙ ap (λ (s : Symbol). share (clockAt a + K) (spaceAt a i j) i s j (clockAt a + v))
+        (ap (λ (c : Act). c .symbol) (act-planned i hi) ∙ holds i hi)
+        ∙ share-adds (spaceAt a) (clockAt a) K (λ m. P m K) j v i _ _ refl refl (sp .pos i j hi hj) (sp .near i j hi hj)
+        lo up
 
-    line-turned : (j v : ℕ) → j < countAt a → K < v → v < K + 256 → arrivalAt turned j (clockAt a + v) ≡ lineAfter a P (suc K) j v
+    line-turned : (j v : ℕ) → j < countAt a → K < v → v < K + 256
+        → arrivalAt turned j (clockAt a + v) ≡ lineAfter a P (suc K) j v
     unfolding turned
     line-turned j v hj lo up =
         let r = w .ready in
         let c = w .time in
-        line-all (countAt x) (clockAt x) (actAt x) x (r .spread) (kept-at x) room (countAt x) j (clockAt a + v) (omega arith) (below j hj) (λ z. omega arith)
+        line-all (countAt x) (clockAt x) (actAt x) x (r .spread) (kept-at x) room (countAt x) j (clockAt a + v)
+        (omega arith) (below j hj) (λ z. omega arith)
         ∙ ap₂ met (w .line j v hj (omega arith) up)
-        (ap (λ (m : ℕ). gathered m (λ i. share (clockAt x) (spaceAt x i j) i (actAt x i .symbol) j (clockAt a + v))) count-same
-        ∙ gathered-same (countAt a) (λ i. share (clockAt x) (spaceAt x i j) i (actAt x i .symbol) j (clockAt a + v)) (adds (spaceAt a) K (λ m. P m K) j v) (λ i hi. one-share j v i hj hi lo up))
+        (ap (λ (m : ℕ). gathered m (λ i. share (clockAt x) (spaceAt x i j) i (actAt x i .symbol) j (clockAt a + v)))
+        count-same
+        ∙ gathered-same (countAt a) (λ i. share (clockAt x) (spaceAt x i j) i (actAt x i .symbol) j (clockAt a + v))
+        (adds (spaceAt a) K (λ m. P m K) j v) (λ i hi. one-share j v i hj hi lo up))
         ∙ sym (line-grown a sp P K j v)
 
     line-last : (j : ℕ) → j < countAt a → arrivalAt turned j (clockAt a + (K + 256)) ≡ lineAfter a P (suc K) j (K + 256)
@@ -295,27 +382,33 @@ module _ (a : List ℕ) (sp : Spread (countAt a) a) (P : Plan) (K : ℕ) (x : Li
     line-last j hj =
         let r = w .ready in
         arrival-turn turned j (clockAt a + (K + 256)) (clockAt x) (omega (arith, w .time))
-        ∙ clear-all (countAt x) (clockAt x) (actAt x) x (r .spread) (kept-at x) room (countAt x) j (omega arith) (below j hj)
+        ∙ clear-all (countAt x) (clockAt x) (actAt x) x (r .spread) (kept-at x) room (countAt x) j (omega arith)
+        (below j hj)
         ∙ sym (line-free a sp P K j hj)
 
-    next-line : (j v : ℕ) → j < countAt a → suc K ≤ v → v < suc K + 256 → arrivalAt (stepArea x) j (clockAt a + v) ≡ lineAfter a P (suc K) j v
+    next-line : (j v : ℕ) → j < countAt a → suc K ≤ v → v < suc K + 256
+        → arrivalAt (stepArea x) j (clockAt a + v) ≡ lineAfter a P (suc K) j v
     next-line j v hj lo up =
-        after-clock j (clockAt a + v) ∙ by-eq v (K + 256) (λ z. rw z (line-last j hj)) (λ z. line-turned j v hj lo (omega arith))
+        after-clock j (clockAt a + v)
+        ∙ by-eq v (K + 256) (λ z. rw z (line-last j hj)) (λ z. line-turned j v hj lo (omega arith))
 
     next-rest : (k : ℕ) → Still (countAt a) k → getD (stepArea x) k 0 ≡ getD a k 0
     unfolding stepArea withClock Same
     next-rest k st =
         let few = sp .few in
         put-leaves k 1 4 0 (clockAt x + 1) _ (λ p q. omega (arith, st .clock)) k (omega arith) (omega arith)
-        ∙ turns-still (countAt x) k (omega (arith, count-same)) (subst (λ (m : ℕ). Still m k) (sym count-same) st) (clockAt x) (actAt x) (countAt x) x (omega arith) (kept-at x)
+        ∙ turns-still (countAt x) k (omega (arith, count-same)) (subst (λ (m : ℕ). Still m k) (sym count-same) st)
+        (clockAt x) (actAt x) (countAt x) x (omega arith) (kept-at x)
         ∙ w .rest k st
 
     next-stamp : Same 0 4 (stepArea x) (withClock a (clockAt a + suc K))
     unfolding stepArea turned Same
     next-stamp k lo up =
         let t : clockAt x + 1 ≡ clockAt a + suc K = omega (arith, w .time) in
-        let l : length turned ≡ length x = length-after (countAt x) (clockAt x) (actAt x) x (w .ready .spread) (kept-at x) room (countAt x) in
-        stamped turned a (clockAt x + 1) (omega (arith, l, room)) (omega (arith, w .long, room)) k lo up ∙ ap (λ (c : ℕ). getD (withClock a c) k 0) t
+        let l : length turned ≡ length x = length-after (countAt x) (clockAt x) (actAt x) x (w .ready .spread)
+        (kept-at x) room (countAt x) in
+        stamped turned a (clockAt x + 1) (omega (arith, l, room)) (omega (arith, w .long, room)) k lo up
+        ∙ ap (λ (c : ℕ). getD (withClock a c) k 0) t
 
     pub next-planned : clockAt x < 16777216 → Planned a P (suc K) (stepArea x)
     next-planned early =
@@ -326,7 +419,9 @@ module _ (a : List ℕ) (sp : Spread (countAt a) a) (P : Plan) (K : ℕ) (x : Li
           time = step-clock x r ∙ omega (arith, w .time);
           stamp = λ h. next-stamp;
           depth = keeps-trans depth (stepArea x) x a (step-depth x r) (w .depth);
-          stays = λ i hi. stays-trans i (stepArea x) x a (record { layout = step-layout x r; draws = step-draws x r; frame = step-frame x r i hi }) (w .stays i hi);
+          stays = λ i hi. stays-trans i (stepArea x) x a
+              (record { layout = step-layout x r; draws = step-draws x r; frame = step-frame x r i hi })
+              (w .stays i hi);
           own = next-own;
           line = next-line;
           rest = next-rest;
@@ -349,7 +444,8 @@ planned-none a P r =
       rest = λ k st. refl;
     }
 
-pub plan-happens : (a : List ℕ) (P : Plan) (K : ℕ) → Readiness a → clockAt a + K ≤ 16777216 → Holds a P K → Planned a P K (steps K a)
+pub plan-happens : (a : List ℕ) (P : Plan) (K : ℕ) → Readiness a → clockAt a + K ≤ 16777216 → Holds a P K
+    → Planned a P K (steps K a)
 unfolding steps turns Holds
 plan-happens a P zero r early h = planned-none a P r
 plan-happens a P (suc K) r early h =
@@ -357,7 +453,9 @@ plan-happens a P (suc K) r early h =
     next-planned a (r .spread) P K (steps K a) w (λ i hi. h K i (omega arith) hi) (omega (arith, w .time))
 
 -- and what each station does in step s is what it does by itself
-pub plan-acts : (a : List ℕ) (P : Plan) (K s i : ℕ) → Readiness a → clockAt a + K ≤ 16777216 → Holds a P K → s ≤ K → i < countAt a → actAt (steps s a) i ≡ actAfter a P i s
+pub plan-acts : (a : List ℕ) (P : Plan) (K s i : ℕ) → Readiness a → clockAt a + K ≤ 16777216 → Holds a P K → s ≤ K
+    → i < countAt a → actAt (steps s a) i ≡ actAfter a P i s
 unfolding Holds
 plan-acts a P K s i r early h hs hi =
-    act-planned a (r .spread) P s (steps s a) (plan-happens a P s r (omega arith) (λ u j hu hj. h u j (omega arith) hj)) i hi
+    act-planned a (r .spread) P s (steps s a) (plan-happens a P s r (omega arith) (λ u j hu hj. h u j (omega arith) hj))
+    i hi

@@ -29,7 +29,8 @@ pub record LineOnly (n j : ℕ) (U : List ℕ → List ℕ) : Type 0 where
   pub long : (x : List ℕ) → length (U x) ≡ length x
   pub off : (p : Part) (x : List ℕ) → ((u : ℕ) → Off p (place j u)) → Keeps p (U x) x
   pub still : (k : ℕ) (x : List ℕ) → Still n k → getD (U x) k 0 ≡ getD x k 0
-  pub codes : (x : List ℕ) → 57344 ≤ length x → ((i u : ℕ) → i < n → symbolAt x i u ≤ 4) → (i u : ℕ) → i < n → symbolAt (U x) i u ≤ 4
+  pub codes : (x : List ℕ) → 57344 ≤ length x → ((i u : ℕ) → i < n → symbolAt x i u ≤ 4) → (i u : ℕ) → i < n
+      → symbolAt (U x) i u ≤ 4
 
 module _ (n j : ℕ) (few : n ≤ 16) (hj : j < n) where
   none-only : LineOnly n j (λ x. x)
@@ -41,7 +42,8 @@ module _ (n j : ℕ) (few : n ≤ 16) (hj : j < n) where
         long = λ x. length-arrival x j u (h x);
         off = λ p x o. arrival-keeps p x j u (h x) (o u);
         still = λ k x s. arrival-still n k few s u j (h x) x hj;
-        codes = λ x room c i v hi. symbol-same x room j u i v (h x) 4 (omega arith) (omega arith) (code-small (h x)) (c i v hi);
+        codes = λ x room c i v hi. symbol-same x room j u i v (h x) 4 (omega arith) (omega arith) (code-small (h x))
+            (c i v hi);
       }
 
   both-only : (U E : List ℕ → List ℕ) → LineOnly n j U → LineOnly n j E → LineOnly n j (λ x. U (E x))
@@ -59,7 +61,8 @@ module _ (n j : ℕ) (few : n ≤ 16) (hj : j < n) where
   turns-only F h (suc m) = both-only (F m) (λ x. turns F m x) (h m) (turns-only F h m)
 
   pick-only : (b : Bool) (U : List ℕ → List ℕ) → LineOnly n j U → LineOnly n j (λ x. pick b x (U x))
-  pick-only b U h = by-test b (λ e. subst (λ (c : Bool). LineOnly n j (λ x. pick c x (U x))) (sym e) none-only) (λ e. subst (λ (c : Bool). LineOnly n j (λ x. pick c x (U x))) (sym e) h)
+  pick-only b U h = by-test b (λ e. subst (λ (c : Bool). LineOnly n j (λ x. pick c x (U x))) (sym e) none-only)
+      (λ e. subst (λ (c : Bool). LineOnly n j (λ x. pick c x (U x))) (sym e) h)
 
   -- places cleared; the symbols of one station; those of the first k; the whole of a line
   pub clear-only : (t m : ℕ) → LineOnly n j (λ x. cleared t j m x)
@@ -97,7 +100,9 @@ module _ (a : List ℕ) (P : Plan) (K : ℕ) (few : countAt a ≤ 16) where
   unfolding linesDone turns
   done-keeps p zero x h o = keeps-refl p x
   done-keeps p (suc k) x h o =
-      keeps-trans p (linesDone a P K (suc k) x) (linesDone a P K k x) x (only k h .off p (linesDone a P K k x) (λ u. o k u (omega arith))) (done-keeps p k x (omega arith) (λ j u l. o j u (omega arith)))
+      keeps-trans p (linesDone a P K (suc k) x) (linesDone a P K k x) x
+      (only k h .off p (linesDone a P K k x) (λ u. o k u (omega arith)))
+      (done-keeps p k x (omega arith) (λ j u l. o j u (omega arith)))
 
   pub done-still : (m k : ℕ) (x : List ℕ) → k ≤ countAt a → Still (countAt a) m → getD (linesDone a P K k x) m 0 ≡ getD x m 0
   unfolding linesDone turns
@@ -107,7 +112,8 @@ module _ (a : List ℕ) (P : Plan) (K : ℕ) (few : countAt a ≤ 16) where
   pub done-codes : (k : ℕ) (x : List ℕ) → k ≤ countAt a → 57344 ≤ length x → ((i u : ℕ) → i < countAt a → symbolAt x i u ≤ 4) → (i u : ℕ) → i < countAt a → symbolAt (linesDone a P K k x) i u ≤ 4
   unfolding linesDone turns
   done-codes zero x h room c = c
-  done-codes (suc k) x h room c = only k h .codes (linesDone a P K k x) (omega (arith, done-long k x (omega arith))) (done-codes k x (omega arith) room c)
+  done-codes (suc k) x h room c = only k h .codes (linesDone a P K k x) (omega (arith, done-long k x (omega arith)))
+      (done-codes k x (omega arith) room c)
 
   pub done-line : (sp : Spread (countAt a) a) (k j v : ℕ) (x : List ℕ) → k ≤ countAt a → j < k → 57344 ≤ length x → ((i u : ℕ) → i < countAt a → arrivalAt x i u ≡ arrivalAt a i u) → K ≤ v → v < K + 256
       → arrivalAt (linesDone a P K k x) j (clockAt a + v) ≡ lineAfter a P K j v
@@ -117,15 +123,19 @@ module _ (a : List ℕ) (P : Plan) (K : ℕ) (few : countAt a ≤ 16) where
       let y = linesDone a P K k x in
       by-eq j k
       (λ z. rw z (pushed-line a y P K k v sp hk (omega (arith, done-long k x (omega arith)))
-      (λ u. arrival-by y x k u (done-keeps (place k u) k x (omega arith) (λ i w l p q. omega arith)) ∙ same k u hk) lo up))
-      (λ z. arrival-by (lineDone a P K k y) y j (clockAt a + v) (only k hk .off (place j (clockAt a + v)) y (λ u p q. z (omega arith))) ∙ done-line sp k j v x (omega arith) (omega arith) room same lo up)
+      (λ u. arrival-by y x k u (done-keeps (place k u) k x (omega arith) (λ i w l p q. omega arith)) ∙ same k u hk) lo
+      up))
+      (λ z. arrival-by (lineDone a P K k y) y j (clockAt a + v)
+      (only k hk .off (place j (clockAt a + v)) y (λ u p q. z (omega arith))) ∙ done-line sp k j v x (omega arith)
+      (omega arith) room same lo up)
 
 -- ---- Theorem 1 as code makes it
 
 unfoldable pub madeOf : List ℕ → Plan → (K : ℕ) → (G : ℕ → List ℕ → List ℕ) → List ℕ
 madeOf a P K G = withClock (linesDone a P K (countAt a) (turns G (countAt a) a)) (clockAt a + K)
 
-pub steps-made : (a : List ℕ) (P : Plan) (K : ℕ) (G : ℕ → List ℕ → List ℕ) → 0 < K → Readiness a → clockAt a + K ≤ 16777216 → Holds a P K → ((i : ℕ) → i < countAt a → Own (countAt a) i (G i))
+pub steps-made : (a : List ℕ) (P : Plan) (K : ℕ) (G : ℕ → List ℕ → List ℕ) → 0 < K → Readiness a
+    → clockAt a + K ≤ 16777216 → Holds a P K → ((i : ℕ) → i < countAt a → Own (countAt a) i (G i))
     → ((i : ℕ) → i < countAt a → ownAfter a P i K ≡ G i a) → steps K a ≡ madeOf a P K G
 unfolding madeOf
 steps-made a P K G pos r early h own is =
@@ -136,14 +146,21 @@ steps-made a P K G pos r early h own is =
     let x = withClock l (clockAt a + K) in
     let lo : length o ≡ length a = each-long n few G own a (r .long) n (omega arith) in
     let ll : length l ≡ length o = done-long a P K few n o (omega arith) in
-    let same : (i u : ℕ) → i < n → symbolAt o i u ≡ symbolAt a i u = λ i u hi. symbol-by o a i u (each-line n few G own a (r .long) n i u (omega arith) hi) in
+    let same : (i u : ℕ) → i < n → symbolAt o i u ≡ symbolAt a i u = λ i u hi. symbol-by o a i u
+    (each-line n few G own a (r .long) n i u (omega arith) hi) in
     left-same-area a P K (steps K a) x few (planned-left a P K (steps K a) pos (plan-happens a P K r early h))
     (record {
       long = length-clock l (clockAt a + K) ∙ ll ∙ lo;
       stamp = stamped l a (clockAt a + K) (omega (arith, ll, lo, r .long)) (r .long);
       own = λ i hi.
           own-trans i x l (ownAfter a P i K)
-          (record { station = clock-keeps (station i) l (clockAt a + K) (λ p q. omega arith); counters = clock-keeps (counters i) l (clockAt a + K) (λ p q. omega arith); buffer = clock-keeps (buffer i) l (clockAt a + K) (λ p q. omega arith) })
+          (record {
+            station = clock-keeps (station i) l (clockAt a + K) (λ p q. omega arith);
+            counters = clock-keeps
+                (counters i) l (clockAt a + K) (λ p q. omega arith);
+            buffer = clock-keeps (buffer i) l (clockAt a + K)
+                (λ p q. omega arith);
+          })
           (own-trans i l o (ownAfter a P i K)
           (record {
             station = done-keeps a P K few (station i) n o (omega arith) (λ j u hj p q. omega arith);
@@ -153,7 +170,11 @@ steps-made a P K G pos r early h own is =
           (subst (OwnSame i o) (sym (is i hi)) (each-own n few G own a (r .long) n i hi (omega arith))));
       line = λ j v hj low up.
           symbol-by x l j (clockAt a + v) (clock-keeps (place j (clockAt a + v)) l (clockAt a + K) (λ p q. omega arith))
-          ∙ symbol-code l j (clockAt a + v) (done-codes a P K few n o (omega arith) (omega (arith, lo, r .long)) (λ i u hi. rw (same i u hi) (r .codes i u hi)) j (clockAt a + v) hj)
-          ∙ ap heardCode (done-line a P K few (r .spread) n j v o (omega arith) hj (omega (arith, lo, r .long)) (λ i u hi. arrival-by o a i u (each-line n few G own a (r .long) n i u (omega arith) hi)) low up);
-      rest = λ k st. clock-still l k (clockAt a + K) (st .clock) ∙ done-still a P K few k n o (omega arith) st ∙ each-still n few G own a (r .long) n k (omega arith) st;
+          ∙ symbol-code l j (clockAt a + v)
+          (done-codes a P K few n o (omega arith) (omega (arith, lo, r .long))
+          (λ i u hi. rw (same i u hi) (r .codes i u hi)) j (clockAt a + v) hj)
+          ∙ ap heardCode (done-line a P K few (r .spread) n j v o (omega arith) hj (omega (arith, lo, r .long))
+          (λ i u hi. arrival-by o a i u (each-line n few G own a (r .long) n i u (omega arith) hi)) low up);
+      rest = λ k st. clock-still l k (clockAt a + K) (st .clock) ∙ done-still a P K few k n o (omega arith) st
+          ∙ each-still n few G own a (r .long) n k (omega arith) st;
     })

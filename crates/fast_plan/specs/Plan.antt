@@ -32,7 +32,15 @@ cut K P i s = pick (ltb s K) (P i s) Silence
 
 -- n stations and their distances, as `heard` wants them
 unfoldable pub netOf : List ℕ → Net
-netOf a = record { n = countAt a; fig = figuresAt a; depth = depthAt a; draw = drawAt a; address = addressAt a; d = spaceAt a; blank = bufferAt a }
+netOf a = record {
+  n = countAt a;
+  fig = figuresAt a;
+  depth = depthAt a;
+  draw = drawAt a;
+  address = addressAt a;
+  d = spaceAt a;
+  blank = bufferAt a;
+}
 
 -- L_j: what is on its way to station j now, and reaches it v steps from now
 unfoldable pub lineNow : List ℕ → (j v : ℕ) → Heard

@@ -78,7 +78,8 @@ unfolding until
 until-most t zero = omega arith
 until-most t (suc m) =
     by-eq (until t m) m
-    (λ e. by-test (t m) (λ c. rw (eq-eqb (until t m) m e, c) (omega arith)) (λ c. rw (eq-eqb (until t m) m e, c) (omega arith)))
+    (λ e. by-test (t m) (λ c. rw (eq-eqb (until t m) m e, c) (omega arith))
+    (λ c. rw (eq-eqb (until t m) m e, c) (omega arith)))
     (λ e. rw (ne-eqb (until t m) m e) (omega (arith, until-most t m)))
 
 pub until-below : (t : ℕ → Bool) (m s : ℕ) → s < until t m → t s ≡ false
@@ -88,7 +89,8 @@ until-below t (suc m) s h =
     by-eq (until t m) m
     (λ e. by-test (t m)
     (λ c. let z : s < m = rw (eq-eqb (until t m) m e, c) at h in until-below t m s (omega arith))
-    (λ c. let z : s < suc m = rw (eq-eqb (until t m) m e, c) at h in by-eq s m (λ y. rw y c) (λ y. until-below t m s (omega arith))))
+    (λ c. let z : s < suc m = rw (eq-eqb (until t m) m e, c) at h in by-eq s m (λ y. rw y c)
+    (λ y. until-below t m s (omega arith))))
     (λ e. until-below t m s (rw (ne-eqb (until t m) m e) at h))
 
 pub least-most : (g : ℕ → ℕ) (n m i : ℕ) → i < n → least g n m ≤ g i
@@ -99,11 +101,13 @@ least-most g (suc n) m i h = by-eq i n (λ e. rw e (omega arith)) (λ e. omega (
 -- ---- Theorem 2
 
 -- any lower bound of each first deviation
-pub holds-below : (a : List ℕ) (P : Plan) (K : ℕ) (b : ℕ → ℕ) → ((i s : ℕ) → i < countAt a → s < b i → deviates a P i s ≡ false) → ((i : ℕ) → i < countAt a → K ≤ b i)
+pub holds-below : (a : List ℕ) (P : Plan) (K : ℕ) (b : ℕ → ℕ)
+    → ((i s : ℕ) → i < countAt a → s < b i → deviates a P i s ≡ false) → ((i : ℕ) → i < countAt a → K ≤ b i)
     → Holds a P K × Unhurt a P K
 unfolding Holds Unhurt deviates
 holds-below a P K b h g = (
-  λ s i hs hi. same-is (actAfter a P i s .symbol) (P i s) (not-off (same (actAfter a P i s .symbol) (P i s)) (neither _ _ (h i s hi (omega (arith, g i hi))) .0)),
+  λ s i hs hi. same-is (actAfter a P i s .symbol) (P i s)
+      (not-off (same (actAfter a P i s .symbol) (P i s)) (neither _ _ (h i s hi (omega (arith, g i hi))) .0)),
   λ s i hs hi. neither (not (same (actAfter a P i s .symbol) (P i s))) _ (h i s hi (omega (arith, g i hi))) .1,
 )
   where
@@ -112,9 +116,12 @@ holds-below a P K b h g = (
     not-off false e = absurd (true≢false e)
 
 -- the least of them, of m steps asked
-pub holds-prefix : (a : List ℕ) (P : Plan) (m : ℕ) → Holds a P (least (λ i. until (deviates a P i) m) (countAt a) m) × Unhurt a P (least (λ i. until (deviates a P i) m) (countAt a) m)
+pub holds-prefix : (a : List ℕ) (P : Plan) (m : ℕ)
+    → Holds a P (least (λ i. until (deviates a P i) m) (countAt a) m) × Unhurt a P
+    (least (λ i. until (deviates a P i) m) (countAt a) m)
 holds-prefix a P m =
-    holds-below a P (least (λ i. until (deviates a P i) m) (countAt a) m) (λ i. until (deviates a P i) m) (λ i s hi hs. until-below (deviates a P i) m s hs)
+    holds-below a P (least (λ i. until (deviates a P i) m) (countAt a) m) (λ i. until (deviates a P i) m)
+    (λ i s hi hs. until-below (deviates a P i) m s hs)
     (λ i hi. least-most (λ i. until (deviates a P i) m) (countAt a) m i hi)
 
 pub holds-less : (a : List ℕ) (P : Plan) (K m : ℕ) → m ≤ K → Holds a P K → Holds a P m
@@ -127,17 +134,21 @@ module _ (a : List ℕ) (sp : Spread (countAt a) a) (P Q : Plan) (K : ℕ) (agre
   pub hears-agree : (j s : ℕ) → j < countAt a → s ≤ K → hears a P j s ≡ hears a Q j s
   unfolding hears netOf
   hears-agree j s hj hs =
-      ap (met (lineNow a j s)) (heard-by (netOf a) P Q j s (λ i hi ne le. agree i (s - spaceAt a i j) (omega (arith, sp .pos i j hi hj ne))))
+      ap (met (lineNow a j s))
+      (heard-by (netOf a) P Q j s (λ i hi ne le. agree i (s - spaceAt a i j) (omega (arith, sp .pos i j hi hj ne))))
 
   pub own-agree : (i s : ℕ) → i < countAt a → s ≤ suc K → ownAfter a P i s ≡ ownAfter a Q i s
   unfolding ownAfter byItself turns
   own-agree i zero hi hs = refl
-  own-agree i (suc s) hi hs = ap₂ (λ (h : Heard) (x : List ℕ). ownTurn (figuresAt a) (depthAt a) i h x) (hears-agree i s hi (omega arith)) (own-agree i s hi (omega arith))
+  own-agree i (suc s) hi hs = ap₂ (λ (h : Heard) (x : List ℕ). ownTurn (figuresAt a) (depthAt a) i h x)
+      (hears-agree i s hi (omega arith)) (own-agree i s hi (omega arith))
 
   pub act-agree : (i s : ℕ) → i < countAt a → s ≤ K → actAfter a P i s ≡ actAfter a Q i s
   unfolding actAfter
-  act-agree i s hi hs = ap₂ (λ (h : Heard) (x : List ℕ). actOn (figuresAt a) (depthAt a) i h x) (hears-agree i s hi hs) (own-agree i s hi (omega arith))
+  act-agree i s hi hs = ap₂ (λ (h : Heard) (x : List ℕ). actOn (figuresAt a) (depthAt a) i h x) (hears-agree i s hi hs)
+      (own-agree i s hi (omega arith))
 
   pub holds-agree : Holds a P K → Holds a Q K
   unfolding Holds
-  holds-agree h s i hs hi = ap (λ (r : Act). r .symbol) (sym (act-agree i s hi (omega arith))) ∙ h s i hs hi ∙ agree i s hs
+  holds-agree h s i hs hi =
+      ap (λ (r : Act). r .symbol) (sym (act-agree i s hi (omega arith))) ∙ h s i hs hi ∙ agree i s hs

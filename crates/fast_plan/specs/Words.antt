@@ -21,12 +21,15 @@ as-steps : (a : List ℕ) (P : Plan) (K : ℕ) (ws : List ℕ) → talliedBy a P
 unfolding talliedBy tallied stepwise across countOne eventsCounted
 as-steps a P K ws = refl
 
-count-swap : (a : List ℕ) (P : Plan) (s u i j : ℕ) (x : List ℕ) → countOne a P s i (countOne a P u j x) ≡ countOne a P u j (countOne a P s i x)
+count-swap : (a : List ℕ) (P : Plan) (s u i j : ℕ) (x : List ℕ)
+    → countOne a P s i (countOne a P u j x) ≡ countOne a P u j (countOne a P s i x)
 unfolding countOne
 count-swap a P s u i j x = counted-both x (eventAt (eventsBy a P u) j) (eventAt (eventsBy a P s) i)
 
-pub words-stationwise : (a : List ℕ) (P : Plan) (K : ℕ) (ws : List ℕ) → talliedBy a P K ws ≡ stationwise (countOne a P) K 16 ws
+pub words-stationwise : (a : List ℕ) (P : Plan) (K : ℕ) (ws : List ℕ)
+    → talliedBy a P K ws ≡ stationwise (countOne a P) K 16 ws
 unfolding Nothing-held
 words-stationwise a P K ws =
     as-steps a P K ws
-    ∙ same-order (countOne a P) Nothing-held K 16 (λ k x h. tt) (λ k s i x hs hi h. tt) (λ k s u i j x hs hu hi hj ne h. count-swap a P s u i j x) K (cost K 16) ws (omega arith) (omega arith) tt
+    ∙ same-order (countOne a P) Nothing-held K 16 (λ k x h. tt) (λ k s i x hs hi h. tt)
+    (λ k s u i j x hs hu hi hj ne h. count-swap a P s u i j x) K (cost K 16) ws (omega arith) (omega arith) tt

@@ -116,11 +116,13 @@ module _ (f : Figures) (m : ℕ) (d : Deference) where
   unfolding restedDeference
   busy-stays own e z = rw (e, eq-eqb m 0 z)
 
-  pub busy-gap : (own : Bool) (r : Deference) → d ≡ Busy own → (m ≡ 0 → ⊥) → r ≡ gapTo f own (0 + m) → r ≡ restedDeference f m d
+  pub busy-gap : (own : Bool) (r : Deference) → d ≡ Busy own → (m ≡ 0 → ⊥) → r ≡ gapTo f own (0 + m)
+      → r ≡ restedDeference f m d
   unfolding restedDeference
   busy-gap own r e z p = let q : 0 + m ≡ m = omega arith in rw (e, ne-eqb m 0 z) (p ∙ ap (gapTo f own) q)
 
-  pub gap-goes-on : (n : ℕ) (own : Bool) (r : Deference) → d ≡ Gap n own → r ≡ gapTo f own (n + m) → r ≡ restedDeference f m d
+  pub gap-goes-on : (n : ℕ) (own : Bool) (r : Deference) → d ≡ Gap n own → r ≡ gapTo f own (n + m)
+      → r ≡ restedDeference f m d
   unfolding restedDeference
   gap-goes-on n own r e p = rw e p
 
@@ -177,8 +179,20 @@ module _ (m : ℕ) (x : Transmitter) where
   unfolding hasWaited
   wait-jams k e = rw e
 
-pub rested-is : (f : Figures) (m : ℕ) (s : Station) (d : Deference) (x : Transmitter) (w b df : Bool) → d ≡ restedDeference f m (s .deference) → x ≡ restedTransmitter m (s .transmitter) → w ≡ hasWaited m (s .transmitter)
+pub rested-is : (f : Figures) (m : ℕ) (s : Station) (d : Deference) (x : Transmitter) (w b df : Bool)
+    → d ≡ restedDeference f m (s .deference) → x ≡ restedTransmitter m (s .transmitter)
+    → w ≡ hasWaited m (s .transmitter)
     → b ≡ (eqb (s .attempts) 0 && w) → df ≡ (s .deferred || b)
-    → record { address = s .address; deference = d; transmitter = x; receiver = s .receiver; frame = s .frame; attempts = s .attempts; draw = s .draw; deferred = df; emitted = false } ≡ rested f m s
+    → record {
+      address = s .address;
+      deference = d;
+      transmitter = x;
+      receiver = s .receiver;
+      frame = s .frame;
+      attempts = s .attempts;
+      draw = s .draw;
+      deferred = df;
+      emitted = false;
+    } ≡ rested f m s
 unfolding rested
 rested-is f m s d x w b df p q r u v = rw (p, q, v, u, r)

@@ -48,14 +48,21 @@ use Rattle.fast_run.specs.Clock.{clock-twice}
 
 module _ (f : Figures) (d n t s : ℕ) (a ws : List ℕ) (v : AllAble n f a) (room : 57344 ≤ length a) where
   across-is : (c : ℕ) → c ≤ n
-      → across (windowTurn f d n t) s c (record { octets = a; words = ws }) ≡ record { octets = turnedIn f d n (t + s) a c; words = tallied (eventsIn f d (t + s) a n) c ws }
+      → across (windowTurn f d n t) s c
+      (record { octets = a; words = ws }) ≡ record {
+        octets = turnedIn f d n (t + s) a c;
+        words = tallied
+            (eventsIn f d (t + s) a n) c ws;
+      }
   unfolding across turns windowTurn played
-  across-is zero h = λ z. record { octets = turned-none f d n (t + s) a z; words = tally-none (eventsIn f d (t + s) a n) ws z }
+  across-is zero h =
+      λ z. record { octets = turned-none f d n (t + s) a z; words = tally-none (eventsIn f d (t + s) a n) ws z }
   across-is (suc c) h =
       let x = turnedIn f d n (t + s) a c in
       let us = tallied (eventsIn f d (t + s) a n) c ws in
       let o : turnIn f d n (t + s) c x ≡ turnedIn f d n (t + s) a (suc c) =
-      turn-next f d n (t + s) c a x v h room refl (turnIn f d n (t + s) c x) refl ∙ ap (turnedIn f d n (t + s) a) (add-one c) in
+      turn-next f d n (t + s) c a x v h room refl (turnIn f d n (t + s) c x) refl ∙ ap (turnedIn f d n (t + s) a)
+      (add-one c) in
       let w : eventsCounted us (eventsOf (actIn f d (t + s) x c)) ≡ tallied (eventsIn f d (t + s) a n) (suc c) ws =
       tally-turn f d n (t + s) c a x v h room refl ws us (eventsCounted us (eventsOf (actIn f d (t + s) x c))) refl refl
       ∙ ap (λ (k : ℕ). tallied (eventsIn f d (t + s) a n) k ws) (add-one c) in
@@ -64,7 +71,8 @@ module _ (f : Figures) (d n t s : ℕ) (a ws : List ℕ) (v : AllAble n f a) (ro
 -- ---- the steps
 
 unfoldable pub made : ℕ → Going → Going
-made m g = turns (λ s x. record { octets = stepArea (x .octets); words = tallied (eventsAt (x .octets)) 16 (x .words) }) m g
+made m g =
+    turns (λ s x. record { octets = stepArea (x .octets); words = tallied (eventsAt (x .octets)) 16 (x .words) }) m g
 
 opened : (x : List ℕ) → Readiness x → Ready x
 unfolding Ready
@@ -77,7 +85,8 @@ reaches-by m n x a few k h = (
   λ i j hi hj ne. rw (space-by x a i j (omega arith) (omega arith) k) (h .1 i j hi hj ne),
 )
 
-module _ (a ws : List ℕ) (r : Readiness a) (m : ℕ) (re : Reaches m (countAt a) a) (small : m ≤ 64) (room : clockAt a + m ≤ 16777216) (all : AllSafe m (countAt a) (figuresAt a) (clockAt a) a) where
+module _ (a ws : List ℕ) (r : Readiness a) (m : ℕ) (re : Reaches m (countAt a) a) (small : m ≤ 64)
+    (room : clockAt a + m ≤ 16777216) (all : AllSafe m (countAt a) (figuresAt a) (clockAt a) a) where
   begun : Going
   begun = record { octets = a; words = ws }
 
@@ -102,7 +111,8 @@ module _ (a ws : List ℕ) (r : Readiness a) (m : ℕ) (re : Reaches m (countAt 
         clock = z;
         plan = keeps-refl layout a;
         deep = keeps-refl depth a;
-        safe = λ i h. subst (λ (k : ℕ). Safe (figuresAt a) k (clockAt a + 0) a i) e (subst (λ (u : ℕ). Safe (figuresAt a) m u a i) z (all i h));
+        safe = λ i h. subst (λ (k : ℕ). Safe (figuresAt a) k (clockAt a + 0) a i) e
+            (subst (λ (u : ℕ). Safe (figuresAt a) m u a i) z (all i h));
       }
 
   stage-next : (s : ℕ) (x : List ℕ) → s < m → Stage s x → Stage (suc s) (stepArea x)
@@ -120,12 +130,17 @@ module _ (a ws : List ℕ) (r : Readiness a) (m : ℕ) (re : Reaches m (countAt 
         plan = keeps-trans layout (stepArea x) x a (step-layout x rx) (g .plan);
         deep = keeps-trans depth (stepArea x) x a (step-depth x rx) (g .deep);
         safe = λ i h.
-            let s₁ : Safe (figuresAt a) (suc (m - suc s)) (clockAt a + s) x i = subst (λ (k : ℕ). Safe (figuresAt a) k (clockAt a + s) x i) e (g .safe i h) in
+            let s₁ : Safe (figuresAt a) (suc (m - suc s)) (clockAt a + s) x i = subst
+            (λ (k : ℕ). Safe (figuresAt a) k (clockAt a + s) x i) e (g .safe i h) in
             let s₂ : Safe (figuresAt x) (suc (m - suc s)) (clockAt x) x i =
-            subst (λ (u : ℕ). Safe (figuresAt x) (suc (m - suc s)) u x i) (sym (g .clock)) (subst (λ (v : Figures). Safe v (suc (m - suc s)) (clockAt a + s) x i) (sym ef) s₁) in
+            subst (λ (u : ℕ). Safe (figuresAt x) (suc (m - suc s)) u x i) (sym (g .clock))
+            (subst (λ (v : Figures). Safe v (suc (m - suc s)) (clockAt a + s) x i) (sym ef) s₁) in
             let s₃ : Safe (figuresAt x) (m - suc s) (clockAt x + 1) (stepArea x) i =
-            safe-step x rx m (λ i j hi hj ne. q .0 i j (omega (arith, en)) (omega (arith, en)) ne) (λ i j hi hj ne. q .1 i j (omega (arith, en)) (omega (arith, en)) ne) small (m - suc s) i (omega arith) (omega (arith, en)) s₂ in
-            subst (λ (u : ℕ). Safe (figuresAt a) (m - suc s) u (stepArea x) i) z (subst (λ (v : Figures). Safe v (m - suc s) (clockAt x + 1) (stepArea x) i) ef s₃);
+            safe-step x rx m (λ i j hi hj ne. q .0 i j (omega (arith, en)) (omega (arith, en)) ne)
+            (λ i j hi hj ne. q .1 i j (omega (arith, en)) (omega (arith, en)) ne) small (m - suc s) i (omega arith)
+            (omega (arith, en)) s₂ in
+            subst (λ (u : ℕ). Safe (figuresAt a) (m - suc s) u (stepArea x) i) z
+            (subst (λ (v : Figures). Safe v (m - suc s) (clockAt x + 1) (stepArea x) i) ef s₃);
       }
 
   stage : (s : ℕ) → s ≤ m → Stage s (made s begun .octets)
@@ -143,14 +158,18 @@ module _ (a ws : List ℕ) (r : Readiness a) (m : ℕ) (re : Reaches m (countAt 
       below-none (lateAt (eventsAt x)) 16
       (λ i h. by-test (ltb i (countAt x))
       (λ c. let hi = ltb-true i (countAt x) c in
-      let s₁ : Safe (figuresAt a) (suc (m - suc s)) (clockAt a + s) x i = subst (λ (k : ℕ). Safe (figuresAt a) k (clockAt a + s) x i) e (g .safe i (omega (arith, en))) in
+      let s₁ : Safe (figuresAt a) (suc (m - suc s)) (clockAt a + s) x i = subst
+      (λ (k : ℕ). Safe (figuresAt a) k (clockAt a + s) x i) e (g .safe i (omega (arith, en))) in
       let s₂ : Safe (figuresAt x) (suc (m - suc s)) (clockAt x) x i =
-      subst (λ (u : ℕ). Safe (figuresAt x) (suc (m - suc s)) u x i) (sym (g .clock)) (subst (λ (v : Figures). Safe v (suc (m - suc s)) (clockAt a + s) x i) (sym ef) s₁) in
-      ap hasLate (filled-at noEvents (λ j. eventsOf (actIn (figuresAt x) (depthAt x) (clockAt x) x j)) (countAt x) i noEvents hi)
+      subst (λ (u : ℕ). Safe (figuresAt x) (suc (m - suc s)) u x i) (sym (g .clock))
+      (subst (λ (v : Figures). Safe v (suc (m - suc s)) (clockAt a + s) x i) (sym ef) s₁) in
+      ap hasLate (filled-at noEvents (λ j. eventsOf (actIn (figuresAt x) (depthAt x) (clockAt x) x j)) (countAt x) i
+      noEvents hi)
       ∙ act-safe (figuresAt x) (depthAt x) (m - suc s) (clockAt x) x i (omega (arith, g .ready .figures .slot)) s₂)
       (λ c. let hi = ltb-false i (countAt x) c in
       let z : i ≡ countAt x + (i - countAt x) = omega arith in
-      rw z (ap hasLate (filled-past noEvents (λ j. eventsOf (actIn (figuresAt x) (depthAt x) (clockAt x) x j)) (countAt x) (i - countAt x)))))
+      rw z (ap hasLate (filled-past noEvents (λ j. eventsOf (actIn (figuresAt x) (depthAt x) (clockAt x) x j))
+      (countAt x) (i - countAt x)))))
 
   run-made : (s k c : ℕ) → s ≤ m → runOf (k + s) c ws a ≡ runOf k (c + s) (made s begun .words) (made s begun .octets)
   unfolding made turns begun runOf
@@ -162,11 +181,14 @@ module _ (a ws : List ℕ) (r : Readiness a) (m : ℕ) (re : Reaches m (countAt 
       let z : k + suc s ≡ suc k + s = omega arith in
       let e : c + s + 1 ≡ c + suc s = omega arith in
       let x = made s begun .octets in
-      ap (λ (j : ℕ). runOf j c ws a) z ∙ run-made s (suc k) c (omega arith) ∙ rw (none-late s x h (stage s (omega arith)), e)
+      ap (λ (j : ℕ). runOf j c ws a) z
+      ∙ run-made s (suc k) c (omega arith)
+      ∙ rw (none-late s x h (stage s (omega arith)), e)
 
   -- ---- the same, made station by station
 
-  within-of : (s : ℕ) (x : List ℕ) (k : ℕ) → s ≤ m → Stage s x → k ≤ 65536 → Within (figuresAt a) (depthAt a) (countAt a) m k x
+  within-of : (s : ℕ) (x : List ℕ) (k : ℕ) → s ≤ m → Stage s x → k ≤ 65536
+      → Within (figuresAt a) (depthAt a) (countAt a) m k x
   unfolding Reaches
   within-of s x k hs g hk =
       let rx = g .ready in
@@ -181,11 +203,20 @@ module _ (a ws : List ℕ) (r : Readiness a) (m : ℕ) (re : Reaches m (countAt 
         figured = subst Figured ef (rx .figures);
         far = q .0;
         near = q .1;
-        fine = λ i h. (clockAt x, omega (arith, rx .clock), subst (λ (v : ℕ). Fine (figuresAt a) v (clockAt x) (stationAt x i)) ed (subst (λ (v : Figures). Fine v (depthAt x) (clockAt x) (stationAt x i)) ef (rx .fine i (omega (arith, en)))));
+        fine = λ i h. (
+          clockAt x,
+          omega (arith, rx .clock),
+          subst
+              (λ (v : ℕ). Fine (figuresAt a) v (clockAt x) (stationAt x i)) ed
+              (subst (λ (v : Figures). Fine v (depthAt x) (clockAt x) (stationAt x i)) ef
+              (rx .fine i (omega (arith, en)))),
+        );
       }
 
   -- one step
-  across-made : (s c : ℕ) → s < m → across (windowTurn (figuresAt a) (depthAt a) (countAt a) (clockAt a)) s (countAt a) (clocked (made s begun) c) ≡ clocked (made (suc s) begun) c
+  across-made : (s c : ℕ) → s < m
+      → across (windowTurn (figuresAt a) (depthAt a) (countAt a) (clockAt a)) s (countAt a)
+      (clocked (made s begun) c) ≡ clocked (made (suc s) begun) c
   unfolding made turns clocked advancedIn
   across-made s c hs =
       let g = stage s (omega arith) in
@@ -201,20 +232,29 @@ module _ (a ws : List ℕ) (r : Readiness a) (m : ℕ) (re : Reaches m (countAt 
       let v : AllAble n f x = ready-able x n f en ef (opened x (g .ready)) in
       let y = turnedIn f d n (t + s) x n in
       let long : 4 ≤ length y = omega (arith, length-turned f d n (t + s) x n, g .ready .long) in
-      let o : stepArea x ≡ withClock y (t + s + 1) = sym (step-is f d n (t + s) x (withClock y (t + s + 1)) refl en (sym (g .clock)) ed ef) in
-      let ev : eventsIn f d (t + s) x n ≡ eventsAt x = step-events f d n (t + s) x (eventsIn f d (t + s) x n) refl en (sym (g .clock)) ed ef in
+      let o : stepArea x ≡ withClock y (t + s + 1) = sym
+      (step-is f d n (t + s) x (withClock y (t + s + 1)) refl en (sym (g .clock)) ed ef) in
+      let ev : eventsIn f d (t + s) x n ≡ eventsAt x = step-events f d n (t + s) x (eventsIn f d (t + s) x n) refl en
+      (sym (g .clock)) ed ef in
       let w : tallied (eventsIn f d (t + s) x n) n us ≡ tallied (eventsAt x) 16 us =
-      tally-all f d (t + s) x n n us (tallied (eventsIn f d (t + s) x n) n us) few (omega arith) (omega arith) refl ∙ ap (λ (es : List Events). tallied es 16 us) ev in
-      let b : withClock y c ≡ withClock (stepArea x) c = sym (clock-twice y (t + s + 1) c long) ∙ ap (λ (l : List ℕ). withClock l c) (sym o) in
-      across-clock f d n m t s n c (made s begun) hs (omega arith) (within-of s x n (omega arith) g (omega (arith, few)))
+      tally-all f d (t + s) x n n us (tallied (eventsIn f d (t + s) x n) n us) few (omega arith) (omega arith) refl ∙ ap
+      (λ (es : List Events). tallied es 16 us) ev in
+      let b : withClock y c ≡ withClock (stepArea x) c = sym (clock-twice y (t + s + 1) c long) ∙ ap
+      (λ (l : List ℕ). withClock l c) (sym o) in
+      across-clock f d n m t s n c (made s begun) hs (omega arith)
+      (within-of s x n (omega arith) g (omega (arith, few)))
       ∙ ap (λ (h : Going). clocked h c) (across-is f d n t s x us v (g .ready .long) n (omega arith))
       ∙ (λ z. record { octets = b z; words = w z })
 
-  stepwise-made : (s c : ℕ) → s ≤ m → stepwise (windowTurn (figuresAt a) (depthAt a) (countAt a) (clockAt a)) s (countAt a) (clocked begun c) ≡ clocked (made s begun) c
+  stepwise-made : (s c : ℕ) → s ≤ m
+      → stepwise (windowTurn (figuresAt a) (depthAt a) (countAt a) (clockAt a)) s (countAt a)
+      (clocked begun c) ≡ clocked (made s begun) c
   unfolding stepwise turns made
   stepwise-made zero c h = refl
   stepwise-made (suc s) c h =
-      ap (across (windowTurn (figuresAt a) (depthAt a) (countAt a) (clockAt a)) s (countAt a)) (stepwise-made s c (omega arith)) ∙ across-made s c h
+      ap (across (windowTurn (figuresAt a) (depthAt a) (countAt a) (clockAt a)) s (countAt a))
+      (stepwise-made s c (omega arith))
+      ∙ across-made s c h
 
   -- the last of them leaves the clock as it is to be
   made-clock : (s : ℕ) → s < m → clocked (made (suc s) begun) (clockAt a + suc s) ≡ made (suc s) begun
@@ -224,18 +264,24 @@ module _ (a ws : List ℕ) (r : Readiness a) (m : ℕ) (re : Reaches m (countAt 
       let x = made s begun .octets in
       let y = turns (λ i z. settled (countAt x) (clockAt x) i (actAt x i) z) (countAt x) x in
       let e : clockAt a + suc s ≡ clockAt x + 1 = omega (arith, g .clock) in
-      let long : 4 ≤ length y = omega (arith, length-clock y (clockAt x + 1), step-length x (g .ready), g .ready .long) in
-      let b : withClock (stepArea x) (clockAt a + suc s) ≡ stepArea x = rw e (clock-twice y (clockAt x + 1) (clockAt x + 1) long) in
+      let long : 4 ≤ length
+      y = omega (arith, length-clock y (clockAt x + 1), step-length x (g .ready), g .ready .long) in
+      let b : withClock (stepArea x) (clockAt a + suc s) ≡ stepArea x = rw e
+      (clock-twice y (clockAt x + 1) (clockAt x + 1) long) in
       λ z. record { octets = b z; words = made (suc s) begun .words }
 
-  stationwise-made : 0 < m → stationwise (windowTurn (figuresAt a) (depthAt a) (countAt a) (clockAt a)) m (countAt a) (clocked begun (clockAt a + m)) ≡ made m begun
+  stationwise-made : 0 < m
+      → stationwise (windowTurn (figuresAt a) (depthAt a) (countAt a) (clockAt a)) m (countAt a)
+      (clocked begun (clockAt a + m)) ≡ made m begun
   unfolding clocked begun
   stationwise-made h =
       let z : m ≡ suc (m - 1) = omega arith in
       let g = within-of 0 a 4096 (omega arith) stage-first (omega arith) in
       let end : clocked (made m begun) (clockAt a + m) ≡ made m begun =
-      ap (λ (k : ℕ). clocked (made k begun) (clockAt a + k)) z ∙ made-clock (m - 1) (omega arith) ∙ ap (λ (k : ℕ). made k begun) (sym z) in
-      sym (either-order (figuresAt a) (depthAt a) (countAt a) m (clockAt a) (clocked begun (clockAt a + m)) (omega arith) few (within-clock (figuresAt a) (depthAt a) (countAt a) m 4096 a (clockAt a + m) g))
+      ap (λ (k : ℕ). clocked (made k begun) (clockAt a + k)) z ∙ made-clock (m - 1) (omega arith) ∙ ap
+      (λ (k : ℕ). made k begun) (sym z) in
+      sym (either-order (figuresAt a) (depthAt a) (countAt a) m (clockAt a) (clocked begun (clockAt a + m))
+      (omega arith) few (within-clock (figuresAt a) (depthAt a) (countAt a) m 4096 a (clockAt a + m) g))
       ∙ stepwise-made m (clockAt a + m) (omega arith)
       ∙ end
 
@@ -244,7 +290,9 @@ module _ (a ws : List ℕ) (r : Readiness a) (m : ℕ) (re : Reaches m (countAt 
   made-bounded zero t h = let z : 32 * t ≡ 32 * (t + 0) = omega arith in subst (Bounded ws) z h
   made-bounded (suc s) t h =
       let z : 32 * (t + s + 1) ≡ 32 * (t + suc s) = omega arith in
-      subst (Bounded (made (suc s) begun .words)) z (next-bounded (eventsAt (made s begun .octets)) (made s begun .words) (made (suc s) begun .words) (t + s) refl (made-bounded s t h))
+      subst (Bounded (made (suc s) begun .words)) z
+      (next-bounded (eventsAt (made s begun .octets)) (made s begun .words) (made (suc s) begun .words) (t + s) refl
+      (made-bounded s t h))
 
   made-plain : (s i : ℕ) → s < m → i < countAt a → Plain (made (suc s) begun .octets) i
   unfolding made turns
@@ -254,8 +302,11 @@ module _ (a ws : List ℕ) (r : Readiness a) (m : ℕ) (re : Reaches m (countAt 
 
 -- ---- the code
 
-module _ (k t n d c : ℕ) (f : Figures) (swift : Bool) (a b ws vs : List ℕ) (m : ℕ) (h : OnCourse (k - t) n d c f swift a) (re : Reaches m n a) (hm : 0 < m) (small : m ≤ 64) (le : m ≤ k - t)
-    (all : AllSafe m n f c a) (e : record { octets = b; words = vs } ≡ stationwise (windowTurn f d n c) m n (record { octets = withClock a (c + m); words = ws })) where
+module _ (k t n d c : ℕ) (f : Figures) (swift : Bool) (a b ws vs : List ℕ) (m : ℕ)
+    (h : OnCourse (k - t) n d c f swift a) (re : Reaches m n a) (hm : 0 < m) (small : m ≤ 64) (le : m ≤ k - t)
+    (all : AllSafe m n f c a)
+    (e : record { octets = b; words = vs } ≡ stationwise (windowTurn f d n c) m n
+    (record { octets = withClock a (c + m); words = ws })) where
   ra : Readiness a
   unfolding OnCourse Runnable
   ra = h .0 .0
@@ -289,7 +340,9 @@ module _ (k t n d c : ℕ) (f : Figures) (swift : Bool) (a b ws vs : List ℕ) (
   unfolding after begun
   window-run R p =
       let z : k - t ≡ k - (t + m) + m = omega arith in
-      rw (octets-made, words-made) (sym (run-made a ws ra m reach-a small room-a safe-a m (k - (t + m)) t (omega arith)) ∙ ap (λ (j : ℕ). runOf j t ws a) (sym z) ∙ p)
+      rw (octets-made, words-made)
+      (sym (run-made a ws ra m reach-a small room-a safe-a m (k - (t + m)) t (omega arith)) ∙ ap
+      (λ (j : ℕ). runOf j t ws a) (sym z) ∙ p)
 
   pub window-bounded : Bounded ws (32 * t) → Bounded vs (32 * (t + m))
   unfolding after
@@ -326,7 +379,8 @@ pub record Made (f : Figures) (d n t m left r : ℕ) (x ws y vs : List ℕ) : Ty
   pub reach : r ≤ m
   pub within : r ≤ left
   pub safe : AllSafe r n f t x
-  pub leaves : record { octets = y; words = vs } ≡ stationwise (windowTurn f d n t) r n (record { octets = withClock x (t + r); words = ws })
+  pub leaves : record { octets = y; words = vs } ≡ stationwise (windowTurn f d n t) r n
+      (record { octets = withClock x (t + r); words = ws })
 
 -- so it was, or none was and all is as before. Shut, so that a search does not enter it
 unfoldable pub Windowed : Figures → (d n t m left r : ℕ) → (x ws y vs : List ℕ) → Type 0
@@ -336,20 +390,31 @@ pub windowed-none : (f : Figures) (d n t m left : ℕ) (x ws : List ℕ) → Win
 unfolding Windowed
 windowed-none f d n t m left x ws = (λ e. (refl, refl), λ ne. absurd (ne refl))
 
-pub windowed-all : (f : Figures) (d n t m left r : ℕ) (x ws z y vs : List ℕ) (b : Bool) → r ≡ min m left → 0 < m → 0 < left → AllSafeIf b r n f t x → b ≡ true → z ≡ withClock x (t + r)
-    → record { octets = y; words = vs } ≡ stationwise (windowTurn f d n t) r n (record { octets = z; words = ws }) → Windowed f d n t m left r x ws y vs
+pub windowed-all : (f : Figures) (d n t m left r : ℕ) (x ws z y vs : List ℕ) (b : Bool) → r ≡ min m left → 0 < m
+    → 0 < left → AllSafeIf b r n f t x → b ≡ true → z ≡ withClock x (t + r)
+    → record { octets = y; words = vs } ≡ stationwise (windowTurn f d n t) r n (record { octets = z; words = ws })
+    → Windowed f d n t m left r x ws y vs
 unfolding Windowed AllSafeIf
 windowed-all f d n t m left r x ws z y vs b er hm hl s e ez p = (
   λ w. absurd (omega arith),
-  λ w. record { some = omega arith; reach = omega arith; within = omega arith; safe = s e; leaves = p ∙ ap (λ (l : List ℕ). stationwise (windowTurn f d n t) r n (record { octets = l; words = ws })) ez },
+  λ w. record {
+    some = omega arith;
+    reach = omega arith;
+    within = omega arith;
+    safe = s e;
+    leaves = p ∙ ap
+        (λ (l : List ℕ). stationwise (windowTurn f d n t) r n (record { octets = l; words = ws })) ez;
+  },
 )
 
 pub reaches-less : (m r n : ℕ) (a : List ℕ) → r ≤ m → Reaches m n a → Reaches r n a
 unfolding Reaches
-reaches-less m r n a le h = (λ i j hi hj ne. omega (arith, h .0 i j hi hj ne), λ i j hi hj ne. omega (arith, h .1 i j hi hj ne))
+reaches-less m r n a le h =
+    (λ i j hi hj ne. omega (arith, h .0 i j hi hj ne), λ i j hi hj ne. omega (arith, h .1 i j hi hj ne))
 
 -- the stations of such an area, the clock written
-pub course-open : (k n d t : ℕ) (f : Figures) (swift : Bool) (a b : List ℕ) (m c : ℕ) → OnCourse k n d t f swift a → swift ≡ true → Reaches m n a → b ≡ withClock a c → Open f d n m t b
+pub course-open : (k n d t : ℕ) (f : Figures) (swift : Bool) (a b : List ℕ) (m c : ℕ) → OnCourse k n d t f swift a
+    → swift ≡ true → Reaches m n a → b ≡ withClock a c → Open f d n m t b
 unfolding OnCourse Runnable AllPlain Open Reaches Plain
 course-open k n d t f swift a b m c h e re eb =
     let r = h .0 .0 in
@@ -357,9 +422,11 @@ course-open k n d t f swift a b m c h e re eb =
     let y = withClock a c in
     let long : 57344 ≤ length y = omega (arith, length-clock a c, r .long) in
     let lay = clock-keeps layout a c (λ p q. omega arith) in
-    let fine : (i : ℕ) → i < n → Fine f d t (stationAt a i) = λ i hi. rw (h .4, h .2, h .3) (r .fine i (omega (arith, h .1))) in
+    let fine : (i : ℕ) → i < n → Fine f d t (stationAt a i) = λ i hi. rw (h .4, h .2, h .3)
+    (r .fine i (omega (arith, h .1))) in
     let own : (i : ℕ) → Keeps (station i) y a = λ i. clock-keeps (station i) a c (λ p q. omega arith) in
-    let st : (i : ℕ) → i < n → stationAt y i ≡ stationAt a i = λ i hi. station-by y a i (omega (arith, h .1)) long (r .long) lay (own i) in
+    let st : (i : ℕ) → i < n → stationAt y i ≡ stationAt a i = λ i hi. station-by y a i (omega (arith, h .1)) long
+    (r .long) lay (own i) in
     let v : Within f d n m 8192 a =
     record {
       long = r .long;
@@ -380,7 +447,8 @@ pub course-figured : (k n d t : ℕ) (f : Figures) (swift : Bool) (a : List ℕ)
 unfolding OnCourse Runnable
 course-figured k n d t f swift a h = subst Figured (sym (h .4)) (h .0 .0 .figures)
 
-pub course-room : (k n d t : ℕ) (f : Figures) (swift : Bool) (a : List ℕ) → OnCourse k n d t f swift a → t + k ≤ 16777216
+pub course-room : (k n d t : ℕ) (f : Figures) (swift : Bool) (a : List ℕ) → OnCourse k n d t f swift a
+    → t + k ≤ 16777216
 unfolding OnCourse Runnable
 course-room k n d t f swift a h = omega (arith, h .0 .1, h .3)
 
@@ -393,12 +461,14 @@ pub runnable-spread : (k n : ℕ) (a : List ℕ) → Runnable k a → n ≡ coun
 unfolding Runnable
 runnable-spread k n a h e = subst (λ (z : ℕ). Spread z a) (sym e) (h .0 .spread)
 
--- ---- a window, or one step
+-- ---- silence, a window, or one step
 
 -- what was made of x and ws, and which stations had a late collision in the last step
 pub data Advanced (f : Figures) (d n t m left steps : ℕ) (late : List Bool) (x ws y vs : List ℕ) : Type 0 where
-  stepped : steps ≡ 1 → y ≡ advancedIn f d n t x → vs ≡ tallied (eventsIn f d t x n) 16 ws → late ≡ lates (eventsIn f d t x n) n → Advanced f d n t m left steps late x ws y vs
-  passed : late ≡ replicate 16 false → Made f d n t m left steps x ws y vs → Advanced f d n t m left steps late x ws y vs
+  stepped : steps ≡ 1 → y ≡ advancedIn f d n t x → vs ≡ tallied (eventsIn f d t x n) 16 ws
+      → late ≡ lates (eventsIn f d t x n) n → Advanced f d n t m left steps late x ws y vs
+  passed : late ≡ replicate 16 false → Made f d n t m left steps x ws y vs
+      → Advanced f d n t m left steps late x ws y vs
   rested : late ≡ replicate 16 false → (steps ≡ 0 → ⊥) → steps ≡ silentFor left x → y ≡ jumped steps x → vs ≡ ws
       → Advanced f d n t m left steps late x ws y vs
 
@@ -413,7 +483,8 @@ module _ (r : ℕ) (x z : List ℕ) (ez : z ≡ skipped r x) (e : r ≡ 0) where
   unfolding skipped
   unmoved = rw (eq-eqb r 0 e) at ez
 
-  pub unmoved-course : (left n d t : ℕ) (f : Figures) (swift : Bool) → OnCourse left n d t f swift x → OnCourse left n d t f swift z
+  pub unmoved-course : (left n d t : ℕ) (f : Figures) (swift : Bool) → OnCourse left n d t f swift x
+      → OnCourse left n d t f swift z
   unmoved-course left n d t f swift h = rw unmoved h
 
   pub unmoved-reaches : (m n : ℕ) → Reaches m n x → Reaches m n z
@@ -428,7 +499,8 @@ pub course-ready : (k n d t : ℕ) (f : Figures) (swift : Bool) (a : List ℕ) �
 unfolding OnCourse Runnable Ready
 course-ready k n d t f swift a h = h .0 .0
 
-pub course-early : (k n d t : ℕ) (f : Figures) (swift : Bool) (a : List ℕ) → OnCourse k n d t f swift a → clockAt a + k ≤ 16777216
+pub course-early : (k n d t : ℕ) (f : Figures) (swift : Bool) (a : List ℕ) → OnCourse k n d t f swift a
+    → clockAt a + k ≤ 16777216
 unfolding OnCourse Runnable
 course-early k n d t f swift a h = h .0 .1
 
@@ -449,14 +521,15 @@ module _ (f : Figures) (d n t m left r : ℕ) (x ws z us : List ℕ) (w : Window
     unfolding Windowed
     still-bounded k h = rw (w .0 e .1) h
 
-    pub advanced-step : (steps : ℕ) (late : List Bool) (y vs : List ℕ) → steps ≡ 1 → y ≡ advancedIn f d n t z → vs ≡ tallied (eventsIn f d t z n) 16 us
+    pub advanced-step : (steps : ℕ) (late : List Bool) (y vs : List ℕ) → steps ≡ 1 → y ≡ advancedIn f d n t z
+        → vs ≡ tallied (eventsIn f d t z n) 16 us
         → late ≡ lates (eventsIn f d t z n) n → Advanced f d n t m left steps late x ws y vs
     unfolding Windowed
     advanced-step steps late y vs es ey ev el =
         let q = w .0 e in
         stepped es (ey ∙ rw (q .0)) (ev ∙ rw (q .0, q .1)) (el ∙ rw (q .0))
 
--- ---- the run, step by step or window by window
+-- ---- the run
 
 -- t of k steps are made: from here on it goes as R, the whole run, says
 pub record Underway (k t n d c : ℕ) (f : Figures) (swift : Bool) (m : ℕ) (R : Ran) (a ws : List ℕ) : Type 0 where
@@ -469,7 +542,8 @@ pub record Underway (k t n d c : ℕ) (f : Figures) (swift : Bool) (m : ℕ) (R 
   pub bounded : Bounded ws (32 * t)
   pub rest : runOf (k - t) t ws a ≡ R
 
-pub underway-first : (k n n₀ d c : ℕ) (f : Figures) (m : ℕ) (a ws : List ℕ) → Runnable k a → k ≤ 16777216 → n₀ ≡ countAt a → n ≡ n₀ → d ≡ depthAt a → c ≡ clockAt a → f ≡ figuresAt a
+pub underway-first : (k n n₀ d c : ℕ) (f : Figures) (m : ℕ) (a ws : List ℕ) → Runnable k a → k ≤ 16777216
+    → n₀ ≡ countAt a → n ≡ n₀ → d ≡ depthAt a → c ≡ clockAt a → f ≡ figuresAt a
     → (Reaches m n a) × ((0 < m) × (m ≤ 64)) → Bounded ws 0 → Underway k 0 n d c f false m (runOf k 0 ws a) a ws
 underway-first k n n₀ d c f m a ws h limit en e ed ec ef reach b = record {
   within = omega arith;
@@ -483,7 +557,8 @@ underway-first k n n₀ d c f m a ws h limit en e ed ec ef reach b = record {
 }
 
 -- what the code asks for
-module _ (k t n d c : ℕ) (f : Figures) (swift : Bool) (m : ℕ) (R : Ran) (a ws : List ℕ) (g : Underway k t n d c f swift m R a ws) where
+module _ (k t n d c : ℕ) (f : Figures) (swift : Bool) (m : ℕ) (R : Ran) (a ws : List ℕ)
+    (g : Underway k t n d c f swift m R a ws) where
   pub underway-few : n ≤ 16
   underway-few = course-few (k - t) n d c f swift a (g .course)
 
@@ -491,13 +566,27 @@ module _ (k t n d c : ℕ) (f : Figures) (swift : Bool) (m : ℕ) (R : Ran) (a w
   underway-room = course-room (k - t) n d c f swift a (g .course)
 
   pub underway-asks : t < k → length ws ≡ 9
-      → ((0 < k - t) × (0 < m) × (m ≤ 64) × (c + (k - t) ≤ 16777216) × (57344 ≤ length a) × OnCourse (k - t) n d c f swift a × Reaches m n a) × ((length ws ≡ 9) × Bounded ws (32 * t) × (32 * t + 2048 < 4294967295))
+      → ((0 < k - t) × (0 < m) × (m ≤ 64) × (c + (k - t) ≤ 16777216) × (57344 ≤ length a) × OnCourse (k - t) n d c f
+      swift a × Reaches m n a) × ((length ws ≡ 9) × Bounded ws (32 * t) × (32 * t + 2048 < 4294967295))
   unfolding OnCourse Runnable
-  underway-asks lt nine = ((omega arith, g .some, g .small, underway-room, g .course .0 .0 .long, g .course, g .reaches), (nine, g .bounded, omega (arith, g .limit)))
+  underway-asks lt nine = (
+    (
+      omega arith,
+      g .some,
+      g .small,
+      underway-room,
+      g .course .0 .0 .long,
+      g .course,
+      g .reaches,
+    ),
+    (nine, g .bounded, omega (arith, g .limit)),
+  )
 
-module _ (k t n d c : ℕ) (f : Figures) (swift : Bool) (m : ℕ) (R : Ran) (a b ws vs : List ℕ) (r : ℕ) (late : List Bool) (g : Underway k t n d c f swift m R a ws) (lt : t < k) where
+module _ (k t n d c : ℕ) (f : Figures) (swift : Bool) (m : ℕ) (R : Ran) (a b ws vs : List ℕ) (r : ℕ) (late : List Bool)
+    (g : Underway k t n d c f swift m R a ws) (lt : t < k) where
   pub advanced-some : Advanced f d n c m (k - t) r late a ws b vs → (0 < r) × (t + r ≤ k) × (c + r ≤ 16777216)
-  advanced-some (stepped es ey ev el) = let room = course-room (k - t) n d c f swift a (g .course) in (omega arith, omega arith, omega arith)
+  advanced-some (stepped es ey ev el) =
+      let room = course-room (k - t) n d c f swift a (g .course) in (omega arith, omega arith, omega arith)
   advanced-some (passed el w) =
       let room = course-room (k - t) n d c f swift a (g .course) in
       (omega (arith, w .some), omega (arith, w .within), omega (arith, w .within))
@@ -519,10 +608,14 @@ module _ (k t n d c : ℕ) (f : Figures) (swift : Bool) (m : ℕ) (R : Ran) (a b
           limit = g .limit;
           some = g .some;
           small = g .small;
-          course = window-course k t n d c f swift a b ws vs r (g .course) reaches-made (w .some) fewer (w .within) (w .safe) (w .leaves);
-          reaches = window-reaches k t n d c f swift a b ws vs r (g .course) reaches-made (w .some) fewer (w .within) (w .safe) (w .leaves) m few (g .reaches);
-          bounded = window-bounded k t n d c f swift a b ws vs r (g .course) reaches-made (w .some) fewer (w .within) (w .safe) (w .leaves) (g .bounded);
-          rest = window-run k t n d c f swift a b ws vs r (g .course) reaches-made (w .some) fewer (w .within) (w .safe) (w .leaves) R (g .rest);
+          course = window-course k t n d c f swift a b ws vs r (g .course) reaches-made (w .some) fewer (w .within)
+              (w .safe) (w .leaves);
+          reaches = window-reaches k t n d c f swift a b ws vs r (g .course) reaches-made (w .some) fewer (w .within)
+              (w .safe) (w .leaves) m few (g .reaches);
+          bounded = window-bounded k t n d c f swift a b ws vs r (g .course) reaches-made (w .some) fewer (w .within)
+              (w .safe) (w .leaves) (g .bounded);
+          rest = window-run k t n d c f swift a b ws vs r (g .course) reaches-made (w .some) fewer (w .within) (w .safe)
+              (w .leaves) R (g .rest);
         }
 
   -- after a jump
@@ -555,9 +648,12 @@ module _ (k t n d c : ℕ) (f : Figures) (swift : Bool) (m : ℕ) (R : Ran) (a b
     jump-plain i hi =
         let q = silence-steps a (k - t) r ready pos low early in
         let z : suc (r - 1) ≡ r = omega (arith, pos) in
-        let w : Planned a silentPlan (r - 1) (steps (r - 1) a) = plan-happens a silentPlan (r - 1) ready (omega (arith, early)) (holds-less a silentPlan r (r - 1) (omega arith) (q .1)) in
+        let w : Planned a silentPlan (r - 1) (steps (r - 1) a) = plan-happens a silentPlan (r - 1) ready
+        (omega (arith, early)) (holds-less a silentPlan r (r - 1) (omega arith) (q .1)) in
         let e : stepArea (steps (r - 1) a) ≡ b = ap (λ (j : ℕ). steps j a) z ∙ q .0 ∙ sym ey in
-        subst (λ (x : List ℕ). Plain x i) e (plain-after (steps (r - 1) a) (w .ready) i (omega (arith, count-by (steps (r - 1) a) a (w .stays 0 (omega arith) .layout), g .course .1)))
+        subst (λ (x : List ℕ). Plain x i) e
+        (plain-after (steps (r - 1) a) (w .ready) i
+        (omega (arith, count-by (steps (r - 1) a) a (w .stays 0 (omega arith) .layout), g .course .1)))
 
     jump-course : OnCourse (k - (t + r)) n d (c + r) f true b
     unfolding OnCourse Runnable AllPlain
@@ -578,7 +674,8 @@ module _ (k t n d c : ℕ) (f : Figures) (swift : Bool) (m : ℕ) (R : Ran) (a b
     jump-rest : runOf (k - (t + r)) (t + r) vs b ≡ R
     jump-rest =
         let z : r + (k - (t + r)) ≡ k - t = omega (arith, most) in
-        rw (ev, ey) (sym (silence-run a (k - t) r (k - (t + r)) t ws ready pos low early) ∙ ap (λ (j : ℕ). runOf j t ws a) z ∙ g .rest)
+        rw (ev, ey) (sym (silence-run a (k - t) r (k - (t + r)) t ws ready pos low early) ∙ ap
+        (λ (j : ℕ). runOf j t ws a) z ∙ g .rest)
 
     underway-jump : Underway k (t + r) n d (c + r) f true m R b vs
     underway-jump =
@@ -598,10 +695,12 @@ module _ (k t n d c : ℕ) (f : Figures) (swift : Bool) (m : ℕ) (R : Ran) (a b
   reaches-stepped ey =
       let h = g .course in
       let few = h .0 .0 .spread .few in
-      rw (step-is f d n c a b ey (h .1) (h .3) (h .2) (h .4)) (reaches-by m n (stepArea a) a (omega (arith, h .1)) (step-layout a (h .0 .0)) (g .reaches))
+      rw (step-is f d n c a b ey (h .1) (h .3) (h .2) (h .4))
+      (reaches-by m n (stepArea a) a (omega (arith, h .1)) (step-layout a (h .0 .0)) (g .reaches))
 
   -- no station is found late
-  pub underway-on : Advanced f d n c m (k - t) r late a ws b vs → (i : ℕ) → NoneLate late i → i ≤ n → n ≤ i → Underway k (t + r) n d (c + r) f true m R b vs
+  pub underway-on : Advanced f d n c m (k - t) r late a ws b vs → (i : ℕ) → NoneLate late i → i ≤ n → n ≤ i
+      → Underway k (t + r) n d (c + r) f true m R b vs
   underway-on (stepped es ey ev el) i u lo up =
       rw es (record {
         within = omega arith;
@@ -620,8 +719,10 @@ module _ (k t n d c : ℕ) (f : Figures) (swift : Bool) (m : ℕ) (R : Ran) (a b
   none-found el i l = true≢false (sym l ∙ ap (λ (q : List Bool). getD q i false) el ∙ blank-at 16 i false)
 
   -- one is
-  pub underway-late : Advanced f d n c m (k - t) r late a ws b vs → (i : ℕ) → getD late i false ≡ true → NoneLate late i → i < n → (e : Ended) → e ≡ how.Late (t + r - 1) i
+  pub underway-late : Advanced f d n c m (k - t) r late a ws b vs → (i : ℕ) → getD late i false ≡ true → NoneLate late i
+      → i < n → (e : Ended) → e ≡ how.Late (t + r - 1) i
       → record { answer = accepted []; steps = t + r; words = vs; ended = e; octets = b } ≡ R
-  underway-late (stepped es ey ev el) i l u hi e ee = rw (ee, es) (course-late k t n d c f swift a (g .course) lt ws vs b R ey ev (g .rest) late i el l u hi)
+  underway-late (stepped es ey ev el) i l u hi e ee =
+      rw (ee, es) (course-late k t n d c f swift a (g .course) lt ws vs b R ey ev (g .rest) late i el l u hi)
   underway-late (passed el w) i l u hi e ee = absurd (none-found el i l)
   underway-late (rested el ne es ey ev) i l u hi e ee = absurd (none-found el i l)

@@ -1,5 +1,5 @@
 -- A law for each way through the code that finds how long a silence lasts. Assumes nothing.
-use Prim.Native.Nat.{ℕ, zero, suc, _+_, _≤_, _<_, min}
+use Prim.Native.Nat.{ℕ, zero, suc, _+_, _%_, _≤_, _<_, min, max}
 use mathlib.Core.Path.{_≡_, refl, sym, _∙_, ap, subst}
 use mathlib.Core.Bool.{Bool, true, false, not, true≢false}
 use mathlib.Core.List.{List}
@@ -9,11 +9,12 @@ use borrow.Author.Tests.{eq-eqb, ne-eqb, lt-ltb, le-ltb}
 use lib.Dec.{eqb}
 use lib.ListN.{getD}
 use Rattle.octets.specs.Base.{some}
-use Rattle.octets.specs.BaseLaws.{by-test, some-none, some-more, some-hit, some-end}
+use Rattle.octets.specs.BaseLaws.{by-test, by-eq, below-none, some-none, some-more, some-hit, some-end}
 use Rattle.layout.specs.declared.Figures.{Figures}
 use Rattle.state.specs.declared.Station.{Station}
 use Rattle.record.specs.Codec.{decoded}
 use Rattle.area.specs.Area.{clockAt, figuresAt, countAt, recordAt, stationAt, symbolAt}
+use Rattle.area.specs.AreaLaws.{symbol-turn}
 use Rattle.pair.specs.Ready.{Ready}
 use Rattle.course.specs.RunLaws.{first-hit}
 use Rattle.fast_silence.specs.Bound.{stationRests, used, lineRests, stationsRest, linesRest, worth, silentFor, worth-most, stations-fall, lines-fall}
@@ -93,6 +94,34 @@ module _ (a : List ℕ) (m : ℕ) where
 
 -- ---- a line
 
+-- the first u codes are no more than this. Shut, so that a search does not enter it
+unfoldable pub AtMost : (top : ℕ) → List ℕ → (i u : ℕ) → Type 0
+AtMost top a i u = (v : ℕ) → v < u → symbolAt a i v ≤ top
+
+pub most-none : (a : List ℕ) (i : ℕ) → AtMost 0 a i 0
+unfolding AtMost
+most-none a i v h = absurd (omega arith)
+
+pub most-more : (a : List ℕ) (i u c w p q : ℕ) → c ≡ symbolAt a i u → w ≡ c → q ≡ max w p → AtMost p a i u → AtMost q a i (u + 1)
+unfolding AtMost
+most-more a i u c w p q ec ew eq h v g =
+    by-eq v u (λ e. let z : symbolAt a i v ≡ c = ap (symbolAt a i) e ∙ sym ec in omega (arith, z)) (λ ne. omega (arith, h v (omega arith)))
+
+pub most-end : (a : List ℕ) (i u p : ℕ) → AtMost p a i u → 256 ≤ u → AtMost p a i 256
+unfolding AtMost
+most-end a i u p h le v g = h v (omega arith)
+
+pub line-clear : (a : List ℕ) (i m p : ℕ) → AtMost p a i 256 → p ≡ 0 → m ≡ lineRests a m i
+unfolding AtMost lineRests used
+line-clear a i m p h e =
+    rw (below-none (used a i) (min m 256) (λ s g. ap (λ (z : ℕ). not (eqb z 0)) (zero-at s)))
+  where
+    zero-at : (s : ℕ) → symbolAt a i (clockAt a + s) ≡ 0
+    zero-at s =
+        let u = (clockAt a + s) % 256 in
+        let q : symbolAt a i (clockAt a + s) ≡ symbolAt a i u = symbol-turn a i (clockAt a + s) u (omega arith) in
+        omega (arith, q, h u (omega arith))
+
 -- none of its next s places is in use. Shut, so that a search does not enter it
 unfoldable pub NoneUsed : List ℕ → (i s : ℕ) → Type 0
 NoneUsed a i s = some (used a i) s ≡ false
@@ -126,13 +155,16 @@ used-end a i s m k h e lo up = let z : s ≡ min m 256 = omega arith in rw (← 
 module _ (a : List ℕ) (m : ℕ) where
   first-few : (k : ℕ) → 0 ≡ worth k → 0 ≡ worth (linesRest a (worth k) (countAt a))
   unfolding linesRest
-  first-few k e = rw (← e) (few-worth 0 (linesRest a 0 (countAt a)) (lines-fall a 0 0 (countAt a) (omega arith)) (omega arith))
+  first-few k e =
+      rw (← e) (few-worth 0 (linesRest a 0 (countAt a)) (lines-fall a 0 0 (countAt a) (omega arith)) (omega arith))
 
   pub silent-few : m < 5 → 0 ≡ silentFor m a
   unfolding silentFor stationsRest
-  silent-few h = first-few (stationsRest a m (countAt a)) (few-worth m (stationsRest a m (countAt a)) (stations-fall a m 0 (countAt a) (omega arith)) h)
+  silent-few h = first-few (stationsRest a m (countAt a))
+      (few-worth m (stationsRest a m (countAt a)) (stations-fall a m 0 (countAt a) (omega arith)) h)
 
-  pub silent-is : (n k r : ℕ) → n ≡ countAt a → k ≡ worth (stationsRest a m n) → r ≡ worth (linesRest a k n) → r ≡ silentFor m a
+  pub silent-is : (n k r : ℕ) → n ≡ countAt a → k ≡ worth (stationsRest a m n) → r ≡ worth (linesRest a k n)
+      → r ≡ silentFor m a
   unfolding silentFor
   silent-is n k r e p q = q ∙ rw (p, e)
 
@@ -157,8 +189,10 @@ module _ (a : List ℕ) (m : ℕ) where
   pub silent-emitted : (n : ℕ) (b : Bool) → n ≡ countAt a → b ≡ some (emittedAt a) n → b ≡ true → 0 ≡ silentFor m a
   unfolding silentFor
   silent-emitted n b e p q =
-      let z : stationsRest a m (countAt a) ≡ 0 = emitted-found (countAt a) (ap (some (emittedAt a)) (sym e) ∙ sym p ∙ q) in
-      first-few (stationsRest a m (countAt a)) (few-worth 0 (stationsRest a m (countAt a)) (omega (arith, z)) (omega arith))
+      let z : stationsRest a m (countAt a) ≡ 0 = emitted-found (countAt a)
+      (ap (some (emittedAt a)) (sym e) ∙ sym p ∙ q) in
+      first-few (stationsRest a m (countAt a))
+      (few-worth 0 (stationsRest a m (countAt a)) (omega (arith, z)) (omega arith))
 
 pub ready-gap : (a : List ℕ) (f : Figures) → f ≡ figuresAt a → Ready a → f .gap1 + f .gap2 < 65536
 unfolding Ready

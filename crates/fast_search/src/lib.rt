@@ -8,7 +8,7 @@ ghost use Rattle.octets.specs.Base.{some};
 ghost use Rattle.area.specs.Area.{clockAt, figuresAt};
 ghost use Rattle.pair.specs.Ready.{Ready};
 ghost use Rattle.fast_silence.specs.Bound.{stationsRest, linesRest, lineRests, worth, silentFor};
-ghost use Rattle.fast_search.specs.SearchLaws.{emittedAt};
+ghost use Rattle.fast_search.specs.SearchLaws.{emittedAt, AtMost};
 
 // Whether station i emitted in the step before.
 fn emitted(area: &[u8], i: usize) -> bool
@@ -54,11 +54,29 @@ fn stations_rest(area: &[u8], n: usize, f: Figures, m: u32) -> u32
     left
 }
 
+// No less than any code in the line of station i: found without a branch.
+fn line_top(area: &[u8], i: usize) -> u32
+    requires { ⌜ (i < 16) × (57344 ≤ length (now area)) ⌝ }
+    ensures { λ r. ⌜ AtMost r (now (area .entry)) i 256 ⌝ }
+{
+    let mut top: u32 = 0;
+    let mut u: usize = 0;
+    while u < 256 {
+        let code = octets::wide(delay::read_symbol(area, i, u));
+        top = fast_rest::larger(code, top);
+        u += 1;
+    }
+    top
+}
+
 // The steps of m before something reaches station i.
 fn line_rests(area: &[u8], i: usize, t: u32, m: u32) -> u32
     requires { ⌜ (i < 16) × (57344 ≤ length (now area)) × (t + m ≤ 16777216) × (t ≡ clockAt (now area)) ⌝ }
     ensures { λ r. ⌜ r ≡ lineRests (now (area .entry)) m i ⌝ }
 {
+    if line_top(area, i) == 0 {
+        return m;
+    }
     let most = fast_rest::smaller(m, 256);
     let mut s: u32 = 0;
     while s < most {

@@ -18,6 +18,7 @@ use Rattle.state.specs.declared.Station.{Station}
 use Rattle.area.specs.Area.{clockAt, figuresAt, countAt, stationAt, symbolAt}
 use Rattle.pair.specs.Ready.{Readiness}
 use Rattle.course.specs.Run.{first, runOf}
+use Rattle.course.specs.RunLaws.{first-most, below-first}
 use Rattle.course.specs.Until.{untilEvent}
 use Rattle.course.specs.UntilLaws.{plus}
 use Rattle.fast_plan.specs.Plan.{Holds, Planned, steps}
@@ -63,9 +64,16 @@ pub rested-for : (f : Figures) (m K : ℕ) (s : Station) → 0 < K → K ≤ sta
 unfolding stationRests
 rested-for f m K s p h =
     by-test (s .emitted)
-    (λ e. absurd (zero-none K p (ap (λ (b : Bool). pick b 0 (pick (idle (s .receiver)) (framesRest f m (s .deference) (s .transmitter)) 0)) e) h))
+    (λ e. absurd (zero-none K p
+    (ap (λ (b : Bool). pick b 0 (pick (idle (s .receiver)) (framesRest f m (s .deference) (s .transmitter)) 0)) e)
+    h))
     (λ e. by-test (idle (s .receiver))
-    (λ i. record { lasts = frames-last f m K (s .deference) (s .transmitter) p (below K (value e i) h); idle = is-idle (s .receiver) i; silent = e })
+    (λ i. record {
+      lasts = frames-last f m K (s .deference) (s .transmitter) p (below K (value e i) h);
+      idle = is-idle
+          (s .receiver) i;
+      silent = e;
+    })
     (λ i. absurd (zero-none K p (value e i) h)))
   where
     zero-none : (K : ℕ) {v : ℕ} → 0 < K → v ≡ 0 → K ≤ v → ⊥
@@ -75,8 +83,11 @@ rested-for f m K s p h =
     below K {v} {w} e h = omega (arith, e, h)
 
     value : {b c : Bool} → s .emitted ≡ b → idle (s .receiver) ≡ c
-        → pick (s .emitted) 0 (pick (idle (s .receiver)) (framesRest f m (s .deference) (s .transmitter)) 0) ≡ pick b 0 (pick c (framesRest f m (s .deference) (s .transmitter)) 0)
-    value {b} {c} e i = ap (λ (u : Bool). pick u 0 (pick (idle (s .receiver)) (framesRest f m (s .deference) (s .transmitter)) 0)) e ∙ ap (λ (u : Bool). pick b 0 (pick u (framesRest f m (s .deference) (s .transmitter)) 0)) i
+        → pick (s .emitted) 0 (pick (idle (s .receiver)) (framesRest f m (s .deference) (s .transmitter)) 0) ≡ pick b 0
+        (pick c (framesRest f m (s .deference) (s .transmitter)) 0)
+    value {b} {c} e i =
+        ap (λ (u : Bool). pick u 0 (pick (idle (s .receiver)) (framesRest f m (s .deference) (s .transmitter)) 0)) e
+        ∙ ap (λ (u : Bool). pick b 0 (pick u (framesRest f m (s .deference) (s .transmitter)) 0)) i
 
 -- ---- a line: to its first place in use, of m steps asked
 
@@ -88,17 +99,6 @@ lineRests a m j = pick (some (used a j) (min m 256)) (first (used a j) (min m 25
 
 not-used : (c : ℕ) → not (eqb c 0) ≡ false → c ≡ 0
 not-used c h = by-test (eqb c 0) (λ e. eqb-true c 0 e) (λ e. absurd (true≢false (sym (ap not e) ∙ h)))
-
-first-most : (t : ℕ → Bool) (n : ℕ) → first t n ≤ n
-unfolding first
-first-most t zero = omega arith
-first-most t (suc n) = by-test (some t n) (λ e. rw e (omega (arith, first-most t n))) (λ e. rw e (omega arith))
-
-below-first : (t : ℕ → Bool) (n s : ℕ) → s < first t n → t s ≡ false
-unfolding first
-below-first t zero s h = absurd (omega arith)
-below-first t (suc n) s h =
-    by-test (some t n) (λ e. below-first t n s (rw e at h)) (λ e. none-below t n s e (rw e at h))
 
 pub line-most : (a : List ℕ) (m j : ℕ) → lineRests a m j ≤ m
 unfolding lineRests
@@ -157,7 +157,8 @@ lines-fall a m i (suc n) h =
     by-eq i (suc n) (λ e. rw e (omega arith))
     (λ ne. omega (arith, line-most a (linesRest a m n) n, lines-fall a m i n (omega arith)))
 
-stations-one : (a : List ℕ) (m i : ℕ) → stationsRest a m (suc i) ≤ stationRests (figuresAt a) (stationsRest a m i) (stationAt a i)
+stations-one : (a : List ℕ) (m i : ℕ)
+    → stationsRest a m (suc i) ≤ stationRests (figuresAt a) (stationsRest a m i) (stationAt a i)
 unfolding stationsRest
 stations-one a m i = omega arith
 

@@ -128,20 +128,29 @@ module _ (f : Figures) (own : Bool) where
   gap-ends c h = rw (le-leb (gapOf f) c (omega arith))
 
   -- a gap, whatever it has come to
-  gap-goes : (c : ℕ) (w : Bool) → (w ≡ true → c < gapOf f) → defer f (gapTo f own c) false false w ≡ to (gapTo f own (suc c))
+  gap-goes : (c : ℕ) (w : Bool) → (w ≡ true → c < gapOf f)
+      → defer f (gapTo f own c) false false w ≡ to (gapTo f own (suc c))
   gap-goes c true h =
       let g = h refl in
       let e : c + 1 ≡ suc c = omega arith in
-      ap (λ (d : Deference). defer f d false false true) (gap-in c (omega arith)) ∙ gap-more c true g ∙ ap to (rw e) ∙ sym (ap to (gap-in (suc c) (omega arith)))
+      ap (λ (d : Deference). defer f d false false true) (gap-in c (omega arith))
+      ∙ gap-more c true g
+      ∙ ap to (rw e)
+      ∙ sym (ap to (gap-in (suc c) (omega arith)))
   gap-goes c false h =
       by-test (ltb c (gapOf f))
       (λ b. let g = ltb-true c (gapOf f) b in
       let e : c + 1 ≡ suc c = omega arith in
-      ap (λ (d : Deference). defer f d false false false) (gap-in c (omega arith)) ∙ gap-more c false g ∙ ap to (rw e) ∙ sym (ap to (gap-in (suc c) (omega arith))))
+      ap (λ (d : Deference). defer f d false false false) (gap-in c (omega arith))
+      ∙ gap-more c false g
+      ∙ ap to (rw e)
+      ∙ sym (ap to (gap-in (suc c) (omega arith))))
       (λ b. let g = ltb-false c (gapOf f) b in
       by-eq c (gapOf f)
-      (λ e. ap (λ (d : Deference). defer f d false false false) (gap-in c (omega arith)) ∙ gap-ends c e ∙ sym (ap to (gap-over (suc c) (omega arith))))
-      (λ e. ap (λ (d : Deference). defer f d false false false) (gap-over c (omega arith)) ∙ over-quiet ∙ sym (ap to (gap-over (suc c) (omega arith)))))
+      (λ e. ap (λ (d : Deference). defer f d false false false) (gap-in c (omega arith)) ∙ gap-ends c e ∙ sym
+      (ap to (gap-over (suc c) (omega arith))))
+      (λ e. ap (λ (d : Deference). defer f d false false false) (gap-over c (omega arith)) ∙ over-quiet ∙ sym
+      (ap to (gap-over (suc c) (omega arith)))))
 
 busy-goes : (f : Figures) (own w : Bool) → defer f (Busy own) false false w ≡ to (Gap 1 own)
 unfolding defer busyRule
@@ -152,7 +161,8 @@ unfolding restedDeference restsFor
 defer-goes f Quiet m true g h = absurd (omega (arith, h refl))
 defer-goes f Quiet m false g h = over-quiet f false
 defer-goes f (Busy own) zero w g h = busy-goes f own w ∙ sym (ap to (gap-in f own 1 g))
-defer-goes f (Busy own) (suc m) w g h = rw (ne-eqb (suc m) 0 (λ z. omega arith), ne-eqb (suc (suc m)) 0 (λ z. omega arith)) (gap-goes f own (suc m) w h)
+defer-goes f (Busy own) (suc m) w g h =
+    rw (ne-eqb (suc m) 0 (λ z. omega arith), ne-eqb (suc (suc m)) 0 (λ z. omega arith)) (gap-goes f own (suc m) w h)
 defer-goes f (Gap n own) m w g h =
     let e : suc (n + m) ≡ n + suc m = omega arith in
     gap-goes f own (n + m) w (λ z. omega (arith, h z)) ∙ ap (λ (c : ℕ). to (gapTo f own c)) e
@@ -198,7 +208,8 @@ transmit-goes f m (BackingOff w) z n draw h l =
     by-test (ltb m w)
     (λ c. let g = ltb-true m w c in
     by-test (ltb (suc m) w)
-    (λ b. let k = ltb-true (suc m) w b in let e : w - m - 1 ≡ w - suc m = omega arith in rw (c, b, lt-leb (w - m) 1 (omega arith), e))
+    (λ b. let k = ltb-true (suc m) w b in let e : w - m - 1 ≡ w - suc
+    m = omega arith in rw (c, b, lt-leb (w - m) 1 (omega arith), e))
     (λ b. let k = ltb-false (suc m) w b in rw (c, b, le-leb (w - m) 1 (omega arith))))
     (λ c. let g = ltb-false m w c in rw (c, le-ltb (suc m) w (omega arith)))
 transmit-goes f m (Sending k) z n draw h l = absurd l
@@ -229,14 +240,16 @@ deferred-more false false h false = refl
 
 -- ---- the step
 
-pub idle-ends : (address buf : List ℕ) (r : Receiver) (e : Bool) → Idle r → receive address buf r Nothing e ≡ deciding r NoReceive
+pub idle-ends : (address buf : List ℕ) (r : Receiver) (e : Bool) → Idle r
+    → receive address buf r Nothing e ≡ deciding r NoReceive
 unfolding receive ended
 idle-ends address buf Listening e i = refl
 idle-ends address buf (Readable n) e i = refl
 idle-ends address buf (Seeking row sp own) e i = absurd i
 idle-ends address buf (Collecting n sp own) e i = absurd i
 
-pub rested-step : (f : Figures) (K m : ℕ) (s : Station) (d draw : ℕ) (buf : List ℕ) → 1 ≤ gapOf f → Rests f K s → m < K → stepped f (rested f m s) d draw buf Nothing ≡ quietly (rested f (suc m) s) Rest NoStore
+pub rested-step : (f : Figures) (K m : ℕ) (s : Station) (d draw : ℕ) (buf : List ℕ) → 1 ≤ gapOf f → Rests f K s → m < K
+    → stepped f (rested f m s) d draw buf Nothing ≡ quietly (rested f (suc m) s) Rest NoStore
 unfolding stepped nextStation triesAfter drawAfter deferredAfter quietly rested
 rested-step f K m s d draw buf g l h =
     rw (
@@ -244,7 +257,8 @@ rested-step f K m s d draw buf g l h =
       transmit-goes f m (s .transmitter) (s .frame) (s .attempts) draw false (lasts-none f K (s .deference) (s .transmitter) (l .lasts)),
       idle-ends (s .address) buf (s .receiver) false (l .idle),
       waited-more m (s .transmitter),
-      deferred-more (s .deferred) (eqb (s .attempts) 0) (hasWaited m (s .transmitter)) (waits (restedTransmitter m (s .transmitter))),
+      deferred-more (s .deferred) (eqb (s .attempts) 0) (hasWaited m (s .transmitter))
+          (waits (restedTransmitter m (s .transmitter))),
     )
 
 -- ---- where it begins, and its range
@@ -281,13 +295,31 @@ as-was false false = refl
 pub rested-none : (f : Figures) (d t : ℕ) (s : Station) → Fine f d t s → s .emitted ≡ false → rested f 0 s ≡ s
 unfolding rested
 rested-none f d t s v e =
-    rw (rested-gap f (s .deference) (v .gap), rested-frame f (s .frame) (s .transmitter) (v .number), none-waited f (s .frame) (s .transmitter) (v .number), as-was (s .deferred) (eqb (s .attempts) 0))
-    (λ i. record { address = s .address; deference = s .deference; transmitter = s .transmitter; receiver = s .receiver; frame = s .frame; attempts = s .attempts; draw = s .draw; deferred = s .deferred; emitted = sym e i })
+    rw (
+      rested-gap f (s .deference) (v .gap),
+      rested-frame f (s .frame) (s .transmitter) (v .number),
+      none-waited f
+          (s .frame) (s .transmitter) (v .number),
+      as-was (s .deferred) (eqb (s .attempts) 0),
+    )
+    (λ i. record {
+      address = s .address;
+      deference = s .deference;
+      transmitter = s .transmitter;
+      receiver = s .receiver;
+      frame = s .frame;
+      attempts = s .attempts;
+      draw = s .draw;
+      deferred = s .deferred;
+      emitted = sym e i;
+    })
 
 to-small : (f : Figures) (own : Bool) (c : ℕ) → Figured f → deferenceCount (gapTo f own c) < 65536
 unfolding gapTo gapOf
 to-small f own c g =
-    by-test (leb c (f .gap1 + f .gap2)) (λ b. let h = leb-true c (f .gap1 + f .gap2) b in rw b (omega (arith, g .gap1, g .gap2))) (λ b. rw b (omega arith))
+    by-test (leb c (f .gap1 + f .gap2))
+    (λ b. let h = leb-true c (f .gap1 + f .gap2) b in rw b (omega (arith, g .gap1, g .gap2)))
+    (λ b. rw b (omega arith))
 
 pub count-small : (f : Figures) (m : ℕ) (d : Deference) → Figured f → deferenceCount (restedDeference f m d) < 65536
 unfolding restedDeference

@@ -6,15 +6,13 @@ use mathlib.Core.List.{List}
 use native.Mathlib.Omega.{arith}
 use borrow.Author.Tests.{ne-eqb, eq-eqb}
 use lib.ListN.{replicate}
-use Rattle.octets.specs.BaseLaws.{below-none}
-use Rattle.octets.specs.Filled.{blank-at}
 use Rattle.area.specs.Area.{clockAt}
 use Rattle.pair.specs.declared.Events.{Events}
-use Rattle.pair.specs.BitTime.{noEvents, eventAt, eventsAt, stepArea}
+use Rattle.pair.specs.BitTime.{noEvents, eventsAt, stepArea}
 use Rattle.pair.specs.Ready.{Readiness, Ready}
 use Rattle.course.specs.RunLaws.{Runnable, run-first, run-next}
-use Rattle.course.specs.Until.{hasEvent, eventful, Stretched, untilEvent}
-use Rattle.course.specs.UntilLaws.{plus, stretch-first, stretch-on, stretch-hit, stretch-end}
+use Rattle.course.specs.Until.{eventful, Stretched, untilEvent}
+use Rattle.course.specs.UntilLaws.{none-eventful, plus, stretch-first, stretch-on, stretch-hit, stretch-end}
 use Rattle.fast_plan.specs.Plan.{Planned}
 use Rattle.fast_silence.specs.Jump.{silentPlan, jumped}
 use Rattle.fast_silence.specs.Bound.{silentFor, silent-most, skipped, silence-until, silence-plans}
@@ -29,10 +27,6 @@ pub record Made (left r : ℕ) (es : List Events) (a b : List ℕ) : Type 0 wher
 
 unfoldable pub Onward : (left r : ℕ) (es : List Events) (a b : List ℕ) → Type 0
 Onward left r es a b = Made left r es a b
-
-none-eventful : eventful (replicate 16 noEvents) ≡ false
-unfolding eventful hasEvent
-none-eventful = below-none (λ i. hasEvent (eventAt (replicate 16 noEvents) i)) 16 (λ i h. ap hasEvent (blank-at 16 i noEvents))
 
 -- ---- a jump
 
@@ -106,7 +100,8 @@ module _ (left r : ℕ) (a b : List ℕ) (h : Runnable left a) (e : r ≡ silent
     unfolding Runnable
     still-clock g = rw is-same (omega (arith, h .1))
 
-    pub onward-step : (es : List Events) (x : List ℕ) → 0 < left → es ≡ eventsAt b → x ≡ stepArea b → Onward left 1 es a x
+    pub onward-step : (es : List Events) (x : List ℕ) → 0 < left → es ≡ eventsAt b → x ≡ stepArea b
+        → Onward left 1 es a x
     unfolding Onward
     onward-step es x g ee ex =
         let e₁ : es ≡ eventsAt a = ee ∙ ap eventsAt is-same in
@@ -121,7 +116,8 @@ module _ (left r : ℕ) (a b : List ℕ) (h : Runnable left a) (e : r ≡ silent
 
 -- ---- the loop
 
-module _ (n t r : ℕ) (es : List Events) (a b : List ℕ) (R : Stretched) (m : Onward (n - t) r es a b) (p : plus t (untilEvent (n - t) a) ≡ R) where
+module _ (n t r : ℕ) (es : List Events) (a b : List ℕ) (R : Stretched) (m : Onward (n - t) r es a b)
+    (p : plus t (untilEvent (n - t) a) ≡ R) where
   pub onward-some : 0 < r
   unfolding Onward
   onward-some = m .some
@@ -142,7 +138,10 @@ module _ (n t r : ℕ) (es : List Events) (a b : List ℕ) (R : Stretched) (m : 
   unfolding Onward
   onward-on c e h =
       let z : n - (t + r) ≡ n - t - r = omega arith in
-      ap (λ (k : ℕ). plus (t + r) (untilEvent k b)) z ∙ twice (untilEvent (n - t - r) b) ∙ ap (plus t) (m .on (sym e ∙ h)) ∙ p
+      ap (λ (k : ℕ). plus (t + r) (untilEvent k b)) z
+      ∙ twice (untilEvent (n - t - r) b)
+      ∙ ap (plus t) (m .on (sym e ∙ h))
+      ∙ p
     where
       twice : (s : Stretched) → plus (t + r) s ≡ plus t (plus r s)
       twice s = λ i. record { steps = w (s .steps) i; events = s .events; octets = s .octets }
@@ -150,6 +149,7 @@ module _ (n t r : ℕ) (es : List Events) (a b : List ℕ) (R : Stretched) (m : 
           w : (k : ℕ) → t + r + k ≡ t + (r + k)
           w k = omega arith
 
-pub onward-end : (n t : ℕ) (a : List ℕ) (R : Stretched) (k : ℕ) (es : List Events) → plus t (untilEvent (n - t) a) ≡ R → n ≤ t
+pub onward-end : (n t : ℕ) (a : List ℕ) (R : Stretched) (k : ℕ) (es : List Events) → plus t (untilEvent (n - t) a) ≡ R
+    → n ≤ t
     → k ≡ t → es ≡ replicate 16 noEvents → record { steps = k; events = es; octets = a } ≡ R
 onward-end n t a R k es p h e f = (λ i. record { steps = e i; events = f i; octets = a }) ∙ stretch-end n t a R h p

@@ -36,7 +36,7 @@ fn is_eventful(events: [Events; 16]) -> bool
 }
 
 // So many steps, and no events.
-fn calmly(steps: u32) -> Stretch
+fn eventless(steps: u32) -> Stretch
     ensures steps { λ r. ⌜ r .steps ≡ steps ⌝ }
     ensures events { λ r. ⌜ r .events ≡ replicate 16 noEvents ⌝ }
 {
@@ -57,7 +57,7 @@ fn advance(area: &mut [u8], left: u32) -> Stretch
 {
     let steps = fast_jump::skip(area, left);
     if steps != 0 {
-        return calmly(steps);
+        return eventless(steps);
     }
     let events = step::step(area);
     Stretch { steps: 1, events }
@@ -77,5 +77,5 @@ pub fn until_event(area: &mut [u8], n: u32) -> Stretch
             return Stretch { steps: t, events };
         }
     }
-    calmly(t)
+    eventless(t)
 }

@@ -40,12 +40,14 @@ unfolding gathered
 gathered-none zero c h = refl
 gathered-none (suc k) c h = ap₂ joined (gathered-none k c (λ i l. h i (omega arith))) (h k (omega arith))
 
-pub gathered-one : (k : ℕ) (c : ℕ → Symbol) (i : ℕ) → i < k → ((l : ℕ) → l < k → (l ≡ i → ⊥) → c l ≡ Silence) → gathered k c ≡ alone (c i)
+pub gathered-one : (k : ℕ) (c : ℕ → Symbol) (i : ℕ) → i < k → ((l : ℕ) → l < k → (l ≡ i → ⊥) → c l ≡ Silence)
+    → gathered k c ≡ alone (c i)
 unfolding gathered
 gathered-one zero c i l h = absurd (omega arith)
 gathered-one (suc k) c i l h =
     by-eq i k
-    (λ z. ap (λ (x : Heard). joined x (c k)) (gathered-none k c (λ x y. h x (omega arith) (λ q. omega arith))) ∙ ap (λ (x : ℕ). alone (c x)) (sym z))
+    (λ z. ap (λ (x : Heard). joined x (c k)) (gathered-none k c (λ x y. h x (omega arith) (λ q. omega arith))) ∙ ap
+    (λ (x : ℕ). alone (c x)) (sym z))
     (λ z. ap (joined (gathered k c)) (h k (omega arith) (λ q. z (sym q))) ∙ joined-none (gathered k c)
     ∙ gathered-one k c i (omega arith) (λ x y q. h x (omega arith) q))
 
@@ -92,7 +94,14 @@ silent-more k c Jammed e v =
       rest = λ l p q. by-eq l k (λ z. rw z e) (λ z. v .rest l (omega arith) q);
     }
 silent-more k c Several e v =
-    record { first = v .first; second = v .second; order = v .order; station = omega (arith, v .station); one = v .one; other = v .other }
+    record {
+      first = v .first;
+      second = v .second;
+      order = v .order;
+      station = omega (arith, v .station);
+      one = v .one;
+      other = v .other;
+    }
 
 -- the first that is not silent, and a further one
 first-one : (k : ℕ) (c : ℕ → Symbol) (s : Symbol) → c k ≡ s → ((i : ℕ) → i < k → c i ≡ Silence) → One (suc k) c s
@@ -100,7 +109,14 @@ first-one k c s e v = record { from = k; station = omega arith; is = e; rest = �
 
 further-one : (k : ℕ) (c : ℕ → Symbol) (s : Symbol) → on s ≡ true → on (c k) ≡ true → One k c s → Two (suc k) c
 further-one k c s o e v =
-    record { first = v .from; second = k; order = v .station; station = omega arith; one = ap on (v .is) ∙ o; other = e }
+    record {
+      first = v .from;
+      second = k;
+      order = v .station;
+      station = omega arith;
+      one = ap on (v .is) ∙ o;
+      other = e;
+    }
 
 says-more : (k : ℕ) (c : ℕ → Symbol) (h : Heard) (s : Symbol) → c k ≡ s → Says k c h → Says (suc k) c (joined h s)
 says-more k c h Silence e v = subst (Says (suc k) c) (sym (joined-none h)) (silent-more k c h e v)
@@ -111,9 +127,23 @@ says-more k c (Clean b) Jam e v = further-one k c (Bit b) refl (ap on e) v
 says-more k c Jammed (Bit x) e v = further-one k c Jam refl (ap on e) v
 says-more k c Jammed Jam e v = further-one k c Jam refl (ap on e) v
 says-more k c Several (Bit x) e v =
-    record { first = v .first; second = v .second; order = v .order; station = omega (arith, v .station); one = v .one; other = v .other }
+    record {
+      first = v .first;
+      second = v .second;
+      order = v .order;
+      station = omega (arith, v .station);
+      one = v .one;
+      other = v .other;
+    }
 says-more k c Several Jam e v =
-    record { first = v .first; second = v .second; order = v .order; station = omega (arith, v .station); one = v .one; other = v .other }
+    record {
+      first = v .first;
+      second = v .second;
+      order = v .order;
+      station = omega (arith, v .station);
+      one = v .one;
+      other = v .other;
+    }
 
 pub gathered-says : (k : ℕ) (c : ℕ → Symbol) → Says k c (gathered k c)
 unfolding gathered

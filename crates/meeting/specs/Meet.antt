@@ -95,7 +95,9 @@ met-group Several Several Several = refl
 
 swap-mid : (a b c d : Heard) → met (met a b) (met c d) ≡ met (met a c) (met b d)
 swap-mid a b c d =
-    met-group a b (met c d) ∙ ap (met a) (sym (met-group b c d) ∙ ap (λ (x : Heard). met x d) (met-swap b c) ∙ met-group c b d) ∙ sym (met-group a c (met b d))
+    met-group a b (met c d)
+    ∙ ap (met a) (sym (met-group b c d) ∙ ap (λ (x : Heard). met x d) (met-swap b c) ∙ met-group c b d)
+    ∙ sym (met-group a c (met b d))
 
 -- one symbol more is its meeting what is there
 pub joined-met : (h : Heard) (s : Symbol) → joined h s ≡ met h (alone s)
@@ -113,7 +115,8 @@ joined-met Several (Bit c) = refl
 joined-met Several Jam = refl
 
 -- where each symbol of f is g's and h's together, so is what they come to
-gathered-both : (k : ℕ) (f g h : ℕ → Symbol) → ((i : ℕ) → i < k → alone (f i) ≡ met (alone (g i)) (alone (h i))) → gathered k f ≡ met (gathered k g) (gathered k h)
+gathered-both : (k : ℕ) (f g h : ℕ → Symbol) → ((i : ℕ) → i < k → alone (f i) ≡ met (alone (g i)) (alone (h i)))
+    → gathered k f ≡ met (gathered k g) (gathered k h)
 unfolding gathered
 gathered-both zero f g h p = refl
 gathered-both (suc k) f g h p =
@@ -154,7 +157,8 @@ reaches-grown d t e E j u i h =
     by-eq (t + d i j) u
     (λ z. let q : u - d i j ≡ t = omega arith in
     rw (b, c, eq-eqb (t + d i j) u z, q, h i t (omega arith)) (ap alone (grown-now t e E i t refl)))
-    (λ z. rw (b, c, ne-eqb (t + d i j) u z) (ap alone (grown-else t e E i (u - d i j) (λ y. z (omega arith))) ∙ sym (met-none (alone (E i (u - d i j)))))))
+    (λ z. rw (b, c, ne-eqb (t + d i j) u z)
+    (ap alone (grown-else t e E i (u - d i j) (λ y. z (omega arith))) ∙ sym (met-none (alone (E i (u - d i j)))))))
     (λ c. let l = leb-false (d i j) u c in
     rw (b, c, ne-eqb (t + d i j) u (λ z. omega arith))))
 
@@ -162,10 +166,12 @@ pub heard-grown : (P : Net) (t : ℕ) (e : ℕ → Symbol) (E : ℕ → ℕ → 
     → heard P (grown t e E) j u ≡ met (heard P E j u) (gathered (P .n) (adds (P .d) t e j u))
 unfolding heard
 heard-grown P t e E j u h =
-    gathered-both (P .n) (reaches (P .d) (grown t e E) j u) (reaches (P .d) E j u) (adds (P .d) t e j u) (λ i l. reaches-grown (P .d) t e E j u i h)
+    gathered-both (P .n) (reaches (P .d) (grown t e E) j u) (reaches (P .d) E j u) (adds (P .d) t e j u)
+    (λ i l. reaches-grown (P .d) t e E j u i h)
 
 -- nothing that is emitted before step t takes 256 steps
-pub heard-far : (P : Net) (t : ℕ) (E : ℕ → ℕ → Symbol) (j u : ℕ) → Ends t E → ((i : ℕ) → i < P .n → t + P .d i j ≤ u) → heard P E j u ≡ Nothing
+pub heard-far : (P : Net) (t : ℕ) (E : ℕ → ℕ → Symbol) (j u : ℕ) → Ends t E → ((i : ℕ) → i < P .n → t + P .d i j ≤ u)
+    → heard P E j u ≡ Nothing
 unfolding heard reaches
 heard-far P t E j u h far =
     gathered-none (P .n) _

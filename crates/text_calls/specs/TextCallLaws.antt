@@ -30,12 +30,14 @@ use Rattle.text_calls.specs.TextCalls.{progressWords, progressIn, progre
 
 -- ---- where a run stands
 
-pub progress-put : (s a b c d : List ℕ) (g : Progress) (f : ℕ) → f ≡ pick (g .ended) 1 0 → a ≡ put 4 s 0 (g .at) → b ≡ put 4 a 4 (g .offers) → c ≡ put 4 b 8 (g .times) → d ≡ put 4 c 12 f
+pub progress-put : (s a b c d : List ℕ) (g : Progress) (f : ℕ) → f ≡ pick (g .ended) 1 0 → a ≡ put 4 s 0 (g .at)
+    → b ≡ put 4 a 4 (g .offers) → c ≡ put 4 b 8 (g .times) → d ≡ put 4 c 12 f
     → d ≡ putWords 4 s 0 (progressWords g)
 unfolding progressWords putWords
 progress-put s a b c d g f e p q r t = rw (t, r, q, p, e)
 
-pub progress-read : (s : List ℕ) (at offers times ended : ℕ) (b : Bool) → at ≡ get 4 s 0 → offers ≡ get 4 s 4 → times ≡ get 4 s 8 → ended ≡ get 4 s 12 → b ≡ not (eqb ended 0)
+pub progress-read : (s : List ℕ) (at offers times ended : ℕ) (b : Bool) → at ≡ get 4 s 0 → offers ≡ get 4 s 4
+    → times ≡ get 4 s 8 → ended ≡ get 4 s 12 → b ≡ not (eqb ended 0)
     → standing at offers times b ≡ progressIn s
 unfolding progressIn
 progress-read s at offers times ended b p q r t u = rw (u, p, q, r, t)
@@ -135,10 +137,12 @@ drop-min l k n e =
     (λ b. let h = ltb-true (length l) k b in drop-of-length-le l {i = n - 0} (omega arith) ∙ sym (drop-of-length-le l {i = k} (omega arith)))
     (λ b. let h = ltb-false (length l) k b in let m : n - 0 ≡ k = omega arith in ap (λ (i : ℕ). drop i l) m)
 
-pub place-refused : (a : List ℕ) (n r : ℕ) → n ≡ areaRefusal a → r ≡ replied n 0 → (n ≡ 0 → ⊥) → r ≡ replied (pick (eqb (areaRefusal a) 0) 15 (areaRefusal a)) 0
+pub place-refused : (a : List ℕ) (n r : ℕ) → n ≡ areaRefusal a → r ≡ replied n 0 → (n ≡ 0 → ⊥)
+    → r ≡ replied (pick (eqb (areaRefusal a) 0) 15 (areaRefusal a)) 0
 place-refused a n r p e h = rw (← p, ne-eqb n 0 h) e
 
-pub place-short : (a : List ℕ) (n r : ℕ) → n ≡ areaRefusal a → r ≡ replied 15 0 → n ≡ 0 → r ≡ replied (pick (eqb (areaRefusal a) 0) 15 (areaRefusal a)) 0
+pub place-short : (a : List ℕ) (n r : ℕ) → n ≡ areaRefusal a → r ≡ replied 15 0 → n ≡ 0
+    → r ≡ replied (pick (eqb (areaRefusal a) 0) 15 (areaRefusal a)) 0
 place-short a n r p e h = rw (← p, eq-eqb n 0 h) e
 
 pub place-low : (a : List ℕ) (n : ℕ) → n ≡ areaRefusal a → n ≤ 16

@@ -57,7 +57,8 @@ first-onward l a h =
     ∙ ap (before (refusedLine (numberOf (planRead l .answer)))) (sym (remaining-off l noProgress a refl))
     ∙ ap (shown l) (sym (refused-first l a e)))
 
-first-going : (l a : List ℕ) → length a ≡ 57344 → firstPiece l a .progress .ended ≡ false → Going l (firstPiece l a .progress) (firstPiece l a .octets)
+first-going : (l a : List ℕ) → length a ≡ 57344 → firstPiece l a .progress .ended ≡ false
+    → Going l (firstPiece l a .progress) (firstPiece l a .octets)
 first-going l a h q =
     by-eq (numberOf (planRead l .answer)) 0
     (λ e. subst (λ (m : Moved). Going l (m .progress) (m .octets)) (sym (started-first l a e)) (start-going l a h e))
@@ -121,7 +122,8 @@ module _ (l b o : List ℕ) (k : 2048 ≤ length o) where
       ∙ ap (λ (y : List ℕ). record { answer = given o (move l g b) .answer; progress = move l g b .progress; octets = y; out = sets o 0 (move l g b .text) }) (append-nil (move l g b .octets))
 
 -- what a call hands out, by the octets that it says
-module _ (o x b : List ℕ) (m : Moved) (r : Handed) (k : ℕ) (e : k ≡ getD (valuesOf (pieceAnswer (r .piece))) 0 0) (p : handing r b x ≡ given o m) where
+module _ (o x b : List ℕ) (m : Moved) (r : Handed) (k : ℕ)
+    (e : k ≡ getD (valuesOf (pieceAnswer (r .piece))) 0 0) (p : handing r b x ≡ given o m) where
   size-is : k ≡ length (m .text)
   size-is = e ∙ ap (λ (h : Hand). getD (valuesOf (h .answer)) 0 0) p
 

@@ -29,7 +29,7 @@ use Rattle.ready.specs.Stays.{step-clock, step-length, step-passing}
 use Rattle.delivery.specs.Passing.{start-passing, offered-passes, offered-keeps}
 use Rattle.course.specs.Run.{lateAt}
 use Rattle.course.specs.Until.{hasEvent, eventful, Stretched, oneMore, untilEvent}
-use Rattle.course.specs.UntilLaws.{stretch-steps, stretch-some}
+use Rattle.course.specs.UntilLaws.{none-eventful, stretch-steps, stretch-some}
 use Rattle.tally.specs.Tally.{isLate}
 use Rattle.text.specs.Text.{fitYes, fitNo, refusedLine, endLine}
 use Rattle.lines.specs.Sizes.{first-size, refused-size, refused-offer-size, end-size, step-size}
@@ -95,10 +95,6 @@ module _ (es : List Events) (h : eventful es ≡ false) where
   no-late : some (lateAt es) 16 ≡ false
   no-late = below-none (lateAt es) 16 (λ i g. calm-late es i (each i g))
 
-none-calm : eventful (replicate 16 noEvents) ≡ false
-unfolding eventful some hasEvent
-none-calm = refl
-
 -- ---- the offers before a step
 
 -- whether one of m offers from octet p on is due at time t
@@ -139,7 +135,7 @@ first-calm : (l : List ℕ) (n m p : ℕ) (a : List ℕ) → Stretches l n m p a
 unfolding untilEvent timesLeft
 first-calm l n m p a =
     let z : n - 0 ≡ n = omega arith in
-    rw (no-lines (replicate 16 noEvents) none-calm (clockAt a - 1), no-late (replicate 16 noEvents) none-calm, z)
+    rw (no-lines (replicate 16 noEvents) none-eventful (clockAt a - 1), no-late (replicate 16 noEvents) none-eventful, z)
 
 module _ (l : List ℕ) (n m p : ℕ) (a : List ℕ) (h : dueAt l m p (clockAt a) ≡ false) (t : clockAt (stepArea a) ≡ clockAt a + 1) where
   -- the step has an event: its lines, and then the rest or the end

@@ -56,7 +56,8 @@ module _ (l b c x : List ℕ) (n k : ℕ) (g h : Progress) (w : Along l n g b) (
   pub along-store : (y v : List ℕ) → length y ≡ length v → length (printed l) ≤ length v → n + length (take (k - 0) x) ≤ length y
   along-store y v p t = omega (arith, along-more l b c x n k g h w o z e .within, part-size x k z)
 
-  pub along-text : (y u v : List ℕ) → u ≡ sets y n (take (k - 0) x) → sets y n (drop n (printed l)) ≡ v → sets u (n + k) (drop (n + k) (printed l)) ≡ v
+  pub along-text : (y u v : List ℕ) → u ≡ sets y n (take (k - 0) x) → sets y n (drop n (printed l)) ≡ v
+      → sets u (n + k) (drop (n + k) (printed l)) ≡ v
   along-text y u v p t =
       ap (λ (m : List ℕ). sets m (n + k) (drop (n + k) (printed l))) p ∙ text-on l x y n k z (along-part l b c x n k g h w o z e) ∙ t
 
@@ -93,7 +94,8 @@ module _ (l a o : List ℕ) where
     unfolding printedInto
     print-over t = let m = leb-false (length (printed l)) (length o) (sym q ∙ not-true b t) in rw (le-ltb (length a) 57344 h, lt-ltb (length o) (length (printed l)) m)
 
-    pub print-whole : (n : ℕ) (m x : List ℕ) → not b ≡ false → n ≡ length (printed l) → x ≡ sets o 0 (printed l) → m ≡ inputCourse l (take (57344 - 0) a) .octets
+    pub print-whole : (n : ℕ) (m x : List ℕ) → not b ≡ false → n ≡ length (printed l) → x ≡ sets o 0 (printed l)
+        → m ≡ inputCourse l (take (57344 - 0) a) .octets
         → print (accepted (n ∷ [])) (putMid 0 (57344 - 0) a m) x ≡ printedInto l a o
     unfolding printedInto
     print-whole n m x t p u v =

@@ -1,5 +1,5 @@
 -- `fast_search::line_rests` meets its contract. Assumes nothing.
-use Rattle.fast_search.specs.SearchLaws.{NoneUsed, used-none, used-more, used-hit, used-end}
+use Rattle.fast_search.specs.SearchLaws.{line-clear, NoneUsed, used-none, used-more, used-hit, used-end}
 use native.Mathlib.Omega.{arith}
 use Prim.Native.Nat.{_≤_, _-_}
 use Rattle.fast_search.proofs.line_rests.Statement.{statement}
@@ -10,6 +10,12 @@ Inv-loop area i t m most s₀ s = (s ≤ most) × NoneUsed area i s
 
 abbrev μ-loop : tie.MeasureT-loop
 μ-loop area i t m most s₀ s = most - s
+
+line-top-requires : tie.Need-line-top-requires Inv-loop μ-loop
+line-top-requires c κs = (omega arith, omega arith)
+
+returns : tie.Need-returns Inv-loop μ-loop
+returns c = search line-clear
 
 smaller-requires : tie.Need-smaller-requires Inv-loop μ-loop
 smaller-requires c κs = tt
@@ -26,8 +32,8 @@ cast-read-symbol c = omega arith
 read-symbol-requires : tie.Need-read-symbol-requires Inv-loop μ-loop
 read-symbol-requires c κs = (omega arith, omega arith)
 
-returns : tie.Need-returns Inv-loop μ-loop
-returns c = search used-hit
+returns-2 : tie.Need-returns-2 Inv-loop μ-loop
+returns-2 c = search used-hit
 
 add-s : tie.Need-add-s Inv-loop μ-loop
 add-s c = omega arith
@@ -38,8 +44,8 @@ loop-less c = omega arith
 loop-again : tie.Need-loop-again Inv-loop μ-loop
 loop-again c = (omega arith, search used-more)
 
-returns-2 : tie.Need-returns-2 Inv-loop μ-loop
-returns-2 c = search used-end
+returns-3 : tie.Need-returns-3 Inv-loop μ-loop
+returns-3 c = search used-end
 
 pub line-rests-spec : {M : Type 1} → statement M
 line-rests-spec =
@@ -47,13 +53,15 @@ line-rests-spec =
     (tie.spec
     Inv-loop
     μ-loop
+    line-top-requires
+    returns
     smaller-requires
     loop-holds
     add-read-symbol
     cast-read-symbol
     read-symbol-requires
-    returns
+    returns-2
     add-s
     loop-less
     loop-again
-    returns-2)
+    returns-3)

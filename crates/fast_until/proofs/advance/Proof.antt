@@ -8,8 +8,8 @@ use Rattle.fast_until.proofs.advance.Tie as tie
 skip-requires : tie.Need-skip-requires
 skip-requires c κs = (omega arith, search left-room, search left-ready)
 
-calmly-requires : tie.Need-calmly-requires
-calmly-requires c κs = search needs
+eventless-requires : tie.Need-eventless-requires
+eventless-requires c κs = search needs
 
 same-length : tie.Need-same-length
 same-length c = search needs
@@ -31,7 +31,7 @@ advance-spec =
     tie.close
     (tie.spec
     skip-requires
-    calmly-requires
+    eventless-requires
     same-length
     returns
     step-requires

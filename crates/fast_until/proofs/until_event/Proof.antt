@@ -44,14 +44,14 @@ loop-less c = omega (arith, onward-some _ _ _ _ _ _ _ (c .before .before .before
 loop-again : tie.Need-loop-again Inv-loop μ-loop
 loop-again c = (onward-within _ _ _ _ _ _ _ (c .before .before .before .before .before .before .advance .ensures) (c .before .before .before .before .before .before .before .before .before .loop .inv .3) (c .before .before .before .before .before .before .before .before .loop-test .taken), omega arith, onward-runs _ _ _ _ _ _ _ (c .before .before .before .before .before .before .advance .ensures) (c .before .before .before .before .before .before .before .before .before .loop .inv .3), onward-on _ _ _ _ _ _ _ (c .before .before .before .before .before .before .advance .ensures) (c .before .before .before .before .before .before .before .before .before .loop .inv .3) _ (c .before .is-eventful .ensures) (c .if1 .left))
 
-calmly-requires : tie.Need-calmly-requires Inv-loop μ-loop
-calmly-requires c κs = tt
+eventless-requires : tie.Need-eventless-requires Inv-loop μ-loop
+eventless-requires c κs = tt
 
 same-length-2 : tie.Need-same-length-2 Inv-loop μ-loop
 same-length-2 c = omega arith
 
 returns-2 : tie.Need-returns-2 Inv-loop μ-loop
-returns-2 c = onward-end _ _ _ _ _ _ (c .before .before .loop .inv .3) (c .before .loop-test .left) (c .calmly .ensures .0) (c .calmly .ensures .1)
+returns-2 c = onward-end _ _ _ _ _ _ (c .before .before .loop .inv .3) (c .before .loop-test .left) (c .eventless .ensures .0) (c .eventless .ensures .1)
 
 pub until-event-spec : {M : Type 1} → statement M
 until-event-spec =
@@ -68,6 +68,6 @@ until-event-spec =
     returns
     loop-less
     loop-again
-    calmly-requires
+    eventless-requires
     same-length-2
     returns-2)

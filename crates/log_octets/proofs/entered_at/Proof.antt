@@ -1,0 +1,62 @@
+-- `log_octets::entered_at` meets its contract. Assumes nothing.
+use borrow.Author.Needs.{needs}
+use Rattle.log_octets.specs.OctetsLaws.{entered-at}
+use Rattle.log_octets.proofs.entered_at.Statement.{statement}
+use Rattle.log_octets.proofs.entered_at.Tie as tie
+
+mul-get32 : tie.Need-mul-get32
+mul-get32 c = search needs
+
+get32-requires : tie.Need-get32-requires
+get32-requires c κs = search needs
+
+mul-wide : tie.Need-mul-wide
+mul-wide c = search needs
+
+add-wide : tie.Need-add-wide
+add-wide c = search needs
+
+shared-slice-read-wide : tie.Need-shared-slice-read-wide
+shared-slice-read-wide c = search needs
+
+wide-requires : tie.Need-wide-requires
+wide-requires c κs = search needs
+
+mul-wide-2 : tie.Need-mul-wide-2
+mul-wide-2 c = search needs
+
+add-wide-2 : tie.Need-add-wide-2
+add-wide-2 c = search needs
+
+shared-slice-read-wide-2 : tie.Need-shared-slice-read-wide-2
+shared-slice-read-wide-2 c = search needs
+
+wide-requires-2 : tie.Need-wide-requires-2
+wide-requires-2 c κs = search needs
+
+event-of-requires : tie.Need-event-of-requires
+event-of-requires c κs = search needs
+
+entered-requires : tie.Need-entered-requires
+entered-requires c κs = search needs
+
+returns : tie.Need-returns
+returns c = search entered-at
+
+pub entered-at-spec : {M : Type 1} → statement M
+entered-at-spec =
+    tie.close
+    (tie.spec
+    mul-get32
+    get32-requires
+    mul-wide
+    add-wide
+    shared-slice-read-wide
+    wide-requires
+    mul-wide-2
+    add-wide-2
+    shared-slice-read-wide-2
+    wide-requires-2
+    event-of-requires
+    entered-requires
+    returns)

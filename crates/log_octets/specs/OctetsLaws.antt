@@ -1,0 +1,131 @@
+-- A law for each way through the code that looks up windows in a log of octets. Assumes nothing.
+use Prim.Native.Nat.{ℕ, zero, suc, _+_, _-_, _*_, _/_, _≤_, _<_}
+use mathlib.Core.Path.{_≡_, refl, sym, _∙_, ap}
+use mathlib.Core.Bool.{Bool, true, false}
+use mathlib.Core.List.{List, [], _∷_}
+use native.Mathlib.Omega.{arith}
+use lib.ListN.{length, getD, drop}
+use borrow.Author.Tests.{ne-eqb}
+use Rattle.octets.specs.Base.{some, outside, doneAnswer, outcome}
+use Rattle.octets.specs.BaseLaws.{some-more, some-hit}
+use Rattle.octets.specs.Number.{get}
+use Rattle.octets.specs.Table.{tabulated}
+use Rattle.octets.specs.declared.Done.{Done}
+use Rattle.octets.specs.declared.Done.the-variants.{Refused}
+use Rattle.log_entry.specs.declared.Entry.{Entry}
+use Rattle.log_entry.specs.declared.Event.{Event}
+use Rattle.log_entry.specs.declared.Event.the-variants.{Collision, Late, Sent, GivenUp, GotOk, GotTooLong, GotAlignment, GotCheck, GotLength}
+use Rattle.log_entry.specs.declared.State.{State}
+use Rattle.log_windows.specs.Grow.{openedOf, enteredOf, over}
+use Rattle.log_closing.specs.Close.{closedOf}
+use Rattle.log_lookup.specs.Lookup.{lookedUp}
+use Rattle.log_lookup.specs.Looked.{looked}
+use Rattle.log_octets.specs.Octets.{eventOf, entryAt, unknownAt, entriesOf, octetsLookedUp}
+
+-- ---- the event of a number
+
+module _ (c : ℕ) where
+  pub event-1 : c ≡ 1 → Collision 0 ≡ eventOf c
+  unfolding eventOf
+  event-1 p = rw p
+
+  pub event-2 : c ≡ 2 → Late 0 ≡ eventOf c
+  unfolding eventOf
+  event-2 p = rw p
+
+  pub event-3 : c ≡ 3 → Sent 0 ≡ eventOf c
+  unfolding eventOf
+  event-3 p = rw p
+
+  pub event-4 : c ≡ 4 → GivenUp 0 ≡ eventOf c
+  unfolding eventOf
+  event-4 p = rw p
+
+  pub event-5 : c ≡ 5 → GotOk 0 ≡ eventOf c
+  unfolding eventOf
+  event-5 p = rw p
+
+  pub event-6 : c ≡ 6 → GotTooLong 0 ≡ eventOf c
+  unfolding eventOf
+  event-6 p = rw p
+
+  pub event-7 : c ≡ 7 → GotAlignment 0 ≡ eventOf c
+  unfolding eventOf
+  event-7 p = rw p
+
+  pub event-8 : c ≡ 8 → GotCheck 0 ≡ eventOf c
+  unfolding eventOf
+  event-8 p = rw p
+
+  pub event-9 : (c ≡ 1 → ⊥) → (c ≡ 2 → ⊥) → (c ≡ 3 → ⊥) → (c ≡ 4 → ⊥) → (c ≡ 5 → ⊥) → (c ≡ 6 → ⊥) → (c ≡ 7 → ⊥)
+      → (c ≡ 8 → ⊥) → GotLength 0 ≡ eventOf c
+  unfolding eventOf
+  event-9 a₁ a₂ a₃ a₄ a₅ a₆ a₇ a₈ = rw (ne-eqb c 1 a₁, ne-eqb c 2 a₂, ne-eqb c 3 a₃, ne-eqb c 4 a₄, ne-eqb c 5 a₅, ne-eqb c 6 a₆, ne-eqb c 7 a₇, ne-eqb c 8 a₈)
+
+-- ---- the search
+
+module _ (l : List ℕ) (m k : ℕ) (c : ℕ) (t : Bool) (p : c ≡ getD l (6 * k + 5) 0) (q : t ≡ outside c 1 9) where
+  pub unknown-more : t ≡ false → some (unknownAt l) k ≡ false → some (unknownAt l) (k + 1) ≡ false
+  unknown-more e s = some-more (unknownAt l) k t (q ∙ ap (λ x. outside x 1 9) p) e s
+
+  pub unknown-hit : k < m → t ≡ true → true ≡ some (unknownAt l) m
+  unknown-hit b e = some-hit (unknownAt l) m k t (q ∙ ap (λ x. outside x 1 9) p) e b
+
+-- ---- one entry more
+
+pub entered-at : (ws l : List ℕ) (s r : State) (k t i c : ℕ) (v : Event) → t ≡ get 4 l (6 * k)
+    → i ≡ getD l (6 * k + 4) 0
+    → c ≡ getD l (6 * k + 5) 0 → v ≡ eventOf c → r ≡ enteredOf ws s (record { time = t; station = i; event = v })
+    → r ≡ enteredOf ws s (entryAt l k)
+unfolding entryAt
+entered-at ws l s r k t i c v p q g h e =
+    e ∙ (λ j. enteredOf ws s (record { time = p j; station = q j; event = (h ∙ ap eventOf g) j }))
+
+-- ---- the loop: what is left to do gives what all of it gives
+
+abbrev pub leftOf : List ℕ → State → List ℕ → ℕ → ℕ → State
+leftOf ws s l m k = over ws s (tabulated (entryAt l) k (m - k))
+
+pub left-first : (ws l : List ℕ) (n : ℕ) (s : State) → s ≡ openedOf n
+    → leftOf ws s l (length l / 6) 0 ≡ over ws (openedOf n) (entriesOf l)
+left-first ws l n s p = let e : length l / 6 - 0 ≡ length l / 6 = omega arith in rw p (ap (λ j. over ws (openedOf n) (tabulated (entryAt l) 0 j)) e)
+
+pub left-more : (ws l : List ℕ) (s r x : State) (m k : ℕ) → k < m → r ≡ enteredOf ws s (entryAt l k)
+    → leftOf ws s l m k ≡ x → leftOf ws r l m (k + 1) ≡ x
+unfolding over
+left-more ws l s r x m k h e p =
+    let a : m - k ≡ suc (m - (k + 1)) = omega arith in
+    let b : k + 1 ≡ suc k = omega arith in
+    ap (λ y. leftOf ws y l m (k + 1)) e
+    ∙ ap (λ j. over ws (enteredOf ws s (entryAt l k)) (tabulated (entryAt l) j (m - (k + 1)))) b
+    ∙ sym (ap (λ j. over ws s (tabulated (entryAt l) k j)) a)
+    ∙ p
+
+left-end : (ws l : List ℕ) (s : State) (m k : ℕ) → m ≤ k → leftOf ws s l m k ≡ s
+unfolding over
+left-end ws l s m k h = let a : m - k ≡ 0 = omega arith in ap (λ j. over ws s (tabulated (entryAt l) k j)) a
+
+-- ---- the answers
+
+pub octets-refused : (n : ℕ) (ws l out : List ℕ) (b : Bool) → b ≡ some (unknownAt l) (length l / 6) → b ≡ true
+    → outcome (doneAnswer (Refused 5)) out ≡ octetsLookedUp n ws l out
+unfolding octetsLookedUp
+octets-refused n ws l out b p e = rw (sym p, e)
+
+length-tabulated : (f : ℕ → Entry) (i n : ℕ) → length (tabulated f i n) ≡ n
+length-tabulated f i zero = refl
+length-tabulated f i (suc n) = ap suc (length-tabulated f (suc i) n)
+
+all-dropped : (es : List Entry) → drop (length es) es ≡ []
+all-dropped [] = refl
+all-dropped (e ∷ es) = all-dropped es
+
+pub octets-made : (n : ℕ) (ws l out new : List ℕ) (s : State) (k m : ℕ) (b : Bool) (r : Done)
+    → outcome (doneAnswer r) new ≡ closedOf ws s out → b ≡ some (unknownAt l) (length l / 6) → b ≡ false → m ≤ k
+    → leftOf ws s l m k ≡ over ws (openedOf n) (entriesOf l)
+    → outcome (doneAnswer r) new ≡ octetsLookedUp n ws l out
+unfolding octetsLookedUp over
+octets-made n ws l out new s k m b r e p f h g =
+    rw (sym p, f)
+    (e ∙ looked ws s (entriesOf l) n (length (entriesOf l)) out (omega arith)
+    (ap (over ws s) (all-dropped (entriesOf l)) ∙ sym (left-end ws l s m k h) ∙ g))

@@ -1,0 +1,83 @@
+// A lookup in a log that is lent as octets, six to an entry: time (4, high octet first), station, event (1 to 9, as
+// document 01 names them). Octets after the last whole entry are not looked at.
+
+use log_entry::Event;
+use log_entry::State;
+use octets::Done;
+ghost use mathlib.Core.Path.{_≡_};
+ghost use Prim.Native.Nat.{_+_, _*_, _≤_, _/_};
+ghost use lib.ListN.{length};
+ghost use Rattle.octets.specs.Base.{some, doneAnswer, outcome};
+ghost use Rattle.log_windows.specs.Grow.{enteredOf};
+ghost use Rattle.log_octets.specs.Octets.{eventOf, entryAt, unknownAt, octetsLookedUp};
+
+// The event of a number.
+fn event_of(c: u32) -> Event
+    ensures { λ r. ⌜ r ≡ eventOf c ⌝ }
+{
+    if c == 1 {
+        return Event::Collision(0);
+    }
+    if c == 2 {
+        return Event::Late(0);
+    }
+    if c == 3 {
+        return Event::Sent(0);
+    }
+    if c == 4 {
+        return Event::GivenUp(0);
+    }
+    if c == 5 {
+        return Event::GotOk(0);
+    }
+    if c == 6 {
+        return Event::GotTooLong(0);
+    }
+    if c == 7 {
+        return Event::GotAlignment(0);
+    }
+    if c == 8 {
+        return Event::GotCheck(0);
+    }
+    Event::GotLength(0)
+}
+
+// Whether some entry's event stands for nothing.
+fn any_unknown(log: &[u8]) -> bool
+    ensures { λ r. ⌜ r ≡ some (unknownAt (now (log .entry))) (length (now (log .entry)) / 6) ⌝ }
+{
+    let m = log.len() / 6;
+    for k in 0..m {
+        if octets::out_of(octets::wide(log[6 * k + 5]), 1, 9) {
+            return true;
+        }
+    }
+    false
+}
+
+// The state after entry k more.
+fn entered_at(s: State, windows: &[u32], log: &[u8], k: usize) -> State
+    requires { ⌜ 6 * k + 6 ≤ length (now log) ⌝ }
+    ensures { λ r. ⌜ r ≡ enteredOf (now (windows .entry)) s (entryAt (now (log .entry)) k) ⌝ }
+{
+    let time = words::get32(log, 6 * k);
+    let station = octets::wide(log[6 * k + 4]);
+    let event = event_of(octets::wide(log[6 * k + 5]));
+    log_windows::entered(s, windows, time, station, event)
+}
+
+// Looks up the windows in the log of n stations, as `log_lookup::look_up` does, with one refusal before all others: 5,
+// where an entry's event stands for nothing.
+pub fn look_up_octets(log: &[u8], n: u32, windows: &[u32], out: &mut [u32]) -> Done
+    ensures { λ r. ⌜ outcome (doneAnswer r) (now (out .exit)) ≡ octetsLookedUp n (now (windows .entry)) (now (log .entry)) (now (out .entry)) ⌝ }
+{
+    if any_unknown(log) {
+        return Done::Refused(5);
+    }
+    let m = log.len() / 6;
+    let mut s = log_windows::opened(n);
+    for k in 0..m {
+        s = entered_at(s, windows, log, k);
+    }
+    log_closing::closed(s, windows, out)
+}

@@ -1,0 +1,4 @@
+pub mod Grow
+pub mod GrowLaws
+pub mod Cells
+pub mod Whole
