@@ -70,7 +70,10 @@ fn rests_all(f: Figures, m: u32, report: bool, s: Station) -> bool
 {
     let d = s.deference;
     let x = s.transmitter;
-    octets::both(!s.emitted, octets::both(m <= fast_rest::frames_rest(f, m, d, x), !report))
+    octets::both(
+        !s.emitted,
+        octets::both(m <= fast_rest::frames_rest(f, m, d, x), !report),
+    )
 }
 
 // One that emits nothing hears others for m steps: none starts.
@@ -102,5 +105,11 @@ fn emits_all(m: u32, heard: bool, s: Station) -> bool
     let x = s.transmitter;
     let r = s.receiver;
     let calm = is_calm(heard, x, r);
-    octets::both(s.emitted, octets::both(is_busy_own(d), octets::both(m <= fast_station::emits_for(s.frame, x), calm)))
+    octets::both(
+        s.emitted,
+        octets::both(
+            is_busy_own(d),
+            octets::both(m <= fast_station::emits_for(s.frame, x), calm),
+        ),
+    )
 }
