@@ -42,7 +42,8 @@ fn busy_rule(own: bool, hears: bool, emitted: bool) -> Deferred
     }
 }
 
-fn goes_back(gap1: u32, count: u32, own: bool, hears: bool) -> bool
+// Whether a gap goes back to busy: others are heard in its first part, and the station did not emit in the stretch.
+pub fn goes_back(gap1: u32, count: u32, own: bool, hears: bool) -> bool
     ensures { λ r. ⌜ r ≡ goesBack gap1 count own hears ⌝ }
 {
     octets::both(hears, octets::both(count < gap1, !own))

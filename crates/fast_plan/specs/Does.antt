@@ -59,7 +59,7 @@ module _ (a : List ℕ) (P : Plan) (K i : ℕ) (H : ℕ → Heard) (same : (s : 
   act-by m h =
       ap₂ (λ (e : Heard) (x : List ℕ). actOn (figuresAt a) (depthAt a) i e x) (same m h) (own-by m (omega arith))
 
-quiet-events : (r : Act) (s : Station) (e : Emission) (o : Stored) → r .outcome ≡ quietly s e o → eventsOf r ≡ noEvents
+pub quiet-events : (r : Act) (s : Station) (e : Emission) (o : Stored) → r .outcome ≡ quietly s e o → eventsOf r ≡ noEvents
 unfolding quietly
 quiet-events r s e o h = ap (λ (c : Stepped). record { sent = c .sent; got = c .got }) h
 
@@ -87,18 +87,16 @@ does-by a P K i H on em st pos few hi room same begins fit address kept step sym
     record {
       only = went-own (countAt a) i few hi st kept K (on K);
       own = own-by a P K i H same K (omega arith) ∙ ap (λ (k : ℕ). byItself f d i H k a) z
-          ∙ goes-on f d i a K (omega arith) room on H em st begins fit address kept step (K - 1) (omega arith)
-          ∙ ap (λ (k : ℕ). wentTo i st k (on k) a) (sym z);
+          ∙ goes-on f d i a K (omega arith) room on H em st begins fit address kept (λ m draw buf h z. step m draw buf h) (K - 1) (omega arith) ∙ ap (λ (k : ℕ). wentTo i st k (on k) a) (sym z);
       emits = λ s h. ap (λ (r : Act). r .symbol) (act-by a P K i H same s h) ∙ symbol s h;
       quiet = λ s h.
           ap eventsOf (act-by a P K i H same s h)
-          ∙ quiet-events (actOn f d i (H s) (byItself f d i H s a)) (on (suc s)) (em s) (st s)
-          (goes-act f d i a K (omega arith) room on H em st begins fit address kept step s h);
+          ∙ quiet-events (actOn f d i (H s) (byItself f d i H s a)) (on (suc s)) (em s) (st s) (goes-act f d i a K (omega arith) room on H em st begins fit address kept (λ m draw buf l z. step m draw buf l) s h);
     }
 
 -- ---- all of them
 
-none-at : (n k : ℕ) → getD (filled noEvents (λ i. noEvents) n) k noEvents ≡ noEvents
+pub none-at : (n k : ℕ) → getD (filled noEvents (λ i. noEvents) n) k noEvents ≡ noEvents
 none-at n k =
     by-test (ltb k n)
     (λ c. filled-at noEvents (λ i. noEvents) n k noEvents (ltb-true k n c))
@@ -106,7 +104,7 @@ none-at n k =
     let z : k ≡ n + (k - n) = omega arith in ap (λ (m : ℕ). getD (filled noEvents (λ i. noEvents) n) m noEvents) z
     ∙ filled-past noEvents (λ i. noEvents) n (k - n))
 
-nothing-tallied : (n m : ℕ) (ws : List ℕ) → tallied (filled noEvents (λ i. noEvents) n) m ws ≡ ws
+pub nothing-tallied : (n m : ℕ) (ws : List ℕ) → tallied (filled noEvents (λ i. noEvents) n) m ws ≡ ws
 unfolding tallied turns sentCounted gotCounted
 nothing-tallied n zero ws = refl
 nothing-tallied n (suc m) ws = rw (none-at n m) (nothing-tallied n m ws)

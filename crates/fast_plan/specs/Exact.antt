@@ -239,12 +239,11 @@ lines-still n k st a P K (suc m) x hm =
 
 -- ---- the stations by themselves
 
-length-own : (a : List ℕ) (P : Plan) (m k : ℕ) (x : List ℕ) → length (ownAll a P m k x) ≡ length x
+pub length-own : (a : List ℕ) (P : Plan) (m k : ℕ) (x : List ℕ) → length (ownAll a P m k x) ≡ length x
 unfolding ownAll
 length-own a P m k x = length-turns _ k x (λ i y. length-itself (figuresAt a) (depthAt a) i (hears a P i) m y)
 
-own-keeps : (p : Part) (a : List ℕ) (P : Plan) (m k : ℕ) (x : List ℕ) → ((j : ℕ) → j < k → Others p j)
-    → Keeps p (ownAll a P m k x) x
+pub own-keeps : (p : Part) (a : List ℕ) (P : Plan) (m k : ℕ) (x : List ℕ) → ((j : ℕ) → j < k → Others p j) → Keeps p (ownAll a P m k x) x
 unfolding ownAll turns
 own-keeps p a P m zero x o = keeps-refl p x
 own-keeps p a P m (suc k) x o =
@@ -275,8 +274,7 @@ own-ahead a P m k x i hi hk = (
   },
 )
 
-own-built : (a : List ℕ) (P : Plan) (m k : ℕ) (i : ℕ) → i < k → k ≤ 16 → 57344 ≤ length a
-    → ((s : ℕ) → s < m → Drawn (stationAt (ownAfter a P i s) i)) → OwnSame i (ownAll a P m k a) (ownAfter a P i m)
+pub own-built : (a : List ℕ) (P : Plan) (m k : ℕ) (i : ℕ) → i < k → k ≤ 16 → 57344 ≤ length a → ((s : ℕ) → s < m → Drawn (stationAt (ownAfter a P i s) i)) → OwnSame i (ownAll a P m k a) (ownAfter a P i m)
 unfolding ownAll turns ownAfter
 own-built a P m zero i hi hk room dr = absurd (omega arith)
 own-built a P m (suc k) i hi hk room dr =
@@ -309,8 +307,7 @@ itself-still n k few st a P i (suc m) x hi =
     (on-kept (figuresAt a) (depthAt a) i (hears a P i m) y)
     ∙ itself-still n k few st a P i m x hi
 
-own-still : (n k : ℕ) (few : n ≤ 16) → Still n k → (a : List ℕ) (P : Plan) (m c : ℕ) (x : List ℕ) → c ≤ n
-    → getD (ownAll a P m c x) k 0 ≡ getD x k 0
+pub own-still : (n k : ℕ) (few : n ≤ 16) → Still n k → (a : List ℕ) (P : Plan) (m c : ℕ) (x : List ℕ) → c ≤ n → getD (ownAll a P m c x) k 0 ≡ getD x k 0
 unfolding ownAll turns
 own-still n k few st a P m zero x hc = refl
 own-still n k few st a P m (suc c) x hc =
@@ -355,19 +352,13 @@ planned-built a P K few room dr =
 
 -- ---- Theorem 1, as octets
 
-pub steps-planned : (a : List ℕ) (P : Plan) (K : ℕ) → 0 < K → Readiness a → clockAt a + K ≤ 16777216 → Holds a P K
-    → steps K a ≡ planned a P K
+pub own-drawn : (a : List ℕ) (P : Plan) (s i : ℕ) → Readiness a → Planned a P s (steps s a) → i < countAt a → Drawn (stationAt (ownAfter a P i s) i)
+own-drawn a P s i r w hi =
+    let few = r .spread .few in
+    subst Drawn (planned-station a (r .spread) P s (steps s a) w i (omega arith) hi) (drawn (steps s a) (w .ready) i (omega (arith, count-by (steps s a) a (w .stays 0 (omega arith) .layout))))
+
+pub steps-planned : (a : List ℕ) (P : Plan) (K : ℕ) → 0 < K → Readiness a → clockAt a + K ≤ 16777216 → Holds a P K → steps K a ≡ planned a P K
 unfolding Holds
 steps-planned a P K pos r early h =
-    left-same-area a P K (steps K a) (planned a P K) (r .spread .few)
-    (planned-left a P K (steps K a) pos (plan-happens a P K r early h))
-    (planned-built a P K (r .spread .few) (r .long)
-    (λ s i hs hi. own-drawn a P s i r (plan-happens a P s r (omega arith) (λ u j hu hj. h u j (omega arith) hj))
-    hi))
-  where
-    own-drawn : (a : List ℕ) (P : Plan) (s i : ℕ) → Readiness a → Planned a P s (steps s a) → i < countAt a
-        → Drawn (stationAt (ownAfter a P i s) i)
-    own-drawn a P s i r w hi =
-        let few = r .spread .few in
-        subst Drawn (planned-station a (r .spread) P s (steps s a) w i (omega arith) hi)
-        (drawn (steps s a) (w .ready) i (omega (arith, count-by (steps s a) a (w .stays 0 (omega arith) .layout))))
+    left-same-area a P K (steps K a) (planned a P K) (r .spread .few) (planned-left a P K (steps K a) pos (plan-happens a P K r early h))
+    (planned-built a P K (r .spread .few) (r .long) (λ s i hs hi. own-drawn a P s i r (plan-happens a P s r (omega arith) (λ u j hu hj. h u j (omega arith) hj)) hi))

@@ -56,19 +56,15 @@ station-stored : (i : ℕ) (o : Stored) (s : Station) (x : List ℕ) → i < 16
 station-stored i NoStore s x hi = refl
 station-stored i (Store k b) s x hi = station-bit x i hi s k b
 
-station-all : (i : ℕ) (st : ℕ → Stored) (m : ℕ) (s : Station) (x : List ℕ) → i < 16
-    → withStation (storedAll i st m x) i s ≡ storedAll i st m (withStation x i s)
+pub station-all : (i : ℕ) (st : ℕ → Stored) (m : ℕ) (s : Station) (x : List ℕ) → i < 16 → withStation (storedAll i st m x) i s ≡ storedAll i st m (withStation x i s)
 unfolding storedAll turns
 station-all i st zero s x hi = refl
 station-all i st (suc m) s x hi =
     station-stored i (st m) s (storedAll i st m x) hi ∙ ap (withStored i (st m)) (station-all i st m s x hi)
 
-module _ (f : Figures) (d i : ℕ) (a : List ℕ) (K : ℕ) (hi : i < 16) (room : 57344 ≤ length a) (on : ℕ → Station)
-    (H : ℕ → Heard) (em : ℕ → Emission) (st : ℕ → Stored)
-    (begins : stationAt a i ≡ on 0) (fit : (m : ℕ) → m ≤ K → Fit (on m))
-    (address : (m : ℕ) → on m .address ≡ addressAt a i) (kept : (m : ℕ) → Kept (st m))
-    (step : (m draw : ℕ) (buf : List ℕ) → m < K → stepped f (on m) d draw buf (H m) ≡ quietly (on (suc m)) (em m)
-    (st m)) where
+module _ (f : Figures) (d i : ℕ) (a : List ℕ) (K : ℕ) (hi : i < 16) (room : 57344 ≤ length a) (on : ℕ → Station) (H : ℕ → Heard) (em : ℕ → Emission) (st : ℕ → Stored)
+    (begins : stationAt a i ≡ on 0) (fit : (m : ℕ) → m ≤ K → Fit (on m)) (address : (m : ℕ) → on m .address ≡ addressAt a i) (kept : (m : ℕ) → Kept (st m))
+    (step : (m draw : ℕ) (buf : List ℕ) → m < K → (m ≡ 0 → buf ≡ bufferAt a i) → stepped f (on m) d draw buf (H m) ≡ quietly (on (suc m)) (em m) (st m)) where
   after : ℕ → List ℕ
   after m = storedAll i st m (withStation a i (on m))
 
@@ -82,35 +78,45 @@ module _ (f : Figures) (d i : ℕ) (a : List ℕ) (K : ℕ) (hi : i < 16) (room 
       (all-keeps (station i) i st m y kept (λ p q. omega arith))
       ∙ station-same a room i (on m) hi (fit m h) (address m)
 
-  outcome-by : (m : ℕ) (x : List ℕ) → m < K → stationAt x i ≡ on m
-      → actOn f d i (H m) x .outcome ≡ quietly (on (suc m)) (em m) (st m)
-  unfolding actOn outcomeOn
-  outcome-by m x h e =
-      ap (λ (s : Station). stepped f s d (drawAt x i (s .draw)) (bufferAt x i) (H m)) e
-      ∙ step m (drawAt x i (on m .draw)) (bufferAt x i) h
+  -- in the first turn the buffer is what it was
+  First : ℕ → List ℕ → Type 0
+  First m x = m ≡ 0 → bufferAt x i ≡ bufferAt a i
 
-  turn-by : (m : ℕ) (x : List ℕ) → m < K → stationAt x i ≡ on m
-      → ownTurn f d i (H m) x ≡ withStored i (st m) (withStation x i (on (suc m)))
+  not-first : (m : ℕ) (x : List ℕ) → First (suc m) x
+  unfolding First
+  not-first m x z = absurd (omega arith)
+
+  is-first : First 0 a
+  unfolding First
+  is-first z = refl
+
+  outcome-by : (m : ℕ) (x : List ℕ) → m < K → stationAt x i ≡ on m → First m x → actOn f d i (H m) x .outcome ≡ quietly (on (suc m)) (em m) (st m)
+  unfolding actOn outcomeOn First
+  outcome-by m x h e z = ap (λ (s : Station). stepped f s d (drawAt x i (s .draw)) (bufferAt x i) (H m)) e ∙ step m (drawAt x i (on m .draw)) (bufferAt x i) h z
+
+  turn-by : (m : ℕ) (x : List ℕ) → m < K → stationAt x i ≡ on m → First m x → ownTurn f d i (H m) x ≡ withStored i (st m) (withStation x i (on (suc m)))
   unfolding ownTurn
-  turn-by m x h e = ap (λ (o : Stepped). ownLeft i o x) (outcome-by m x h e) ∙ quiet-left i (on (suc m)) (em m) (st m) x
+  turn-by m x h e z = ap (λ (o : Stepped). ownLeft i o x) (outcome-by m x h e z) ∙ quiet-left i (on (suc m)) (em m) (st m) x
 
   pub goes-on : (m : ℕ) → suc m ≤ K → byItself f d i H (suc m) a ≡ wentTo i st (suc m) (on (suc m)) a
   unfolding byItself turns storedAll after wentTo
-  goes-on zero h = turn-by 0 a h begins
+  goes-on zero h = turn-by 0 a h begins is-first
   goes-on (suc m) h =
       ap (ownTurn f d i (H (suc m))) (goes-on m (omega arith))
-      ∙ turn-by (suc m) (after (suc m)) h (there (suc m) (omega arith))
+      ∙ turn-by (suc m) (after (suc m)) h (there (suc m) (omega arith)) (not-first m (after (suc m)))
       ∙ ap (withStored i (st (suc m)))
       (station-all i st (suc m) (on (suc (suc m))) (withStation a i (on (suc m))) hi
       ∙ ap (storedAll i st (suc m)) (station-over a i hi (on (suc (suc m))) (on (suc m)) room))
 
-  pub goes-act : (m : ℕ) → m < K
-      → actOn f d i (H m) (byItself f d i H m a) .outcome ≡ quietly (on (suc m)) (em m) (st m)
+  -- the station then
+  pub goes-there : (m : ℕ) → suc m ≤ K → stationAt (byItself f d i H (suc m) a) i ≡ on (suc m)
+  unfolding wentTo after
+  goes-there m h = ap (λ (x : List ℕ). stationAt x i) (goes-on m h) ∙ there (suc m) h
+
+  pub goes-act : (m : ℕ) → m < K → actOn f d i (H m) (byItself f d i H m a) .outcome ≡ quietly (on (suc m)) (em m) (st m)
   unfolding byItself turns after wentTo
-  goes-act zero h = outcome-by 0 a h begins
-  goes-act (suc m) h =
-      ap (λ (x : List ℕ). actOn f d i (H (suc m)) x .outcome) (goes-on m (omega arith))
-      ∙ outcome-by (suc m) (after (suc m)) h (there (suc m) (omega arith))
+  goes-act zero h = outcome-by 0 a h begins is-first
+  goes-act (suc m) h = ap (λ (x : List ℕ). actOn f d i (H (suc m)) x .outcome) (goes-on m (omega arith)) ∙ outcome-by (suc m) (after (suc m)) h (there (suc m) (omega arith)) (not-first m (after (suc m)))
 
   frame-after : (m z : ℕ) → z ≤ 1536 → frameAt (after m) i z ≡ frameAt a i z
   unfolding after
@@ -121,22 +127,17 @@ module _ (f : Figures) (d i : ℕ) (a : List ℕ) (K : ℕ) (hi : i < 16) (room 
       (keeps-trans (frame i) (storedAll i st m y) y a (all-keeps (frame i) i st m y kept (λ p q. omega arith))
       (station-keeps (frame i) a i (on m) (λ p q. omega arith)))
 
-  symbol-by : (m : ℕ) (x : List ℕ) → m < K → stationAt x i ≡ on m
-      → actOn f d i (H m) x .symbol ≡ symbolOf (frameAt x i (octetsHeld (on m .transmitter) (on m .frame))) (em m)
-  unfolding actOn outcomeOn quietly
-  symbol-by m x h e =
-      ap (λ (o : Stepped). symbolOf (frameAt x i (octetsHeld (stationAt x i .transmitter) (stationAt x i .frame)))
-      (o .emission))
-      (ap (λ (s : Station). stepped f s d (drawAt x i (s .draw)) (bufferAt x i) (H m)) e ∙ step m
-      (drawAt x i (on m .draw)) (bufferAt x i) h)
+  symbol-by : (m : ℕ) (x : List ℕ) → m < K → stationAt x i ≡ on m → First m x → actOn f d i (H m) x .symbol ≡ symbolOf (frameAt x i (octetsHeld (on m .transmitter) (on m .frame))) (em m)
+  unfolding actOn outcomeOn quietly First
+  symbol-by m x h e z =
+      ap (λ (o : Stepped). symbolOf (frameAt x i (octetsHeld (stationAt x i .transmitter) (stationAt x i .frame))) (o .emission))
+      (ap (λ (s : Station). stepped f s d (drawAt x i (s .draw)) (bufferAt x i) (H m)) e ∙ step m (drawAt x i (on m .draw)) (bufferAt x i) h z)
       ∙ ap (λ (s : Station). symbolOf (frameAt x i (octetsHeld (s .transmitter) (s .frame))) (em m)) e
 
   pub goes-symbol : (m z : ℕ) → m < K → z ≤ 1536 → octetsHeld (on m .transmitter) (on m .frame) ≡ z
       → actOn f d i (H m) (byItself f d i H m a) .symbol ≡ symbolOf (frameAt a i z) (em m)
   unfolding byItself turns after wentTo
-  goes-symbol zero z h hz e = symbol-by 0 a h begins ∙ ap (λ (w : ℕ). symbolOf (frameAt a i w) (em 0)) e
+  goes-symbol zero z h hz e = symbol-by 0 a h begins is-first ∙ ap (λ (w : ℕ). symbolOf (frameAt a i w) (em 0)) e
   goes-symbol (suc m) z h hz e =
-      ap (λ (x : List ℕ). actOn f d i (H (suc m)) x .symbol) (goes-on m (omega arith))
-      ∙ symbol-by (suc m) (after (suc m)) h (there (suc m) (omega arith))
-      ∙ ap (λ (w : ℕ). symbolOf (frameAt (after (suc m)) i w) (em (suc m))) e
-      ∙ ap (λ (l : List ℕ). symbolOf l (em (suc m))) (frame-after (suc m) z hz)
+      ap (λ (x : List ℕ). actOn f d i (H (suc m)) x .symbol) (goes-on m (omega arith)) ∙ symbol-by (suc m) (after (suc m)) h (there (suc m) (omega arith)) (not-first m (after (suc m)))
+      ∙ ap (λ (w : ℕ). symbolOf (frameAt (after (suc m)) i w) (em (suc m))) e ∙ ap (λ (l : List ℕ). symbolOf l (em (suc m))) (frame-after (suc m) z hz)

@@ -11,6 +11,7 @@ use Rattle.octets.specs.BaseLaws.{by-test, by-eq}
 use Rattle.octets.specs.Turns.{turns}
 use Rattle.packet.specs.declared.Heard.{Heard}
 use Rattle.packet.specs.declared.Heard.the-variants.{Nothing}
+use Rattle.packet.specs.declared.Symbol.{Symbol}
 use Rattle.area.specs.Places.{Part, counters, station, buffer, place, Off, Keeps}
 use Rattle.area.specs.Area.{clockAt, withClock, countAt, spaceAt, heardCode, symbolAt, arrivalAt, withArrival, joined}
 use Rattle.area.specs.AreaLaws.{keeps-refl, keeps-trans, arrival-by, symbol-by, arrival-keeps, symbol-same, code-small, clock-keeps, length-arrival, length-clock}
@@ -63,16 +64,23 @@ module _ (n j : ℕ) (few : n ≤ 16) (hj : j < n) where
   pick-only b U h = by-test b (λ e. subst (λ (c : Bool). LineOnly n j (λ x. pick c x (U x))) (sym e) none-only)
       (λ e. subst (λ (c : Bool). LineOnly n j (λ x. pick c x (U x))) (sym e) h)
 
+  -- places cleared; the symbols of one station; those of the first k; the whole of a line
+  pub clear-only : (t m : ℕ) → LineOnly n j (λ x. cleared t j m x)
+  unfolding cleared
+  clear-only t m = turns-only _ (λ s. one-only (t + s) (λ x. Nothing)) m
+
+  pub way-only : (t d K : ℕ) (Q : ℕ → Symbol) (m : ℕ) → LineOnly n j (λ x. onWay t d K Q j m x)
+  unfolding onWay joinedAt
+  way-only t d K Q m = turns-only _ (λ u. one-only (t + (K - d + u + d)) (λ x. joined (arrivalAt x j (t + (K - d + u + d))) (Q (K - d + u)))) m
+
+  pub ways-only : (a : List ℕ) (P : Plan) (K k : ℕ) → LineOnly n j (λ x. waysTo a P K j k x)
+  unfolding waysTo
+  ways-only a P K k =
+      turns-only _ (λ i. pick-only (eqb i j) (λ x. onWay (clockAt a) (spaceAt a i j) K (P i) j (min (spaceAt a i j) K) x) (way-only (clockAt a) (spaceAt a i j) K (P i) (min (spaceAt a i j) K))) k
+
   pub done-only : (a : List ℕ) (P : Plan) (K : ℕ) → LineOnly n j (λ x. lineDone a P K j x)
-  unfolding lineDone waysTo cleared onWay joinedAt
-  done-only a P K =
-      both-only (λ x. waysTo a P K j (countAt a) x) (λ x. cleared (clockAt a) j (min K 256) x)
-      (turns-only _ (λ i. pick-only (eqb i j)
-      (λ x. onWay (clockAt a) (spaceAt a i j) K (P i) j (min (spaceAt a i j) K) x)
-      (turns-only _ (λ u. one-only (clockAt a + (K - spaceAt a i j + u + spaceAt a i j))
-      (λ x. joined (arrivalAt x j (clockAt a + (K - spaceAt a i j + u + spaceAt a i j)))
-      (P i (K - spaceAt a i j + u)))) (min (spaceAt a i j) K))) (countAt a))
-      (turns-only _ (λ s. one-only (clockAt a + s) (λ x. Nothing)) (min K 256))
+  unfolding lineDone
+  done-only a P K = both-only (λ x. waysTo a P K j (countAt a) x) (λ x. cleared (clockAt a) j (min K 256) x) (ways-only a P K (countAt a)) (clear-only (clockAt a) (min K 256))
 
 -- ---- all lines
 
@@ -83,13 +91,12 @@ module _ (a : List ℕ) (P : Plan) (K : ℕ) (few : countAt a ≤ 16) where
   only : (j : ℕ) → j < countAt a → LineOnly (countAt a) j (λ x. lineDone a P K j x)
   only j hj = done-only (countAt a) j few hj a P K
 
-  done-long : (k : ℕ) (x : List ℕ) → k ≤ countAt a → length (linesDone a P K k x) ≡ length x
+  pub done-long : (k : ℕ) (x : List ℕ) → k ≤ countAt a → length (linesDone a P K k x) ≡ length x
   unfolding linesDone turns
   done-long zero x h = refl
   done-long (suc k) x h = only k h .long (linesDone a P K k x) ∙ done-long k x (omega arith)
 
-  done-keeps : (p : Part) (k : ℕ) (x : List ℕ) → k ≤ countAt a → ((j u : ℕ) → j < k → Off p (place j u))
-      → Keeps p (linesDone a P K k x) x
+  pub done-keeps : (p : Part) (k : ℕ) (x : List ℕ) → k ≤ countAt a → ((j u : ℕ) → j < k → Off p (place j u)) → Keeps p (linesDone a P K k x) x
   unfolding linesDone turns
   done-keeps p zero x h o = keeps-refl p x
   done-keeps p (suc k) x h o =
@@ -97,22 +104,18 @@ module _ (a : List ℕ) (P : Plan) (K : ℕ) (few : countAt a ≤ 16) where
       (only k h .off p (linesDone a P K k x) (λ u. o k u (omega arith)))
       (done-keeps p k x (omega arith) (λ j u l. o j u (omega arith)))
 
-  done-still : (m k : ℕ) (x : List ℕ) → k ≤ countAt a → Still (countAt a) m
-      → getD (linesDone a P K k x) m 0 ≡ getD x m 0
+  pub done-still : (m k : ℕ) (x : List ℕ) → k ≤ countAt a → Still (countAt a) m → getD (linesDone a P K k x) m 0 ≡ getD x m 0
   unfolding linesDone turns
   done-still m zero x h s = refl
   done-still m (suc k) x h s = only k h .still m (linesDone a P K k x) s ∙ done-still m k x (omega arith) s
 
-  done-codes : (k : ℕ) (x : List ℕ) → k ≤ countAt a → 57344 ≤ length x
-      → ((i u : ℕ) → i < countAt a → symbolAt x i u ≤ 4) → (i u : ℕ) → i < countAt a
-      → symbolAt (linesDone a P K k x) i u ≤ 4
+  pub done-codes : (k : ℕ) (x : List ℕ) → k ≤ countAt a → 57344 ≤ length x → ((i u : ℕ) → i < countAt a → symbolAt x i u ≤ 4) → (i u : ℕ) → i < countAt a → symbolAt (linesDone a P K k x) i u ≤ 4
   unfolding linesDone turns
   done-codes zero x h room c = c
   done-codes (suc k) x h room c = only k h .codes (linesDone a P K k x) (omega (arith, done-long k x (omega arith)))
       (done-codes k x (omega arith) room c)
 
-  done-line : (sp : Spread (countAt a) a) (k j v : ℕ) (x : List ℕ) → k ≤ countAt a → j < k → 57344 ≤ length x
-      → ((i u : ℕ) → i < countAt a → arrivalAt x i u ≡ arrivalAt a i u) → K ≤ v → v < K + 256
+  pub done-line : (sp : Spread (countAt a) a) (k j v : ℕ) (x : List ℕ) → k ≤ countAt a → j < k → 57344 ≤ length x → ((i u : ℕ) → i < countAt a → arrivalAt x i u ≡ arrivalAt a i u) → K ≤ v → v < K + 256
       → arrivalAt (linesDone a P K k x) j (clockAt a + v) ≡ lineAfter a P K j v
   unfolding linesDone turns
   done-line sp zero j v x hk hj room same lo up = absurd (omega arith)

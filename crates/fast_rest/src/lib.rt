@@ -27,6 +27,7 @@ pub fn rests_for(f: Figures, d: Deference) -> u32
     }
 }
 
+// The larger of two counts.
 pub fn larger(x: u32, y: u32) -> u32
     ensures { λ r. ⌜ r ≡ max x y ⌝ }
 {
@@ -49,7 +50,7 @@ pub fn frames_rest(f: Figures, m: u32, d: Deference, x: Transmitter) -> u32
 }
 
 // Whether nothing is being received.
-fn is_idle(x: Receiver) -> bool
+pub fn is_idle(x: Receiver) -> bool
     ensures { λ r. ⌜ r ≡ idle x ⌝ }
 {
     match x {
@@ -117,7 +118,8 @@ fn gap_to(f: Figures, own: bool, count: u32, m: u32) -> Deference
     }
 }
 
-fn rest_deference(f: Figures, m: u32, d: Deference) -> Deference
+// A deference after m steps in which nothing is heard.
+pub fn rest_deference(f: Figures, m: u32, d: Deference) -> Deference
     requires { ⌜ f .gap1 + f .gap2 < 65536 ⌝ }
     ensures { λ r. ⌜ r ≡ restedDeference f m d ⌝ }
 {
@@ -133,7 +135,8 @@ fn rest_deference(f: Figures, m: u32, d: Deference) -> Deference
     }
 }
 
-fn rest_transmitter(m: u32, x: Transmitter) -> Transmitter
+// A transmitter after m steps without a start: its backoff runs down.
+pub fn rest_transmitter(m: u32, x: Transmitter) -> Transmitter
     ensures { λ r. ⌜ r ≡ restedTransmitter m x ⌝ }
 {
     match x {
@@ -151,7 +154,8 @@ fn rest_transmitter(m: u32, x: Transmitter) -> Transmitter
     }
 }
 
-fn has_waited(m: u32, x: Transmitter) -> bool
+// Whether a frame waited in one of m steps.
+pub fn has_waited(m: u32, x: Transmitter) -> bool
     ensures { λ r. ⌜ r ≡ hasWaited m x ⌝ }
 {
     match x {

@@ -44,7 +44,7 @@ idle (Collecting n sp own) = false
 unfoldable pub stationRests : Figures → (m : ℕ) → Station → ℕ
 stationRests f m s = pick (s .emitted) 0 (pick (idle (s .receiver)) (framesRest f m (s .deference) (s .transmitter)) 0)
 
-frames-last : (f : Figures) (m K : ℕ) (d : Deference) (x : Transmitter) → 0 < K → K ≤ framesRest f m d x → Lasts f K d x
+pub frames-last : (f : Figures) (m K : ℕ) (d : Deference) (x : Transmitter) → 0 < K → K ≤ framesRest f m d x → Lasts f K d x
 unfolding framesRest
 frames-last f m K d NoFrame p h = tt
 frames-last f m K d Waiting p h = h
@@ -53,7 +53,7 @@ frames-last f m K d (Sending k) p h = absurd (omega arith)
 frames-last f m K d (Heading k) p h = absurd (omega arith)
 frames-last f m K d (Jamming k) p h = absurd (omega arith)
 
-is-idle : (r : Receiver) → idle r ≡ true → Idle r
+pub is-idle : (r : Receiver) → idle r ≡ true → Idle r
 unfolding idle
 is-idle Listening e = tt
 is-idle (Readable n) e = tt

@@ -156,8 +156,7 @@ busy-goes : (f : Figures) (own w : Bool) → defer f (Busy own) false false w �
 unfolding defer busyRule
 busy-goes f own w = refl
 
-defer-goes : (f : Figures) (d : Deference) (m : ℕ) (w : Bool) → 1 ≤ gapOf f → (w ≡ true → m < restsFor f d)
-    → defer f (restedDeference f m d) false false w ≡ to (restedDeference f (suc m) d)
+pub defer-goes : (f : Figures) (d : Deference) (m : ℕ) (w : Bool) → 1 ≤ gapOf f → (w ≡ true → m < restsFor f d) → defer f (restedDeference f m d) false false w ≡ to (restedDeference f (suc m) d)
 unfolding restedDeference restsFor
 defer-goes f Quiet m true g h = absurd (omega (arith, h refl))
 defer-goes f Quiet m false g h = over-quiet f false
@@ -171,8 +170,7 @@ defer-goes f (Gap n own) m w g h =
 -- ---- transmitter
 
 -- in K steps a frame that waits does not start
-waits-rests : (f : Figures) (K m : ℕ) (d : Deference) (x : Transmitter) → Lasts f K d x → m < K
-    → waits (restedTransmitter m x) ≡ true → m < restsFor f d
+pub waits-rests : (f : Figures) (K m : ℕ) (d : Deference) (x : Transmitter) → Lasts f K d x → m < K → waits (restedTransmitter m x) ≡ true → m < restsFor f d
 unfolding restedTransmitter
 waits-rests f K m d NoFrame l h e = absurd (true≢false (sym e))
 waits-rests f K m d Waiting l h e = omega arith
@@ -184,12 +182,29 @@ waits-rests f K m d (Sending k) l h e = absurd l
 waits-rests f K m d (Heading k) l h e = absurd l
 waits-rests f K m d (Jamming k) l h e = absurd l
 
-transmit-goes : (f : Figures) (K m : ℕ) (d : Deference) (x : Transmitter) (z n draw : ℕ) → Lasts f K d x
-    → transmit f (restedTransmitter m x) z n draw false false ≡ resting (restedTransmitter (suc m) x)
+-- no frame goes out
+abbrev pub NoneOut : Transmitter → Type 0
+NoneOut NoFrame = Unit {0}
+NoneOut Waiting = Unit {0}
+NoneOut (BackingOff w) = Unit {0}
+NoneOut (Sending k) = ⊥
+NoneOut (Heading k) = ⊥
+NoneOut (Jamming k) = ⊥
+
+pub lasts-none : (f : Figures) (K : ℕ) (d : Deference) (x : Transmitter) → Lasts f K d x → NoneOut x
+lasts-none f K d NoFrame l = tt
+lasts-none f K d Waiting l = tt
+lasts-none f K d (BackingOff w) l = tt
+lasts-none f K d (Sending k) l = l
+lasts-none f K d (Heading k) l = l
+lasts-none f K d (Jamming k) l = l
+
+-- it does not matter then what is heard
+pub transmit-goes : (f : Figures) (m : ℕ) (x : Transmitter) (z n draw : ℕ) (h : Bool) → NoneOut x → transmit f (restedTransmitter m x) z n draw false h ≡ resting (restedTransmitter (suc m) x)
 unfolding restedTransmitter transmit waitBit backoffBit
-transmit-goes f K m d NoFrame z n draw l = refl
-transmit-goes f K m d Waiting z n draw l = refl
-transmit-goes f K m d (BackingOff w) z n draw l =
+transmit-goes f m NoFrame z n draw h l = refl
+transmit-goes f m Waiting z n draw h l = refl
+transmit-goes f m (BackingOff w) z n draw h l =
     by-test (ltb m w)
     (λ c. let g = ltb-true m w c in
     by-test (ltb (suc m) w)
@@ -197,9 +212,9 @@ transmit-goes f K m d (BackingOff w) z n draw l =
     m = omega arith in rw (c, b, lt-leb (w - m) 1 (omega arith), e))
     (λ b. let k = ltb-false (suc m) w b in rw (c, b, le-leb (w - m) 1 (omega arith))))
     (λ c. let g = ltb-false m w c in rw (c, le-ltb (suc m) w (omega arith)))
-transmit-goes f K m d (Sending k) z n draw l = absurd l
-transmit-goes f K m d (Heading k) z n draw l = absurd l
-transmit-goes f K m d (Jamming k) z n draw l = absurd l
+transmit-goes f m (Sending k) z n draw h l = absurd l
+transmit-goes f m (Heading k) z n draw h l = absurd l
+transmit-goes f m (Jamming k) z n draw h l = absurd l
 
 -- ---- deferred
 
@@ -238,9 +253,8 @@ pub rested-step : (f : Figures) (K m : ℕ) (s : Station) (d draw : ℕ) (buf : 
 unfolding stepped nextStation triesAfter drawAfter deferredAfter quietly rested
 rested-step f K m s d draw buf g l h =
     rw (
-      defer-goes f (s .deference) m (waits (restedTransmitter m (s .transmitter))) g
-          (waits-rests f K m (s .deference) (s .transmitter) (l .lasts) h),
-      transmit-goes f K m (s .deference) (s .transmitter) (s .frame) (s .attempts) draw (l .lasts),
+      defer-goes f (s .deference) m (waits (restedTransmitter m (s .transmitter))) g (waits-rests f K m (s .deference) (s .transmitter) (l .lasts) h),
+      transmit-goes f m (s .transmitter) (s .frame) (s .attempts) draw false (lasts-none f K (s .deference) (s .transmitter) (l .lasts)),
       idle-ends (s .address) buf (s .receiver) false (l .idle),
       waited-more m (s .transmitter),
       deferred-more (s .deferred) (eqb (s .attempts) 0) (hasWaited m (s .transmitter))
@@ -249,7 +263,7 @@ rested-step f K m s d draw buf g l h =
 
 -- ---- where it begins, and its range
 
-rested-gap : (f : Figures) (d : Deference) → GapIn (gapOf f) d → restedDeference f 0 d ≡ d
+pub rested-gap : (f : Figures) (d : Deference) → GapIn (gapOf f) d → restedDeference f 0 d ≡ d
 unfolding restedDeference
 rested-gap f Quiet v = refl
 rested-gap f (Busy own) v = refl
@@ -307,7 +321,7 @@ to-small f own c g =
     (λ b. let h = leb-true c (f .gap1 + f .gap2) b in rw b (omega (arith, g .gap1, g .gap2)))
     (λ b. rw b (omega arith))
 
-count-small : (f : Figures) (m : ℕ) (d : Deference) → Figured f → deferenceCount (restedDeference f m d) < 65536
+pub count-small : (f : Figures) (m : ℕ) (d : Deference) → Figured f → deferenceCount (restedDeference f m d) < 65536
 unfolding restedDeference
 count-small f m Quiet g = omega arith
 count-small f zero (Busy own) g = omega arith

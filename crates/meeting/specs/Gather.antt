@@ -149,3 +149,20 @@ pub gathered-says : (k : ℕ) (c : ℕ → Symbol) → Says k c (gathered k c)
 unfolding gathered
 gathered-says zero c = λ i l. absurd (omega arith)
 gathered-says (suc k) c = says-more k c (gathered k c) (c k) refl (gathered-says k c)
+
+-- two that are not silent are several
+module _ (k : ℕ) (c : ℕ → Symbol) (i l : ℕ) (hi : i < k) (hl : l < k) (ne : i ≡ l → ⊥) (oi : on (c i) ≡ true) (ol : on (c l) ≡ true) where
+  not-one : (s : Symbol) → One k c s → ⊥
+  not-one s v =
+      by-eq i (v .from)
+      (λ z. true≢false (sym ol ∙ ap on (v .rest l hl (λ q. ne (z ∙ sym q)))))
+      (λ z. true≢false (sym oi ∙ ap on (v .rest i hi z)))
+
+  says-several : (h : Heard) → Says k c h → h ≡ Several
+  says-several Nothing v = absurd (true≢false (sym oi ∙ ap on (v i hi)))
+  says-several (Clean b) v = absurd (not-one (Bit b) v)
+  says-several Jammed v = absurd (not-one Jam v)
+  says-several Several v = refl
+
+  pub gathered-two : gathered k c ≡ Several
+  gathered-two = says-several (gathered k c) (gathered-says k c)

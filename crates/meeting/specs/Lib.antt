@@ -1,4 +1,5 @@
 pub mod Net
 pub mod Gather
+pub mod Reach
 pub mod Meet
 pub mod Lines

@@ -59,7 +59,7 @@ fn frame_bit(frame: &[u8], j: usize) -> bool
 }
 
 // Bit k of the packet that carries a frame, counted from 1: 64 header bits, then the frame's.
-fn packet_bit(frame: &[u8], k: u32) -> bool
+pub fn packet_bit(frame: &[u8], k: u32) -> bool
     ensures { λ r. ⌜ r ≡ packetBit (now (frame .entry)) k ⌝ }
 {
     if k <= 62 {

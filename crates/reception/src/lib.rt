@@ -15,7 +15,7 @@ ghost use Rattle.receiver.specs.ReceiveLaws.{gotError};
 ghost use Rattle.receiver.specs.Receive.{rowIn, bitsIn, hear, addressed, openAnswer, opening, deciding, decide, ended, receive};
 
 // Whether the destination that stands in the buffer is the station's own address or broadcast.
-fn is_addressed(address: [u8; 6], buffer: &[u8]) -> bool
+pub fn is_addressed(address: [u8; 6], buffer: &[u8]) -> bool
     requires { ⌜ 6 ≤ length (now buffer) ⌝ }
     ensures { λ r. ⌜ r ≡ addressed address (now (buffer .entry)) ⌝ }
 {

@@ -4,8 +4,8 @@ use mathlib.Core.Path.{_≡_, refl, sym, _∙_, ap, subst}
 use mathlib.Core.Bool.{Bool, true, false}
 use native.Mathlib.Omega.{arith}
 use lib.Dec.{leb, eqb}
-use borrow.Author.Tests.{ne-eqb, eqb-false, leb-true, le-leb}
-use Rattle.octets.specs.BaseLaws.{by-test, by-eq}
+use borrow.Author.Tests.{eqb-false, leb-true}
+use Rattle.octets.specs.BaseLaws.{by-test}
 use Rattle.packet.specs.declared.Heard.{Heard}
 use Rattle.packet.specs.declared.Heard.the-variants.{Nothing, Clean, Jammed, Several}
 use Rattle.packet.specs.declared.Symbol.{Symbol}
@@ -15,7 +15,8 @@ use Rattle.area.specs.Area.{alone}
 use Rattle.trace.specs.Basic.{clash}
 use Rattle.trace.specs.Trace.{Hears}
 use Rattle.meeting.specs.Net.{Net, reaches, heard}
-use Rattle.meeting.specs.Gather.{on, off-is, One, Says, gathered-says, gathered-none, gathered-one}
+use Rattle.meeting.specs.Gather.{on, off-is, One, Says, gathered-says, gathered-none, gathered-one, gathered-two}
+use Rattle.meeting.specs.Reach.{reach-at, reach-none}
 
 -- Of what reaches station j in step u just one symbol, s, is not silence: station `from` emitted it in step `at`.
 pub record Only (n : ℕ) (d : ℕ → ℕ → ℕ) (E : ℕ → ℕ → Symbol) (j u : ℕ) (s : Symbol) : Type 0 where
@@ -35,23 +36,10 @@ pub record Both (n : ℕ) (d : ℕ → ℕ → ℕ) (E : ℕ → ℕ → Symbol)
 
 -- ---- what one station brings
 
-reach-at : (d : ℕ → ℕ → ℕ) (E : ℕ → ℕ → Symbol) (j u i y : ℕ) → (i ≡ j → ⊥) → y + d i j ≡ u → reaches d E j u i ≡ E i y
-unfolding reaches
-reach-at d E j u i y ne w =
-    let z : u - d i j ≡ y = omega arith in rw (ne-eqb i j ne, le-leb (d i j) u (omega arith), z)
-
 pub reaches-same : (d : ℕ → ℕ → ℕ) (E F : ℕ → ℕ → Symbol) (j u i : ℕ) → ((s : ℕ) → (i ≡ j → ⊥) → s + d i j ≡ u → E i s ≡ F i s)
     → reaches d E j u i ≡ reaches d F j u i
 unfolding reaches
 reaches-same d E F j u i h =
-    by-test (eqb i j) (λ e. rw e)
-    (λ e. by-test (leb (d i j) u)
-    (λ f. let q = leb-true (d i j) u f in rw (e, f) (h (u - d i j) (eqb-false i j e) (omega arith)))
-    (λ f. rw (e, f)))
-
-reach-none : (d : ℕ → ℕ → ℕ) (E : ℕ → ℕ → Symbol) (j u i : ℕ) → ((y : ℕ) → (i ≡ j → ⊥) → y + d i j ≡ u → E i y ≡ Silence) → reaches d E j u i ≡ Silence
-unfolding reaches
-reach-none d E j u i h =
     by-test (eqb i j) (λ e. rw e)
     (λ e. by-test (leb (d i j) u)
     (λ f. let q = leb-true (d i j) u f in rw (e, f) (h (u - d i j) (eqb-false i j e) (omega arith)))
@@ -134,21 +122,14 @@ module _ (P : Net) (E : ℕ → ℕ → Symbol) (j u : ℕ) where
   unfolding heard
   nothing-heard h = gathered-none (P .n) (reaches (P .d) E j u) (λ i l. reach-none (P .d) E j u i (λ y ne w. h i y l ne w))
 
-  -- where two reach j it hears no single symbol
-  not-only : (s : Symbol) → Both (P .n) (P .d) E j u → Only (P .n) (P .d) E j u s → ⊥
-  not-only s b v =
-      by-eq (b .one .from) (v .from)
-      (λ z. clash (b .two .on) (ap on (v .rest (b .two .from) (b .two .at) (b .two .station) (b .two .other) (λ q. b .apart (z ∙ sym q)) (b .two .delay))))
-      (λ z. clash (b .one .on) (ap on (v .rest (b .one .from) (b .one .at) (b .one .station) (b .one .other) z (b .one .delay))))
-
-  both-are : (h : Heard) → heard P E j u ≡ h → Both (P .n) (P .d) E j u → h ≡ Several
-  both-are Nothing e b = clash (b .one .on) (ap on (heard-nothing e (b .one .from) (b .one .at) (b .one .station) (b .one .other) (b .one .delay)))
-  both-are (Clean c) e b = absurd (not-only (Bit c) b (heard-clean c e))
-  both-are Jammed e b = absurd (not-only Jam b (heard-jammed e))
-  both-are Several e b = refl
+  -- where two reach j it hears several
+  on-from : (v : Hears (P .n) (P .d) (λ k y. on (E k y)) j u) → on (reaches (P .d) E j u (v .from)) ≡ true
+  on-from v = ap on (reach-at (P .d) E j u (v .from) (v .at) (v .other) (v .delay)) ∙ v .on
 
   pub both-heard : Both (P .n) (P .d) E j u → heard P E j u ≡ Several
-  both-heard b = both-are (heard P E j u) refl b
+  unfolding heard
+  both-heard b =
+      gathered-two (P .n) (reaches (P .d) E j u) (b .one .from) (b .two .from) (b .one .station) (b .two .station) (b .apart) (on-from (b .one)) (on-from (b .two))
 
   -- whether any other is heard
   some-heard : (h : Heard) → hearsAny h ≡ true → heard P E j u ≡ h → Hears (P .n) (P .d) (λ i y. on (E i y)) j u

@@ -16,7 +16,7 @@ ghost use Rattle.pair.specs.InPlace.{Kept};
 ghost use Rattle.pair.specs.Ready.{Able};
 
 // A collected bit is kept.
-fn keep_bit(area: &mut [u8], i: usize, stored: Stored)
+pub fn keep_bit(area: &mut [u8], i: usize, stored: Stored)
     requires { ⌜ (i < 16) × (57344 ≤ length (now area)) × Kept stored ⌝ }
     ensures { λ r. ⌜ now (area .exit) ≡ withStored i stored (now (area .entry)) ⌝ }
 {
@@ -62,7 +62,7 @@ fn has_happened(o: Stepped) -> bool
     octets::either(o.start, octets::either(is_transmit(sent), is_receive(got)))
 }
 
-fn count_step(area: &mut [u8], i: usize, o: Stepped)
+pub fn count_step(area: &mut [u8], i: usize, o: Stepped)
     requires { ⌜ (i < 16) × (57344 ≤ length (now area)) ⌝ }
     ensures { λ r. ⌜ now (area .exit) ≡ withCounted i o (now (area .entry)) ⌝ }
 {

@@ -1,0 +1,4 @@
+pub mod Foresee
+pub mod Bound
+pub mod BoundLaws
+pub mod WindowLaws

@@ -1,0 +1,3 @@
+pub mod Hearing
+pub mod NearLaws
+pub mod HearingLaws

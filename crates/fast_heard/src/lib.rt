@@ -1,0 +1,196 @@
+// What a station hears in the steps ahead while every emitter goes on: the nearest other emitters, and runs of steps in
+// which what it hears is of one kind.
+
+use fast_line::LineRun;
+ghost use mathlib.Core.Path.{_≡_};
+ghost use Prim.Native.Nat.{_+_, _<_, _≤_};
+ghost use lib.ListN.{length};
+ghost use Rattle.area.specs.Area.{positionAt};
+ghost use Rattle.fast_heard.specs.Hearing.{emitsAt, nearer, noted, spaceTo, nearestOf, nearBit, begun, before, lineFrom, RunOf, kindNear, kindHeard, Segmented};
+
+// The nearest other emitter and its distance, and the distance of the second nearest; 256 where there is none.
+pub struct Near {
+    pub from: usize,
+    pub d1: usize,
+    pub d2: usize,
+}
+
+// What a station hears in a run of steps: nothing; clean bits of its line; packet bits of the nearest emitter; jam or
+// several.
+pub enum Kind {
+    Silent,
+    Line,
+    From,
+    Spoiled,
+}
+
+pub struct Segment {
+    pub kind: Kind,
+    pub len: usize,
+}
+
+// With emitter i more, at distance d.
+fn nearer_with(near: Near, i: usize, d: usize) -> Near
+    ensures { λ r. ⌜ r ≡ nearer near i d ⌝ }
+{
+    if d < near.d1 {
+        return Near {
+            from: i,
+            d1: d,
+            d2: near.d1,
+        };
+    }
+    if d < near.d2 {
+        return Near {
+            from: near.from,
+            d1: near.d1,
+            d2: d,
+        };
+    }
+    near
+}
+
+// With station i more, seen from station j, which is at p.
+fn note(area: &[u8], j: usize, p: u32, i: usize, near: Near) -> Near
+    requires { ⌜ (i < 16) × (57344 ≤ length (now area)) × (p ≡ positionAt (now area) j) ⌝ }
+    ensures { λ r. ⌜ r ≡ noted (emitsAt (now (area .entry))) (spaceTo (now (area .entry)) j) j i near ⌝ }
+{
+    if i == j {
+        return near;
+    }
+    let code = area::read_word(area, i, 3);
+    if code < 3 {
+        return near;
+    }
+    let q = area::read_position(area, i);
+    nearer_with(near, i, area::apart(q, p) as usize)
+}
+
+// The emitters nearest to station j, of n stations.
+pub fn nearest(area: &[u8], n: usize, j: usize) -> Near
+    requires { ⌜ (j < 16) × (n ≤ 16) × (57344 ≤ length (now area)) ⌝ }
+    ensures { λ r. ⌜ r ≡ nearestOf (now (area .entry)) n j ⌝ }
+{
+    let p = area::read_position(area, j);
+    let mut near = Near {
+        from: 16,
+        d1: 256,
+        d2: 256,
+    };
+    let mut i: usize = 0;
+    while i < n {
+        near = note(area, j, p, i, near);
+        i += 1;
+    }
+    near
+}
+
+// The next packet bit of the nearest emitter; 0 where there is none, or it jams.
+pub fn near_bit(area: &[u8], near: Near) -> u32
+    requires { ⌜ (57344 ≤ length (now area)) × (near .d1 < 256 → near .from < 16) ⌝ }
+    ensures { λ r. ⌜ r ≡ nearBit (now (area .entry)) near ⌝ }
+{
+    if 256 <= near.d1 {
+        return 0;
+    }
+    let phase = area::read_word(area, near.from, 3);
+    if phase < 3 {
+        return 0;
+    }
+    if 4 < phase {
+        return 0;
+    }
+    area::read_word(area, near.from, 4)
+}
+
+// Whether an emitter at distance d is heard s steps from now.
+fn has_begun(d: usize, s: usize) -> bool
+    ensures { λ r. ⌜ r ≡ begun d s ⌝ }
+{
+    octets::both(d < 256, d <= s)
+}
+
+// Of m steps from s on, those in which it does not change whether an emitter at distance d is heard.
+fn steps_before(d: usize, s: usize, m: usize) -> usize
+    requires { ⌜ 0 < m ⌝ }
+    ensures same { λ r. ⌜ r ≡ before d s m ⌝ }
+    ensures bound { λ r. ⌜ (0 < r) × (r ≤ m) ⌝ }
+{
+    if d <= s {
+        return m;
+    }
+    if d - s < m {
+        return d - s;
+    }
+    m
+}
+
+// The line of station j at step t, from s steps on: it holds nothing after 256 steps.
+fn line_ahead(area: &[u8], j: usize, t: usize, s: usize, m: usize) -> LineRun
+    requires { ⌜ (j < 16) × (57344 ≤ length (now area)) × (t + s + m < 4294967296) × (0 < m) ⌝ }
+    ensures run { λ r. ⌜ RunOf (lineFrom (now (area .entry)) j t) s r ⌝ }
+    ensures bound { λ r. ⌜ (0 < r .len) × (r .len ≤ m) ⌝ }
+{
+    if 256 <= s {
+        return LineRun { kind: 0, len: m };
+    }
+    let most = quick::capped(256 - s, m);
+    fast_line::line_run(area, j, t + s, most)
+}
+
+// The kind of what is heard where the nearest emitter is heard, by the kind of the line and its next packet bit.
+fn kind_near(line: u8, bit: u32) -> Kind
+    ensures { λ r. ⌜ r ≡ kindNear line bit ⌝ }
+{
+    if line != 0 {
+        return Kind::Spoiled;
+    }
+    if bit == 0 {
+        return Kind::Spoiled;
+    }
+    Kind::From
+}
+
+// The kind of what is heard.
+fn kind_heard(line: u8, near: bool, bit: u32) -> Kind
+    ensures { λ r. ⌜ r ≡ kindHeard line near bit ⌝ }
+{
+    if near {
+        return kind_near(line, bit);
+    }
+    if line == 0 {
+        return Kind::Silent;
+    }
+    if line == 1 {
+        return Kind::Line;
+    }
+    Kind::Spoiled
+}
+
+// What station j hears from step s on, counted from step t, where its line stands in the area as it was at t: a run of
+// steps of one kind, at most m. It goes by the line and by the nearest emitters, found at step t, alone.
+pub fn heard_run(
+    area: &[u8],
+    j: usize,
+    t: usize,
+    near: Near,
+    bit: u32,
+    s: usize,
+    m: usize,
+) -> Segment
+    requires { ⌜ (j < 16) × (57344 ≤ length (now area)) × (t + s + m < 4294967296) × (0 < m) ⌝ }
+    ensures says { λ r. ⌜ Segmented (now (area .entry)) j t near bit s r ⌝ }
+    ensures bound { λ r. ⌜ (0 < r .len) × (r .len ≤ m) ⌝ }
+{
+    if has_begun(near.d2, s) {
+        return Segment {
+            kind: Kind::Spoiled,
+            len: m,
+        };
+    }
+    let few = steps_before(near.d1, s, m);
+    let most = steps_before(near.d2, s, few);
+    let run = line_ahead(area, j, t, s, most);
+    let kind = kind_heard(run.kind, has_begun(near.d1, s), bit);
+    Segment { kind, len: run.len }
+}

@@ -1,0 +1,62 @@
+-- A station's delay line over many places: of what kind they are, how long a kind lasts, whether nothing is there; and
+-- the symbols of a station that sends. The laws are in LineLaws. Assumes nothing.
+use Prim.Native.Nat.{ℕ, zero, suc, _+_}
+use mathlib.Core.Bool.{Bool, not}
+use mathlib.Core.List.{List}
+use lib.Dec.{eqb}
+use Rattle.octets.specs.Base.{pick, some}
+use Rattle.packet.specs.declared.Heard.{Heard}
+use Rattle.packet.specs.declared.Heard.the-variants.{Nothing, Clean, Jammed, Several}
+use Rattle.packet.specs.declared.Symbol.{Symbol}
+use Rattle.packet.specs.declared.Symbol.the-variants.{Bit, Jam}
+use Rattle.packet.specs.Packet.{hearsAny, packetBit}
+use Rattle.area.specs.Area.{arrivalAt}
+use Rattle.fast_line.specs.declared.LineRun.{LineRun}
+
+-- ---- kinds
+
+-- 0 nothing, 1 a clean bit, 2 spoiled: jam, or several at once
+abbrev pub kindOf : Heard → ℕ
+kindOf Nothing = 0
+kindOf (Clean b) = 1
+kindOf Jammed = 2
+kindOf Several = 2
+
+unfoldable pub kindAt : List ℕ → (j u : ℕ) → ℕ
+kindAt a j u = kindOf (arrivalAt a j u)
+
+-- the least number below m that passes the test; m where none does
+unfoldable pub firstOf : (ℕ → Bool) → ℕ → ℕ
+firstOf t zero = zero
+firstOf t (suc m) = pick (some t m) (firstOf t m) (pick (t m) m (suc m))
+
+-- whether place u + s is not of kind k
+unfoldable pub otherKind : List ℕ → (j u k s : ℕ) → Bool
+otherKind a j u k s = not (eqb (kindAt a j (u + s)) k)
+
+-- how many of the m places from u on are of kind k, up to the first that is not
+unfoldable pub lasts : List ℕ → (j u k m : ℕ) → ℕ
+lasts a j u k m = firstOf (otherKind a j u k) m
+
+-- the kind of place u, and how many of the m places from there on have it
+unfoldable pub runAt : List ℕ → (j u m : ℕ) → LineRun
+runAt a j u m = record { kind = kindAt a j u; len = lasts a j u (kindAt a j u) m }
+
+-- ---- a whole line
+
+unfoldable pub inUse : List ℕ → (j u : ℕ) → Bool
+inUse a j u = hearsAny (arrivalAt a j u)
+
+-- nothing is on its way to station j
+unfoldable pub isClear : List ℕ → ℕ → Bool
+isClear a j = not (some (inUse a j) 256)
+
+-- ---- what a sender emits
+
+-- the bits of the packet that carries frame f, from bit k on
+unfoldable pub bitsFrom : List ℕ → (k s : ℕ) → Symbol
+bitsFrom f k s = Bit (packetBit f (k + s))
+
+-- jam
+unfoldable pub jams : ℕ → Symbol
+jams s = Jam

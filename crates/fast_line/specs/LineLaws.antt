@@ -1,0 +1,337 @@
+-- Laws of a line over many places: what a kind that lasts says of each place, and one law for each way through the
+-- code. Assumes nothing.
+use Prim.Native.Nat.{ℕ, zero, suc, _+_, _-_, _*_, _/_, _%_, _^_, _≤_, _<_, min}
+use mathlib.Core.Path.{_≡_, refl, sym, _∙_, ap, ap₂}
+use mathlib.Core.Bool.{Bool, true, false, not, _||_, true≢false}
+use mathlib.Core.List.{List}
+use native.Mathlib.Nat.{mod-lt}
+use native.Mathlib.Numerals.{add-one}
+use native.Mathlib.Omega.{arith}
+use borrow.Author.Tests.{eq-eqb, ne-eqb, eqb-true, eqb-false, not-true, not-false}
+use lib.Dec.{eqb}
+use lib.Bits.{bitOr, or-add-and, and-le-l, and-le-r}
+use lib.ListN.{length, getD, set}
+use lib.Seq.{set-getD}
+use Rattle.octets.specs.Base.{some}
+use Rattle.octets.specs.BaseLaws.{by-test, by-eq, neither, none-below, some-hit}
+use Rattle.octets.specs.Store.{length-part}
+use Rattle.octets.specs.Turns.{turns, turns-none, turns-more, turns-end}
+use Rattle.packet.specs.declared.Heard.{Heard}
+use Rattle.packet.specs.declared.Heard.the-variants.{Nothing, Clean, Jammed, Several}
+use Rattle.packet.specs.declared.Symbol.{Symbol}
+use Rattle.packet.specs.declared.Symbol.the-variants.{Silence, Bit}
+use Rattle.packet.specs.Packet.{hearsAny, packetBit}
+use Rattle.packet.specs.PacketLaws.{frame-bit, bit-alternates, bit-delimits, bit-of-frame}
+use Rattle.area.specs.Places.{frame}
+use Rattle.area.specs.Area.{frameAt, heardOf, heardCode, symbolAt, arrivalAt, withArrival, alone, withSymbol}
+use Rattle.area.specs.AreaLaws.{frame-by, arrival-turn}
+use Rattle.area.specs.CodeLaws.{heard-nothing, heard-zero, heard-one, heard-jam, heard-several, joined-code}
+use Rattle.meeting.specs.Gather.{joined-none}
+use Rattle.fast_plan.specs.Push.{cleared, joinedAt, onWay}
+use Rattle.fast_plan.specs.Placed.{way-only}
+use Rattle.fast_line.specs.Line.{kindOf, kindAt, firstOf, otherKind, lasts, runAt, inUse, isClear, bitsFrom, jams}
+
+-- ---- the first that passes a test
+
+module _ (t : ℕ → Bool) where
+  pub first-hit : (m s : ℕ) → s < m → some t s ≡ false → t s ≡ true → s ≡ firstOf t m
+  unfolding firstOf
+  first-hit zero s h n e = absurd (omega arith)
+  first-hit (suc m) s h n e =
+      by-eq s m
+      (λ z. let p : some t m ≡ false = rw z at n in let q : t m ≡ true = rw z at e in rw (p, q) z)
+      (λ z. let p : some t m ≡ true = sym (some-hit t m s (t s) refl e (omega arith)) in rw p (first-hit m s (omega arith) n e))
+
+  first-none : (m : ℕ) → some t m ≡ false → m ≡ firstOf t m
+  unfolding firstOf some
+  first-none zero n = refl
+  first-none (suc m) n = let p = neither (some t m) (t m) n in rw (p .0, p .1)
+
+  pub first-end : (m s : ℕ) → s ≤ m → m ≤ s → some t s ≡ false → s ≡ firstOf t m
+  first-end m s p q n = let e : s ≡ m = omega arith in e ∙ first-none m (rw e at n)
+
+  pub first-before : (m k : ℕ) → k < firstOf t m → t k ≡ false
+  unfolding firstOf some
+  first-before zero k h = absurd (omega arith)
+  first-before (suc m) k h =
+      by-test (some t m)
+      (λ p. first-before m k (rw p at h))
+      (λ p. by-test (t m)
+      (λ q. none-below t m k p (rw (p, q) at h))
+      (λ q. none-below t (suc m) k (rw (p, q)) (rw (p, q) at h)))
+
+  pub first-most : (m : ℕ) → firstOf t m ≤ m
+  unfolding firstOf
+  first-most zero = omega arith
+  first-most (suc m) =
+      by-test (some t m) (λ p. rw p (omega (arith, first-most m))) (λ p. by-test (t m) (λ q. rw (p, q) (omega arith)) (λ q. rw (p, q) (omega arith)))
+
+  first-there : (m : ℕ) → some t m ≡ true → t (firstOf t m) ≡ true
+  unfolding firstOf some
+  first-there zero h = absurd (true≢false (sym h))
+  first-there (suc m) h = by-test (some t m) (λ p. rw p (first-there m p)) (λ p. let q : t m ≡ true = rw p at h in rw (p, q) q)
+
+  pub first-at : (m : ℕ) → firstOf t m < m → t (firstOf t m) ≡ true
+  first-at m h = by-test (some t m) (λ p. first-there m p) (λ p. absurd (omega (arith, first-none m p)))
+
+-- ---- kinds
+
+module _ (c : ℕ) where
+  pub kind-none : c ≡ 0 → 0 ≡ kindOf (heardOf c)
+  kind-none p = ap kindOf (heard-nothing c p)
+
+  pub kind-clean : (c ≡ 0 → ⊥) → c ≤ 2 → 1 ≡ kindOf (heardOf c)
+  kind-clean p q = by-eq c 1 (λ e. ap kindOf (heard-zero c p e)) (λ e. ap kindOf (heard-one c p e (omega (arith, p, e))))
+
+  pub kind-spoiled : 2 < c → 2 ≡ kindOf (heardOf c)
+  kind-spoiled q =
+      let a : (c ≡ 0 → ⊥) = λ e. omega arith in
+      let b : (c ≡ 1 → ⊥) = λ e. omega arith in
+      let d : (c ≡ 2 → ⊥) = λ e. omega arith in
+      by-eq c 3 (λ e. ap kindOf (heard-jam c a b d e)) (λ e. ap kindOf (heard-several c a b d e))
+
+pub kind-nothing : (h : Heard) → kindOf h ≡ 0 → h ≡ Nothing
+kind-nothing Nothing e = refl
+kind-nothing (Clean b) e = absurd (omega (arith, e))
+kind-nothing Jammed e = absurd (omega (arith, e))
+kind-nothing Several e = absurd (omega (arith, e))
+
+pub by-clean : {C : Type 0} (h : Heard) → kindOf h ≡ 1 → ((b : Bool) → h ≡ Clean b → C) → C
+by-clean Nothing e f = absurd (omega (arith, e))
+by-clean (Clean b) e f = f b refl
+by-clean Jammed e f = absurd (omega (arith, e))
+by-clean Several e f = absurd (omega (arith, e))
+
+pub by-spoiled : {C : Type 0} (h : Heard) → kindOf h ≡ 2 → (h ≡ Jammed → C) → (h ≡ Several → C) → C
+by-spoiled Nothing e f g = absurd (omega (arith, e))
+by-spoiled (Clean b) e f g = absurd (omega (arith, e))
+by-spoiled Jammed e f g = f refl
+by-spoiled Several e f g = g refl
+
+-- ---- how long a kind lasts
+
+module _ (a : List ℕ) (j u : ℕ) where
+  -- each of these places is of that kind; and the next one is not
+  pub lasts-each : (k m s : ℕ) → s < lasts a j u k m → kindAt a j (u + s) ≡ k
+  unfolding lasts otherKind
+  lasts-each k m s h = eqb-true (kindAt a j (u + s)) k (not-false _ (first-before (otherKind a j u k) m s h))
+
+  pub lasts-other : (k m : ℕ) → lasts a j u k m < m → kindAt a j (u + lasts a j u k m) ≡ k → ⊥
+  unfolding lasts otherKind
+  lasts-other k m h = eqb-false (kindAt a j (u + lasts a j u k m)) k (not-true _ (first-at (otherKind a j u k) m h))
+
+  read-kind : (x c s : ℕ) → x ≡ kindOf (heardOf c) → c ≡ symbolAt a j (u + s) → kindAt a j (u + s) ≡ x
+  unfolding kindAt arrivalAt
+  read-kind x c s ex ec = sym (ex ∙ ap (λ (y : ℕ). kindOf (heardOf y)) ec)
+
+  pub lasts-more : (k s x c : ℕ) → x ≡ kindOf (heardOf c) → c ≡ symbolAt a j (u + s) → x ≡ k → some (otherKind a j u k) s ≡ false → some (otherKind a j u k) (s + 1) ≡ false
+  unfolding some otherKind
+  lasts-more k s x c ex ec ek n = rw (add-one s, n, eq-eqb (kindAt a j (u + s)) k (read-kind x c s ex ec ∙ ek))
+
+  pub lasts-hit : (k m s x c : ℕ) → x ≡ kindOf (heardOf c) → c ≡ symbolAt a j (u + s) → (x ≡ k → ⊥) → s < m → some (otherKind a j u k) s ≡ false → s ≡ lasts a j u k m
+  unfolding lasts otherKind
+  lasts-hit k m s x c ex ec ne h n =
+      first-hit (otherKind a j u k) m s h n (ap not (ne-eqb (kindAt a j (u + s)) k (λ z. ne (sym (read-kind x c s ex ec) ∙ z))))
+
+  pub lasts-end : (k m s : ℕ) → s ≤ m → m ≤ s → some (otherKind a j u k) s ≡ false → s ≡ lasts a j u k m
+  unfolding lasts
+  lasts-end k m s p q n = first-end (otherKind a j u k) m s p q n
+
+  here : (x c : ℕ) → x ≡ kindOf (heardOf c) → c ≡ symbolAt a j u → x ≡ kindAt a j u
+  unfolding kindAt arrivalAt
+  here x c ex ec = ex ∙ ap (λ (y : ℕ). kindOf (heardOf y)) ec
+
+  pub run-is : (m x c l : ℕ) → l ≡ lasts a j u x m → x ≡ kindOf (heardOf c) → c ≡ symbolAt a j u → record { kind = x; len = l } ≡ runAt a j u m
+  unfolding runAt
+  run-is m x c l el ex ec =
+      let e : x ≡ kindAt a j u = here x c ex ec in
+      λ i. record { kind = e i; len = (el ∙ ap (λ (k : ℕ). lasts a j u k m) e) i }
+
+  pub run-some : (m x c l : ℕ) → l ≡ lasts a j u x m → x ≡ kindOf (heardOf c) → c ≡ symbolAt a j u → 0 < m → 0 < l
+  run-some m x c l el ex ec h =
+      by-eq l 0
+      (λ z. let o : lasts a j u x m ≡ 0 = sym el ∙ z in
+      let w : u + lasts a j u x m ≡ u = omega arith in
+      absurd (lasts-other x m (omega arith) (ap (kindAt a j) w ∙ sym (here x c ex ec))))
+      (λ z. omega (arith, z))
+
+-- ---- a whole line
+
+used-code : (c : ℕ) → hearsAny (heardOf c) ≡ not (eqb c 0)
+unfolding heardOf
+used-code c =
+    by-test (eqb c 0) (λ p. rw p)
+    (λ p. by-test (eqb c 1) (λ q. rw (p, q))
+    (λ q. by-test (eqb c 2) (λ r. rw (p, q, r)) (λ r. by-test (eqb c 3) (λ z. rw (p, q, r, z)) (λ z. rw (p, q, r, z)))))
+
+or-over : (x c : ℕ) → not (eqb (bitOr x c) 0) ≡ (not (eqb x 0) || not (eqb c 0))
+or-over x c =
+    let s = or-add-and x c in
+    let l = and-le-l x c in
+    let r = and-le-r x c in
+    by-eq x 0
+    (λ p. by-eq c 0
+    (λ q. rw (eq-eqb (bitOr x c) 0 (omega arith), eq-eqb x 0 p, eq-eqb c 0 q))
+    (λ q. rw (ne-eqb (bitOr x c) 0 (λ z. q (omega arith)), eq-eqb x 0 p, ne-eqb c 0 q)))
+    (λ p. rw (ne-eqb (bitOr x c) 0 (λ z. p (omega arith)), ne-eqb x 0 p))
+
+not-not : (b : Bool) → not (not b) ≡ b
+not-not true = refl
+not-not false = refl
+
+unused : (h : Heard) → hearsAny h ≡ false → h ≡ Nothing
+unused Nothing e = refl
+unused (Clean b) e = absurd (true≢false e)
+unused Jammed e = absurd (true≢false e)
+unused Several e = absurd (true≢false e)
+
+module _ (a : List ℕ) (j : ℕ) where
+  pub clear-none : some (inUse a j) 0 ≡ not (eqb 0 0)
+  unfolding some
+  clear-none = refl
+
+  pub clear-more : (u c x : ℕ) → c ≡ symbolAt a j u → some (inUse a j) u ≡ not (eqb x 0) → some (inUse a j) (u + 1) ≡ not (eqb (bitOr x c) 0)
+  unfolding some inUse arrivalAt
+  clear-more u c x ec h = rw (add-one u, h, ← ec, used-code c) (sym (or-over x c))
+
+  pub clear-end : (u x : ℕ) → u ≤ 256 → 256 ≤ u → some (inUse a j) u ≡ not (eqb x 0) → eqb x 0 ≡ isClear a j
+  unfolding isClear
+  clear-end u x p q h = let e : u ≡ 256 = omega arith in let g : some (inUse a j) 256 ≡ not (eqb x 0) = rw e at h in sym (ap not g ∙ not-not (eqb x 0))
+
+  -- nothing at any place
+  pub clear-line : isClear a j ≡ true → (u : ℕ) → arrivalAt a j u ≡ Nothing
+  unfolding isClear inUse
+  clear-line h u =
+      arrival-turn a j u (u % 256) (omega arith)
+      ∙ unused (arrivalAt a j (u % 256)) (none-below (inUse a j) 256 (u % 256) (not-true _ h) (omega arith))
+
+-- ---- places cleared
+
+module _ (t j : ℕ) (x : List ℕ) where
+  pub cleared-none : x ≡ cleared t j 0 x
+  unfolding cleared
+  cleared-none = turns-none _ x
+
+  pub cleared-more : (s : ℕ) (y z : List ℕ) → z ≡ withArrival y j (t + s) Nothing → y ≡ cleared t j s x → z ≡ cleared t j (s + 1) x
+  unfolding cleared
+  cleared-more s y z p q = turns-more _ s x y z p q
+
+  pub cleared-end : (m s : ℕ) (y : List ℕ) → s ≤ m → m ≤ s → y ≡ cleared t j s x → y ≡ cleared t j m x
+  unfolding cleared
+  cleared-end m s y p q r = turns-end _ m s x y p q r
+
+-- ---- the code of a packet's bit
+
+digit-code : (v : ℕ) (b : Bool) → v < 2 → eqb v 1 ≡ b → v + 1 ≡ heardCode (alone (Bit b))
+digit-code v b h e =
+    by-eq v 1
+    (λ z. let g : true ≡ b = sym (eq-eqb v 1 z) ∙ e in rw (z, ← g))
+    (λ z. let y : v ≡ 0 = omega (arith, z) in let g : false ≡ b = sym (ne-eqb v 1 z) ∙ e in rw (y, ← g))
+
+bit-sounds : (b : Bool) → heardCode (alone (Bit b)) ≡ 0 → ⊥
+bit-sounds true e = omega (arith, e)
+bit-sounds false e = omega (arith, e)
+
+module _ (f : List ℕ) (k : ℕ) where
+  pub code-alternates : k ≤ 62 → k % 2 + 1 ≡ heardCode (alone (Bit (packetBit f k)))
+  code-alternates h = digit-code (k % 2) (packetBit f k) (omega arith) (bit-alternates f k h)
+
+  pub code-delimits : 62 < k → k ≤ 64 → 2 ≡ heardCode (alone (Bit (packetBit f k)))
+  code-delimits h g = ap (λ (b : Bool). heardCode (alone (Bit b))) (bit-delimits f k h g)
+
+  pub code-of-frame : (x : ℕ) → x ≡ getD f ((k - 65) / 8) 0 → 64 < k → k < 65 + 8 * length f
+      → x / 2 ^ ((k - 65) % 8) % 2 + 1 ≡ heardCode (alone (Bit (packetBit f k)))
+  code-of-frame x e lo up =
+      let j = k - 65 in
+      digit-code (x / 2 ^ (j % 8) % 2) (packetBit f k) (mod-lt (x / 2 ^ (j % 8)) (omega arith))
+      (bit-of-frame f k _ lo (frame-bit f j x e (omega arith)))
+
+-- ---- symbols put
+
+module _ (t d K : ℕ) (Q : ℕ → Symbol) (j : ℕ) (x : List ℕ) where
+  pub way-none : x ≡ onWay t d K Q j 0 x
+  unfolding onWay
+  way-none = turns-none _ x
+
+  way-more : (s f c : ℕ) (y z : List ℕ) → z ≡ withSymbol y j (t + (f + s + d)) c → c ≡ heardCode (alone (Q (f + s))) → (c ≡ 0 → ⊥) → f ≡ K - d → y ≡ onWay t d K Q j s x
+      → z ≡ onWay t d K Q j (s + 1) x
+  unfolding onWay joinedAt
+  way-more s f c y z ez ec ne ef ey =
+      turns-more _ s x y z (ez ∙ joined-code y j (t + (f + s + d)) (Q (f + s)) c ec ne ∙ ap (λ (g : ℕ). joinedAt j (t + (g + s + d)) (Q (g + s)) y) ef) ey
+
+  pub way-end : (m s : ℕ) (y : List ℕ) → y ≡ onWay t d K Q j s x → s ≤ m → m ≤ s → m ≡ min d K → y ≡ onWay t d K Q j (min d K) x
+  unfolding onWay
+  way-end m s y r p q e = turns-end _ (min d K) s x y (omega arith) (omega arith) r
+
+-- symbols put change no frame
+module _ (t d K : ℕ) (Q : ℕ → Symbol) (j : ℕ) (x : List ℕ) (s i n : ℕ) (y : List ℕ) (ey : y ≡ onWay t d K Q j s x) (hj : j < 16) (hi : i < 16) (hn : n ≤ 1536) (room : 57344 ≤ length x) where
+  way-frame : frameAt y i n ≡ frameAt x i n
+  way-frame =
+      let o = way-only 16 j (omega arith) hj t d K Q s in
+      let l : length y ≡ length x = ap length ey ∙ o .long x in
+      frame-by y x i n hi hn (omega arith) room (rw ey (o .off (frame i) x (λ u p q. omega arith)))
+
+  -- and a bit of it that is put is one of the packet's
+  pub way-bit : (F : List ℕ) (k f m : ℕ) → F ≡ frameAt y i n → s < m → m ≡ min d K → f ≡ K - d → k + K ≤ 65 + 8 * n → k + (f + s) < 65 + 8 * length F
+  unfolding frameAt
+  way-bit F k f m e hs em ef hk =
+      let l : length y ≡ length x = ap length ey ∙ way-only 16 j (omega arith) hj t d K Q s .long x in
+      let z : length F ≡ n = ap length e ∙ length-part y (8192 + 1536 * i) n (omega arith) in
+      omega arith
+
+pub bits-more : (t d K i n k j : ℕ) (x : List ℕ) (s f c : ℕ) (F y z : List ℕ) → z ≡ withSymbol y j (t + (f + s + d)) c → c ≡ heardCode (alone (Bit (packetBit F (k + (f + s))))) → F ≡ frameAt y i n
+    → f ≡ K - d → y ≡ onWay t d K (bitsFrom (frameAt x i n) k) j s x → j < 16 → i < 16 → n ≤ 1536 → 57344 ≤ length x → z ≡ onWay t d K (bitsFrom (frameAt x i n) k) j (s + 1) x
+unfolding bitsFrom
+bits-more t d K i n k j x s f c F y z ez ec eF ef ey hj hi hn room =
+    let G = frameAt x i n in
+    let e : F ≡ G = eF ∙ way-frame t d K (bitsFrom G k) j x s i n y ey hj hi hn room in
+    let g : c ≡ heardCode (alone (Bit (packetBit G (k + (f + s))))) = ec ∙ ap (λ (h : List ℕ). heardCode (alone (Bit (packetBit h (k + (f + s)))))) e in
+    way-more t d K (bitsFrom G k) j x s f c y z ez g (λ w. bit-sounds (packetBit G (k + (f + s))) (sym g ∙ w)) ef ey
+
+pub jam-more : (t d K j : ℕ) (x : List ℕ) (s f : ℕ) (y z : List ℕ) → z ≡ withSymbol y j (t + (f + s + d)) 3 → f ≡ K - d → y ≡ onWay t d K jams j s x → z ≡ onWay t d K jams j (s + 1) x
+unfolding jams
+jam-more t d K j x s f y z ez ef ey = way-more t d K jams j x s f 3 y z ez refl (λ w. omega (arith, w)) ef ey
+
+-- only what is emitted matters
+pub way-same : (t d K : ℕ) (Q R : ℕ → Symbol) (j m : ℕ) (x : List ℕ) → m ≤ min d K → ((s : ℕ) → s < K → Q s ≡ R s) → onWay t d K Q j m x ≡ onWay t d K R j m x
+unfolding onWay turns
+way-same t d K Q R j zero x h e = refl
+way-same t d K Q R j (suc m) x h e =
+    ap₂ (λ (q : Symbol) (y : List ℕ). joinedAt j (t + (K - d + m + d)) q y) (e (K - d + m) (omega arith)) (way-same t d K Q R j m x (omega arith) e)
+
+-- ---- what changes nothing, where the codes are those of what is heard
+
+code-back : (c : ℕ) → c ≤ 4 → heardCode (heardOf c) ≡ c
+code-back c h =
+    by-eq c 0 (λ p. ap heardCode (sym (heard-nothing c p)) ∙ sym p)
+    (λ p. by-eq c 1 (λ q. ap heardCode (sym (heard-zero c p q)) ∙ sym q)
+    (λ q. by-eq c 2 (λ r. ap heardCode (sym (heard-one c p q r)) ∙ sym r)
+    (λ r. by-eq c 3 (λ z. ap heardCode (sym (heard-jam c p q r z)) ∙ sym z) (λ z. ap heardCode (sym (heard-several c p q r z)) ∙ sym (last c h (p, q, r, z))))))
+  where
+    last : (c : ℕ) → c ≤ 4 → (c ≡ 0 → ⊥) × (c ≡ 1 → ⊥) × (c ≡ 2 → ⊥) × (c ≡ 3 → ⊥) → c ≡ 4
+    last c h n = omega (arith, n .0, n .1, n .2, n .3)
+
+-- what is there, put again
+put-back : (x : List ℕ) (j u : ℕ) → symbolAt x j u ≤ 4 → withArrival x j u (arrivalAt x j u) ≡ x
+unfolding withArrival arrivalAt symbolAt
+put-back x j u h = ap (set x (4096 + 256 * j + u % 256)) (code-back (getD x (4096 + 256 * j + u % 256) 0) h) ∙ set-getD x (4096 + 256 * j + u % 256) 0
+
+-- silence
+pub way-silent : (t d K : ℕ) (Q : ℕ → Symbol) (j m : ℕ) (x : List ℕ) → m ≤ min d K → ((s : ℕ) → s < K → Q s ≡ Silence) → ((u : ℕ) → symbolAt x j u ≤ 4) → onWay t d K Q j m x ≡ x
+unfolding onWay turns joinedAt
+way-silent t d K Q j zero x h e codes = refl
+way-silent t d K Q j (suc m) x h e codes =
+    let u = t + (K - d + m + d) in
+    ap (λ (y : List ℕ). joinedAt j u (Q (K - d + m)) y) (way-silent t d K Q j m x (omega arith) e codes)
+    ∙ ap (λ (q : Symbol). joinedAt j u q x) (e (K - d + m) (omega arith))
+    ∙ ap (withArrival x j u) (joined-none (arrivalAt x j u))
+    ∙ put-back x j u (codes u)
+
+-- places that hold nothing, cleared
+pub cleared-same : (t j m : ℕ) (x : List ℕ) → ((s : ℕ) → s < m → arrivalAt x j (t + s) ≡ Nothing) → ((u : ℕ) → symbolAt x j u ≤ 4) → cleared t j m x ≡ x
+unfolding cleared turns
+cleared-same t j zero x e codes = refl
+cleared-same t j (suc m) x e codes =
+    ap (λ (y : List ℕ). withArrival y j (t + m) Nothing) (cleared-same t j m x (λ s h. e s (omega arith)) codes)
+    ∙ ap (withArrival x j (t + m)) (sym (e m (omega arith)))
+    ∙ put-back x j (t + m) (codes (t + m))

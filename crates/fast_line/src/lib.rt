@@ -1,0 +1,150 @@
+// A station's delay line over many places at once: what it holds, places cleared, symbols put.
+// Above this crate nobody knows how a place is kept.
+
+use packet::Heard;
+ghost use mathlib.Core.Path.{_≡_};
+ghost use Prim.Native.Nat.{_+_, _*_, _<_, _≤_, min};
+ghost use lib.ListN.{length};
+ghost use Rattle.packet.specs.declared.Symbol.the-variants.{Bit};
+ghost use Rattle.packet.specs.Packet.{packetBit};
+ghost use Rattle.area.specs.Area.{heardOf, heardCode, alone, frameAt};
+ghost use Rattle.fast_plan.specs.Push.{cleared, onWay};
+ghost use Rattle.fast_line.specs.Line.{kindOf, lasts, runAt, isClear, bitsFrom, jams};
+
+// Places of one kind, and how many: 0 nothing, 1 clean bits, 2 spoiled.
+pub struct LineRun {
+    pub kind: u8,
+    pub len: usize,
+}
+
+// Whether nothing is on its way to station j. The codes are put together without a branch: many are looked at at once.
+pub fn is_clear(area: &[u8], j: usize) -> bool
+    requires { ⌜ (j < 16) × (57344 ≤ length (now area)) ⌝ }
+    ensures { λ r. ⌜ r ≡ isClear (now (area .entry)) j ⌝ }
+{
+    let mut all: u8 = 0;
+    let mut u: usize = 0;
+    while u < 256 {
+        all = all | delay::read_symbol(area, j, u);
+        u += 1;
+    }
+    all == 0
+}
+
+fn kind_of(code: u8) -> u8
+    ensures { λ r. ⌜ r ≡ kindOf (heardOf code) ⌝ }
+{
+    if code == 0 {
+        return 0;
+    }
+    if code <= 2 {
+        return 1;
+    }
+    2
+}
+
+// How many of the m places from u on are of this kind, up to the first that is not.
+fn lasting(area: &[u8], j: usize, u: usize, kind: u8, m: usize) -> usize
+    requires { ⌜ (j < 16) × (57344 ≤ length (now area)) × (u + m < 4294967296) ⌝ }
+    ensures same { λ r. ⌜ r ≡ lasts (now (area .entry)) j u kind m ⌝ }
+    ensures bound { λ r. ⌜ r ≤ m ⌝ }
+{
+    let mut s: usize = 0;
+    while s < m {
+        let k = kind_of(delay::read_symbol(area, j, u + s));
+        if k != kind {
+            return s;
+        }
+        s += 1;
+    }
+    s
+}
+
+// How many of the m places from u on hold nothing, up to the first in use.
+pub fn first_use(area: &[u8], j: usize, u: usize, m: usize) -> usize
+    requires { ⌜ (j < 16) × (57344 ≤ length (now area)) × (u + m < 4294967296) ⌝ }
+    ensures first { λ r. ⌜ r ≡ lasts (now (area .entry)) j u 0 m ⌝ }
+    ensures bound { λ r. ⌜ r ≤ m ⌝ }
+{
+    lasting(area, j, u, 0, m)
+}
+
+// The kind of place u, and how many of the m places from there on have it.
+pub fn line_run(area: &[u8], j: usize, u: usize, m: usize) -> LineRun
+    requires { ⌜ (j < 16) × (57344 ≤ length (now area)) × (u + m < 4294967296) × (0 < m) ⌝ }
+    ensures run { λ r. ⌜ r ≡ runAt (now (area .entry)) j u m ⌝ }
+    ensures bound { λ r. ⌜ (0 < r .len) × (r .len ≤ m) ⌝ }
+{
+    let kind = kind_of(delay::read_symbol(area, j, u));
+    let len = lasting(area, j, u, kind, m);
+    LineRun { kind, len }
+}
+
+// The m places of station j from step t on become nothing.
+pub fn clear(area: &mut [u8], j: usize, t: usize, m: usize)
+    requires { ⌜ (j < 16) × (57344 ≤ length (now area)) × (t + m < 4294967296) ⌝ }
+    ensures { λ r. ⌜ now (area .exit) ≡ cleared t j m (now (area .entry)) ⌝ }
+{
+    let mut s: usize = 0;
+    while s < m {
+        delay::put_arrival(area, j, t + s, Heard::Nothing);
+        s += 1;
+    }
+}
+
+// The code of bit k of the packet that carries a frame. Reckoned and not chosen: a choice by a frame's bits is foreseen
+// wrong half the time.
+fn bit_code(frame: &[u8], k: usize) -> u8
+    requires { ⌜ k < 65 + 8 * length (now frame) ⌝ }
+    ensures { λ r. ⌜ r ≡ heardCode (alone (Bit (packetBit (now (frame .entry)) k))) ⌝ }
+{
+    if k <= 62 {
+        return (k % 2 + 1) as u8;
+    }
+    if k <= 64 {
+        return 2;
+    }
+    let j = k - 65;
+    let place = (j % 8) as u32;
+    let x = octets::wide(frame[j / 8]);
+    ((x >> place) % 2 + 1) as u8
+}
+
+// Station i, at distance d, sends the bits of the packet that carries its frame, from bit k on, in `steps` steps from t
+// on: those that are still on their way then are put on the line of station j.
+pub fn push_bits(
+    area: &mut [u8],
+    j: usize,
+    t: usize,
+    d: usize,
+    steps: usize,
+    i: usize,
+    octets: usize,
+    k: usize,
+)
+    requires { ⌜ (j < 16) × (i < 16) × (octets ≤ 1536) × (57344 ≤ length (now area)) × (t + steps + d < 4294967296) × (k + steps ≤ 65 + 8 * octets) ⌝ }
+    ensures { λ r. ⌜ now (area .exit) ≡ onWay t d steps (bitsFrom (frameAt (now (area .entry)) i octets) k) j (min d steps) (now (area .entry)) ⌝ }
+{
+    let m = quick::capped(d, steps);
+    let from = steps - m;
+    let mut put: usize = 0;
+    while put < m {
+        let code = bit_code(buffers::frame(area, i, octets), k + (from + put));
+        delay::add_symbol(area, j, t + (from + put + d), code);
+        put += 1;
+    }
+}
+
+// The same where it jams.
+pub fn push_jam(area: &mut [u8], j: usize, t: usize, d: usize, steps: usize)
+    requires { ⌜ (j < 16) × (57344 ≤ length (now area)) × (t + steps + d < 4294967296) ⌝ }
+    ensures { λ r. ⌜ now (area .exit) ≡ onWay t d steps jams j (min d steps) (now (area .entry)) ⌝ }
+{
+    let m = quick::capped(d, steps);
+    let from = steps - m;
+    let mut s: usize = 0;
+    while s < m {
+        delay::add_symbol(area, j, t + (from + s + d), 3);
+        s += 1;
+    }
+}

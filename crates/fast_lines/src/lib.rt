@@ -1,0 +1,134 @@
+// What a window of many steps leaves in the delay lines: the places of its steps are cleared, and the symbols that are
+// still on their way are put.
+
+ghost use mathlib.Core.Path.{_≡_};
+ghost use Prim.Native.Nat.{ℕ, _+_, _<_, _≤_, min};
+ghost use lib.ListN.{length};
+ghost use Rattle.area.specs.Area.{symbolAt};
+ghost use Rattle.fast_plan.specs.Push.{cleared, waysTo, lineDone};
+ghost use Rattle.fast_plan.specs.Placed.{linesDone};
+ghost use Rattle.fast_lines.specs.Lines.{emitterAt, emittersOf, planBy, Pushes, pushedFrom, Settles};
+
+// What a station emits in a window. Kind 0: nothing. Kind 1: its packet's bits from `bit` on, of the frame of so many
+// octets. Kind 2: jam.
+pub struct Emitter {
+    pub kind: u8,
+    pub bit: u32,
+    pub octets: u32,
+}
+
+// What station i is about to emit.
+fn read_emitter(area: &[u8], i: usize) -> Emitter
+    requires { ⌜ (i < 16) × (57344 ≤ length (now area)) ⌝ }
+    ensures { λ r. ⌜ r ≡ emitterAt (now (area .entry)) i ⌝ }
+{
+    let phase = area::read_word(area, i, 3);
+    if phase < 3 {
+        return Emitter {
+            kind: 0,
+            bit: 0,
+            octets: 0,
+        };
+    }
+    if 4 < phase {
+        return Emitter {
+            kind: 2,
+            bit: 0,
+            octets: 0,
+        };
+    }
+    let bit = area::read_word(area, i, 4);
+    let octets = area::read_word(area, i, 9);
+    Emitter {
+        kind: 1,
+        bit,
+        octets,
+    }
+}
+
+// What the first n stations are about to emit: to be taken before the stations move on.
+pub fn emitters(area: &[u8], n: usize) -> [Emitter; 16]
+    requires { ⌜ (n ≤ 16) × (57344 ≤ length (now area)) ⌝ }
+    ensures { λ r. ⌜ r ≡ emittersOf (now (area .entry)) n ⌝ }
+{
+    let silent = Emitter {
+        kind: 0,
+        bit: 0,
+        octets: 0,
+    };
+    let mut all = [silent; 16];
+    let mut i: usize = 0;
+    while i < n {
+        let e = read_emitter(area, i);
+        all[i] = e;
+        i += 1;
+    }
+    all
+}
+
+// Puts the symbols of station i that are on their way to station j after so many steps from t on.
+fn push_from(area: &mut [u8], j: usize, t: usize, steps: usize, i: usize, e: Emitter)
+    requires { ⌜ Pushes j t steps i e (now area) ⌝ }
+    ensures { λ r. ⌜ now (area .exit) ≡ pushedFrom j t steps i e (now (area .entry)) ⌝ }
+{
+    if i == j {
+        return;
+    }
+    if e.kind == 0 {
+        return;
+    }
+    let p = area::read_position(area, i);
+    let q = area::read_position(area, j);
+    let d = area::apart(p, q) as usize;
+    if e.kind == 1 {
+        fast_line::push_bits(area, j, t, d, steps, i, e.octets as usize, e.bit as usize);
+        return;
+    }
+    fast_line::push_jam(area, j, t, d, steps);
+}
+
+// Clears the places of so many steps from t on, all 256 at most. A line that holds nothing is left alone.
+fn clear_line(area: &mut [u8], j: usize, t: usize, steps: usize)
+    requires { ⌜ (j < 16) × (57344 ≤ length (now area)) × (t ≤ 16777216) × ((u : ℕ) → symbolAt (now area) j u ≤ 4) ⌝ }
+    ensures { λ r. ⌜ now (area .exit) ≡ cleared t j (min steps 256) (now (area .entry)) ⌝ }
+{
+    if fast_line::is_clear(area, j) {
+        return;
+    }
+    let m = quick::capped(steps, 256);
+    fast_line::clear(area, j, t, m);
+}
+
+// Puts the symbols of all stations that are on their way to station j.
+fn push_all(area: &mut [u8], n: usize, j: usize, t: usize, steps: usize, from: [Emitter; 16])
+    requires { ⌜ (j < n) × Settles n t steps from (now area) ⌝ }
+    ensures { λ r. ⌜ now (area .exit) ≡ waysTo (now (area .entry)) (planBy (now (area .entry)) from) steps j n (now (area .entry)) ⌝ }
+{
+    let mut i: usize = 0;
+    while i < n {
+        let e = from[i];
+        push_from(area, j, t, steps, i, e);
+        i += 1;
+    }
+}
+
+// The line of station j.
+fn settle_line(area: &mut [u8], n: usize, j: usize, t: usize, steps: usize, from: [Emitter; 16])
+    requires { ⌜ (j < n) × Settles n t steps from (now area) ⌝ }
+    ensures { λ r. ⌜ now (area .exit) ≡ lineDone (now (area .entry)) (planBy (now (area .entry)) from) steps j (now (area .entry)) ⌝ }
+{
+    clear_line(area, j, t, steps);
+    push_all(area, n, j, t, steps, from);
+}
+
+// The lines of all n stations after so many steps from t on in which each emits what `from` says.
+pub fn settle_lines(area: &mut [u8], n: usize, t: usize, steps: usize, from: [Emitter; 16])
+    requires { ⌜ Settles n t steps from (now area) ⌝ }
+    ensures { λ r. ⌜ now (area .exit) ≡ linesDone (now (area .entry)) (planBy (now (area .entry)) from) steps n (now (area .entry)) ⌝ }
+{
+    let mut j: usize = 0;
+    while j < n {
+        settle_line(area, n, j, t, steps, from);
+        j += 1;
+    }
+}

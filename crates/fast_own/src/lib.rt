@@ -1,0 +1,41 @@
+// The turn of one station by itself, on what it is told that it hears: no line is read or written.
+
+use layout::Figures;
+use packet::Heard;
+use station::Stepped;
+ghost use mathlib.Core.Path.{_≡_};
+ghost use Prim.Native.Nat.{_<_, _≤_};
+ghost use lib.ListN.{length};
+ghost use Rattle.pair.specs.InPlace.{Kept};
+ghost use Rattle.pair.specs.Ready.{Able};
+ghost use Rattle.fast_plan.specs.Own.{outcomeOn, ownLeft, ownTurn};
+
+// What station i does on hearing h.
+fn outcome(area: &[u8], f: Figures, depth: u32, i: usize, h: Heard) -> Stepped
+    requires { ⌜ (i < 16) × (57344 ≤ length (now area)) × Able f (now area) i ⌝ }
+    ensures { λ r. ⌜ r ≡ outcomeOn f depth i h (now (area .entry)) ⌝ }
+{
+    let s = area::read_station(area, i);
+    let draw = area::read_draw(area, i, s.draw as usize);
+    stepping::step(f, s, depth, draw, buffers::buffer(area, i), h)
+}
+
+// What it leaves of its own: its record, its counters, the bit that it collected.
+fn leave(area: &mut [u8], i: usize, o: Stepped)
+    requires { ⌜ (i < 16) × (57344 ≤ length (now area)) × Kept (o .stored) ⌝ }
+    ensures { λ r. ⌜ now (area .exit) ≡ ownLeft i o (now (area .entry)) ⌝ }
+{
+    let next = o.station;
+    let stored = o.stored;
+    area::write_station(area, i, next);
+    turn::count_step(area, i, o);
+    turn::keep_bit(area, i, stored);
+}
+
+pub fn turn_alone(area: &mut [u8], f: Figures, depth: u32, i: usize, h: Heard)
+    requires { ⌜ (i < 16) × (57344 ≤ length (now area)) × Able f (now area) i ⌝ }
+    ensures { λ r. ⌜ now (area .exit) ≡ ownTurn f depth i h (now (area .entry)) ⌝ }
+{
+    let o = outcome(area, f, depth, i, h);
+    leave(area, i, o);
+}

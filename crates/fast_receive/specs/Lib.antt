@@ -1,0 +1,6 @@
+pub mod Received
+pub mod ReceivedLaws
+pub mod Copy
+pub mod Zeros
+pub mod CodeLaws
+pub mod EndLaws

@@ -1,0 +1,376 @@
+// A receiver over many steps in each of which others are heard: it looks for the delimiter, then collects; the bits are stored in the area.
+
+use state::Receiver;
+ghost use mathlib.Core.Path.{_≡_};
+ghost use Prim.Native.Nat.{_+_, _-_, _*_, _/_, _%_, _<_, _≤_};
+ghost use lib.ListN.{length};
+ghost use Rattle.receiver.specs.Receive.{rowIn, bitsIn, hear, addressed};
+ghost use Rattle.area.specs.Area.{addressAt, bufferAt};
+ghost use Rattle.state.specs.declared.Receiver.the-variants.{Collecting};
+ghost use Rattle.fast_receive.specs.Received.{taken, stepTaken, heardAll, spoils, lineFrom, bitsFrom, AllHeard, copied, mayReport};
+ghost use Rattle.fast_receive.specs.Zeros.{lowKept, blanks, zeroedUpTo};
+
+// A receiver after so many steps.
+struct Part {
+    receiver: Receiver,
+    steps: u32,
+}
+
+// ---- one step after the other
+
+// A step in which others are heard.
+fn hear_one(area: &mut [u8], j: usize, r: Receiver, clean: bool, one: bool, e: bool) -> Receiver
+    requires { ⌜ (j < 16) × (57344 ≤ length (now area)) × (rowIn r < 512) × (bitsIn r < 4294967295) ⌝ }
+    ensures heard { λ q. ⌜ taken q (now (area .exit)) ≡ stepTaken j (hear r clean one e) (now (area .entry)) ⌝ }
+    ensures range { λ q. ⌜ (rowIn q < 512) × (bitsIn q ≤ bitsIn r + 1) ⌝ }
+{
+    let o = receiver::hear(r, clean, one, e);
+    let next = o.receiver;
+    let stored = o.stored;
+    turn::keep_bit(area, j, stored);
+    next
+}
+
+// Station j hears for m steps what its line holds from step u on; e: whether it emits in them.
+pub fn hear_line(area: &mut [u8], j: usize, u: usize, e: bool, r: Receiver, m: u32) -> Receiver
+    requires { ⌜ (j < 16) × (57344 ≤ length (now area)) × (u + m < 4294967296) × (rowIn r < 512) × (bitsIn r + m < 4294967296) × AllHeard (lineFrom (now area) j u) m ⌝ }
+    ensures heard { λ q. ⌜ taken q (now (area .exit)) ≡ heardAll j e (lineFrom (now (area .entry)) j u) m (taken r (now (area .entry))) ⌝ }
+    ensures range { λ q. ⌜ (rowIn q < 512) × (bitsIn q ≤ bitsIn r + m) ⌝ }
+{
+    let mut q = r;
+    let mut s: u32 = 0;
+    while s < m {
+        let code = delay::read_symbol(area, j, u + s as usize);
+        q = hear_one(area, j, q, code <= 2, code == 2, e);
+        s += 1;
+    }
+    q
+}
+
+// Station j hears for m steps the packet that carries a frame, from its bit a on.
+fn hear_bits(
+    area: &mut [u8],
+    j: usize,
+    frame: &[u8],
+    a: u32,
+    e: bool,
+    r: Receiver,
+    m: u32,
+) -> Receiver
+    requires { ⌜ (j < 16) × (57344 ≤ length (now area)) × (a + m < 4294967296) × (rowIn r < 512) × (bitsIn r + m < 4294967296) ⌝ }
+    ensures heard { λ q. ⌜ taken q (now (area .exit)) ≡ heardAll j e (bitsFrom (now (frame .entry)) a) m (taken r (now (area .entry))) ⌝ }
+    ensures range { λ q. ⌜ (rowIn q < 512) × (bitsIn q ≤ bitsIn r + m) ⌝ }
+{
+    let mut q = r;
+    let mut s: u32 = 0;
+    while s < m {
+        let one = packet::packet_bit(frame, a + s);
+        q = hear_one(area, j, q, true, one, e);
+        s += 1;
+    }
+    q
+}
+
+// ---- whole octets of a packet
+
+// Whether collected bit n and packet bit a each begin an octet.
+fn begins_octet(r: Receiver, a: u32) -> bool {
+    match r {
+        Receiver::Listening => false,
+        Receiver::Readable(_) => false,
+        Receiver::Seeking {
+            row: _,
+            spoiled: _,
+            own: _,
+        } => false,
+        Receiver::Collecting {
+            bits,
+            spoiled: _,
+            own: _,
+        } => octets::both(64 < a, octets::both(bits % 8 == 0, a % 8 == 1)),
+    }
+}
+
+// The same as hear_bits, up to where an octet begins, at most m steps.
+fn hear_to_octet(
+    area: &mut [u8],
+    j: usize,
+    frame: &[u8],
+    a: u32,
+    e: bool,
+    r: Receiver,
+    m: u32,
+) -> Part
+    requires { ⌜ (j < 16) × (57344 ≤ length (now area)) × (a + m < 4294967296) × (rowIn r < 512) × (bitsIn r + m < 4294967296) ⌝ }
+    ensures heard { λ p. ⌜ taken (p .receiver) (now (area .exit)) ≡ heardAll j e (bitsFrom (now (frame .entry)) a) (p .steps) (taken r (now (area .entry))) ⌝ }
+    ensures range { λ p. ⌜ (p .steps ≤ m) × (rowIn (p .receiver) < 512) × (bitsIn (p .receiver) ≤ bitsIn r + p .steps) ⌝ }
+{
+    let mut q = r;
+    let mut s: u32 = 0;
+    while s < m {
+        if begins_octet(q, a + s) {
+            return Part {
+                receiver: q,
+                steps: s,
+            };
+        }
+        let one = packet::packet_bit(frame, a + s);
+        q = hear_one(area, j, q, true, one, e);
+        s += 1;
+    }
+    Part {
+        receiver: q,
+        steps: s,
+    }
+}
+
+// Octets q, q + 1, .. of what station j collected are n octets of the frame, from octet p on.
+fn copy_octets(area: &mut [u8], j: usize, frame: &[u8], q: usize, p: usize, n: usize)
+    requires { ⌜ (j < 16) × (57344 ≤ length (now area)) × (q + n ≤ 1518) × (p + n ≤ length (now frame)) ⌝ }
+    ensures { λ r. ⌜ now (area .exit) ≡ copied j q p n (now (frame .entry)) (now (area .entry)) ⌝ }
+{
+    let mut k: usize = 0;
+    while k < n {
+        buffers::write_octet(area, j, q + k, frame[p + k]);
+        k += 1;
+    }
+}
+
+// The least of the octets that m bits have, that the frame has from octet p on, and that the buffer has from octet q on.
+fn octets_left(size: usize, q: usize, p: usize, m: u32) -> usize
+    ensures { λ r. ⌜ (8 * r ≤ m) × (r ≤ size - p) × (r ≤ 1518 - q) ⌝ }
+{
+    if size <= p {
+        return 0;
+    }
+    if 1518 <= q {
+        return 0;
+    }
+    quick::capped((m / 8) as usize, quick::capped(size - p, 1518 - q))
+}
+
+// A receiver that has taken no step.
+fn stay(bits: u32, spoiled: bool, own: bool) -> Part
+    ensures { λ t. ⌜ (t .receiver ≡ Collecting bits spoiled own) × (t .steps ≡ 0) ⌝ }
+{
+    Part {
+        receiver: Receiver::Collecting { bits, spoiled, own },
+        steps: 0,
+    }
+}
+
+// Station j collects whole octets of a packet from its bit a on, where an octet begins; at most m steps.
+fn collect_octets(
+    area: &mut [u8],
+    j: usize,
+    frame: &[u8],
+    a: u32,
+    e: bool,
+    bits: u32,
+    spoiled: bool,
+    own: bool,
+    m: u32,
+) -> Part
+    requires { ⌜ (j < 16) × (57344 ≤ length (now area)) × (a + m < 4294967296) × (bits + m < 4294967296) ⌝ }
+    ensures heard { λ t. ⌜ taken (t .receiver) (now (area .exit)) ≡ heardAll j e (bitsFrom (now (frame .entry)) a) (t .steps) (taken (Collecting bits spoiled own) (now (area .entry))) ⌝ }
+    ensures range { λ t. ⌜ (t .steps ≤ m) × (rowIn (t .receiver) < 512) × (bitsIn (t .receiver) ≤ bits + t .steps) ⌝ }
+{
+    if a < 65 {
+        return stay(bits, spoiled, own);
+    }
+    if (a - 65) % 8 != 0 {
+        return stay(bits, spoiled, own);
+    }
+    if bits % 8 != 0 {
+        return stay(bits, spoiled, own);
+    }
+    let p = ((a - 65) / 8) as usize;
+    let q = (bits / 8) as usize;
+    let n = octets_left(frame.len(), q, p, m);
+    if n == 0 {
+        return stay(bits, spoiled, own);
+    }
+    copy_octets(area, j, frame, q, p, n);
+    let steps = (8 * n) as u32;
+    Part {
+        receiver: Receiver::Collecting {
+            bits: bits + steps,
+            spoiled,
+            own: octets::either(own, e),
+        },
+        steps,
+    }
+}
+
+// The same for any receiver.
+fn hear_octets(
+    area: &mut [u8],
+    j: usize,
+    frame: &[u8],
+    a: u32,
+    e: bool,
+    r: Receiver,
+    m: u32,
+) -> Part
+    requires { ⌜ (j < 16) × (57344 ≤ length (now area)) × (a + m < 4294967296) × (rowIn r < 512) × (bitsIn r + m < 4294967296) ⌝ }
+    ensures heard { λ t. ⌜ taken (t .receiver) (now (area .exit)) ≡ heardAll j e (bitsFrom (now (frame .entry)) a) (t .steps) (taken r (now (area .entry))) ⌝ }
+    ensures range { λ t. ⌜ (t .steps ≤ m) × (rowIn (t .receiver) < 512) × (bitsIn (t .receiver) ≤ bitsIn r + t .steps) ⌝ }
+{
+    let Receiver::Collecting { bits, spoiled, own } = r else {
+        return Part {
+            receiver: r,
+            steps: 0,
+        };
+    };
+    collect_octets(area, j, frame, a, e, bits, spoiled, own, m)
+}
+
+// Station j hears for m steps the packet that carries a frame, from its bit a on; e: whether it emits in them.
+pub fn hear_packet(
+    area: &mut [u8],
+    j: usize,
+    frame: &[u8],
+    a: u32,
+    e: bool,
+    r: Receiver,
+    m: u32,
+) -> Receiver
+    requires { ⌜ (j < 16) × (57344 ≤ length (now area)) × (a + m < 4294967296) × (rowIn r < 512) × (bitsIn r + m < 4294967296) ⌝ }
+    ensures heard { λ q. ⌜ taken q (now (area .exit)) ≡ heardAll j e (bitsFrom (now (frame .entry)) a) m (taken r (now (area .entry))) ⌝ }
+    ensures range { λ q. ⌜ (rowIn q < 512) × (bitsIn q ≤ bitsIn r + m) ⌝ }
+{
+    let h = hear_to_octet(area, j, frame, a, e, r, m);
+    let k = h.steps;
+    let x = h.receiver;
+    let c = hear_octets(area, j, frame, a + k, e, x, m - k);
+    let n = k + c.steps;
+    let y = c.receiver;
+    hear_bits(area, j, frame, a + n, e, y, m - n)
+}
+
+// ---- spoiled symbols
+
+// The low p bits of octet q of what station j collected stay, the others are 0.
+fn keep_low(area: &mut [u8], j: usize, q: usize, p: usize)
+    requires { ⌜ (j < 16) × (57344 ≤ length (now area)) × (q < 1518) × (p < 8) ⌝ }
+    ensures { λ r. ⌜ now (area .exit) ≡ lowKept j q p (now (area .entry)) ⌝ }
+{
+    let b = buffers::buffer(area, j);
+    let old = octets::wide(b[q]);
+    let unit = buffers::power(p);
+    let low = buffers::low_bits(old, p, unit);
+    buffers::write_octet(area, j, q, low as u8);
+}
+
+// The n octets behind octet q of what station j collected become 0.
+fn blank_octets(area: &mut [u8], j: usize, q: usize, n: usize)
+    requires { ⌜ (j < 16) × (57344 ≤ length (now area)) × (q + n < 1518) ⌝ }
+    ensures { λ r. ⌜ now (area .exit) ≡ blanks j q n (now (area .entry)) ⌝ }
+{
+    let mut k: usize = 0;
+    while k < n {
+        buffers::write_octet(area, j, q + (k + 1), 0);
+        k += 1;
+    }
+}
+
+// Collected bits c, c + 1, .. of station j are m zeros; those past what the buffer holds are not kept.
+fn store_zeros(area: &mut [u8], j: usize, c: usize, m: usize)
+    requires { ⌜ (j < 16) × (57344 ≤ length (now area)) × (0 < m) ⌝ }
+    ensures { λ r. ⌜ now (area .exit) ≡ zeroedUpTo j c m (now (area .entry)) ⌝ }
+{
+    if 12144 <= c {
+        return;
+    }
+    let n = quick::capped(m, 12144 - c);
+    keep_low(area, j, c / 8, c % 8);
+    blank_octets(area, j, c / 8, (c + n - 1) / 8 - c / 8);
+}
+
+// Station j hears m symbols that are spoiled; e: whether it emits in these steps.
+pub fn hear_spoiled(area: &mut [u8], j: usize, e: bool, r: Receiver, m: u32) -> Receiver
+    requires { ⌜ (j < 16) × (57344 ≤ length (now area)) × (rowIn r < 512) × (bitsIn r + m < 4294967296) ⌝ }
+    ensures heard { λ q. ⌜ taken q (now (area .exit)) ≡ heardAll j e spoils m (taken r (now (area .entry))) ⌝ }
+    ensures range { λ q. ⌜ (rowIn q < 512) × (bitsIn q ≤ bitsIn r + m) ⌝ }
+{
+    if m == 0 {
+        return r;
+    }
+    match r {
+        Receiver::Listening => Receiver::Seeking {
+            row: 1,
+            spoiled: true,
+            own: e,
+        },
+        Receiver::Readable(_) => Receiver::Seeking {
+            row: 1,
+            spoiled: true,
+            own: e,
+        },
+        Receiver::Seeking {
+            row: _,
+            spoiled: _,
+            own,
+        } => Receiver::Seeking {
+            row: 1,
+            spoiled: true,
+            own: octets::either(own, e),
+        },
+        Receiver::Collecting {
+            bits,
+            spoiled: _,
+            own,
+        } => {
+            store_zeros(area, j, bits as usize, m as usize);
+            Receiver::Collecting {
+                bits: bits + m,
+                spoiled: true,
+                own: octets::either(own, e),
+            }
+        }
+    }
+}
+
+// ---- the end of a reception
+
+// Whether the destination that station j collected is its own address or broadcast.
+fn has_destination(area: &[u8], j: usize) -> bool
+    requires { ⌜ (j < 16) × (57344 ≤ length (now area)) ⌝ }
+    ensures { λ b. ⌜ b ≡ addressed (addressAt (now (area .entry)) j) (bufferAt (now (area .entry)) j) ⌝ }
+{
+    let address = area::read_address(area, j);
+    let b = buffers::buffer(area, j);
+    reception::is_addressed(address, b)
+}
+
+// Whether the reception of station j, in which others are heard for at most `more` steps from now on, could be opened when it ends.
+pub fn may_report(area: &[u8], j: usize, r: Receiver, more: u32) -> bool
+    requires { ⌜ (j < 16) × (57344 ≤ length (now area)) × (bitsIn r + more < 4294967296) ⌝ }
+    ensures { λ b. ⌜ b ≡ mayReport (addressAt (now (area .entry)) j) (bufferAt (now (area .entry)) j) more r ⌝ }
+{
+    match r {
+        Receiver::Listening => 512 <= more,
+        Receiver::Readable(_) => 512 <= more,
+        Receiver::Seeking {
+            row: _,
+            spoiled: _,
+            own,
+        } => octets::both(512 <= more, !own),
+        Receiver::Collecting {
+            bits,
+            spoiled: _,
+            own,
+        } => {
+            if bits + more < 512 {
+                return false;
+            }
+            if own {
+                return false;
+            }
+            if bits < 48 {
+                return true;
+            }
+            has_destination(area, j)
+        }
+    }
+}

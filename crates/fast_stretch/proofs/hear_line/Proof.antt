@@ -1,0 +1,34 @@
+-- `fast_stretch::hear_line` meets its contract. Assumes nothing.
+use Rattle.fast_stretch.specs.StretchLaws.{stretch-heard, gap-room, number-room, row-room, bits-room}
+use borrow.Author.Needs.{needs}
+use Rattle.fast_stretch.proofs.hear_line.Statement.{statement}
+use Rattle.fast_stretch.proofs.hear_line.Tie as tie
+
+read-station-requires : tie.Need-read-station-requires
+read-station-requires c κs = search needs
+
+hear-line-requires : tie.Need-hear-line-requires
+hear-line-requires c κs = (search needs, search needs, search needs, search row-room, search bits-room, search needs)
+
+move-on-requires : tie.Need-move-on-requires
+move-on-requires c κs = (search gap-room, search number-room)
+
+write-station-requires : tie.Need-write-station-requires
+write-station-requires c κs = search needs
+
+same-length : tie.Need-same-length
+same-length c = search needs
+
+returns : tie.Need-returns
+returns c = search stretch-heard
+
+pub hear-line-spec : {M : Type 1} → statement M
+hear-line-spec =
+    tie.close
+    (tie.spec
+    read-station-requires
+    hear-line-requires
+    move-on-requires
+    write-station-requires
+    same-length
+    returns)
