@@ -91,7 +91,7 @@ fn hear_ahead(f: Figures, m: u32, at: Ahead) -> Ahead
 }
 
 // Of m steps of a kind those in which no frame starts and nothing is reported.
-pub fn foresee(f: Figures, kind: Kind, m: u32, at: Ahead) -> Ahead
+fn foresee(f: Figures, kind: Kind, m: u32, at: Ahead) -> Ahead
     requires { ⌜ (f .gap1 + f .gap2 < 65536) × (at .bits + m < 4294967296) ⌝ }
     ensures same { λ r. ⌜ r ≡ ahead f kind m at ⌝ }
     ensures bound { λ r. ⌜ (r .len ≤ m) × (r .bits ≤ at .bits + r .len) ⌝ }

@@ -16,7 +16,7 @@ ghost use Rattle.fast_plan.specs.Own.{byItself};
 ghost use Rattle.fast_silence.specs.Bound.{idle};
 ghost use Rattle.fast_move.specs.Move.{heardIn, isHeard, emitting, sending, isBusyOwn, restsAll, hearsAll, emitsAll, Moving};
 
-pub fn is_heard(kind: Kind) -> bool
+fn is_heard(kind: Kind) -> bool
     ensures { λ r. ⌜ r ≡ isHeard kind ⌝ }
 {
     match kind {
@@ -27,7 +27,7 @@ pub fn is_heard(kind: Kind) -> bool
     }
 }
 
-pub fn is_emitting(x: Transmitter) -> bool
+fn is_emitting(x: Transmitter) -> bool
     ensures { λ r. ⌜ r ≡ emitting x ⌝ }
 {
     match x {
@@ -40,7 +40,7 @@ pub fn is_emitting(x: Transmitter) -> bool
     }
 }
 
-pub fn is_sending(x: Transmitter) -> bool
+fn is_sending(x: Transmitter) -> bool
     ensures { λ r. ⌜ r ≡ sending x ⌝ }
 {
     match x {
@@ -53,7 +53,7 @@ pub fn is_sending(x: Transmitter) -> bool
     }
 }
 
-pub fn is_busy_own(d: Deference) -> bool
+fn is_busy_own(d: Deference) -> bool
     ensures { λ r. ⌜ r ≡ isBusyOwn d ⌝ }
 {
     match d {
@@ -64,7 +64,7 @@ pub fn is_busy_own(d: Deference) -> bool
 }
 
 // A station that emits nothing hears nothing for m steps: none starts, and its reception, if any, ends without a report.
-pub fn rests_all(f: Figures, m: u32, report: bool, s: Station) -> bool
+fn rests_all(f: Figures, m: u32, report: bool, s: Station) -> bool
     requires { ⌜ f .gap1 + f .gap2 < 65536 ⌝ }
     ensures { λ r. ⌜ r ≡ restsAll f m report s ⌝ }
 {
@@ -77,7 +77,7 @@ pub fn rests_all(f: Figures, m: u32, report: bool, s: Station) -> bool
 }
 
 // One that emits nothing hears others for m steps: none starts.
-pub fn hears_all(f: Figures, m: u32, s: Station) -> bool
+fn hears_all(f: Figures, m: u32, s: Station) -> bool
     requires { ⌜ f .gap1 + f .gap2 < 65536 ⌝ }
     ensures { λ r. ⌜ r ≡ hearsAll f m s ⌝ }
 {
@@ -87,7 +87,7 @@ pub fn hears_all(f: Figures, m: u32, s: Station) -> bool
 }
 
 // What an emitter must be in to go on: a sender hears nothing, and where nothing is heard the receiver is idle.
-pub fn is_calm(heard: bool, x: Transmitter, r: Receiver) -> bool
+fn is_calm(heard: bool, x: Transmitter, r: Receiver) -> bool
     ensures { λ q. ⌜ q ≡ pick heard (not (sending x)) (idle r) ⌝ }
 {
     if heard {
@@ -97,7 +97,7 @@ pub fn is_calm(heard: bool, x: Transmitter, r: Receiver) -> bool
 }
 
 // An emitter goes on for m steps.
-pub fn emits_all(m: u32, heard: bool, s: Station) -> bool
+fn emits_all(m: u32, heard: bool, s: Station) -> bool
     requires { ⌜ s .frame < 65536 ⌝ }
     ensures { λ r. ⌜ r ≡ emitsAll m heard s ⌝ }
 {
