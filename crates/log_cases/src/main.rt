@@ -29,41 +29,13 @@ fn four(s: &[u8], k: usize) -> u32
     octet(s, k) * 16777216 + octet(s, k + 1) * 65536 + octet(s, k + 2) * 256 + octet(s, k + 3)
 }
 
-fn event_of(word: u32) -> Event {
-    if word == 1 {
-        return Event::Collision(0);
-    }
-    if word == 2 {
-        return Event::Late(0);
-    }
-    if word == 3 {
-        return Event::Sent(0);
-    }
-    if word == 4 {
-        return Event::GivenUp(0);
-    }
-    if word == 5 {
-        return Event::GotOk(0);
-    }
-    if word == 6 {
-        return Event::GotTooLong(0);
-    }
-    if word == 7 {
-        return Event::GotAlignment(0);
-    }
-    if word == 8 {
-        return Event::GotCheck(0);
-    }
-    Event::GotLength(0)
-}
-
 fn read_entry(s: &[u8], k: usize) -> Entry
     requires { ⌜ k < 1900000 ⌝ }
 {
     Entry {
         time: four(s, k),
         station: octet(s, k + 4),
-        event: event_of(octet(s, k + 5)),
+        event: log_octets::event_of(octet(s, k + 5)),
     }
 }
 

@@ -11,8 +11,8 @@ ghost use Rattle.octets.specs.Base.{some, doneAnswer, outcome};
 ghost use Rattle.log_windows.specs.Grow.{enteredOf};
 ghost use Rattle.log_octets.specs.Octets.{eventOf, entryAt, unknownAt, octetsLookedUp};
 
-// The event of a number.
-fn event_of(c: u32) -> Event
+// The event of a number; where it stands for none, the last.
+pub fn event_of(c: u32) -> Event
     ensures { λ r. ⌜ r ≡ eventOf c ⌝ }
 {
     if c == 1 {
