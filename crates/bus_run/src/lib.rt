@@ -4,30 +4,12 @@ use course::Course;
 use course::Ended;
 use course::RunAnswer;
 use octets::Done;
-use pair::Events;
 ghost use mathlib.Core.Path.{_≡_};
 ghost use Prim.Native.Nat.{_+_, _<_, _≤_};
 ghost use lib.ListN.{length};
-ghost use Rattle.course.specs.Run.{tallied, courseOf, runOf, runOutcome, ran};
+ghost use Rattle.course.specs.Run.{courseOf, runOf, runOutcome, ran};
 ghost use Rattle.course.specs.RunLaws.{Runnable};
 ghost use Rattle.tally.specs.TallyLaws.{Bounded};
-
-// The events of a step, counted into `words`. No word is past `top` yet.
-fn count_events(words: &mut [u32], events: [Events; 16], top: u32)
-    requires { ⌜ (length (now words) ≡ 9) × Bounded (now words) top × (top + 32 < 4294967295) ⌝ }
-    ensures { λ r. ⌜ now (words .exit) ≡ tallied events 16 (now (words .entry)) ⌝ }
-{
-    let mut i: usize = 0;
-    while i < 16 {
-        let high = top + 2 * i as u32;
-        let e = events[i];
-        let sent = e.sent;
-        let got = e.got;
-        tally::count_sent(words, sent, high);
-        tally::count_got(words, got, high + 1);
-        i += 1;
-    }
-}
 
 // At most n steps, on an area that is ready for them, counted into `words`.
 fn run_steps(area: &mut [u8], words: &mut [u32], n: u32) -> Course
@@ -39,7 +21,7 @@ fn run_steps(area: &mut [u8], words: &mut [u32], n: u32) -> Course
     let mut t: u32 = 0;
     'steps: while t < n {
         let events = step::step(area);
-        count_events(words, events, 32 * t);
+        course::count_events(words, events, 32 * t);
         t += 1;
         let mut i: usize = 0;
         while i < 16 {

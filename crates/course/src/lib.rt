@@ -3,9 +3,11 @@
 use octets::Done;
 use pair::Events;
 ghost use mathlib.Core.Path.{_≡_};
-ghost use Prim.Native.Nat.{_-_, _<_};
-ghost use lib.ListN.{replicate};
+ghost use Prim.Native.Nat.{_+_, _-_, _<_};
+ghost use lib.ListN.{length, replicate};
 ghost use Rattle.octets.specs.Base.{refused, doneAnswer};
+ghost use Rattle.tally.specs.TallyLaws.{Bounded};
+ghost use Rattle.course.specs.Run.{tallied};
 ghost use Rattle.course.specs.declared.Ended.the-variants.{All, Late};
 
 // How a run ended: all its steps were made, or a station had a late collision in the last of them.
@@ -43,6 +45,23 @@ pub fn late_end(steps: u32, station: u32) -> Ended
     Ended::Late {
         step: steps - 1,
         station,
+    }
+}
+
+// The events of a step, counted into `words`. No word is past `top` yet.
+pub fn count_events(words: &mut [u32], events: [Events; 16], top: u32)
+    requires { ⌜ (length (now words) ≡ 9) × Bounded (now words) top × (top + 32 < 4294967295) ⌝ }
+    ensures { λ r. ⌜ now (words .exit) ≡ tallied events 16 (now (words .entry)) ⌝ }
+{
+    let mut i: usize = 0;
+    while i < 16 {
+        let high = top + 2 * i as u32;
+        let e = events[i];
+        let sent = e.sent;
+        let got = e.got;
+        tally::count_sent(words, sent, high);
+        tally::count_got(words, got, high + 1);
+        i += 1;
     }
 }
 

@@ -1,6 +1,6 @@
 -- How long a window may be: of a run of steps of one kind those in which a station starts nothing and reports nothing, or goes on emitting.
 -- Assumes nothing.
-use Prim.Native.Nat.{ℕ, _+_, _<_, min}
+use Prim.Native.Nat.{ℕ, _+_, _≤_, _<_, min}
 use mathlib.Core.Path.{_≡_}
 use mathlib.Core.Bool.{Bool, true, false, not, _||_, _&&_}
 use mathlib.Core.List.{List}
@@ -15,7 +15,7 @@ use Rattle.state.specs.declared.Transmitter.the-variants.{NoFrame, Waiting, Bac
 use Rattle.state.specs.declared.Receiver.{Receiver}
 use Rattle.state.specs.declared.Station.{Station}
 use Rattle.receiver.specs.Receive.{bitsIn}
-use Rattle.area.specs.Area.{clockAt, depthAt, figuresAt, countAt}
+use Rattle.area.specs.Area.{clockAt, depthAt, figuresAt, countAt, stationAt}
 use Rattle.pair.specs.Ready.{Readiness}
 use Rattle.fast_plan.specs.Plan.{hears}
 use Rattle.fast_plan.specs.Calm.{Calm}
@@ -25,7 +25,7 @@ use Rattle.fast_station.specs.Forms.{heardDeference, heardRest, emitsFor}
 use Rattle.fast_heard.specs.declared.Near.{Near}
 use Rattle.fast_heard.specs.declared.Kind.{Kind}
 use Rattle.fast_heard.specs.declared.Kind.the-variants.{Silent, Line, From, Spoiled}
-use Rattle.fast_heard.specs.Hearing.{planOf, nearestOf, nearBit}
+use Rattle.fast_heard.specs.Hearing.{planOf, emitsAt, nearestOf, nearBit}
 use Rattle.fast_bound.specs.declared.Ahead.{Ahead}
 use Rattle.fast_bound.specs.Foresee.{Foreseen}
 
@@ -104,13 +104,21 @@ isLike Spoiled q = not q
 unfoldable pub Alike : List ℕ → (j : ℕ) → (q : Bool) → (m : ℕ) → Type 0
 Alike a j q m = (v : ℕ) → v < m → hearsAny (hears a (planOf a) j v) ≡ not q
 
--- for k steps station j emits what the plan says, and has no event
+-- for k steps station j emits what the plan says, and has no event; if it emits, it does through all of them
+pub record GoesOn (a : List ℕ) (j k : ℕ) : Type 0 where
+  pub calm : Calm (figuresAt a) (depthAt a) j (hears a (planOf a) j) (planOf a j) k a
+  pub lasts : emitsAt a j ≡ true → k ≤ emitsFor (stationAt a j .frame) (stationAt a j .transmitter)
+
 unfoldable pub CalmFor : List ℕ → (j k : ℕ) → Type 0
-CalmFor a j k = Calm (figuresAt a) (depthAt a) j (hears a (planOf a) j) (planOf a j) k a
+CalmFor a j k = GoesOn a j k
 
 -- so do the first i stations
 unfoldable pub CalmBelow : List ℕ → (i k : ℕ) → Type 0
 CalmBelow a i k = (j : ℕ) → j < i → CalmFor a j k
+
+-- each emitter emits through all of k steps
+unfoldable pub AllLast : List ℕ → (k : ℕ) → Type 0
+AllLast a k = (j : ℕ) → j < countAt a → emitsAt a j ≡ true → k ≤ emitsFor (stationAt a j .frame) (stationAt a j .transmitter)
 
 -- what is read of a ready area before the stations are looked at
 pub record Read (a : List ℕ) (f : Figures) (n t : ℕ) : Type 0 where

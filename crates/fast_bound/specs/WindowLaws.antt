@@ -38,7 +38,7 @@ use Rattle.fast_heard.specs.NearLaws.{near-station}
 use Rattle.fast_heard.specs.HearingLaws.{segment-hears}
 use Rattle.fast_bound.specs.declared.Ahead.{Ahead}
 use Rattle.fast_bound.specs.Foresee.{Foreseen, bits-clock, foreseen-start, foreseen-heard, foreseen-rest, emits-unheard, emits-heard}
-use Rattle.fast_bound.specs.Bound.{restSteps, hearSteps, restedTo, heardTo, restAhead, hearAhead, ahead, aheadOf, ownBusy, sends, unhurt, emitsWith, emitSteps, isLike, Alike, CalmFor, CalmBelow, ReadFrom, NearTo, Underway}
+use Rattle.fast_bound.specs.Bound.{restSteps, hearSteps, restedTo, heardTo, restAhead, hearAhead, ahead, aheadOf, ownBusy, sends, unhurt, emitsWith, emitSteps, isLike, Alike, CalmFor, CalmBelow, AllLast, ReadFrom, NearTo, Underway}
 
 -- ---- in a run of any kind but silence others are heard
 
@@ -113,7 +113,7 @@ module _ (a : List ℕ) (r : Readiness a) (j : ℕ) (hj : j < countAt a) (off : 
 module _ (a : List ℕ) (j : ℕ) where
   pub calm-zero : CalmFor a j 0
   unfolding CalmFor
-  calm-zero = calm-none (figuresAt a) (depthAt a) j (hears a (planOf a) j) (planOf a j) a
+  calm-zero = record { calm = calm-none (figuresAt a) (depthAt a) j (hears a (planOf a) j) (planOf a j) a; lasts = λ e. omega arith }
 
   pub under-start : (m : ℕ) (s : Station) (g : Ahead) (x : Receiver) (c : Bool) → s ≡ stationAt a j → x ≡ s .receiver
       → c ≡ mayReport (addressAt a j) (bufferAt a j) m x → g ≡ aheadOf s (not c) → s .emitted ≡ false
@@ -143,9 +143,9 @@ module _ (a : List ℕ) (f : Figures) (j t : ℕ) (w : Near) (k : ℕ) (v : Near
       let y : g .bits ≡ bitsIn (stationAt a j .receiver) = ap (λ (z : Ahead). z .bits) (eg ∙ ap (λ (z : Station). aheadOf z b) es) in
       omega (arith, y, bits-most)
 
-  pub calm-end : (m s : ℕ) (g : Ahead) → Underway a j m s g → CalmFor a j s
+  pub calm-end : emitsAt a j ≡ false → (m s : ℕ) (g : Ahead) → Underway a j m s g → CalmFor a j s
   unfolding NearTo Underway CalmFor
-  calm-end m s g u = u (v .read .ready) (v .station) .calm
+  calm-end off m s g u = record { calm = u (v .read .ready) (v .station) .calm; lasts = λ e. absurd (true≢false (sym e ∙ off)) }
 
   -- what a run says of what is heard
   run-says : (s : ℕ) (run : Segment) → Segmented a j t w k s run
@@ -170,8 +170,8 @@ module _ (a : List ℕ) (f : Figures) (j t : ℕ) (w : Near) (k : ℕ) (v : Near
     pub calm-on : CalmFor a j (s + next .len)
     calm-on =
         by-eq (next .len) 0
-        (λ z. let y : s + next .len ≡ s = omega arith in subst (CalmFor a j) (sym y) (calm-end m s g u))
-        (λ z. calm-end m (s + next .len) next (under-on (omega (arith, z))))
+        (λ z. let y : s + next .len ≡ s = omega arith in subst (CalmFor a j) (sym y) (calm-end off m s g u))
+        (λ z. calm-end off m (s + next .len) next (under-on (omega (arith, z))))
 
 -- ---- a station that emits
 
@@ -244,10 +244,16 @@ module _ (a : List ℕ) (r : Readiness a) (j : ℕ) (hj : j < countAt a) (on : e
       → unhurt q (stationAt a j .receiver) (stationAt a j .transmitter) ≡ true → CalmFor a j k
   unfolding CalmFor unhurt
   emit-goes true al e =
-      emits-unheard a r j hj k pos early busy emitted lasts (frame-most a r j hj on)
-      (λ v l. hears-none (hears a (planOf a) j v) (al v l)) (is-idle (stationAt a j .receiver) e)
+      record {
+        calm = emits-unheard a r j hj k pos early busy emitted lasts (frame-most a r j hj on)
+            (λ v l. hears-none (hears a (planOf a) j v) (al v l)) (is-idle (stationAt a j .receiver) e);
+        lasts = λ w. lasts;
+      }
   emit-goes false al e =
-      emits-heard a r j hj k pos early busy emitted lasts (frame-most a r j hj on) al (not-sending (stationAt a j .transmitter) e)
+      record {
+        calm = emits-heard a r j hj k pos early busy emitted lasts (frame-most a r j hj on) al (not-sending (stationAt a j .transmitter) e);
+        lasts = λ w. lasts;
+      }
 
 module _ (a : List ℕ) (j t : ℕ) (w : Near) (b : ℕ) (v : NearTo a (figuresAt a) j t w b) (on : emitsAt a j ≡ true)
     (s : Station) (es : s ≡ stationAt a j) where
@@ -316,12 +322,24 @@ module _ (a : List ℕ) where
   below-more i k r b c h =
       λ j l. by-eq j i
       (λ z. subst (λ (y : ℕ). CalmFor a y r) (sym z) c)
-      (λ z. calm-less (figuresAt a) (depthAt a) j (hears a (planOf a) j) (planOf a j) a k r h (b j (omega (arith, z))))
+      (λ z. let y = b j (omega (arith, z)) in
+      record {
+        calm = calm-less (figuresAt a) (depthAt a) j (hears a (planOf a) j) (planOf a j) a k r h (y .calm);
+        lasts = λ w. omega (arith, y .lasts w);
+      })
 
   pub below-all : (n i k : ℕ) → CalmBelow a i k → n ≡ countAt a → n ≤ i → AllCalm a (planOf a) k
   unfolding CalmBelow CalmFor
-  below-all n i k b e h = λ j l. b j (omega arith)
+  below-all n i k b e h = λ j l. b j (omega arith) .calm
+
+  pub below-last : (n i k : ℕ) → CalmBelow a i k → n ≡ countAt a → n ≤ i → AllLast a k
+  unfolding CalmBelow CalmFor AllLast
+  below-last n i k b e h = λ j l. b j (omega arith) .lasts
 
   pub all-zero : AllCalm a (planOf a) 0
   unfolding CalmFor
-  all-zero = λ j l. calm-zero a j
+  all-zero = λ j l. calm-zero a j .calm
+
+  pub zero-last : AllLast a 0
+  unfolding AllLast
+  zero-last = λ j l e. omega arith

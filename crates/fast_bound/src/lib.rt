@@ -16,7 +16,7 @@ ghost use Rattle.area.specs.Area.{clockAt, figuresAt};
 ghost use Rattle.pair.specs.Ready.{Ready};
 ghost use Rattle.fast_plan.specs.Calm.{AllCalm};
 ghost use Rattle.fast_heard.specs.Hearing.{planOf, emitsAt};
-ghost use Rattle.fast_bound.specs.Bound.{restSteps, hearSteps, restAhead, hearAhead, ahead, aheadOf, ownBusy, sends, unhurt, emitSteps, isLike, Alike, CalmFor, ReadFrom, NearTo, Underway};
+ghost use Rattle.fast_bound.specs.Bound.{restSteps, hearSteps, restAhead, hearAhead, ahead, aheadOf, ownBusy, sends, unhurt, emitSteps, isLike, Alike, CalmFor, AllLast, ReadFrom, NearTo, Underway};
 
 // Of a station that emits nothing: `len` steps of one kind, and what it comes to in them. It has collected at most
 // `bits` bits; `harmless`: its reception may not report, however long it goes on.
@@ -320,6 +320,7 @@ fn station_bound(area: &[u8], f: Figures, n: usize, t: u32, j: usize, m: u32) ->
 pub fn bound(area: &[u8], m: u32) -> u32
     requires { ⌜ (57344 ≤ length (now area)) × (clockAt (now area) + m ≤ 16777216) × Ready (now area) ⌝ }
     ensures calm { λ r. ⌜ AllCalm (now (area .entry)) (planOf (now (area .entry))) r ⌝ }
+    ensures last { λ r. ⌜ AllLast (now (area .entry)) r ⌝ }
     ensures bound { λ r. ⌜ r ≤ m ⌝ }
 {
     let n = area::read_count(area) as usize;

@@ -44,14 +44,14 @@ plan-sends f z F (Heading k) u e n = rw (ne-eqb k 0 (λ y. omega (arith, n .0)))
 plan-sends f z F (Jamming m) u e n = refl
 
 -- only what the nearest emits while it is heard matters
-brought-same : (w : Near) (Q R : ℕ → Symbol) (s : ℕ) → (w .d1 < 256 → (u : ℕ) → Q u ≡ R u) → brought w Q s ≡ brought w R s
+pub brought-same : (w : Near) (Q R : ℕ → Symbol) (s : ℕ) → (w .d1 < 256 → (u : ℕ) → Q u ≡ R u) → brought w Q s ≡ brought w R s
 unfolding brought
 brought-same w Q R s h =
     by-test (begun (w .d2) s)
     (λ c. rw c)
     (λ c. by-test (begun (w .d1) s) (λ b. rw (c, b) (ap alone (h (begun-yes (w .d1) s b .0) (s - w .d1)))) (λ b. rw (c, b)))
 
-says-same : (H G L M : ℕ → Heard) (F : List ℕ) (k d s : ℕ) (K : Kind) (m : ℕ) → ((v : ℕ) → H v ≡ G v) → ((v : ℕ) → L v ≡ M v) → Says H L F k d s K m → Says G M F k d s K m
+pub says-same : (H G L M : ℕ → Heard) (F : List ℕ) (k d s : ℕ) (K : Kind) (m : ℕ) → ((v : ℕ) → H v ≡ G v) → ((v : ℕ) → L v ≡ M v) → Says H L F k d s K m → Says G M F k d s K m
 says-same H G L M F k d s Silent m e f h = λ v l. sym (e (s + v)) ∙ h v l
 says-same H G L M F k d s Line m e f h = λ v l. (sym (e (s + v)) ∙ h v l .0 ∙ f (s + v), ap kindOf (sym (f (s + v))) ∙ h v l .1)
 says-same H G L M F k d s From m e f h = (h .0, h .1, λ v l. sym (e (s + v)) ∙ h .2 v l)
@@ -75,7 +75,7 @@ module _ (a x : List ℕ) (j t : ℕ) (w : Near) (k : ℕ) (r : Readiness a) (hj
   unfolding lineNow lineFrom
   line-same s = by-test (ltb s 256) (λ c. rw c (ap (λ (c : ℕ). arrivalAt a j (c + s)) (sym et) ∙ sym (same (t + s)))) (λ c. rw c)
 
-  hears-mixed : (s : ℕ) → mixed (lineFrom x j t) w (sends (heldAt a (w .from)) k) s ≡ hears a (planOf a) j s
+  pub hears-mixed : (s : ℕ) → mixed (lineFrom x j t) w (sends (heldAt a (w .from)) k) s ≡ hears a (planOf a) j s
   unfolding hears mixed
   hears-mixed s =
       sym (ap₂ met (line-same s) (near-brings a j s (r .spread) hj w nearest-here ∙ brought-same w (planOf a (w .from)) (sends (heldAt a (w .from)) k) s near-sends))

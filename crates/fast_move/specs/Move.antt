@@ -16,7 +16,7 @@ use Rattle.state.specs.declared.Station.{Station}
 use Rattle.area.specs.Area.{addressAt, bufferAt, stationAt}
 use Rattle.fast_silence.specs.Bound.{framesRest, idle}
 use Rattle.fast_station.specs.Forms.{heardRest, emitsFor}
-use Rattle.fast_receive.specs.Received.{spoils, lineFrom, bitsFrom, mayReport}
+use Rattle.fast_receive.specs.Received.{spoils, lineFrom, bitsFrom, AllHeard, mayReport}
 use Rattle.fast_heard.specs.declared.Kind.{Kind}
 use Rattle.fast_heard.specs.declared.Kind.the-variants.{Silent, Line, From, Spoiled}
 use Rattle.fast_stretch.specs.Stretch.{heardStretch, quietStretch}
@@ -89,3 +89,11 @@ stretched f e K m j x u F b = pick (isHeard K) (heardStretch f e (heardIn K x j 
 -- shut, so that a search does not enter it
 unfoldable pub Moving : Figures → (D j c : ℕ) → List ℕ → Type 0
 Moving f D j c x = Moves f D j c x
+
+-- where clean bits of its line are heard, something is heard in each of m steps from u on
+unfoldable pub Audible : Kind → List ℕ → (j u m : ℕ) → Type 0
+Audible K x j u m = K ≡ Line → AllHeard (lineFrom x j u) m
+
+-- an emitter's frame is one that may be sent
+unfoldable pub Held : Station → Type 0
+Held s = emitting (s .transmitter) ≡ true → s .frame < 65536

@@ -87,7 +87,7 @@ is-idle (Collecting n sp own) e = absurd (true≢false (sym e))
 not-sending : (x : Transmitter) (k : ℕ) → not (sending x) ≡ true → x ≡ Sending k → ⊥
 not-sending x k e p = true≢false (sym (ap sending p) ∙ not-yes (sending x) e)
 
-frame-small : (x : Transmitter) (z : ℕ) → emitting x ≡ true → FrameIn x z → z ≤ 1518
+pub frame-small : (x : Transmitter) (z : ℕ) → emitting x ≡ true → FrameIn x z → z ≤ 1518
 frame-small NoFrame z e h = absurd (true≢false (sym e))
 frame-small Waiting z e h = h .1
 frame-small (BackingOff w) z e h = h .1

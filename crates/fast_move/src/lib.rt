@@ -14,7 +14,9 @@ ghost use lib.ListN.{length};
 ghost use Rattle.octets.specs.Base.{pick};
 ghost use Rattle.fast_plan.specs.Own.{byItself};
 ghost use Rattle.fast_silence.specs.Bound.{idle};
-ghost use Rattle.fast_move.specs.Move.{heardIn, isHeard, emitting, sending, isBusyOwn, restsAll, hearsAll, emitsAll, Moving};
+ghost use Rattle.area.specs.Area.{stationAt};
+ghost use Rattle.fast_stretch.specs.Stretch.{Movable};
+ghost use Rattle.fast_move.specs.Move.{heardIn, isHeard, emitting, sending, isBusyOwn, restsAll, hearsAll, emitsAll, canMove, stretched, Moving, Audible, Held};
 
 fn is_heard(kind: Kind) -> bool
     ensures { λ r. ⌜ r ≡ isHeard kind ⌝ }
@@ -112,4 +114,90 @@ fn emits_all(m: u32, heard: bool, s: Station) -> bool
             octets::both(m <= fast_station::emits_for(s.frame, x), calm),
         ),
     )
+}
+
+// Whether station j, which is s, can go over m steps of a kind at once.
+fn can_move(area: &[u8], f: Figures, m: u32, kind: Kind, j: usize, s: Station) -> bool
+    requires { ⌜ (j < 16) × (57344 ≤ length (now area)) × (f .gap1 + f .gap2 < 65536) × Movable f m (now area) j × Held s × (s ≡ stationAt (now area) j) ⌝ }
+    ensures { λ r. ⌜ r ≡ canMove f m kind (now (area .entry)) j ⌝ }
+{
+    let heard = is_heard(kind);
+    let x = s.transmitter;
+    if is_emitting(x) {
+        return emits_all(m, heard, s);
+    }
+    if heard {
+        return hears_all(f, m, s);
+    }
+    let r = s.receiver;
+    let report = fast_receive::may_report(area, j, r, 0);
+    rests_all(f, m, report, s)
+}
+
+// Station j goes over m steps of a kind at once; e: whether it emits in them.
+fn move_at_once(
+    area: &mut [u8],
+    f: Figures,
+    e: bool,
+    kind: Kind,
+    j: usize,
+    u: u32,
+    frame: &[u8],
+    b: u32,
+    m: u32,
+)
+    requires { ⌜ (j < 16) × (57344 ≤ length (now area)) × Movable f m (now area) j × (u + m < 4294967296) × (b + m < 4294967296) × Audible kind (now area) j u m ⌝ }
+    ensures { λ r. ⌜ now (area .exit) ≡ stretched f e kind m j (now (area .entry)) u (now (frame .entry)) b ⌝ }
+{
+    match kind {
+        Kind::Silent => fast_stretch::hear_nothing(area, j, f, e, m),
+        Kind::Line => fast_stretch::hear_line(area, j, f, e, u as usize, m),
+        Kind::From => fast_stretch::hear_packet(area, j, f, e, frame, b, m),
+        Kind::Spoiled => fast_stretch::hear_spoiled(area, j, f, e, m),
+    }
+}
+
+// What station j hears in the first step of a kind.
+fn heard_first(area: &[u8], kind: Kind, j: usize, u: usize, frame: &[u8], b: u32) -> Heard
+    requires { ⌜ (j < 16) × (57344 ≤ length (now area)) ⌝ }
+    ensures { λ r. ⌜ r ≡ heardIn kind (now (area .entry)) j u (now (frame .entry)) b 0 ⌝ }
+{
+    match kind {
+        Kind::Silent => Heard::Nothing,
+        Kind::Line => delay::arrival(area, j, u),
+        Kind::From => {
+            let one = packet::packet_bit(frame, b);
+            Heard::Clean(one)
+        }
+        Kind::Spoiled => Heard::Several,
+    }
+}
+
+// Station j moves on over m steps of a kind from clock u on, or over the first of them; says over how many. In them it
+// hears nothing, what its line holds, the packet that carries a frame from its bit b on, or spoiled symbols.
+pub fn advance(
+    area: &mut [u8],
+    f: Figures,
+    depth: u32,
+    j: usize,
+    u: u32,
+    kind: Kind,
+    frame: &[u8],
+    b: u32,
+    m: u32,
+) -> u32
+    requires { ⌜ (j < 16) × (57344 ≤ length (now area)) × (0 < m) × (u + m ≤ 16777216) × (b + m < 4294967296) × (f .gap1 + f .gap2 < 65536) × Moving f depth j u (now area) × Audible kind (now area) j u m ⌝ }
+    ensures moved { λ r. ⌜ now (area .exit) ≡ byItself f depth j (heardIn kind (now (area .entry)) j u (now (frame .entry)) b) r (now (area .entry)) ⌝ }
+    ensures bound { λ r. ⌜ (0 < r) × (r ≤ m) ⌝ }
+{
+    let s = area::read_station(area, j);
+    let x = s.transmitter;
+    let e = is_emitting(x);
+    if can_move(area, f, m, kind, j, s) {
+        move_at_once(area, f, e, kind, j, u, frame, b, m);
+        return m;
+    }
+    let h = heard_first(area, kind, j, u as usize, frame, b);
+    fast_own::turn_alone(area, f, depth, j, h);
+    1
 }

@@ -4,7 +4,7 @@ use native.Mathlib.Omega.{arith}
 use borrow.Author.Needs.{needs}
 use Rattle.pair.specs.Ready.{ready-few}
 use Rattle.fast_bound.specs.Bound.{ReadFrom, CalmBelow}
-use Rattle.fast_bound.specs.WindowLaws.{read-from, read-gap, below-none, below-more, below-all, all-zero}
+use Rattle.fast_bound.specs.WindowLaws.{read-from, read-gap, below-none, below-more, below-all, below-last, zero-last, all-zero}
 use Rattle.fast_bound.proofs.bound.Statement.{statement}
 use Rattle.fast_bound.proofs.bound.Tie as tie
 
@@ -30,7 +30,7 @@ loop-holds : tie.Need-loop-holds Inv-loop μ-loop
 loop-holds c = (omega arith, omega arith, search read-from, search below-none)
 
 returns : tie.Need-returns Inv-loop μ-loop
-returns c = (search all-zero, omega arith)
+returns c = (search all-zero, (search zero-last, omega arith))
 
 station-bound-requires : tie.Need-station-bound-requires Inv-loop μ-loop
 station-bound-requires c κs = (omega arith, search ready-few, omega arith, omega arith, search read-gap, search needs)
@@ -45,7 +45,7 @@ loop-again : tie.Need-loop-again Inv-loop μ-loop
 loop-again c = (omega arith, omega arith, search needs, search below-more)
 
 returns-2 : tie.Need-returns-2 Inv-loop μ-loop
-returns-2 c = (search below-all, omega arith)
+returns-2 c = (search below-all, (search below-last, omega arith))
 
 pub bound-spec : {M : Type 1} → statement M
 bound-spec =

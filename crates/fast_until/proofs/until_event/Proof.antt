@@ -7,7 +7,8 @@ use lib.ListN.{length}
 use Rattle.course.specs.RunLaws.{Runnable, run-first}
 use Rattle.course.specs.Until.{untilEvent}
 use Rattle.course.specs.UntilLaws.{plus, stretch-first}
-use Rattle.fast_until.specs.OnwardLaws.{onward-some, onward-within, onward-runs, onward-hit, onward-on, onward-end}
+use Rattle.fast_advance.specs.AdvanceLaws.{advance-runs, until-hit, until-on}
+use Rattle.fast_until.specs.OnwardLaws.{onward-end}
 use Rattle.fast_until.proofs.until_event.Statement.{statement}
 use Rattle.fast_until.proofs.until_event.Tie as tie
 
@@ -27,7 +28,7 @@ advance-requires : tie.Need-advance-requires Inv-loop μ-loop
 advance-requires c κs = (search needs, omega arith, omega arith)
 
 add-t : tie.Need-add-t Inv-loop μ-loop
-add-t c = omega (arith, onward-within _ _ _ _ _ _ _ (c .before .before .before .before .advance .ensures) (c .before .before .before .before .before .before .before .loop .inv .3) (c .before .before .before .before .before .before .loop-test .taken))
+add-t c = omega arith
 
 is-eventful-requires : tie.Need-is-eventful-requires Inv-loop μ-loop
 is-eventful-requires c κs = tt
@@ -36,13 +37,13 @@ same-length : tie.Need-same-length Inv-loop μ-loop
 same-length c = omega arith
 
 returns : tie.Need-returns Inv-loop μ-loop
-returns c = onward-hit _ _ _ _ _ _ _ (c .before .before .before .before .before .before .advance .ensures) (c .before .before .before .before .before .before .before .before .before .loop .inv .3) _ (c .before .is-eventful .ensures) (c .if1 .taken)
+returns c = search until-hit
 
 loop-less : tie.Need-loop-less Inv-loop μ-loop
-loop-less c = omega (arith, onward-some _ _ _ _ _ _ _ (c .before .before .before .before .before .before .advance .ensures) (c .before .before .before .before .before .before .before .before .before .loop .inv .3), onward-within _ _ _ _ _ _ _ (c .before .before .before .before .before .before .advance .ensures) (c .before .before .before .before .before .before .before .before .before .loop .inv .3) (c .before .before .before .before .before .before .before .before .loop-test .taken))
+loop-less c = omega arith
 
 loop-again : tie.Need-loop-again Inv-loop μ-loop
-loop-again c = (onward-within _ _ _ _ _ _ _ (c .before .before .before .before .before .before .advance .ensures) (c .before .before .before .before .before .before .before .before .before .loop .inv .3) (c .before .before .before .before .before .before .before .before .loop-test .taken), omega arith, onward-runs _ _ _ _ _ _ _ (c .before .before .before .before .before .before .advance .ensures) (c .before .before .before .before .before .before .before .before .before .loop .inv .3), onward-on _ _ _ _ _ _ _ (c .before .before .before .before .before .before .advance .ensures) (c .before .before .before .before .before .before .before .before .before .loop .inv .3) _ (c .before .is-eventful .ensures) (c .if1 .left))
+loop-again c = (omega arith, omega arith, search advance-runs, search until-on)
 
 eventless-requires : tie.Need-eventless-requires Inv-loop μ-loop
 eventless-requires c κs = tt

@@ -1,14 +1,14 @@
--- `bus_run::count_events` meets its contract. Assumes nothing.
+-- `course::count_events` meets its contract. Assumes nothing.
 use borrow.Author.Needs.{needs}
 use native.Mathlib.Omega.{arith}
 use Prim.Native.Nat.{_+_, _*_, _≤_, _-_}
 use mathlib.Core.Path.{_≡_, refl}
 use lib.ListN.{length}
 use Rattle.course.specs.Run.{tallied}
 use Rattle.course.specs.RunLaws.{tally-none, tally-more, tally-end}
 use Rattle.tally.specs.TallyLaws.{Bounded, start-bounded, sent-bounded, got-bounded}
-use Rattle.bus_run.proofs.count_events.Statement.{statement}
-use Rattle.bus_run.proofs.count_events.Tie as tie
+use Rattle.course.proofs.count_events.Statement.{statement}
+use Rattle.course.proofs.count_events.Tie as tie
 
 abbrev Inv-loop : tie.InvT-loop
 Inv-loop words₀ top events i₀ words i = (i ≤ 16) × (length words ≡ length words₀) × (words ≡ tallied events i words₀) × Bounded words (top + 2 * i)

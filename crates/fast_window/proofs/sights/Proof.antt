@@ -1,0 +1,67 @@
+use borrow.Author.Needs.{needs}
+use Prim.Native.Nat.{_≤_, _-_}
+use mathlib.Core.Path.{_≡_, refl}
+use lib.ListN.{length}
+use lib.ListN.{length-set}
+use native.Mathlib.Omega.{arith}
+use Rattle.octets.specs.Filled.{filled, filled-none, filled-more}
+use Rattle.fast_window.specs.Window.{unseen, sightOf}
+use Rattle.fast_window.specs.MovedLaws.{sights-end}
+use Rattle.fast_window.proofs.sights.Statement.{statement}
+use Rattle.fast_window.proofs.sights.Tie as tie
+use Rattle.fast_window.proofs.sights.Reads as reads
+use Rattle.fast_window.proofs.sights.Lts as lts
+use Rattle.fast_window.proofs.see.Reads as see-reads
+
+abbrev Inv-loop : tie.InvT-loop
+Inv-loop area n all₀ j₀ all j = (j ≤ n) × (length all ≡ 16) × (all ≡ filled unseen (sightOf area n) j)
+
+abbrev μ-loop : tie.MeasureT-loop
+μ-loop area n all₀ j₀ all j = n - j
+
+-- src/lib.rt:139:5
+loop-holds : tie.Need-loop-holds Inv-loop μ-loop
+loop-holds c = (omega arith, refl, search filled-none)
+
+-- src/lib.rt:140:13
+see-requires : tie.Need-see-requires Inv-loop μ-loop
+see-requires c κs = (omega arith, omega arith, omega arith)
+
+-- src/lib.rt:141:9
+mul-all : tie.Need-mul-all Inv-loop μ-loop
+mul-all c = omega arith
+
+-- src/lib.rt:141:9
+array-set-from-all : tie.Need-array-set-from-all Inv-loop μ-loop
+array-set-from-all c = omega arith
+
+-- src/lib.rt:142:9
+add-j : tie.Need-add-j Inv-loop μ-loop
+add-j c = omega arith
+
+-- src/lib.rt:139:5
+loop-less : tie.Need-loop-less Inv-loop μ-loop
+loop-less c = omega arith
+
+-- src/lib.rt:139:5
+loop-again : tie.Need-loop-again Inv-loop μ-loop
+loop-again c = (omega arith, simp length-set (search needs), search filled-more)
+
+-- src/lib.rt:122:1
+returns : tie.Need-returns Inv-loop μ-loop
+returns c = search sights-end
+
+pub sights-spec : {M : Type 1} → statement M
+sights-spec =
+    tie.close
+    (tie.spec
+    Inv-loop
+    μ-loop
+    loop-holds
+    see-requires
+    mul-all
+    array-set-from-all
+    add-j
+    loop-less
+    loop-again
+    returns)

@@ -1,0 +1,72 @@
+-- A window on the area: its stations, its lines, its clock; and that it is so many steps. Assumes nothing.
+use Prim.Native.Nat.{ℕ, _+_, _≤_, _<_}
+use mathlib.Core.Path.{_≡_, refl, sym, _∙_, ap, ap₂, subst}
+use mathlib.Core.Bool.{Bool, true}
+use mathlib.Core.List.{List}
+use native.Mathlib.Omega.{arith}
+use lib.ListN.{length}
+use Rattle.octets.specs.Turns.{turns}
+use Rattle.layout.specs.declared.Figures.{Figures}
+use Rattle.area.specs.Area.{clockAt, withClock, depthAt, figuresAt, countAt, stationAt}
+use Rattle.pair.specs.Ready.{Readiness, Ready}
+use Rattle.fast_plan.specs.Plan.{steps}
+use Rattle.fast_plan.specs.Calm.{AllCalm, calm-holds}
+use Rattle.fast_plan.specs.Exact.{ownAll}
+use Rattle.fast_plan.specs.Placed.{linesDone}
+use Rattle.fast_plan.specs.Turned.{turnedOf, steps-turned}
+use Rattle.fast_heard.specs.Hearing.{planOf, emitsAt}
+use Rattle.fast_lines.specs.declared.Emitter.{Emitter}
+use Rattle.fast_lines.specs.Lines.{emittersOf, planBy, Settles}
+use Rattle.fast_lines.specs.LinesLaws.{moved-settles, moved-lines}
+use Rattle.fast_bound.specs.Bound.{AllLast}
+use Rattle.fast_window.specs.Window.{Begins, settledOf, Lasting, Passed}
+
+pub begins : (a : List ℕ) (f : Figures) (d n t c : ℕ) → Ready a → f ≡ figuresAt a → d ≡ depthAt a → c ≡ countAt a → n ≡ c → t ≡ clockAt a → Begins a f d n t
+unfolding Begins Ready
+begins a f d n t c r ef ed ec en et = record { ready = r; figures = ef; depth = ed; count = en ∙ ec; clock = et }
+
+module _ (a : List ℕ) (f : Figures) (d n t r : ℕ) (v : Begins a f d n t) (es : List Emitter) (ee : es ≡ emittersOf a n)
+    (y : List ℕ) (ey : y ≡ ownAll a (planOf a) r n a) where
+  count : n ≡ countAt a
+  unfolding Begins
+  count = v .count
+
+  pub steps-settles : t + r ≤ 16777216 → Lasting a r → Settles n t r es y
+  unfolding Begins Lasting AllLast emitsAt
+  steps-settles early l =
+      subst (λ (q : List Emitter). Settles n t r q y) (sym ee)
+      (subst (Settles n t r (emittersOf a n)) (sym ey)
+      (rw (count, v .clock) (moved-settles a (v .ready) (planOf a) r (omega (arith, v .clock)) (l .lasts))))
+
+  pub steps-settled : (z : List ℕ) → z ≡ linesDone y (planBy y es) r n y → z ≡ settledOf a r
+  unfolding Begins settledOf
+  steps-settled z ez =
+      let e : y ≡ ownAll a (planOf a) r (countAt a) a = ey ∙ ap (λ (k : ℕ). ownAll a (planOf a) r k a) count in
+      ez ∙ rw (ee, count) (rw e (moved-lines a (v .ready) (planOf a) r (ownAll a (planOf a) r (countAt a) a)))
+
+pub window-made : (a : List ℕ) (t r : ℕ) (z b : List ℕ) → t ≡ clockAt a → z ≡ settledOf a r → b ≡ withClock z (t + r) → b ≡ turnedOf a (planOf a) r
+unfolding settledOf turnedOf
+window-made a t r z b et ez eb = eb ∙ rw (ez, et)
+
+module _ (a : List ℕ) (m r : ℕ) where
+  pub lasting : AllLast a r → 4 ≤ r → Lasting a r
+  unfolding Lasting
+  lasting l h = record { some = omega arith; lasts = l }
+
+  pub pass-some : (b : List ℕ) → clockAt a + m ≤ 16777216 → Ready a → AllCalm a (planOf a) r → r ≤ m → 4 ≤ r → b ≡ turnedOf a (planOf a) r → Passed m r a b
+  unfolding Passed Ready
+  pass-some b early rd calm h pos eb =
+      record {
+        within = h;
+        calm = calm;
+        made = eb ∙ sym (steps-turned a (planOf a) r (omega arith) rd (omega arith) (calm-holds a (planOf a) r calm));
+      }
+
+pub pass-none : (a : List ℕ) (m : ℕ) → Passed m 0 a a
+unfolding Passed steps turns
+pass-none a m =
+    record {
+      within = omega arith;
+      calm = λ i h. record { emits = λ s l. absurd (omega arith); quiet = λ s l. absurd (omega arith) };
+      made = refl;
+    }

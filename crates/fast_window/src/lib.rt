@@ -1,0 +1,216 @@
+// A window: many steps in which no station starts or has an event, and each emitter goes on. Each station moves on by
+// itself, then the lines and the clock are set.
+
+use fast_heard::Near;
+use layout::Figures;
+ghost use mathlib.Core.Path.{_≡_};
+ghost use Prim.Native.Nat.{_+_, _-_, _<_, _≤_};
+ghost use lib.ListN.{length, take};
+ghost use Rattle.area.specs.Area.{clockAt, depthAt, figuresAt, countAt, frameAt};
+ghost use Rattle.pair.specs.Ready.{Ready};
+ghost use Rattle.fast_plan.specs.Own.{byItself};
+ghost use Rattle.fast_plan.specs.Exact.{ownAll};
+ghost use Rattle.fast_plan.specs.Turned.{turnedOf};
+ghost use Rattle.fast_heard.specs.Hearing.{planOf};
+ghost use Rattle.fast_move.specs.Move.{Moving};
+ghost use Rattle.fast_window.specs.Window.{bitAt, heardBy, heardFrom, sightOf, sightsOf, Begins, settledOf, Lasting, Passed};
+
+// What a station hears of before a window: the nearest emitters; the next packet bit of the nearest, 0 where there is
+// none or it jams; and the frame that it sends, by its station and its octets.
+pub struct Sight {
+    pub near: Near,
+    pub bit: u32,
+    pub from: usize,
+    pub octets: u32,
+}
+
+// ---- one station
+
+// The packet bit that an emitter at distance d brings after s steps, if it is heard then.
+fn bit_at(bit: u32, d: usize, s: u32) -> u32
+    requires { ⌜ bit + s < 4294967296 ⌝ }
+    ensures { λ r. ⌜ r ≡ bitAt bit d s ⌝ }
+{
+    if (s as usize) < d {
+        return bit;
+    }
+    bit + (s - d as u32)
+}
+
+// Station j, s steps from clock t on, moves on over steps of one kind, at most to step m; says over how many.
+fn move_run(
+    area: &mut [u8],
+    f: Figures,
+    depth: u32,
+    j: usize,
+    t: u32,
+    near: Near,
+    bit: u32,
+    frame: &[u8],
+    s: u32,
+    m: u32,
+) -> u32
+    requires { ⌜ (j < 16) × (57344 ≤ length (now area)) × (s < m) × (t + m ≤ 16777216) × (bit + m < 4294967296) × (f .gap1 + f .gap2 < 65536) × Moving f depth j (t + s) (now area) ⌝ }
+    ensures moved { λ r. ⌜ now (area .exit) ≡ byItself f depth j (heardFrom (now (area .entry)) j t near (now (frame .entry)) bit s) r (now (area .entry)) ⌝ }
+    ensures bound { λ r. ⌜ (0 < r) × (s + r ≤ m) ⌝ }
+{
+    let most = m - s;
+    let run = fast_heard::heard_run(area, j, t as usize, near, bit, s as usize, most as usize);
+    let b = bit_at(bit, near.d1, s);
+    let kind = run.kind;
+    let len = run.len as u32;
+    fast_move::advance(area, f, depth, j, t + s, kind, frame, b, len)
+}
+
+// Station j moves on over m steps from clock t on, run by run of what it hears.
+fn move_runs(
+    area: &mut [u8],
+    f: Figures,
+    depth: u32,
+    j: usize,
+    t: u32,
+    near: Near,
+    bit: u32,
+    frame: &[u8],
+    m: u32,
+)
+    requires { ⌜ (j < 16) × (57344 ≤ length (now area)) × (t + m ≤ 16777216) × (bit + m < 4294967296) × (f .gap1 + f .gap2 < 65536) × Moving f depth j t (now area) ⌝ }
+    ensures { λ r. ⌜ now (area .exit) ≡ byItself f depth j (heardBy (now (area .entry)) j t near (now (frame .entry)) bit) m (now (area .entry)) ⌝ }
+{
+    let mut s: u32 = 0;
+    while s < m {
+        s += move_run(area, f, depth, j, t, near, bit, frame, s, m);
+    }
+}
+
+// The first n octets are the frame of station i.
+fn hold_frame(area: &[u8], i: usize, n: usize) -> [u8; 1536]
+    requires { ⌜ (i < 16) × (n ≤ 1536) × (57344 ≤ length (now area)) ⌝ }
+    ensures { λ r. ⌜ take n r ≡ frameAt (now (area .entry)) i n ⌝ }
+{
+    let mut held = [0u8; 1536];
+    copies::store(&mut held, 0, buffers::frame(area, i, n));
+    held
+}
+
+// Station j moves on over m steps from clock t on.
+fn move_station(area: &mut [u8], f: Figures, depth: u32, j: usize, t: u32, w: Sight, m: u32)
+    requires { ⌜ (j < 16) × (57344 ≤ length (now area)) × (t + m ≤ 16777216) × (w .bit + m < 4294967296) × (w .from < 16) × (w .octets ≤ 1536) × (f .gap1 + f .gap2 < 65536) × Moving f depth j t (now area) ⌝ }
+    ensures { λ r. ⌜ now (area .exit) ≡ byItself f depth j (heardBy (now (area .entry)) j t (w .near) (frameAt (now (area .entry)) (w .from) (w .octets)) (w .bit)) m (now (area .entry)) ⌝ }
+{
+    let near = w.near;
+    let octets = w.octets as usize;
+    let held = hold_frame(area, w.from, octets);
+    move_runs(area, f, depth, j, t, near, w.bit, &held[0..octets], m);
+}
+
+// ---- all stations
+
+// What station j, of n, hears of.
+fn see(area: &[u8], n: usize, j: usize) -> Sight
+    requires { ⌜ (j < 16) × (n ≤ 16) × (57344 ≤ length (now area)) ⌝ }
+    ensures { λ r. ⌜ r ≡ sightOf (now (area .entry)) n j ⌝ }
+{
+    let near = fast_heard::nearest(area, n, j);
+    let bit = fast_heard::near_bit(area, near);
+    if bit == 0 {
+        return Sight {
+            near,
+            bit: 0,
+            from: 0,
+            octets: 0,
+        };
+    }
+    let from = near.from;
+    let octets = area::read_word(area, from, 9);
+    Sight {
+        near,
+        bit,
+        from,
+        octets,
+    }
+}
+
+// What each of n stations hears of: to be taken before they move on.
+fn sights(area: &[u8], n: usize) -> [Sight; 16]
+    requires { ⌜ (n ≤ 16) × (57344 ≤ length (now area)) ⌝ }
+    ensures { λ r. ⌜ r ≡ sightsOf (now (area .entry)) n ⌝ }
+{
+    let near = Near {
+        from: 16,
+        d1: 256,
+        d2: 256,
+    };
+    let unseen = Sight {
+        near,
+        bit: 0,
+        from: 0,
+        octets: 0,
+    };
+    let mut all = [unseen; 16];
+    let mut j: usize = 0;
+    while j < n {
+        let w = see(area, n, j);
+        all[j] = w;
+        j += 1;
+    }
+    all
+}
+
+// Each of n stations moves on over m steps from clock t on, by what it heard of before.
+fn move_all(
+    area: &mut [u8],
+    f: Figures,
+    depth: u32,
+    n: usize,
+    t: u32,
+    seen: [Sight; 16],
+    m: u32,
+)
+    requires { ⌜ (n ≤ 16) × (57344 ≤ length (now area)) × (t + m ≤ 16777216) × Begins (now area) f depth n t × (seen ≡ sightsOf (now area) n) ⌝ }
+    ensures { λ r. ⌜ now (area .exit) ≡ ownAll (now (area .entry)) (planOf (now (area .entry))) m n (now (area .entry)) ⌝ }
+{
+    let mut j: usize = 0;
+    while j < n {
+        let w = seen[j];
+        move_station(area, f, depth, j, t, w, m);
+        j += 1;
+    }
+}
+
+// A window of r steps from clock t on, but for the clock: the stations, and then the lines.
+fn make_steps(area: &mut [u8], f: Figures, depth: u32, n: usize, t: u32, r: u32)
+    requires { ⌜ (n ≤ 16) × (57344 ≤ length (now area)) × (t + r ≤ 16777216) × Begins (now area) f depth n t × Lasting (now area) r ⌝ }
+    ensures { λ q. ⌜ now (area .exit) ≡ settledOf (now (area .entry)) r ⌝ }
+{
+    let from = fast_lines::emitters(area, n);
+    let seen = sights(area, n);
+    move_all(area, f, depth, n, t, seen, r);
+    fast_lines::settle_lines(area, n, t as usize, r as usize, from);
+}
+
+// A window of r steps.
+fn make(area: &mut [u8], r: u32)
+    requires { ⌜ (57344 ≤ length (now area)) × (clockAt (now area) + r ≤ 16777216) × Ready (now area) × Lasting (now area) r ⌝ }
+    ensures { λ q. ⌜ now (area .exit) ≡ turnedOf (now (area .entry)) (planOf (now (area .entry))) r ⌝ }
+{
+    let n = area::read_count(area) as usize;
+    let depth = area::read_depth(area);
+    let t = area::read_clock(area);
+    let f = area::read_figures(area);
+    make_steps(area, f, depth, n, t, r);
+    area::write_clock(area, t + r);
+}
+
+// Of the next m steps those that are a window, where they are worth one: says how many.
+pub fn pass(area: &mut [u8], m: u32) -> u32
+    requires { ⌜ (57344 ≤ length (now area)) × (clockAt (now area) + m ≤ 16777216) × Ready (now area) ⌝ }
+    ensures { λ r. ⌜ Passed m r (now (area .entry)) (now (area .exit)) ⌝ }
+{
+    let r = fast_bound::bound(area, m);
+    if r < 4 {
+        return 0;
+    }
+    make(area, r);
+    r
+}
