@@ -32,6 +32,10 @@ use Rattle.fast_advance.specs.Advance.{Quiet, Leap, Advance, quiet, step
 
 -- ---- many steps at once
 
+pub leap-none : (left : ℕ) (a : List ℕ) → Leapt left 0 a a
+unfolding Leapt
+leap-none left a = record { none = λ z. refl; some = λ ne. absurd (ne refl) }
+
 module _ (left : ℕ) (a : List ℕ) (h : Runnable left a) where
   pub left-ready : Ready a
   unfolding Runnable Ready

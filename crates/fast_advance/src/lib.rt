@@ -11,6 +11,9 @@ ghost use Rattle.pair.specs.BitTime.{noEvents};
 ghost use Rattle.course.specs.RunLaws.{Runnable};
 ghost use Rattle.fast_advance.specs.Advance.{Leapt, Advanced};
 
+// Fewer steps than these are made singly.
+const LEAST: u32 = 4;
+
 // So many steps, and no events.
 pub fn eventless(steps: u32) -> Stretch
     ensures steps { λ r. ⌜ r .steps ≡ steps ⌝ }
@@ -32,6 +35,9 @@ fn leap(area: &mut [u8], left: u32) -> u32
     ensures made { λ r. ⌜ Leapt left r (now (area .entry)) (now (area .exit)) ⌝ }
     ensures bound { λ r. ⌜ r ≤ left ⌝ }
 {
+    if left < LEAST {
+        return 0;
+    }
     let steps = fast_jump::skip(area, left);
     if steps != 0 {
         return steps;

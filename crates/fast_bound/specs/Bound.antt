@@ -112,9 +112,13 @@ pub record GoesOn (a : List ℕ) (j k : ℕ) : Type 0 where
 unfoldable pub CalmFor : List ℕ → (j k : ℕ) → Type 0
 CalmFor a j k = GoesOn a j k
 
--- so do the first i stations
-unfoldable pub CalmBelow : List ℕ → (i k : ℕ) → Type 0
-CalmBelow a i k = (j : ℕ) → j < i → CalmFor a j k
+-- so does station j, if it emits, where q, or if it emits nothing
+unfoldable pub CalmIf : List ℕ → (q : Bool) → (j k : ℕ) → Type 0
+CalmIf a q j k = emitsAt a j ≡ q → CalmFor a j k
+
+-- and those of the first i stations
+unfoldable pub CalmAmong : List ℕ → (q : Bool) → (i k : ℕ) → Type 0
+CalmAmong a q i k = (j : ℕ) → j < i → CalmIf a q j k
 
 -- each emitter emits through all of k steps
 unfoldable pub AllLast : List ℕ → (k : ℕ) → Type 0

@@ -6,6 +6,7 @@ use mathlib.Core.List.{List}
 use native.Mathlib.Omega.{arith}
 use borrow.Author.Tests.{ltb-true, ltb-false, not-true, not-false}
 use lib.Dec.{ltb}
+use lib.ListN.{getD}
 use Rattle.octets.specs.BaseLaws.{by-test, by-eq}
 use Rattle.layout.specs.declared.Figures.{Figures}
 use Rattle.packet.specs.declared.Heard.{Heard}
@@ -18,7 +19,7 @@ use Rattle.state.specs.declared.Transmitter.the-variants.{NoFrame, Waiting, Bac
 use Rattle.state.specs.declared.Receiver.{Receiver}
 use Rattle.state.specs.declared.Station.{Station}
 use Rattle.receiver.specs.Receive.{bitsIn}
-use Rattle.area.specs.Area.{clockAt, depthAt, figuresAt, countAt, addressAt, stationAt, bufferAt, arrivalAt}
+use Rattle.area.specs.Area.{clockAt, depthAt, figuresAt, countAt, addressAt, recordAt, stationAt, bufferAt, arrivalAt}
 use Rattle.pair.specs.Range.{FrameIn}
 use Rattle.pair.specs.Ready.{Readiness, Ready}
 use Rattle.quick.specs.Quick.{both-true}
@@ -34,11 +35,14 @@ use Rattle.fast_heard.specs.declared.Kind.{Kind}
 use Rattle.fast_heard.specs.declared.Kind.the-variants.{Silent, Line, From, Spoiled}
 use Rattle.fast_heard.specs.declared.Segment.{Segment}
 use Rattle.fast_heard.specs.Hearing.{planOf, heldAt, emits, emitsAt, nearestOf, nearBit, Says, Segmented}
-use Rattle.fast_heard.specs.NearLaws.{near-station}
+use Rattle.fast_heard.specs.NearLaws.{silent-by-code, emits-by-code}
+use Rattle.fast_heard.specs.declared.Sight.{Sight}
+use Rattle.fast_heard.specs.Sights.{sightBy, sightOf, blankSight, sightsOf}
+use Rattle.fast_heard.specs.SightLaws.{sight-at}
 use Rattle.fast_heard.specs.HearingLaws.{segment-hears}
 use Rattle.fast_bound.specs.declared.Ahead.{Ahead}
 use Rattle.fast_bound.specs.Foresee.{Foreseen, bits-clock, foreseen-start, foreseen-heard, foreseen-rest, emits-unheard, emits-heard}
-use Rattle.fast_bound.specs.Bound.{restSteps, hearSteps, restedTo, heardTo, restAhead, hearAhead, ahead, aheadOf, ownBusy, sends, unhurt, emitsWith, emitSteps, isLike, Alike, CalmFor, CalmBelow, AllLast, ReadFrom, NearTo, Underway}
+use Rattle.fast_bound.specs.Bound.{restSteps, hearSteps, restedTo, heardTo, restAhead, hearAhead, ahead, aheadOf, ownBusy, sends, unhurt, emitsWith, emitSteps, isLike, Alike, CalmFor, CalmIf, CalmAmong, AllLast, ReadFrom, NearTo, Underway}
 
 -- ---- in a run of any kind but silence others are heard
 
@@ -281,6 +285,10 @@ module _ (a : List ℕ) (f : Figures) (n t : ℕ) where
   unfolding ReadFrom Ready
   read-from r p q e = record { ready = r; figures = p; count = q; clock = e }
 
+  pub read-here : ReadFrom a f n t → ReadFrom a (figuresAt a) n t
+  unfolding ReadFrom
+  read-here v = record { ready = v .ready; figures = refl; count = v .count; clock = v .clock }
+
   pub read-gap : ReadFrom a f n t → f .gap1 + f .gap2 < 65536
   unfolding ReadFrom
   read-gap v =
@@ -309,37 +317,78 @@ module _ (a : List ℕ) (f : Figures) (n t : ℕ) where
         bit = ek;
       }
 
-pub near-few : (a : List ℕ) (n j : ℕ) (w : Near) → n ≤ 16 → w ≡ nearestOf a n j → w .d1 < 256 → w .from < 16
-near-few a n j w h e l = omega (arith, near-station a n j w e l)
+-- what station j hears of
+module _ (a : List ℕ) (f : Figures) (n t j : ℕ) (ws : List Sight) (w : Sight) (v : ReadFrom a f n t) (es : ws ≡ sightsOf a n) (ew : w ≡ getD ws j blankSight) (hj : j < n) where
+  is-sight : w ≡ sightOf a n j
+  is-sight = sight-at a n j ws w hj es ew
+
+  near-is : w .near ≡ nearestOf a n j
+  unfolding sightOf sightBy
+  near-is = ap (λ (q : Sight). q .near) is-sight
+
+  bit-is : w .bit ≡ nearBit a (w .near)
+  unfolding sightOf sightBy
+  bit-is = ap (λ (q : Sight). q .bit) is-sight ∙ ap (nearBit a) (sym near-is)
+
+  pub near-seen : NearTo a f j t (w .near) (w .bit)
+  near-seen = near-to a f n t j (w .near) (w .bit) v hj near-is bit-is
+
+  pub near-seen-here : NearTo a (figuresAt a) j t (w .near) (w .bit)
+  near-seen-here = near-here a f n t j (w .near) (w .bit) v hj near-is bit-is
 
 module _ (a : List ℕ) where
-  pub below-none : (k : ℕ) → CalmBelow a 0 k
-  unfolding CalmBelow
-  below-none k = λ j h. absurd (omega arith)
+  -- one that is of the other sort
+  pub if-silent : (j r c : ℕ) → c ≡ getD (recordAt a j) 3 0 → c < 3 → CalmIf a true j r
+  unfolding CalmIf
+  if-silent j r c e h on = absurd (true≢false (sym on ∙ silent-by-code a j c e h))
 
-  pub below-more : (i k r : ℕ) → CalmBelow a i k → CalmFor a i r → r ≤ k → CalmBelow a (i + 1) r
-  unfolding CalmBelow CalmFor
-  below-more i k r b c h =
-      λ j l. by-eq j i
-      (λ z. subst (λ (y : ℕ). CalmFor a y r) (sym z) c)
-      (λ z. let y = b j (omega (arith, z)) in
+  pub if-emits : (j r c : ℕ) → c ≡ getD (recordAt a j) 3 0 → 3 ≤ c → CalmIf a false j r
+  unfolding CalmIf
+  if-emits j r c e h off = absurd (true≢false (sym (emits-by-code a j c e h) ∙ off))
+
+  pub if-calm : (q : Bool) (j r : ℕ) → CalmFor a j r → CalmIf a q j r
+  unfolding CalmIf
+  if-calm q j r c e = c
+
+  for-less : (j k r : ℕ) → r ≤ k → CalmFor a j k → CalmFor a j r
+  unfolding CalmFor
+  for-less j k r h y =
       record {
         calm = calm-less (figuresAt a) (depthAt a) j (hears a (planOf a) j) (planOf a j) a k r h (y .calm);
         lasts = λ w. omega (arith, y .lasts w);
-      })
+      }
 
-  pub below-all : (n i k : ℕ) → CalmBelow a i k → n ≡ countAt a → n ≤ i → AllCalm a (planOf a) k
-  unfolding CalmBelow CalmFor
-  below-all n i k b e h = λ j l. b j (omega arith) .calm
+  module _ (q : Bool) where
+    pub among-none : (k : ℕ) → CalmAmong a q 0 k
+    unfolding CalmAmong
+    among-none k = λ j h. absurd (omega arith)
 
-  pub below-last : (n i k : ℕ) → CalmBelow a i k → n ≡ countAt a → n ≤ i → AllLast a k
-  unfolding CalmBelow CalmFor AllLast
-  below-last n i k b e h = λ j l. b j (omega arith) .lasts
+    pub among-zero : (n : ℕ) → CalmAmong a q n 0
+    unfolding CalmAmong CalmIf
+    among-zero n = λ j h e. calm-zero a j
 
-  pub all-zero : AllCalm a (planOf a) 0
-  unfolding CalmFor
-  all-zero = λ j l. calm-zero a j .calm
+    pub among-more : (i k r : ℕ) → CalmAmong a q i k → CalmIf a q i r → r ≤ k → CalmAmong a q (i + 1) r
+    unfolding CalmAmong CalmIf
+    among-more i k r b c h =
+        λ j l e. by-eq j i
+        (λ z. subst (λ (y : ℕ). CalmFor a y r) (sym z) (c (ap (emitsAt a) (sym z) ∙ e)))
+        (λ z. for-less j k r h (b j (omega (arith, z)) e))
 
-  pub zero-last : AllLast a 0
-  unfolding AllLast
-  zero-last = λ j l e. omega arith
+    pub among-end : (n i k : ℕ) → i ≤ n → n ≤ i → CalmAmong a q i k → CalmAmong a q n k
+    among-end n i k lo up b = let z : i ≡ n = omega arith in subst (λ (y : ℕ). CalmAmong a q y k) z b
+
+  module _ (f : Figures) (n t k r : ℕ) (v : ReadFrom a f n t) (b : CalmAmong a true n k) (c : CalmAmong a false n r) (h : r ≤ k) where
+    each : (j : ℕ) → j < countAt a → CalmFor a j r
+    unfolding CalmAmong CalmIf ReadFrom
+    each j l =
+        by-test (emitsAt a j)
+        (λ e. for-less j k r h (b j (omega (arith, v .count)) e))
+        (λ e. c j (omega (arith, v .count)) e)
+
+    pub all-calm : AllCalm a (planOf a) r
+    unfolding CalmFor
+    all-calm = λ j l. each j l .calm
+
+    pub all-last : AllLast a r
+    unfolding CalmFor AllLast
+    all-last = λ j l. each j l .lasts

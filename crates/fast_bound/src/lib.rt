@@ -2,6 +2,7 @@
 
 use fast_heard::Kind;
 use fast_heard::Near;
+use fast_heard::Sight;
 use layout::Figures;
 use state::Deference;
 use state::Receiver;
@@ -12,11 +13,14 @@ ghost use mathlib.Core.Bool.{true, false};
 ghost use Prim.Native.Nat.{_+_, _<_, _≤_};
 ghost use lib.ListN.{length};
 ghost use Rattle.receiver.specs.Receive.{bitsIn};
-ghost use Rattle.area.specs.Area.{clockAt, figuresAt};
-ghost use Rattle.pair.specs.Ready.{Ready};
+ghost use Rattle.area.specs.Area.{figuresAt};
 ghost use Rattle.fast_plan.specs.Calm.{AllCalm};
 ghost use Rattle.fast_heard.specs.Hearing.{planOf, emitsAt};
-ghost use Rattle.fast_bound.specs.Bound.{restSteps, hearSteps, restAhead, hearAhead, ahead, aheadOf, ownBusy, sends, unhurt, emitSteps, isLike, Alike, CalmFor, AllLast, ReadFrom, NearTo, Underway};
+ghost use Rattle.fast_heard.specs.Sights.{sightsOf};
+ghost use Rattle.fast_bound.specs.Bound.{restSteps, hearSteps, restAhead, hearAhead, ahead, aheadOf, ownBusy, sends, unhurt, emitSteps, isLike, Alike, CalmFor, CalmIf, CalmAmong, AllLast, ReadFrom, NearTo, Underway};
+
+// Fewer steps than these are not worth a window.
+pub const LEAST: u32 = 4;
 
 // Of a station that emits nothing: `len` steps of one kind, and what it comes to in them. It has collected at most
 // `bits` bits; `harmless`: its reception may not report, however long it goes on.
@@ -302,38 +306,79 @@ fn emit_bound(area: &[u8], j: usize, t: u32, near: Near, bit: u32, m: u32) -> u3
     fast_rest::smaller(heard, emit_steps(false, station))
 }
 
-// At most m steps in which station j, of n, goes on or starts nothing, and has no event.
-fn station_bound(area: &[u8], f: Figures, n: usize, t: u32, j: usize, m: u32) -> u32
-    requires { ⌜ (j < n) × (n ≤ 16) × (57344 ≤ length (now area)) × (t + m ≤ 16777216) × (f .gap1 + f .gap2 < 65536) × ReadFrom (now area) f n t ⌝ }
-    ensures calm { λ r. ⌜ CalmFor (now (area .entry)) j r ⌝ }
+// Station j, if it emits: at most m steps through which it goes on and has no event.
+fn emitter_bound(area: &[u8], j: usize, t: u32, w: Sight, m: u32) -> u32
+    requires { ⌜ (j < 16) × (57344 ≤ length (now area)) × (t + m ≤ 16777216) × NearTo (now area) (figuresAt (now area)) j t (w .near) (w .bit) ⌝ }
+    ensures calm { λ r. ⌜ CalmIf (now (area .entry)) true j r ⌝ }
     ensures bound { λ r. ⌜ r ≤ m ⌝ }
 {
-    let near = fast_heard::nearest(area, n, j);
-    let bit = fast_heard::near_bit(area, near);
     if area::read_word(area, j, 3) < 3 {
-        return silent_bound(area, f, j, t, near, bit, m);
+        return m;
     }
-    emit_bound(area, j, t, near, bit, m)
+    let near = w.near;
+    emit_bound(area, j, t, near, w.bit, m)
 }
 
-// How long a window may be, of m steps.
-pub fn bound(area: &[u8], m: u32) -> u32
-    requires { ⌜ (57344 ≤ length (now area)) × (clockAt (now area) + m ≤ 16777216) × Ready (now area) ⌝ }
+// Station j, if it emits nothing: at most m steps in which it starts nothing and has no event.
+fn listener_bound(area: &[u8], f: Figures, j: usize, t: u32, w: Sight, m: u32) -> u32
+    requires { ⌜ (j < 16) × (57344 ≤ length (now area)) × (t + m ≤ 16777216) × (f .gap1 + f .gap2 < 65536) × NearTo (now area) f j t (w .near) (w .bit) ⌝ }
+    ensures calm { λ r. ⌜ CalmIf (now (area .entry)) false j r ⌝ }
+    ensures bound { λ r. ⌜ r ≤ m ⌝ }
+{
+    if area::read_word(area, j, 3) < 3 {
+        let near = w.near;
+        return silent_bound(area, f, j, t, near, w.bit, m);
+    }
+    m
+}
+
+// Of m steps those through which each of n stations that emits goes on and has no event; none where they are few.
+fn emitters_bound(area: &[u8], n: usize, t: u32, seen: [Sight; 16], m: u32) -> u32
+    requires { ⌜ (n ≤ 16) × (57344 ≤ length (now area)) × (t + m ≤ 16777216) × ReadFrom (now area) (figuresAt (now area)) n t × (seen ≡ sightsOf (now area) n) ⌝ }
+    ensures calm { λ r. ⌜ CalmAmong (now (area .entry)) true n r ⌝ }
+    ensures bound { λ r. ⌜ r ≤ m ⌝ }
+{
+    let mut left = m;
+    let mut j: usize = 0;
+    while j < n {
+        if left < LEAST {
+            return 0;
+        }
+        let w = seen[j];
+        left = emitter_bound(area, j, t, w, left);
+        j += 1;
+    }
+    left
+}
+
+// Of m steps those in which each of n stations that emits nothing starts nothing and has no event; none where they are
+// few.
+fn listeners_bound(area: &[u8], f: Figures, n: usize, t: u32, seen: [Sight; 16], m: u32) -> u32
+    requires { ⌜ (n ≤ 16) × (57344 ≤ length (now area)) × (t + m ≤ 16777216) × (f .gap1 + f .gap2 < 65536) × ReadFrom (now area) f n t × (seen ≡ sightsOf (now area) n) ⌝ }
+    ensures calm { λ r. ⌜ CalmAmong (now (area .entry)) false n r ⌝ }
+    ensures bound { λ r. ⌜ r ≤ m ⌝ }
+{
+    let mut left = m;
+    let mut j: usize = 0;
+    while j < n {
+        if left < LEAST {
+            return 0;
+        }
+        let w = seen[j];
+        left = listener_bound(area, f, j, t, w, left);
+        j += 1;
+    }
+    left
+}
+
+// How long a window of n stations may be, of m steps from clock t on. Emitters are looked at first: they allow the fewest
+// steps, and the others need not be looked at past those.
+pub fn bound(area: &[u8], f: Figures, n: usize, t: u32, seen: [Sight; 16], m: u32) -> u32
+    requires { ⌜ (n ≤ 16) × (57344 ≤ length (now area)) × (t + m ≤ 16777216) × ReadFrom (now area) f n t × (seen ≡ sightsOf (now area) n) ⌝ }
     ensures calm { λ r. ⌜ AllCalm (now (area .entry)) (planOf (now (area .entry))) r ⌝ }
     ensures last { λ r. ⌜ AllLast (now (area .entry)) r ⌝ }
     ensures bound { λ r. ⌜ r ≤ m ⌝ }
 {
-    let n = area::read_count(area) as usize;
-    let t = area::read_clock(area);
-    let f = area::read_figures(area);
-    let mut left = m;
-    let mut i: usize = 0;
-    while i < n {
-        if left == 0 {
-            return 0;
-        }
-        left = station_bound(area, f, n, t, i, left);
-        i += 1;
-    }
-    left
+    let most = emitters_bound(area, n, t, seen, m);
+    listeners_bound(area, f, n, t, seen, most)
 }

@@ -22,8 +22,8 @@ use Rattle.pair.specs.Ready.{Readiness}
 use Rattle.meeting.specs.Meet.{met, met-none}
 use Rattle.fast_plan.specs.Plan.{lineNow, hears}
 use Rattle.fast_line.specs.declared.LineRun.{LineRun}
-use Rattle.fast_line.specs.Line.{kindOf, kindAt, lasts, runAt}
-use Rattle.fast_line.specs.LineLaws.{kind-nothing, lasts-each}
+use Rattle.fast_line.specs.Line.{kindOf, kindAt, lasts, runAt, isClear}
+use Rattle.fast_line.specs.LineLaws.{kind-nothing, lasts-each, clear-line}
 use Rattle.fast_heard.specs.declared.Near.{Near}
 use Rattle.fast_heard.specs.declared.Kind.{Kind}
 use Rattle.fast_heard.specs.declared.Kind.the-variants.{Silent, Line, From, Spoiled}
@@ -143,6 +143,11 @@ module _ (x : List ℕ) (j t s m : ℕ) where
   pub ahead-none : 256 ≤ s → RunOf (lineFrom x j t) s (record { kind = 0; len = m })
   unfolding RunOf lineFrom
   ahead-none h v l = rw (le-ltb (s + v) 256 (omega arith))
+
+  pub ahead-clear : (b : Bool) → b ≡ isClear x j → b ≡ true → RunOf (lineFrom x j t) s (record { kind = 0; len = m })
+  unfolding RunOf lineFrom
+  ahead-clear b e h v l =
+      by-test (ltb (s + v) 256) (λ c. rw c (ap kindOf (clear-line x j (sym e ∙ h) (t + (s + v))))) (λ c. rw c)
 
   pub ahead-run : (r : LineRun) (n : ℕ) → r ≡ runAt x j (t + s) n → n ≡ min (256 - s) m → s < 256 → r .len ≤ n → RunOf (lineFrom x j t) s r
   unfolding RunOf lineFrom runAt kindAt

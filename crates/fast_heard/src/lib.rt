@@ -6,6 +6,7 @@ ghost use mathlib.Core.Path.{_≡_};
 ghost use Prim.Native.Nat.{_+_, _<_, _≤_};
 ghost use lib.ListN.{length};
 ghost use Rattle.area.specs.Area.{positionAt};
+ghost use Rattle.fast_heard.specs.Sights.{sightOf, sightsOf};
 ghost use Rattle.fast_heard.specs.Hearing.{emitsAt, nearer, noted, spaceTo, nearestOf, nearBit, begun, before, lineFrom, RunOf, kindNear, kindHeard, Segmented};
 
 // The nearest other emitter and its distance, and the distance of the second nearest; 256 where there is none.
@@ -134,6 +135,11 @@ fn line_ahead(area: &[u8], j: usize, t: usize, s: usize, m: usize) -> LineRun
     if 256 <= s {
         return LineRun { kind: 0, len: m };
     }
+    if s == 0 {
+        if fast_line::is_clear(area, j) {
+            return LineRun { kind: 0, len: m };
+        }
+    }
     let most = quick::capped(256 - s, m);
     fast_line::line_run(area, j, t + s, most)
 }
@@ -193,4 +199,66 @@ pub fn heard_run(
     let run = line_ahead(area, j, t, s, most);
     let kind = kind_heard(run.kind, has_begun(near.d1, s), bit);
     Segment { kind, len: run.len }
+}
+
+// ---- what each station hears of
+
+// What a station hears of before a window: the nearest emitters; the next packet bit of the nearest, 0 where there is
+// none or it jams; and the frame that it sends, by its station and its octets.
+pub struct Sight {
+    pub near: Near,
+    pub bit: u32,
+    pub from: usize,
+    pub octets: u32,
+}
+
+// What station j, of n, hears of.
+fn see(area: &[u8], n: usize, j: usize) -> Sight
+    requires { ⌜ (j < 16) × (n ≤ 16) × (57344 ≤ length (now area)) ⌝ }
+    ensures { λ r. ⌜ r ≡ sightOf (now (area .entry)) n j ⌝ }
+{
+    let near = nearest(area, n, j);
+    let bit = near_bit(area, near);
+    if bit == 0 {
+        return Sight {
+            near,
+            bit: 0,
+            from: 0,
+            octets: 0,
+        };
+    }
+    let from = near.from;
+    let octets = area::read_word(area, from, 9);
+    Sight {
+        near,
+        bit,
+        from,
+        octets,
+    }
+}
+
+// What each of n stations hears of: to be taken before they move on.
+pub fn sights(area: &[u8], n: usize) -> [Sight; 16]
+    requires { ⌜ (n ≤ 16) × (57344 ≤ length (now area)) ⌝ }
+    ensures { λ r. ⌜ r ≡ sightsOf (now (area .entry)) n ⌝ }
+{
+    let near = Near {
+        from: 16,
+        d1: 256,
+        d2: 256,
+    };
+    let unseen = Sight {
+        near,
+        bit: 0,
+        from: 0,
+        octets: 0,
+    };
+    let mut all = [unseen; 16];
+    let mut j: usize = 0;
+    while j < n {
+        let w = see(area, n, j);
+        all[j] = w;
+        j += 1;
+    }
+    all
 }

@@ -1,6 +1,7 @@
 -- A station's delay line over many places: of what kind they are, how long a kind lasts, whether nothing is there; and
 -- the symbols of a station that sends. The laws are in LineLaws. Assumes nothing.
-use Prim.Native.Nat.{ℕ, zero, suc, _+_}
+use Prim.Native.Nat.{ℕ, zero, suc, _+_, _<_}
+use mathlib.Core.Path.{_≡_}
 use mathlib.Core.Bool.{Bool, not}
 use mathlib.Core.List.{List}
 use lib.Dec.{eqb}
@@ -41,6 +42,10 @@ lasts a j u k m = firstOf (otherKind a j u k) m
 -- the kind of place u, and how many of the m places from there on have it
 unfoldable pub runAt : List ℕ → (j u m : ℕ) → LineRun
 runAt a j u m = record { kind = kindAt a j u; len = lasts a j u (kindAt a j u) m }
+
+-- n places from u on are of kind k. Shut, so that a search does not enter it
+unfoldable pub AllOf : List ℕ → (j u k n : ℕ) → Type 0
+AllOf a j u k n = (i : ℕ) → i < n → kindAt a j (u + i) ≡ k
 
 -- ---- a whole line
 

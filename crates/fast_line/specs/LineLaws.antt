@@ -1,15 +1,15 @@
 -- Laws of a line over many places: what a kind that lasts says of each place, and one law for each way through the
 -- code. Assumes nothing.
 use Prim.Native.Nat.{ℕ, zero, suc, _+_, _-_, _*_, _/_, _%_, _^_, _≤_, _<_, min}
-use mathlib.Core.Path.{_≡_, refl, sym, _∙_, ap, ap₂}
-use mathlib.Core.Bool.{Bool, true, false, not, _||_, true≢false}
+use mathlib.Core.Path.{_≡_, refl, sym, _∙_, ap, ap₂, subst}
+use mathlib.Core.Bool.{Bool, true, false, not, _||_, _&&_, true≢false}
 use mathlib.Core.List.{List}
 use native.Mathlib.Nat.{mod-lt}
 use native.Mathlib.Numerals.{add-one}
 use native.Mathlib.Omega.{arith}
-use borrow.Author.Tests.{eq-eqb, ne-eqb, eqb-true, eqb-false, not-true, not-false}
-use lib.Dec.{eqb}
-use lib.Bits.{bitOr, or-add-and, and-le-l, and-le-r}
+use borrow.Author.Tests.{eq-eqb, ne-eqb, eqb-true, eqb-false, not-true, not-false, leb-true, leb-false}
+use lib.Dec.{eqb, leb}
+use lib.Bits.{bitOr, bitXor, or-add-and, xor-add-and, and-le-l, and-le-r}
 use lib.ListN.{length, getD, set}
 use lib.Seq.{set-getD}
 use Rattle.octets.specs.Base.{some}
@@ -29,7 +29,7 @@ use Rattle.area.specs.CodeLaws.{heard-nothing, heard-zero, heard-one, heard-jam
 use Rattle.meeting.specs.Gather.{joined-none}
 use Rattle.fast_plan.specs.Push.{cleared, joinedAt, onWay}
 use Rattle.fast_plan.specs.Placed.{way-only}
-use Rattle.fast_line.specs.Line.{kindOf, kindAt, firstOf, otherKind, lasts, runAt, inUse, isClear, bitsFrom, jams}
+use Rattle.fast_line.specs.Line.{kindOf, kindAt, firstOf, otherKind, lasts, runAt, AllOf, inUse, isClear, bitsFrom, jams}
 
 -- ---- the first that passes a test
 
@@ -147,6 +147,15 @@ module _ (a : List ℕ) (j u : ℕ) where
       let e : x ≡ kindAt a j u = here x c ex ec in
       λ i. record { kind = e i; len = (el ∙ ap (λ (k : ℕ). lasts a j u k m) e) i }
 
+  pub kind-low : (x c : ℕ) → x ≡ kindOf (heardOf c) → x ≤ 2
+  kind-low x c e = subst (λ (k : ℕ). k ≤ 2) (sym e) (low (heardOf c))
+    where
+      low : (h : Heard) → kindOf h ≤ 2
+      low Nothing = omega arith
+      low (Clean b) = omega arith
+      low Jammed = omega arith
+      low Several = omega arith
+
   pub run-some : (m x c l : ℕ) → l ≡ lasts a j u x m → x ≡ kindOf (heardOf c) → c ≡ symbolAt a j u → 0 < m → 0 < l
   run-some m x c l el ex ec h =
       by-eq l 0
@@ -154,6 +163,99 @@ module _ (a : List ℕ) (j u : ℕ) where
       let w : u + lasts a j u x m ≡ u = omega arith in
       absurd (lasts-other x m (omega arith) (ap (kindAt a j) w ∙ sym (here x c ex ec))))
       (λ z. omega (arith, z))
+
+-- ---- sixteen places at once
+
+-- half of a code, rounded up, is its kind
+kind-half : (c k : ℕ) → k ≤ 2 → c / 2 + c % 2 ≡ k → kindOf (heardOf c) ≡ k
+kind-half c k h e =
+    by-eq c 0
+    (λ p. sym (kind-none c p) ∙ (omega arith))
+    (λ p. by-test (leb c 2)
+    (λ q. let l = leb-true c 2 q in sym (kind-clean c p l) ∙ (omega (arith, p)))
+    (λ q. let l = leb-false c 2 q in sym (kind-spoiled c (omega arith)) ∙ (omega arith)))
+
+xor-same : (x y : ℕ) → bitXor x y ≡ 0 → x ≡ y
+xor-same x y e =
+    let s = xor-add-and x y in
+    let l = and-le-l x y in
+    let r = and-le-r x y in
+    omega arith
+
+or-none : (x y : ℕ) → bitOr x y ≡ 0 → (x ≡ 0) × (y ≡ 0)
+or-none x y e =
+    let s = or-add-and x y in
+    let l = and-le-l x y in
+    let r = and-le-r x y in
+    (omega arith, omega arith)
+
+pub code-is : (a : List ℕ) (j p c : ℕ) → p < 256 → c ≡ getD a (4096 + 256 * j + p) 0 → c ≡ symbolAt a j p
+unfolding symbolAt
+code-is a j p c h e = let z : p % 256 ≡ p = omega arith in e ∙ ap (λ (k : ℕ). getD a (4096 + 256 * j + k) 0) (sym z)
+
+-- where all that differs is nothing, n places are of kind k
+abbrev pub Differ : List ℕ → (j p k n other : ℕ) → Type 0
+Differ a j p k n other = other ≡ 0 → AllOf a j p k n
+
+module _ (a : List ℕ) (j p k : ℕ) where
+  pub differ-none : Differ a j p k 0 0
+  unfolding AllOf
+  differ-none e = λ i h. absurd (omega arith)
+
+  pub differ-more : (n other c next : ℕ) → k ≤ 2 → c ≡ symbolAt a j (p + n) → next ≡ bitOr other (bitXor (c / 2 + c % 2) k) → Differ a j p k n other → Differ a j p k (n + 1) next
+  unfolding AllOf kindAt arrivalAt
+  differ-more n other c next h ec en d e =
+      let q = or-none other (bitXor (c / 2 + c % 2) k) (sym en ∙ e) in
+      let w = kind-half c k h (xor-same (c / 2 + c % 2) k (q .1)) in
+      λ i l. by-eq i n
+      (λ z. ap (λ (y : ℕ). kindOf (heardOf (symbolAt a j (p + y)))) z ∙ ap (λ (y : ℕ). kindOf (heardOf y)) (sym ec) ∙ w)
+      (λ z. d (q .0) i (omega (arith, z)))
+
+  pub differ-end : (n other : ℕ) → n ≤ 16 → 16 ≤ n → Differ a j p k n other → eqb other 0 ≡ true → AllOf a j p k 16
+  differ-end n other lo up d e = let z : n ≡ 16 = omega arith in subst (AllOf a j p k) z (d (eqb-true other 0 e))
+
+module _ (a : List ℕ) (j u : ℕ) where
+  -- a place is one of 256
+  pub alike-row : (p k : ℕ) (b : Bool) → p ≡ u % 256 → p ≤ 240 → (b ≡ true → AllOf a j p k 16) → b ≡ true → AllOf a j u k 16
+  unfolding AllOf kindAt
+  alike-row p k b ep h f e = λ i l. ap kindOf (arrival-turn a j (u + i) (p + i) (omega arith)) ∙ f e i l
+
+  pub not-alike : (k : ℕ) → false ≡ true → AllOf a j u k 16
+  not-alike k e = absurd (true≢false (sym e))
+
+  pub sixteen-alike : (k : ℕ) (b : Bool) → (b ≡ true → AllOf a j u k 16) → b ≡ true → AllOf a j u k 16
+  sixteen-alike k b f e = f e
+
+  pub some-here : (k n : ℕ) → 0 < n → n ≡ 0 → kindAt a j u ≡ k → ⊥
+  some-here k n h z e = omega arith
+
+  pub one-alike : (k x c : ℕ) → x ≡ kindOf (heardOf c) → c ≡ symbolAt a j u → x ≡ k → AllOf a j u k 1
+  unfolding AllOf
+  one-alike k x c ex ec e = λ i h. let z : u + i ≡ u = omega arith in ap (kindAt a j) z ∙ sym (here a j u x c ex ec) ∙ e
+
+  pub none-alike : (k : ℕ) → AllOf a j u k 0
+  unfolding AllOf
+  none-alike k = λ i h. absurd (omega arith)
+
+  pub not-here : (k x c : ℕ) → x ≡ kindOf (heardOf c) → c ≡ symbolAt a j u → (x ≡ k → ⊥) → kindAt a j u ≡ k → ⊥
+  not-here k x c ex ec ne e = ne (here a j u x c ex ec ∙ e)
+
+  -- some more of a kind, or none
+  some-grows : (k s : ℕ) (n : ℕ) → some (otherKind a j u k) s ≡ false → ((i : ℕ) → i < n → kindAt a j (u + s + i) ≡ k) → some (otherKind a j u k) (s + n) ≡ false
+  unfolding some otherKind
+  some-grows k s zero h al = let z : s + 0 ≡ s = omega arith in rw z h
+  some-grows k s (suc n) h al =
+      let z : s + suc n ≡ suc (s + n) = omega arith in
+      let w : u + (s + n) ≡ u + s + n = omega arith in
+      rw (z, some-grows k s n h (λ i l. al i (omega arith)), eq-eqb (kindAt a j (u + (s + n))) k (ap (kindAt a j) w ∙ al n (omega arith)))
+
+  pub lasts-some : (k s n : ℕ) → some (otherKind a j u k) s ≡ false → AllOf a j (u + s) k n → some (otherKind a j u k) (s + n) ≡ false
+  unfolding AllOf
+  lasts-some k s n h al = some-grows k s n h al
+
+  pub lasts-stop : (k m s n : ℕ) → s < m → some (otherKind a j u k) s ≡ false → (n ≡ 0 → kindAt a j (u + s) ≡ k → ⊥) → n ≡ 0 → s ≡ lasts a j u k m
+  unfolding lasts otherKind
+  lasts-stop k m s n h q ne e = first-hit (otherKind a j u k) m s h q (ap not (ne-eqb (kindAt a j (u + s)) k (ne e)))
 
 -- ---- a whole line
 

@@ -3,13 +3,14 @@
 
 use packet::Heard;
 ghost use mathlib.Core.Path.{_≡_};
+ghost use mathlib.Core.Bool.{true};
 ghost use Prim.Native.Nat.{_+_, _*_, _<_, _≤_, min};
 ghost use lib.ListN.{length};
 ghost use Rattle.packet.specs.declared.Symbol.the-variants.{Bit};
 ghost use Rattle.packet.specs.Packet.{packetBit};
-ghost use Rattle.area.specs.Area.{heardOf, heardCode, alone, frameAt};
+ghost use Rattle.area.specs.Area.{heardOf, heardCode, symbolAt, alone, frameAt};
 ghost use Rattle.fast_plan.specs.Push.{cleared, onWay};
-ghost use Rattle.fast_line.specs.Line.{kindOf, lasts, runAt, isClear, bitsFrom, jams};
+ghost use Rattle.fast_line.specs.Line.{kindOf, kindAt, lasts, runAt, AllOf, isClear, bitsFrom, jams};
 
 // Places of one kind, and how many: 0 nothing, 1 clean bits, 2 spoiled.
 pub struct LineRun {
@@ -43,30 +44,75 @@ fn kind_of(code: u8) -> u8
     2
 }
 
+// The code at place p of the line of station j.
+fn code_at(area: &[u8], j: usize, p: usize) -> u8
+    requires { ⌜ (j < 16) × (57344 ≤ length (now area)) × (p < 256) ⌝ }
+    ensures { λ r. ⌜ r ≡ symbolAt (now (area .entry)) j p ⌝ }
+{
+    area[4096 + 256 * j + p]
+}
+
+// Whether the sixteen places from p on are of this kind. Without a branch: they are looked at at once. Half of a code,
+// rounded up, is its kind.
+fn sixteen_alike(area: &[u8], j: usize, p: usize, kind: u8) -> bool
+    requires { ⌜ (j < 16) × (57344 ≤ length (now area)) × (p ≤ 240) × (kind ≤ 2) ⌝ }
+    ensures { λ r. ⌜ (r ≡ true → AllOf (now (area .entry)) j p kind 16) ⌝ }
+{
+    let mut other: u8 = 0;
+    let mut i: usize = 0;
+    while i < 16 {
+        let code = code_at(area, j, p + i);
+        other = other | ((code / 2 + code % 2) ^ kind);
+        i += 1;
+    }
+    other == 0
+}
+
+// Whether the sixteen places from u on are of this kind; no where they do not lie in a row.
+fn are_alike(area: &[u8], j: usize, u: usize, kind: u8) -> bool
+    requires { ⌜ (j < 16) × (57344 ≤ length (now area)) × (kind ≤ 2) ⌝ }
+    ensures { λ r. ⌜ (r ≡ true → AllOf (now (area .entry)) j u kind 16) ⌝ }
+{
+    let p = u % 256;
+    if 240 < p {
+        return false;
+    }
+    sixteen_alike(area, j, p, kind)
+}
+
+// Of the m places from u on some that are of this kind, sixteen or one; none where the first is not.
+fn some_alike(area: &[u8], j: usize, u: usize, kind: u8, m: usize) -> usize
+    requires { ⌜ (j < 16) × (57344 ≤ length (now area)) × (0 < m) × (kind ≤ 2) ⌝ }
+    ensures alike { λ r. ⌜ AllOf (now (area .entry)) j u kind r ⌝ }
+    ensures other { λ r. ⌜ (r ≡ 0 → kindAt (now (area .entry)) j u ≡ kind → ⊥) ⌝ }
+    ensures bound { λ r. ⌜ r ≤ m ⌝ }
+{
+    if 16 <= m {
+        if are_alike(area, j, u, kind) {
+            return 16;
+        }
+    }
+    if kind_of(delay::read_symbol(area, j, u)) == kind {
+        return 1;
+    }
+    0
+}
+
 // How many of the m places from u on are of this kind, up to the first that is not.
 fn lasting(area: &[u8], j: usize, u: usize, kind: u8, m: usize) -> usize
-    requires { ⌜ (j < 16) × (57344 ≤ length (now area)) × (u + m < 4294967296) ⌝ }
+    requires { ⌜ (j < 16) × (57344 ≤ length (now area)) × (u + m < 4294967296) × (kind ≤ 2) ⌝ }
     ensures same { λ r. ⌜ r ≡ lasts (now (area .entry)) j u kind m ⌝ }
     ensures bound { λ r. ⌜ r ≤ m ⌝ }
 {
     let mut s: usize = 0;
     while s < m {
-        let k = kind_of(delay::read_symbol(area, j, u + s));
-        if k != kind {
+        let k = some_alike(area, j, u + s, kind, m - s);
+        if k == 0 {
             return s;
         }
-        s += 1;
+        s += k;
     }
     s
-}
-
-// How many of the m places from u on hold nothing, up to the first in use.
-pub fn first_use(area: &[u8], j: usize, u: usize, m: usize) -> usize
-    requires { ⌜ (j < 16) × (57344 ≤ length (now area)) × (u + m < 4294967296) ⌝ }
-    ensures first { λ r. ⌜ r ≡ lasts (now (area .entry)) j u 0 m ⌝ }
-    ensures bound { λ r. ⌜ r ≤ m ⌝ }
-{
-    lasting(area, j, u, 0, m)
 }
 
 // The kind of place u, and how many of the m places from there on have it.

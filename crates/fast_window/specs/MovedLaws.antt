@@ -51,8 +51,10 @@ use Rattle.fast_heard.specs.NearLaws.{near-station}
 use Rattle.fast_heard.specs.HearingLaws.{brought-same, says-same, hears-mixed}
 use Rattle.fast_segment.specs.Alone.{Moves, itself-moves}
 use Rattle.fast_move.specs.Move.{heardIn, Moving, Audible}
-use Rattle.fast_window.specs.declared.Sight.{Sight}
-use Rattle.fast_window.specs.Window.{bitAt, heardBy, heardFrom, sightBy, sightOf, unseen, blankSight, sightsOf, Begins}
+use Rattle.fast_heard.specs.declared.Sight.{Sight}
+use Rattle.fast_heard.specs.Sights.{sightBy, sightOf, unseen, blankSight, sightsOf}
+use Rattle.fast_heard.specs.SightLaws.{bit-near, bit-from, sight-at}
+use Rattle.fast_window.specs.Window.{bitAt, heardBy, heardFrom, Begins}
 
 -- ---- turns that hear alike
 
@@ -142,37 +144,6 @@ module _ (f : Figures) (D j t : ℕ) (w : Near) (F : List ℕ) (k : ℕ) (x : Li
         (λ u l. ap (λ (g : Heard). met (pick (ltb (s + u) 256) g Nothing) (brought w (sends F k) (s + u))) (line-kept hj (t + (s + u))))
         ∙ ap (byItself f D j (λ u. heardBy x j t w F k (s + u)) r) ey
         ∙ sym (itself-split f D j (heardBy x j t w F k) s r x)
-
--- ---- what it hears of
-
-module _ (a : List ℕ) (n j : ℕ) (w : Near) (k : ℕ) (ew : w ≡ nearestOf a n j) (ek : k ≡ nearBit a w) where
-  is-sight : sightBy a w k ≡ sightOf a n j
-  unfolding sightOf
-  is-sight = ap₂ (sightBy a) ew (ek ∙ ap (nearBit a) ew)
-
-  pub sight-none : k ≡ 0 → record { near = w; bit = 0; from = 0; octets = 0 } ≡ sightOf a n j
-  unfolding sightBy
-  sight-none e = rw (eq-eqb k 0 e) (λ i. record { near = w; bit = sym e i; from = 0; octets = 0 }) ∙ is-sight
-
-  sight-else : (o : ℕ) → (k ≡ 0 → ⊥) → o ≡ stationAt a (w .from) .frame → record { near = w; bit = k; from = w .from; octets = o } ≡ sightBy a w k
-  unfolding sightBy
-  sight-else o ne eo = rw (ne-eqb k 0 ne) (λ i. record { near = w; bit = k; from = w .from; octets = eo i })
-
-  pub sight-some : (o : ℕ) → (k ≡ 0 → ⊥) → o ≡ getD (recordAt a (w .from)) 9 0 → record { near = w; bit = k; from = w .from; octets = o } ≡ sightOf a n j
-  unfolding stationAt decoded
-  sight-some o ne eo = sight-else o ne eo ∙ is-sight
-
-  -- a bit comes from an emitter
-  pub bit-near : (k ≡ 0 → ⊥) → w .d1 < 256
-  unfolding nearBit
-  bit-near ne = by-test (ltb (w .d1) 256) (λ c. ltb-true (w .d1) 256 c) (λ c. absurd (ne (ek ∙ rw c)))
-
-  pub bit-from : (k ≡ 0 → ⊥) → n ≤ 16 → w .from < 16
-  bit-from ne few = omega (arith, near-station a n j w ew (bit-near ne))
-
-pub sights-end : (a : List ℕ) (n i : ℕ) (ws : List Sight) → i ≤ n → n ≤ i → ws ≡ filled unseen (sightOf a n) i → ws ≡ sightsOf a n
-unfolding sightsOf
-sights-end a n i ws p q r = filled-end unseen (sightOf a n) n i ws p q r
 
 -- ---- the frame of the nearest
 
@@ -300,9 +271,9 @@ module _ (a : List ℕ) (f : Figures) (d n t : ℕ) (v : Begins a f d n t) where
 
       pub all-more : (ws : List Sight) (w : Sight) (z : List ℕ) → ws ≡ sightsOf a n → w ≡ getD ws j blankSight
           → z ≡ byItself f d j (heardBy y j t (w .near) (frameAt y (w .from) (w .octets)) (w .bit)) m y → z ≡ ownAll a (planOf a) m (j + 1) a
-      unfolding Begins ownAll sightsOf
+      unfolding Begins ownAll
       all-more ws w z es ew ez =
-          let e : w ≡ sightOf a n j = ew ∙ ap (λ (q : List Sight). getD q j blankSight) es ∙ filled-at unseen (sightOf a n) n j blankSight hj in
+          let e : w ≡ sightOf a n j = sight-at a n j ws w hj es ew in
           turns-more (λ i x. byItself (figuresAt a) (depthAt a) i (hears a (planOf a) i) m x) j a y z
           (ez ∙ ap (λ (q : Sight). byItself f d j (heardBy y j t (q .near) (frameAt y (q .from) (q .octets)) (q .bit)) m y) e
           ∙ itself-heard f d j (heardBy y j t (sightOf a n j .near) (frameAt y (sightOf a n j .from) (sightOf a n j .octets)) (sightOf a n j .bit)) (hears a (planOf a) j) m y (λ s l. heard-same s)
@@ -312,9 +283,8 @@ module _ (a : List ℕ) (f : Figures) (d n t : ℕ) (v : Begins a f d n t) where
   -- what the code asks for
   sight-asks : (j : ℕ) (ws : List Sight) (w : Sight) → j < n → ws ≡ sightsOf a n → w ≡ getD ws j blankSight
       → (w .from < 16) × (w .octets ≤ 1536) × (w .bit < 65536)
-  unfolding sightsOf
   sight-asks j ws w hj es ew =
-      let e : w ≡ sightOf a n j = ew ∙ ap (λ (q : List Sight). getD q j blankSight) es ∙ filled-at unseen (sightOf a n) n j blankSight hj in
+      let e : w ≡ sightOf a n j = sight-at a n j ws w hj es ew in
       subst (λ (q : Sight). (q .from < 16) × (q .octets ≤ 1536) × (q .bit < 65536)) (sym e) (sight-fits j hj)
 
   pub sight-from : (j : ℕ) (ws : List Sight) (w : Sight) → j < n → ws ≡ sightsOf a n → w ≡ getD ws j blankSight → w .from < 16

@@ -1,23 +1,18 @@
 -- What a station hears in a window, by what it heard of before it; and what a window is. Assumes nothing.
 use Prim.Native.Nat.{ℕ, _+_, _-_, _≤_, _<_}
 use mathlib.Core.Path.{_≡_}
-use mathlib.Core.Bool.{Bool}
 use mathlib.Core.List.{List}
-use lib.Dec.{eqb}
-use Rattle.octets.specs.Base.{pick}
-use Rattle.octets.specs.Filled.{filled}
 use Rattle.layout.specs.declared.Figures.{Figures}
 use Rattle.packet.specs.declared.Heard.{Heard}
-use Rattle.area.specs.Area.{clockAt, depthAt, figuresAt, countAt, stationAt}
+use Rattle.area.specs.Area.{clockAt, depthAt, figuresAt, countAt}
 use Rattle.pair.specs.Ready.{Readiness}
 use Rattle.fast_plan.specs.Plan.{steps}
 use Rattle.fast_plan.specs.Calm.{AllCalm}
 use Rattle.fast_plan.specs.Exact.{ownAll}
 use Rattle.fast_plan.specs.Placed.{linesDone}
 use Rattle.fast_heard.specs.declared.Near.{Near}
-use Rattle.fast_heard.specs.Hearing.{planOf, nearestOf, nearBit, lineFrom, mixed, sends}
+use Rattle.fast_heard.specs.Hearing.{planOf, lineFrom, mixed, sends}
 use Rattle.fast_bound.specs.Bound.{AllLast}
-use Rattle.fast_window.specs.declared.Sight.{Sight}
 
 -- ---- one station
 
@@ -33,23 +28,6 @@ heardBy x j t w F k = mixed (lineFrom x j t) w (sends F k)
 -- from step s on
 unfoldable pub heardFrom : List ℕ → (j t : ℕ) → Near → (F : List ℕ) (k s : ℕ) → ℕ → Heard
 heardFrom x j t w F k s v = heardBy x j t w F k (s + v)
-
--- what station j, of n, hears of: the nearest emitters, and the frame of the nearest, where it sends one
-unfoldable pub sightBy : List ℕ → Near → (k : ℕ) → Sight
-sightBy a w k = record { near = w; bit = k; from = pick (eqb k 0) 0 (w .from); octets = pick (eqb k 0) 0 (stationAt a (w .from) .frame) }
-
-unfoldable pub sightOf : List ℕ → (n j : ℕ) → Sight
-sightOf a n j = sightBy a (nearestOf a n j) (nearBit a (nearestOf a n j))
-
-abbrev pub unseen : Sight
-unseen = record { near = record { from = 16; d1 = 256; d2 = 256 }; bit = 0; from = 0; octets = 0 }
-
--- a place of an array that holds nothing
-abbrev pub blankSight : Sight
-blankSight = record { near = record { from = 0; d1 = 0; d2 = 0 }; bit = 0; from = 0; octets = 0 }
-
-unfoldable pub sightsOf : List ℕ → ℕ → List Sight
-sightsOf a n = filled unseen (sightOf a n) n
 
 -- ---- all stations
 

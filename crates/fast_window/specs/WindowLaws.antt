@@ -18,7 +18,7 @@ use Rattle.fast_heard.specs.Hearing.{planOf, emitsAt}
 use Rattle.fast_lines.specs.declared.Emitter.{Emitter}
 use Rattle.fast_lines.specs.Lines.{emittersOf, planBy, Settles}
 use Rattle.fast_lines.specs.LinesLaws.{moved-settles, moved-lines}
-use Rattle.fast_bound.specs.Bound.{AllLast}
+use Rattle.fast_bound.specs.Bound.{AllLast, ReadFrom}
 use Rattle.fast_window.specs.Window.{Begins, settledOf, Lasting, Passed}
 
 pub begins : (a : List ℕ) (f : Figures) (d n t c : ℕ) → Ready a → f ≡ figuresAt a → d ≡ depthAt a → c ≡ countAt a → n ≡ c → t ≡ clockAt a → Begins a f d n t
@@ -44,22 +44,31 @@ module _ (a : List ℕ) (f : Figures) (d n t r : ℕ) (v : Begins a f d n t) (es
       let e : y ≡ ownAll a (planOf a) r (countAt a) a = ey ∙ ap (λ (k : ℕ). ownAll a (planOf a) r k a) count in
       ez ∙ rw (ee, count) (rw e (moved-lines a (v .ready) (planOf a) r (ownAll a (planOf a) r (countAt a) a)))
 
-pub window-made : (a : List ℕ) (t r : ℕ) (z b : List ℕ) → t ≡ clockAt a → z ≡ settledOf a r → b ≡ withClock z (t + r) → b ≡ turnedOf a (planOf a) r
+module _ (a : List ℕ) (f : Figures) (d n t : ℕ) (v : Begins a f d n t) where
+  pub begins-read : ReadFrom a f n t
+  unfolding Begins ReadFrom
+  begins-read = record { ready = v .ready; figures = v .figures; count = v .count; clock = v .clock }
+
+  pub begins-clock : t ≡ clockAt a
+  unfolding Begins
+  begins-clock = v .clock
+
+pub window-made : (a : List ℕ) (f : Figures) (d n t r : ℕ) (z b : List ℕ) → Begins a f d n t → z ≡ settledOf a r → b ≡ withClock z (t + r) → b ≡ turnedOf a (planOf a) r
 unfolding settledOf turnedOf
-window-made a t r z b et ez eb = eb ∙ rw (ez, et)
+window-made a f d n t r z b v ez eb = let et = begins-clock a f d n t v in eb ∙ rw (ez, et)
 
 module _ (a : List ℕ) (m r : ℕ) where
   pub lasting : AllLast a r → 4 ≤ r → Lasting a r
   unfolding Lasting
   lasting l h = record { some = omega arith; lasts = l }
 
-  pub pass-some : (b : List ℕ) → clockAt a + m ≤ 16777216 → Ready a → AllCalm a (planOf a) r → r ≤ m → 4 ≤ r → b ≡ turnedOf a (planOf a) r → Passed m r a b
-  unfolding Passed Ready
-  pass-some b early rd calm h pos eb =
+  pub pass-some : (f : Figures) (d n t : ℕ) (b : List ℕ) → Begins a f d n t → t + m ≤ 16777216 → AllCalm a (planOf a) r → r ≤ m → 4 ≤ r → b ≡ turnedOf a (planOf a) r → Passed m r a b
+  unfolding Passed Begins
+  pass-some f d n t b v early calm h pos eb =
       record {
         within = h;
         calm = calm;
-        made = eb ∙ sym (steps-turned a (planOf a) r (omega arith) rd (omega arith) (calm-holds a (planOf a) r calm));
+        made = eb ∙ sym (steps-turned a (planOf a) r (omega arith) (v .ready) (omega (arith, v .clock)) (calm-holds a (planOf a) r calm));
       }
 
 pub pass-none : (a : List ℕ) (m : ℕ) → Passed m 0 a a

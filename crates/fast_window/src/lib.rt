@@ -2,27 +2,20 @@
 // itself, then the lines and the clock are set.
 
 use fast_heard::Near;
+use fast_heard::Sight;
 use layout::Figures;
 ghost use mathlib.Core.Path.{_≡_};
 ghost use Prim.Native.Nat.{_+_, _-_, _<_, _≤_};
 ghost use lib.ListN.{length, take};
-ghost use Rattle.area.specs.Area.{clockAt, depthAt, figuresAt, countAt, frameAt};
+ghost use Rattle.area.specs.Area.{clockAt, frameAt};
 ghost use Rattle.pair.specs.Ready.{Ready};
 ghost use Rattle.fast_plan.specs.Own.{byItself};
 ghost use Rattle.fast_plan.specs.Exact.{ownAll};
 ghost use Rattle.fast_plan.specs.Turned.{turnedOf};
 ghost use Rattle.fast_heard.specs.Hearing.{planOf};
+ghost use Rattle.fast_heard.specs.Sights.{sightsOf};
 ghost use Rattle.fast_move.specs.Move.{Moving};
-ghost use Rattle.fast_window.specs.Window.{bitAt, heardBy, heardFrom, sightOf, sightsOf, Begins, settledOf, Lasting, Passed};
-
-// What a station hears of before a window: the nearest emitters; the next packet bit of the nearest, 0 where there is
-// none or it jams; and the frame that it sends, by its station and its octets.
-pub struct Sight {
-    pub near: Near,
-    pub bit: u32,
-    pub from: usize,
-    pub octets: u32,
-}
+ghost use Rattle.fast_window.specs.Window.{bitAt, heardBy, heardFrom, Begins, settledOf, Lasting, Passed};
 
 // ---- one station
 
@@ -106,57 +99,6 @@ fn move_station(area: &mut [u8], f: Figures, depth: u32, j: usize, t: u32, w: Si
 
 // ---- all stations
 
-// What station j, of n, hears of.
-fn see(area: &[u8], n: usize, j: usize) -> Sight
-    requires { ⌜ (j < 16) × (n ≤ 16) × (57344 ≤ length (now area)) ⌝ }
-    ensures { λ r. ⌜ r ≡ sightOf (now (area .entry)) n j ⌝ }
-{
-    let near = fast_heard::nearest(area, n, j);
-    let bit = fast_heard::near_bit(area, near);
-    if bit == 0 {
-        return Sight {
-            near,
-            bit: 0,
-            from: 0,
-            octets: 0,
-        };
-    }
-    let from = near.from;
-    let octets = area::read_word(area, from, 9);
-    Sight {
-        near,
-        bit,
-        from,
-        octets,
-    }
-}
-
-// What each of n stations hears of: to be taken before they move on.
-fn sights(area: &[u8], n: usize) -> [Sight; 16]
-    requires { ⌜ (n ≤ 16) × (57344 ≤ length (now area)) ⌝ }
-    ensures { λ r. ⌜ r ≡ sightsOf (now (area .entry)) n ⌝ }
-{
-    let near = Near {
-        from: 16,
-        d1: 256,
-        d2: 256,
-    };
-    let unseen = Sight {
-        near,
-        bit: 0,
-        from: 0,
-        octets: 0,
-    };
-    let mut all = [unseen; 16];
-    let mut j: usize = 0;
-    while j < n {
-        let w = see(area, n, j);
-        all[j] = w;
-        j += 1;
-    }
-    all
-}
-
 // Each of n stations moves on over m steps from clock t on, by what it heard of before.
 fn move_all(
     area: &mut [u8],
@@ -179,27 +121,36 @@ fn move_all(
 }
 
 // A window of r steps from clock t on, but for the clock: the stations, and then the lines.
-fn make_steps(area: &mut [u8], f: Figures, depth: u32, n: usize, t: u32, r: u32)
-    requires { ⌜ (n ≤ 16) × (57344 ≤ length (now area)) × (t + r ≤ 16777216) × Begins (now area) f depth n t × Lasting (now area) r ⌝ }
+fn make_steps(area: &mut [u8], f: Figures, depth: u32, n: usize, t: u32, seen: [Sight; 16], r: u32)
+    requires { ⌜ (n ≤ 16) × (57344 ≤ length (now area)) × (t + r ≤ 16777216) × Begins (now area) f depth n t × (seen ≡ sightsOf (now area) n) × Lasting (now area) r ⌝ }
     ensures { λ q. ⌜ now (area .exit) ≡ settledOf (now (area .entry)) r ⌝ }
 {
     let from = fast_lines::emitters(area, n);
-    let seen = sights(area, n);
     move_all(area, f, depth, n, t, seen, r);
     fast_lines::settle_lines(area, n, t as usize, r as usize, from);
 }
 
-// A window of r steps.
-fn make(area: &mut [u8], r: u32)
-    requires { ⌜ (57344 ≤ length (now area)) × (clockAt (now area) + r ≤ 16777216) × Ready (now area) × Lasting (now area) r ⌝ }
+// A window of r steps from clock t on.
+fn make(area: &mut [u8], f: Figures, depth: u32, n: usize, t: u32, seen: [Sight; 16], r: u32)
+    requires { ⌜ (n ≤ 16) × (57344 ≤ length (now area)) × (t + r ≤ 16777216) × Begins (now area) f depth n t × (seen ≡ sightsOf (now area) n) × Lasting (now area) r ⌝ }
     ensures { λ q. ⌜ now (area .exit) ≡ turnedOf (now (area .entry)) (planOf (now (area .entry))) r ⌝ }
 {
-    let n = area::read_count(area) as usize;
-    let depth = area::read_depth(area);
-    let t = area::read_clock(area);
-    let f = area::read_figures(area);
-    make_steps(area, f, depth, n, t, r);
+    make_steps(area, f, depth, n, t, seen, r);
     area::write_clock(area, t + r);
+}
+
+// Of the next m steps, from clock t on, those that are a window.
+fn pass_from(area: &mut [u8], f: Figures, depth: u32, n: usize, t: u32, m: u32) -> u32
+    requires { ⌜ (n ≤ 16) × (57344 ≤ length (now area)) × (t + m ≤ 16777216) × Begins (now area) f depth n t ⌝ }
+    ensures { λ r. ⌜ Passed m r (now (area .entry)) (now (area .exit)) ⌝ }
+{
+    let seen = fast_heard::sights(area, n);
+    let r = fast_bound::bound(area, f, n, t, seen, m);
+    if r < fast_bound::LEAST {
+        return 0;
+    }
+    make(area, f, depth, n, t, seen, r);
+    r
 }
 
 // Of the next m steps those that are a window, where they are worth one: says how many.
@@ -207,10 +158,9 @@ pub fn pass(area: &mut [u8], m: u32) -> u32
     requires { ⌜ (57344 ≤ length (now area)) × (clockAt (now area) + m ≤ 16777216) × Ready (now area) ⌝ }
     ensures { λ r. ⌜ Passed m r (now (area .entry)) (now (area .exit)) ⌝ }
 {
-    let r = fast_bound::bound(area, m);
-    if r < 4 {
-        return 0;
-    }
-    make(area, r);
-    r
+    let n = area::read_count(area) as usize;
+    let depth = area::read_depth(area);
+    let t = area::read_clock(area);
+    let f = area::read_figures(area);
+    pass_from(area, f, depth, n, t, m)
 }

@@ -1,3 +1,4 @@
+use Rattle.fast_line.specs.LineLaws.{kind-low}
 -- `fast_line::line_run` meets its contract. Assumes nothing.
 use Rattle.fast_line.specs.LineLaws.{run-is, run-some}
 use native.Mathlib.Omega.{arith}
@@ -12,7 +13,7 @@ kind-of-requires : tie.Need-kind-of-requires
 kind-of-requires c κs = search needs
 
 lasting-requires : tie.Need-lasting-requires
-lasting-requires c κs = search needs
+lasting-requires c κs = (omega arith, omega arith, omega arith, search kind-low)
 
 returns : tie.Need-returns
 returns c = (search run-is, (search run-some, omega arith))

@@ -1,37 +1,58 @@
 use native.Mathlib.Omega.{arith}
-use Rattle.fast_window.specs.WindowLaws.{lasting, pass-none, pass-some}
+use Rattle.pair.specs.Ready.{ready-few}
+use Rattle.fast_window.specs.WindowLaws.{begins}
 use borrow.Author.Needs.{needs}
 use Rattle.fast_window.proofs.pass.Statement.{statement}
 use Rattle.fast_window.proofs.pass.Tie as tie
 use Rattle.fast_window.proofs.pass.Reads as reads
 use Rattle.fast_window.proofs.pass.Lts as lts
-use Rattle.fast_bound.proofs.bound.Reads as bound-reads
-use Rattle.fast_window.proofs.make.Reads as make-reads
+use Rattle.area.proofs.read_clock.Reads as read-clock-reads
+use Rattle.area.proofs.read_count.Reads as read-count-reads
+use Rattle.area.proofs.read_depth.Reads as read-depth-reads
+use Rattle.area.proofs.read_figures.Reads as read-figures-reads
+use Rattle.fast_window.proofs.pass_from.Reads as pass-from-reads
 
--- src/lib.rt:189:9
-bound-requires : tie.Need-bound-requires
-bound-requires c κs = search needs
+-- src/lib.rt:161:13
+read-count-requires : tie.Need-read-count-requires
+read-count-requires c κs = search needs
 
--- src/lib.rt:191:9
+-- src/lib.rt:161:13
+cast-n : tie.Need-cast-n
+cast-n c = search needs
+
+-- src/lib.rt:162:9
+read-depth-requires : tie.Need-read-depth-requires
+read-depth-requires c κs = search needs
+
+-- src/lib.rt:163:9
+read-clock-requires : tie.Need-read-clock-requires
+read-clock-requires c κs = search needs
+
+-- src/lib.rt:164:9
+read-figures-requires : tie.Need-read-figures-requires
+read-figures-requires c κs = search needs
+
+-- src/lib.rt:165:5
+pass-from-requires : tie.Need-pass-from-requires
+pass-from-requires c κs = (search ready-few, omega arith, omega arith, search begins)
+
+-- src/lib.rt:157:1
 same-length : tie.Need-same-length
 same-length c = search needs
 
--- src/lib.rt:191:9
+-- src/lib.rt:157:1
 returns : tie.Need-returns
-returns c = search pass-none
-
--- src/lib.rt:193:5
-make-requires : tie.Need-make-requires
-make-requires c κs = (omega arith, omega arith, search needs, search lasting)
-
--- src/lib.rt:185:1
-same-length-2 : tie.Need-same-length-2
-same-length-2 c = search needs
-
--- src/lib.rt:185:1
-returns-2 : tie.Need-returns-2
-returns-2 c = search pass-some
+returns c = search needs
 
 pub pass-spec : {M : Type 1} → statement M
 pass-spec =
-    tie.close (tie.spec bound-requires same-length returns make-requires same-length-2 returns-2)
+    tie.close
+    (tie.spec
+    read-count-requires
+    cast-n
+    read-depth-requires
+    read-clock-requires
+    read-figures-requires
+    pass-from-requires
+    same-length
+    returns)

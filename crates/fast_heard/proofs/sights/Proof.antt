@@ -5,13 +5,13 @@ use lib.ListN.{length}
 use lib.ListN.{length-set}
 use native.Mathlib.Omega.{arith}
 use Rattle.octets.specs.Filled.{filled, filled-none, filled-more}
-use Rattle.fast_window.specs.Window.{unseen, sightOf}
-use Rattle.fast_window.specs.MovedLaws.{sights-end}
-use Rattle.fast_window.proofs.sights.Statement.{statement}
-use Rattle.fast_window.proofs.sights.Tie as tie
-use Rattle.fast_window.proofs.sights.Reads as reads
-use Rattle.fast_window.proofs.sights.Lts as lts
-use Rattle.fast_window.proofs.see.Reads as see-reads
+use Rattle.fast_heard.specs.Sights.{unseen, sightOf}
+use Rattle.fast_heard.specs.SightLaws.{sights-end}
+use Rattle.fast_heard.proofs.sights.Statement.{statement}
+use Rattle.fast_heard.proofs.sights.Tie as tie
+use Rattle.fast_heard.proofs.sights.Reads as reads
+use Rattle.fast_heard.proofs.sights.Lts as lts
+use Rattle.fast_heard.proofs.see.Reads as see-reads
 
 abbrev Inv-loop : tie.InvT-loop
 Inv-loop area n all₀ j₀ all j = (j ≤ n) × (length all ≡ 16) × (all ≡ filled unseen (sightOf area n) j)

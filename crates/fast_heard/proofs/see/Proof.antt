@@ -1,14 +1,14 @@
 use native.Mathlib.Omega.{arith}
-use Rattle.fast_bound.specs.WindowLaws.{near-few}
-use Rattle.fast_window.specs.MovedLaws.{sight-none, sight-some, bit-from}
+use Rattle.fast_heard.specs.SightLaws.{near-few}
+use Rattle.fast_heard.specs.SightLaws.{sight-none, sight-some, bit-from}
 use borrow.Author.Needs.{needs}
-use Rattle.fast_window.proofs.see.Statement.{statement}
-use Rattle.fast_window.proofs.see.Tie as tie
-use Rattle.fast_window.proofs.see.Reads as reads
-use Rattle.fast_window.proofs.see.Lts as lts
+use Rattle.fast_heard.proofs.see.Statement.{statement}
+use Rattle.fast_heard.proofs.see.Tie as tie
+use Rattle.fast_heard.proofs.see.Reads as reads
+use Rattle.fast_heard.proofs.see.Lts as lts
 use Rattle.area.proofs.read_word.Reads as read-word-reads
 use Rattle.fast_heard.proofs.near_bit.Reads as near-bit-reads
 use Rattle.fast_heard.proofs.nearest.Reads as nearest-reads
 
 -- src/lib.rt:101:9
 nearest-requires : tie.Need-nearest-requires
