@@ -2,13 +2,14 @@
 -- them. Assumes nothing.
 use Prim.Native.Nat.{ℕ, zero, suc, _-_, _≤_, _<_}
 use mathlib.Core.Path.{_≡_, refl, sym, _∙_, ap, subst}
-use mathlib.Core.Bool.{Bool, true, false, true≢false}
+use mathlib.Core.Bool.{Bool, true, false, not, true≢false}
 use mathlib.Core.List.{List}
 use native.Mathlib.Omega.{arith}
-use borrow.Author.Tests.{eq-eqb, ne-eqb, eqb-true, eqb-false, lt-ltb, le-ltb, ltb-true, ltb-false, leb-true, leb-false}
+use borrow.Author.Tests.{eq-eqb, ne-eqb, eqb-true, eqb-false, lt-ltb, le-ltb, ltb-true, ltb-false, leb-true, leb-false, not-true, not-false}
 use lib.Dec.{eqb, ltb, leb}
 use lib.ListN.{getD}
 use Rattle.octets.specs.BaseLaws.{by-test, by-eq}
+use Rattle.octets.specs.Filled.{filled, filled-at}
 use Rattle.octets.specs.Turns.{turns, turns-none, turns-end}
 use Rattle.packet.specs.declared.Heard.the-variants.{Nothing, Several}
 use Rattle.packet.specs.declared.Symbol.the-variants.{Silence}
@@ -319,18 +320,28 @@ module _ (a : List ℕ) (j i : ℕ) (w : Near) where
   unfolding noted
   note-own e = rw (eq-eqb i j e)
 
-  pub note-silent : (c : ℕ) → c ≡ getD (recordAt a i) 3 0 → c < 3 → w ≡ noted (emitsAt a) (spaceTo a j) j i w
+  pub note-silent : (e : Bool) → e ≡ emitsAt a i → not e ≡ true → w ≡ noted (emitsAt a) (spaceTo a j) j i w
   unfolding noted
-  note-silent c e h =
-      let x : emitsAt a i ≡ false = silent-by-code a i c e h in
+  note-silent e q h =
+      let x : emitsAt a i ≡ false = sym q ∙ not-true e h in
       by-test (eqb i j) (λ b. rw b) (λ b. rw (b, x))
 
-  pub note-more : (c d p q : ℕ) (r : Near) → r ≡ nearer w i d → d ≡ distance q p → q ≡ positionAt a i → p ≡ positionAt a j → c ≡ getD (recordAt a i) 3 0 → 3 ≤ c → (i ≡ j → ⊥)
+  pub note-more : (e : Bool) (d p q : ℕ) (r : Near) → r ≡ nearer w i d → d ≡ distance q p → q ≡ positionAt a i → p ≡ positionAt a j → e ≡ emitsAt a i → not e ≡ false → (i ≡ j → ⊥)
       → r ≡ noted (emitsAt a) (spaceTo a j) j i w
   unfolding noted spaceTo
-  note-more c d p q r er ed eq ep e h ne =
-      let x : emitsAt a i ≡ true = emits-by-code a i c e h in
+  note-more e d p q r er ed eq ep ee h ne =
+      let x : emitsAt a i ≡ true = sym ee ∙ not-false e h in
       rw (ne-eqb i j ne, x) (er ∙ ap (nearer w i) (space-is a i j d q p ed ep eq))
+
+-- which emit
+pub emits-is : (a : List ℕ) (i c : ℕ) → c ≡ getD (recordAt a i) 3 0 → leb 3 c ≡ emitsAt a i
+emits-is a i c e =
+    by-test (leb 3 c)
+    (λ p. p ∙ sym (emits-by-code a i c e (leb-true 3 c p)))
+    (λ p. p ∙ sym (silent-by-code a i c e (omega (arith, leb-false 3 c p))))
+
+pub emitting-at : (a : List ℕ) (n i : ℕ) (es : List Bool) (e : Bool) → i < n → es ≡ filled false (emitsAt a) n → e ≡ getD es i false → e ≡ emitsAt a i
+emitting-at a n i es e h p q = q ∙ ap (λ (x : List Bool). getD x i false) p ∙ filled-at false (emitsAt a) n i false h
 
 module _ (a : List ℕ) (j : ℕ) where
   pub nearest-none : record { from = 16; d1 = 256; d2 = 256 } ≡ turns (noted (emitsAt a) (spaceTo a j) j) 0 noNear

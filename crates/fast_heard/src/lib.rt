@@ -3,8 +3,10 @@
 
 use fast_line::LineRun;
 ghost use mathlib.Core.Path.{_≡_};
+ghost use mathlib.Core.Bool.{false};
 ghost use Prim.Native.Nat.{_+_, _<_, _≤_};
 ghost use lib.ListN.{length};
+ghost use Rattle.octets.specs.Filled.{filled};
 ghost use Rattle.area.specs.Area.{positionAt};
 ghost use Rattle.fast_heard.specs.Sights.{sightOf, sightsOf};
 ghost use Rattle.fast_heard.specs.Hearing.{emitsAt, nearer, noted, spaceTo, nearestOf, nearBit, begun, before, lineFrom, RunOf, kindNear, kindHeard, Segmented};
@@ -51,25 +53,39 @@ fn nearer_with(near: Near, i: usize, d: usize) -> Near
     near
 }
 
+// Which of n stations emit.
+fn emitting(area: &[u8], n: usize) -> [bool; 16]
+    requires { ⌜ (n ≤ 16) × (57344 ≤ length (now area)) ⌝ }
+    ensures { λ r. ⌜ r ≡ filled false (emitsAt (now (area .entry))) n ⌝ }
+{
+    let mut all = [false; 16];
+    let mut i: usize = 0;
+    while i < n {
+        let code = area::read_word(area, i, 3);
+        all[i] = 3 <= code;
+        i += 1;
+    }
+    all
+}
+
 // With station i more, seen from station j, which is at p.
-fn note(area: &[u8], j: usize, p: u32, i: usize, near: Near) -> Near
-    requires { ⌜ (i < 16) × (57344 ≤ length (now area)) × (p ≡ positionAt (now area) j) ⌝ }
+fn note(area: &[u8], j: usize, p: u32, i: usize, emits: bool, near: Near) -> Near
+    requires { ⌜ (i < 16) × (57344 ≤ length (now area)) × (p ≡ positionAt (now area) j) × (emits ≡ emitsAt (now area) i) ⌝ }
     ensures { λ r. ⌜ r ≡ noted (emitsAt (now (area .entry))) (spaceTo (now (area .entry)) j) j i near ⌝ }
 {
-    if i == j {
+    if !emits {
         return near;
     }
-    let code = area::read_word(area, i, 3);
-    if code < 3 {
+    if i == j {
         return near;
     }
     let q = area::read_position(area, i);
     nearer_with(near, i, area::apart(q, p) as usize)
 }
 
-// The emitters nearest to station j, of n stations.
-pub fn nearest(area: &[u8], n: usize, j: usize) -> Near
-    requires { ⌜ (j < 16) × (n ≤ 16) × (57344 ≤ length (now area)) ⌝ }
+// The emitters nearest to station j, of n stations, of which these emit.
+fn nearest(area: &[u8], n: usize, j: usize, emits: [bool; 16]) -> Near
+    requires { ⌜ (j < 16) × (n ≤ 16) × (57344 ≤ length (now area)) × (emits ≡ filled false (emitsAt (now area)) n) ⌝ }
     ensures { λ r. ⌜ r ≡ nearestOf (now (area .entry)) n j ⌝ }
 {
     let p = area::read_position(area, j);
@@ -80,14 +96,15 @@ pub fn nearest(area: &[u8], n: usize, j: usize) -> Near
     };
     let mut i: usize = 0;
     while i < n {
-        near = note(area, j, p, i, near);
+        let e = emits[i];
+        near = note(area, j, p, i, e, near);
         i += 1;
     }
     near
 }
 
 // The next packet bit of the nearest emitter; 0 where there is none, or it jams.
-pub fn near_bit(area: &[u8], near: Near) -> u32
+fn near_bit(area: &[u8], near: Near) -> u32
     requires { ⌜ (57344 ≤ length (now area)) × (near .d1 < 256 → near .from < 16) ⌝ }
     ensures { λ r. ⌜ r ≡ nearBit (now (area .entry)) near ⌝ }
 {
@@ -213,11 +230,11 @@ pub struct Sight {
 }
 
 // What station j, of n, hears of.
-fn see(area: &[u8], n: usize, j: usize) -> Sight
-    requires { ⌜ (j < 16) × (n ≤ 16) × (57344 ≤ length (now area)) ⌝ }
+fn see(area: &[u8], n: usize, j: usize, emits: [bool; 16]) -> Sight
+    requires { ⌜ (j < 16) × (n ≤ 16) × (57344 ≤ length (now area)) × (emits ≡ filled false (emitsAt (now area)) n) ⌝ }
     ensures { λ r. ⌜ r ≡ sightOf (now (area .entry)) n j ⌝ }
 {
-    let near = nearest(area, n, j);
+    let near = nearest(area, n, j, emits);
     let bit = near_bit(area, near);
     if bit == 0 {
         return Sight {
@@ -242,6 +259,7 @@ pub fn sights(area: &[u8], n: usize) -> [Sight; 16]
     requires { ⌜ (n ≤ 16) × (57344 ≤ length (now area)) ⌝ }
     ensures { λ r. ⌜ r ≡ sightsOf (now (area .entry)) n ⌝ }
 {
+    let emits = emitting(area, n);
     let near = Near {
         from: 16,
         d1: 256,
@@ -256,7 +274,7 @@ pub fn sights(area: &[u8], n: usize) -> [Sight; 16]
     let mut all = [unseen; 16];
     let mut j: usize = 0;
     while j < n {
-        let w = see(area, n, j);
+        let w = see(area, n, j, emits);
         all[j] = w;
         j += 1;
     }

@@ -7,8 +7,8 @@ use mathlib.Core.List.{List}
 use native.Mathlib.Nat.{mod-lt}
 use native.Mathlib.Numerals.{add-one}
 use native.Mathlib.Omega.{arith}
-use borrow.Author.Tests.{eq-eqb, ne-eqb, eqb-true, eqb-false, not-true, not-false, leb-true, leb-false}
-use lib.Dec.{eqb, leb}
+use borrow.Author.Tests.{eq-eqb, ne-eqb, eqb-true, eqb-false, not-true, not-false, leb-true, leb-false, ltb-true, ltb-false}
+use lib.Dec.{eqb, leb, ltb}
 use lib.Bits.{bitOr, bitXor, or-add-and, xor-add-and, and-le-l, and-le-r}
 use lib.ListN.{length, getD, set}
 use lib.Seq.{set-getD}
@@ -211,51 +211,74 @@ module _ (a : List ℕ) (j p k : ℕ) where
       (λ z. ap (λ (y : ℕ). kindOf (heardOf (symbolAt a j (p + y)))) z ∙ ap (λ (y : ℕ). kindOf (heardOf y)) (sym ec) ∙ w)
       (λ z. d (q .0) i (omega (arith, z)))
 
-  pub differ-end : (n other : ℕ) → n ≤ 16 → 16 ≤ n → Differ a j p k n other → eqb other 0 ≡ true → AllOf a j p k 16
-  differ-end n other lo up d e = let z : n ≡ 16 = omega arith in subst (AllOf a j p k) z (d (eqb-true other 0 e))
+  pub differ-end : (m n other : ℕ) → n ≤ m → m ≤ n → Differ a j p k n other → eqb other 0 ≡ true → AllOf a j p k m
+  differ-end m n other lo up d e = let z : n ≡ m = omega arith in subst (AllOf a j p k) z (d (eqb-true other 0 e))
 
-module _ (a : List ℕ) (j u : ℕ) where
-  -- a place is one of 256
-  pub alike-row : (p k : ℕ) (b : Bool) → p ≡ u % 256 → p ≤ 240 → (b ≡ true → AllOf a j p k 16) → b ≡ true → AllOf a j u k 16
-  unfolding AllOf kindAt
-  alike-row p k b ep h f e = λ i l. ap kindOf (arrival-turn a j (u + i) (p + i) (omega arith)) ∙ f e i l
+-- ---- places in a row
 
-  pub not-alike : (k : ℕ) → false ≡ true → AllOf a j u k 16
-  not-alike k e = absurd (true≢false (sym e))
-
-  pub sixteen-alike : (k : ℕ) (b : Bool) → (b ≡ true → AllOf a j u k 16) → b ≡ true → AllOf a j u k 16
-  sixteen-alike k b f e = f e
-
-  pub some-here : (k n : ℕ) → 0 < n → n ≡ 0 → kindAt a j u ≡ k → ⊥
-  some-here k n h z e = omega arith
-
-  pub one-alike : (k x c : ℕ) → x ≡ kindOf (heardOf c) → c ≡ symbolAt a j u → x ≡ k → AllOf a j u k 1
+module _ (a : List ℕ) (j p k : ℕ) where
+  pub alike-none : AllOf a j p k 0
   unfolding AllOf
-  one-alike k x c ex ec e = λ i h. let z : u + i ≡ u = omega arith in ap (kindAt a j) z ∙ sym (here a j u x c ex ec) ∙ e
+  alike-none = λ i h. absurd (omega arith)
 
-  pub none-alike : (k : ℕ) → AllOf a j u k 0
+  pub alike-more : (s n : ℕ) (b : Bool) → AllOf a j p k s → (b ≡ true → AllOf a j (p + s) k n) → not b ≡ false → AllOf a j p k (s + n)
   unfolding AllOf
-  none-alike k = λ i h. absurd (omega arith)
+  alike-more s n b h f e =
+      let t : b ≡ true = not-false b e in
+      λ i l. by-test (ltb i s)
+      (λ q. h i (ltb-true i s q))
+      (λ q. let g = ltb-false i s q in
+      let z : p + s + (i - s) ≡ p + i = omega arith in
+      subst (λ (u : ℕ). kindAt a j u ≡ k) z (f t (i - s) (omega arith)))
 
-  pub not-here : (k x c : ℕ) → x ≡ kindOf (heardOf c) → c ≡ symbolAt a j u → (x ≡ k → ⊥) → kindAt a j u ≡ k → ⊥
-  not-here k x c ex ec ne e = ne (here a j u x c ex ec ∙ e)
+  alike-some : (s : ℕ) → AllOf a j p k s → some (otherKind a j p k) s ≡ false
+  unfolding some otherKind AllOf
+  alike-some zero h = refl
+  alike-some (suc s) h = rw (alike-some s (λ i l. h i (omega arith)), eq-eqb (kindAt a j (p + s)) k (h s (omega arith)))
 
-  -- some more of a kind, or none
-  some-grows : (k s : ℕ) (n : ℕ) → some (otherKind a j u k) s ≡ false → ((i : ℕ) → i < n → kindAt a j (u + s + i) ≡ k) → some (otherKind a j u k) (s + n) ≡ false
-  unfolding some otherKind
-  some-grows k s zero h al = let z : s + 0 ≡ s = omega arith in rw z h
-  some-grows k s (suc n) h al =
-      let z : s + suc n ≡ suc (s + n) = omega arith in
-      let w : u + (s + n) ≡ u + s + n = omega arith in
-      rw (z, some-grows k s n h (λ i l. al i (omega arith)), eq-eqb (kindAt a j (u + (s + n))) k (ap (kindAt a j) w ∙ al n (omega arith)))
+  pub row-first : (s : ℕ) → AllOf a j p k s → some (otherKind a j p k) s ≡ false
+  row-first s h = alike-some s h
 
-  pub lasts-some : (k s n : ℕ) → some (otherKind a j u k) s ≡ false → AllOf a j (u + s) k n → some (otherKind a j u k) (s + n) ≡ false
-  unfolding AllOf
-  lasts-some k s n h al = some-grows k s n h al
-
-  pub lasts-stop : (k m s n : ℕ) → s < m → some (otherKind a j u k) s ≡ false → (n ≡ 0 → kindAt a j (u + s) ≡ k → ⊥) → n ≡ 0 → s ≡ lasts a j u k m
+  -- how many there are, by those that are and the next that is not
+  lasts-is : (m s : ℕ) → s ≤ m → AllOf a j p k s → (s < m → kindAt a j (p + s) ≡ k → ⊥) → s ≡ lasts a j p k m
   unfolding lasts otherKind
-  lasts-stop k m s n h q ne e = first-hit (otherKind a j u k) m s h q (ap not (ne-eqb (kindAt a j (u + s)) k (ne e)))
+  lasts-is m s le al ne =
+      by-test (ltb s m)
+      (λ c. let h = ltb-true s m c in first-hit (otherKind a j p k) m s h (alike-some s al) (ap not (ne-eqb (kindAt a j (p + s)) k (ne h))))
+      (λ c. let h = ltb-false s m c in first-end (otherKind a j p k) m s le (omega arith) (alike-some s al))
+
+  each-is : (m s : ℕ) → s ≡ lasts a j p k m → AllOf a j p k s
+  unfolding AllOf
+  each-is m s e i h = lasts-each a j p k m i (omega arith)
+
+  next-not : (m s : ℕ) → s ≡ lasts a j p k m → s < m → kindAt a j (p + s) ≡ k → ⊥
+  next-not m s e h = subst (λ (x : ℕ). kindAt a j (p + x) ≡ k → ⊥) (sym e) (lasts-other a j p k m (omega arith))
+
+-- ---- a place is one of 256
+
+kind-row : (a : List ℕ) (j u v : ℕ) → u % 256 ≡ v % 256 → kindAt a j u ≡ kindAt a j v
+unfolding kindAt
+kind-row a j u v e = ap kindOf (arrival-turn a j u v e)
+
+module _ (a : List ℕ) (j u k p row m s : ℕ) (ep : p ≡ u % 256) (er : row ≡ min (256 - p) m) (es : s ≡ lasts a j p k row) where
+  row-alike : AllOf a j u k s
+  unfolding AllOf
+  row-alike i h = kind-row a j (u + i) (p + i) (omega arith) ∙ each-is a j p k row s es i h
+
+  pub row-stop : s < row → s ≡ lasts a j u k m
+  row-stop h =
+      lasts-is a j u k m s (omega arith) row-alike
+      (λ l e. next-not a j p k row s es h (kind-row a j (p + s) (u + s) (omega arith) ∙ e))
+
+  pub row-again : (r : ℕ) → row ≤ s → s ≤ row → r ≡ lasts a j 0 k (m - row) → r ≤ m - row → row + r ≡ lasts a j u k m
+  unfolding AllOf
+  row-again r up lo el le =
+      lasts-is a j u k m (row + r) (omega arith)
+      (λ i h. by-test (ltb i row)
+      (λ c. let l = ltb-true i row c in row-alike i (omega arith))
+      (λ c. let l = ltb-false i row c in
+      kind-row a j (u + i) (0 + (i - row)) (omega arith) ∙ each-is a j 0 k (m - row) r el (i - row) (omega arith)))
+      (λ l e. next-not a j 0 k (m - row) r el (omega arith) (kind-row a j (0 + r) (u + (row + r)) (omega arith) ∙ e))
 
 -- ---- a whole line
 

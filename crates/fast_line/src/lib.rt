@@ -10,7 +10,7 @@ ghost use Rattle.packet.specs.declared.Symbol.the-variants.{Bit};
 ghost use Rattle.packet.specs.Packet.{packetBit};
 ghost use Rattle.area.specs.Area.{heardOf, heardCode, symbolAt, alone, frameAt};
 ghost use Rattle.fast_plan.specs.Push.{cleared, onWay};
-ghost use Rattle.fast_line.specs.Line.{kindOf, kindAt, lasts, runAt, AllOf, isClear, bitsFrom, jams};
+ghost use Rattle.fast_line.specs.Line.{kindOf, lasts, runAt, AllOf, isClear, bitsFrom, jams};
 
 // Places of one kind, and how many: 0 nothing, 1 clean bits, 2 spoiled.
 pub struct LineRun {
@@ -52,15 +52,15 @@ fn code_at(area: &[u8], j: usize, p: usize) -> u8
     area[4096 + 256 * j + p]
 }
 
-// Whether the sixteen places from p on are of this kind. Without a branch: they are looked at at once. Half of a code,
-// rounded up, is its kind.
-fn sixteen_alike(area: &[u8], j: usize, p: usize, kind: u8) -> bool
-    requires { ⌜ (j < 16) × (57344 ≤ length (now area)) × (p ≤ 240) × (kind ≤ 2) ⌝ }
-    ensures { λ r. ⌜ (r ≡ true → AllOf (now (area .entry)) j p kind 16) ⌝ }
+// Whether the n places from p on are of this kind. Without a branch: they are looked at at once. Half of a code, rounded
+// up, is its kind.
+fn are_alike(area: &[u8], j: usize, p: usize, kind: u8, n: usize) -> bool
+    requires { ⌜ (j < 16) × (57344 ≤ length (now area)) × (p + n ≤ 256) × (kind ≤ 2) ⌝ }
+    ensures { λ r. ⌜ (r ≡ true → AllOf (now (area .entry)) j p kind n) ⌝ }
 {
     let mut other: u8 = 0;
     let mut i: usize = 0;
-    while i < 16 {
+    while i < n {
         let code = code_at(area, j, p + i);
         other = other | ((code / 2 + code % 2) ^ kind);
         i += 1;
@@ -68,56 +68,59 @@ fn sixteen_alike(area: &[u8], j: usize, p: usize, kind: u8) -> bool
     other == 0
 }
 
-// Whether the sixteen places from u on are of this kind; no where they do not lie in a row.
-fn are_alike(area: &[u8], j: usize, u: usize, kind: u8) -> bool
-    requires { ⌜ (j < 16) × (57344 ≤ length (now area)) × (kind ≤ 2) ⌝ }
-    ensures { λ r. ⌜ (r ≡ true → AllOf (now (area .entry)) j u kind 16) ⌝ }
-{
-    let p = u % 256;
-    if 240 < p {
-        return false;
-    }
-    sixteen_alike(area, j, p, kind)
-}
-
-// Of the m places from u on some that are of this kind, sixteen or one; none where the first is not.
-fn some_alike(area: &[u8], j: usize, u: usize, kind: u8, m: usize) -> usize
-    requires { ⌜ (j < 16) × (57344 ≤ length (now area)) × (0 < m) × (kind ≤ 2) ⌝ }
-    ensures alike { λ r. ⌜ AllOf (now (area .entry)) j u kind r ⌝ }
-    ensures other { λ r. ⌜ (r ≡ 0 → kindAt (now (area .entry)) j u ≡ kind → ⊥) ⌝ }
+// Of the m places from p on, the first s of which are of this kind, n more at a time as long as all of them are.
+fn go_on(area: &[u8], j: usize, p: usize, kind: u8, m: usize, s: usize, n: usize) -> usize
+    requires { ⌜ (j < 16) × (57344 ≤ length (now area)) × (p + m ≤ 256) × (kind ≤ 2) × (s ≤ m) × (0 < n) × (n ≤ 16) × AllOf (now area) j p kind s ⌝ }
+    ensures alike { λ r. ⌜ AllOf (now (area .entry)) j p kind r ⌝ }
     ensures bound { λ r. ⌜ r ≤ m ⌝ }
 {
-    if 16 <= m {
-        if are_alike(area, j, u, kind) {
-            return 16;
+    let mut k = s;
+    while k + n <= m {
+        if !are_alike(area, j, p + k, kind, n) {
+            return k;
         }
+        k += n;
     }
-    if kind_of(delay::read_symbol(area, j, u)) == kind {
-        return 1;
-    }
-    0
+    k
 }
 
-// How many of the m places from u on are of this kind, up to the first that is not.
-fn lasting(area: &[u8], j: usize, u: usize, kind: u8, m: usize) -> usize
-    requires { ⌜ (j < 16) × (57344 ≤ length (now area)) × (u + m < 4294967296) × (kind ≤ 2) ⌝ }
-    ensures same { λ r. ⌜ r ≡ lasts (now (area .entry)) j u kind m ⌝ }
+// How many of the m places from p on, which lie in a row, are of this kind, up to the first that is not.
+fn lasting_row(area: &[u8], j: usize, p: usize, kind: u8, m: usize) -> usize
+    requires { ⌜ (j < 16) × (57344 ≤ length (now area)) × (p + m ≤ 256) × (kind ≤ 2) ⌝ }
+    ensures same { λ r. ⌜ r ≡ lasts (now (area .entry)) j p kind m ⌝ }
     ensures bound { λ r. ⌜ r ≤ m ⌝ }
 {
-    let mut s: usize = 0;
+    let many = go_on(area, j, p, kind, m, 0, 16);
+    let few = go_on(area, j, p, kind, m, many, 4);
+    let mut s = few;
     while s < m {
-        let k = some_alike(area, j, u + s, kind, m - s);
-        if k == 0 {
+        let k = kind_of(code_at(area, j, p + s));
+        if k != kind {
             return s;
         }
-        s += k;
+        s += 1;
     }
     s
 }
 
+// How many of the m places from u on are of this kind, up to the first that is not.
+fn lasting(area: &[u8], j: usize, u: usize, kind: u8, m: usize) -> usize
+    requires { ⌜ (j < 16) × (57344 ≤ length (now area)) × (m ≤ 256) × (kind ≤ 2) ⌝ }
+    ensures same { λ r. ⌜ r ≡ lasts (now (area .entry)) j u kind m ⌝ }
+    ensures bound { λ r. ⌜ r ≤ m ⌝ }
+{
+    let p = u % 256;
+    let row = quick::capped(256 - p, m);
+    let s = lasting_row(area, j, p, kind, row);
+    if s < row {
+        return s;
+    }
+    row + lasting_row(area, j, 0, kind, m - row)
+}
+
 // The kind of place u, and how many of the m places from there on have it.
 pub fn line_run(area: &[u8], j: usize, u: usize, m: usize) -> LineRun
-    requires { ⌜ (j < 16) × (57344 ≤ length (now area)) × (u + m < 4294967296) × (0 < m) ⌝ }
+    requires { ⌜ (j < 16) × (57344 ≤ length (now area)) × (m ≤ 256) × (0 < m) ⌝ }
     ensures run { λ r. ⌜ r ≡ runAt (now (area .entry)) j u m ⌝ }
     ensures bound { λ r. ⌜ (0 < r .len) × (r .len ≤ m) ⌝ }
 {

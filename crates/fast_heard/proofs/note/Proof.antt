@@ -1,31 +1,38 @@
--- `fast_heard::note` meets its contract. Assumes nothing.
-use native.Mathlib.Omega.{arith}
-use Rattle.fast_heard.specs.NearLaws.{note-own, note-silent, note-more}
+use Rattle.fast_heard.specs.NearLaws.{note-silent, note-own, note-more}
 use borrow.Author.Needs.{needs}
 use Rattle.fast_heard.proofs.note.Statement.{statement}
 use Rattle.fast_heard.proofs.note.Tie as tie
+use Rattle.fast_heard.proofs.note.Reads as reads
+use Rattle.fast_heard.proofs.note.Lts as lts
+use Rattle.area.proofs.apart.Reads as apart-reads
+use Rattle.area.proofs.read_position.Reads as read-position-reads
+use Rattle.fast_heard.proofs.nearer_with.Reads as nearer-with-reads
 
+-- src/lib.rt:77:9
 returns : tie.Need-returns
-returns c = search note-own
+returns c = search note-silent
 
-read-word-requires : tie.Need-read-word-requires
-read-word-requires c κs = search needs
-
+-- src/lib.rt:80:9
 returns-2 : tie.Need-returns-2
-returns-2 c = note-silent _ _ _ _ _ (c .before .read-word .ensures) (omega arith)
+returns-2 c = search note-own
 
+-- src/lib.rt:82:9
 read-position-requires : tie.Need-read-position-requires
 read-position-requires c κs = search needs
 
+-- src/lib.rt:83:26
 apart-requires : tie.Need-apart-requires
 apart-requires c κs = search needs
 
+-- src/lib.rt:83:26
 cast-nearer-with : tie.Need-cast-nearer-with
 cast-nearer-with c = search needs
 
+-- src/lib.rt:83:5
 nearer-with-requires : tie.Need-nearer-with-requires
 nearer-with-requires c κs = search needs
 
+-- src/lib.rt:72:1
 returns-3 : tie.Need-returns-3
 returns-3 c = search note-more
 
@@ -34,7 +41,6 @@ note-spec =
     tie.close
     (tie.spec
     returns
-    read-word-requires
     returns-2
     read-position-requires
     apart-requires
