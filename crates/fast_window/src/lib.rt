@@ -100,15 +100,7 @@ fn move_station(area: &mut [u8], f: Figures, depth: u32, j: usize, t: u32, w: Si
 // ---- all stations
 
 // Each of n stations moves on over m steps from clock t on, by what it heard of before.
-fn move_all(
-    area: &mut [u8],
-    f: Figures,
-    depth: u32,
-    n: usize,
-    t: u32,
-    seen: [Sight; 16],
-    m: u32,
-)
+fn move_all(area: &mut [u8], f: Figures, depth: u32, n: usize, t: u32, seen: [Sight; 16], m: u32)
     requires { ⌜ (n ≤ 16) × (57344 ≤ length (now area)) × (t + m ≤ 16777216) × Begins (now area) f depth n t × (seen ≡ sightsOf (now area) n) ⌝ }
     ensures { λ r. ⌜ now (area .exit) ≡ ownAll (now (area .entry)) (planOf (now (area .entry))) m n (now (area .entry)) ⌝ }
 {

@@ -487,6 +487,52 @@ module _ (f : Figures) (d n t i : ℕ) (x : List ℕ) (hi : i < 16) (room : 5734
       let e : withStation x i s ≡ y = wrote-station i x hi room y s v in
       sym (clear-back y i t (v .rest (4096 + 256 * i + t % 256) (λ a b. omega arith) ∙ hs)) ∙ rw e
 
+  -- a turn that hears nothing, emits nothing and writes the state's words
+  quiet-taken : (s : Station) (y : List ℕ) → symbolAt x i t ≡ 0
+      → stepped f (stationAt x i) d (drawAt x i (stationAt x i .draw)) (bufferAt x i) Nothing ≡ quietly s Rest NoStore → Wrote i x y (encoded s) → Taken f d n t i x y true
+  unfolding pushed
+  quiet-taken s y hs e v = taken-by f d n t i x s Rest NoStore y (rw (hears-nothing x i t hs) e) (silent-by s y hs v)
+
+  gap-two : (m : ℕ) (own : Bool) (q : Transmitter) (r : Receiver) → encoded (such (Gap (m + 1) own) q r) ≡ set (encoded (such (Gap m own) q r)) 2 (m + 1)
+  unfolding encoded such mk
+  gap-two m own q r = refl
+
+  -- a gap that goes on
+  pub gap-taken : (z y : List ℕ) → symbolAt x i t ≡ 0 → gapsIn (recordAt x i) ≡ true → calmIn (recordAt x i) ≡ true → getD (recordAt x i) 2 0 < gapOf f → getD (recordAt x i) 2 0 < 4294967295
+      → z ≡ countedDown i (getD (recordAt x i) 3 0) (getD (recordAt x i) 4 0) x → y ≡ withWord z i 2 (getD (recordAt x i) 2 0 + 1) → Taken f d n t i x y true
+  unfolding stationAt such mk now
+  gap-taken z y hs hg calm below small ez ey =
+      let w = recordAt x i in
+      let ad = addressAt x i in
+      let m = getD w 2 0 in
+      let own = eqb (getD w 1 0) 1 in
+      let r = receiverOf (getD w 5 0) (getD w 6 0) (eqb (getD w 7 0) 1) (eqb (getD w 8 0) 1) in
+      let q = gap-state w ad hg in
+      let es : stationAt x i ≡ such (Gap m own) now r = q .0 in
+      let v : Wrote i x z (encoded (such (Gap m own) (later now) r)) = rw ez (count-writes x room o refl (Gap m own) r calm es) in
+      let v₁ : Wrote i x y (encoded (such (Gap (m + 1) own) (later now) r)) =
+      rw (ey, gap-two m own (later now) r) (wrote-word i x hi room z (encoded (such (Gap m own) (later now) r)) 2 (m + 1) v (omega arith) (omega arith)) in
+      quiet-taken (such (Gap (m + 1) own) (later now) r) y hs
+      (rw es (gap-step f ad now (getD w 9 0) (getD w 10 0) (getD w 11 0) (eqb (getD w 12 0) 1) d (drawAt x i (getD w 11 0)) (bufferAt x i) (calm-state w ad calm) m own r (lt-leb (gapOf f) m below) (still-code (getD w 5 0) (getD w 6 0) (eqb (getD w 7 0) 1) (eqb (getD w 8 0) 1) (q .1))))
+      v₁
+
+  -- a backoff that goes on
+  pub back-taken : (y : List ℕ) → symbolAt x i t ≡ 0 → backsIn (recordAt x i) ≡ true → 1 < getD (recordAt x i) 4 0 → y ≡ withWord x i 4 (getD (recordAt x i) 4 0 - 1) → Taken f d n t i x y true
+  unfolding stationAt such mk
+  back-taken y hs hb more ey =
+      let w = recordAt x i in
+      let ad = addressAt x i in
+      let k = getD w 4 0 in
+      let r = receiverOf (getD w 5 0) (getD w 6 0) (eqb (getD w 7 0) 1) (eqb (getD w 8 0) 1) in
+      let q = back-state w ad hb in
+      let es : stationAt x i ≡ such Quiet (BackingOff k) r = q .0 in
+      let v : Wrote i x x w = wrote-none i x hi room w o refl in
+      let e : encoded (such Quiet (BackingOff (k - 1)) r) ≡ set w 4 (k - 1) =
+      back-four Quiet r k ∙ ap (λ (l : List ℕ). set l 4 (k - 1)) (plain-as (such Quiet (BackingOff k) r) es) in
+      quiet-taken (such Quiet (BackingOff (k - 1)) r) y hs
+      (rw es (back-step f ad (getD w 9 0) (getD w 10 0) (getD w 11 0) (eqb (getD w 12 0) 1) d (drawAt x i (getD w 11 0)) (bufferAt x i) r k (still-code (getD w 5 0) (getD w 6 0) (eqb (getD w 7 0) 1) (eqb (getD w 8 0) 1) (q .1)) (lt-leb k 1 (omega arith))))
+      (rw (ey, e) (wrote-word i x hi room x w 4 (k - 1) v (omega arith) (omega (arith, word-small x i 4 o (omega arith)))))
+
   -- the area with the symbol taken from the line
   cleared : List ℕ
   cleared = withArrival x i t Nothing
@@ -581,6 +627,31 @@ plain-codes a i p =
     of-r (Seeking row sp own) = omega arith
     of-r (Collecting k sp own) = omega arith
 
+-- two tests by one sum
+and-false : (b : Bool) → (b && false) ≡ false
+and-false true = refl
+and-false false = refl
+
+sum-one : (d e : ℕ) → eqb (d + 2 * e) 1 ≡ (eqb d 1 && eqb e 0)
+sum-one d e =
+    by-eq e 0
+    (λ z. by-eq d 1
+    (λ y. rw (z, y))
+    (λ y. rw (ne-eqb d 1 y, ne-eqb (d + 2 * e) 1 (λ q. y (omega arith)))))
+    (λ z. rw (ne-eqb (d + 2 * e) 1 (λ q. z (omega arith)), ne-eqb e 0 z) (sym (and-false (eqb d 1))))
+
+sum-low : (e r : ℕ) → leb (2 * e + r) 1 ≡ (eqb e 0 && leb r 1)
+sum-low e r =
+    by-eq e 0
+    (λ z. let g : 2 * e + r ≡ r = omega arith in rw (g, z))
+    (λ z. rw (ne-eqb e 0 z, lt-leb (2 * e + r) 1 (omega (arith, z))))
+
+sum-three : (b : Bool) (d e r : ℕ) → (b && leb (2 * d + 2 * e + r) 1) ≡ (eqb d 0 && (b && (eqb e 0 && leb r 1)))
+sum-three b d e r =
+    by-eq d 0
+    (λ z. let g : 2 * d + 2 * e + r ≡ 2 * e + r = omega arith in rw (g, sum-low e r, z))
+    (λ z. rw (ne-eqb d 0 z, lt-leb (2 * d + 2 * e + r) 1 (omega (arith, z))) (and-false b))
+
 low : (c v : ℕ) → v < 256 → c ≡ v % 256 → c ≡ v
 low c v h e = omega arith
 
@@ -606,26 +677,20 @@ module _ (a : List ℕ) (i : ℕ) (p : Plain a i) where
   pub code-receiver : (c : ℕ) → c ≡ getD (recordAt a i) 5 0 % 256 → c ≡ getD (recordAt a i) 5 0
   code-receiver c e = low c _ (plain-codes a i p .3) e
 
-  pub hears-is : (r d e : ℕ) (b₁ b₂ : Bool) → b₁ ≡ (ltb 1 r && b₂) → b₂ ≡ (eqb d 1 && eqb e 0)
-      → e ≡ getD (recordAt a i) 13 0 % 256 → d ≡ getD (recordAt a i) 0 0 % 256 → r ≡ getD (recordAt a i) 5 0 % 256 → b₁ ≡ hearsIn (recordAt a i)
+  pub hears-is : (r d e : ℕ) (b₁ : Bool) → b₁ ≡ (ltb 1 r && eqb (d + 2 * e) 1)
+      → e ≡ getD (recordAt a i) 13 0 → d ≡ getD (recordAt a i) 0 0 → r ≡ getD (recordAt a i) 5 0 → b₁ ≡ hearsIn (recordAt a i)
   unfolding hearsIn
-  hears-is r d e b₁ b₂ q s ee ed er =
-      let k = plain-codes a i p in
-      q ∙ rw (s, low e _ (k .5) ee, low d _ (k .0) ed, low r _ (k .3) er)
+  hears-is r d e b₁ q ee ed er = q ∙ rw (sum-one d e) (rw (ee, ed, er))
 
-  pub gaps-is : (d e r : ℕ) (b₁ b₂ : Bool) → b₁ ≡ (eqb d 2 && b₂) → b₂ ≡ (eqb e 0 && leb r 1)
-      → r ≡ getD (recordAt a i) 5 0 % 256 → e ≡ getD (recordAt a i) 13 0 % 256 → d ≡ getD (recordAt a i) 0 0 % 256 → b₁ ≡ gapsIn (recordAt a i)
+  pub gaps-is : (d e r : ℕ) (b₁ : Bool) → b₁ ≡ (eqb d 2 && leb (2 * e + r) 1)
+      → r ≡ getD (recordAt a i) 5 0 → e ≡ getD (recordAt a i) 13 0 → d ≡ getD (recordAt a i) 0 0 → b₁ ≡ gapsIn (recordAt a i)
   unfolding gapsIn
-  gaps-is d e r b₁ b₂ q s er ee ed =
-      let k = plain-codes a i p in
-      q ∙ rw (s, low r _ (k .3) er, low e _ (k .5) ee, low d _ (k .0) ed)
+  gaps-is d e r b₁ q er ee ed = q ∙ rw (sum-low e r) (rw (er, ee, ed))
 
-  pub backs-is : (d x e r : ℕ) (b₁ b₂ b₃ : Bool) → b₁ ≡ (eqb d 0 && b₂) → b₂ ≡ (eqb x 2 && b₃) → b₃ ≡ (eqb e 0 && leb r 1)
-      → r ≡ getD (recordAt a i) 5 0 % 256 → e ≡ getD (recordAt a i) 13 0 % 256 → x ≡ getD (recordAt a i) 3 0 % 256 → d ≡ getD (recordAt a i) 0 0 % 256 → b₁ ≡ backsIn (recordAt a i)
+  pub backs-is : (d x e r : ℕ) (b₁ : Bool) → b₁ ≡ (eqb x 2 && leb (2 * d + 2 * e + r) 1)
+      → r ≡ getD (recordAt a i) 5 0 → e ≡ getD (recordAt a i) 13 0 → x ≡ getD (recordAt a i) 3 0 → d ≡ getD (recordAt a i) 0 0 → b₁ ≡ backsIn (recordAt a i)
   unfolding backsIn
-  backs-is d x e r b₁ b₂ b₃ q s u er ee ex ed =
-      let k = plain-codes a i p in
-      q ∙ rw (s, u, low r _ (k .3) er, low e _ (k .5) ee, low x _ (k .2) ex, low d _ (k .0) ed)
+  backs-is d x e r b₁ q er ee ex ed = q ∙ sum-three (eqb x 2) d e r ∙ rw (er, ee, ex, ed)
 
 module _ (w : List ℕ) (c : ℕ) (ec : c ≡ getD w 3 0) where
   pub calm-none : c ≡ 0 → true ≡ calmIn w

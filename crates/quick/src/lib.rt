@@ -39,16 +39,17 @@ pub fn sends(area: &[u8], i: usize) -> bool
     octets::both(x == 3, octets::both(d == 1, held))
 }
 
-// Whether station i is busy and in a reception, with nothing of its own on the pair.
+// Whether station i is busy and in a reception, with nothing of its own on the pair. Here and in the tests after it
+// two words are tested by one sum, so that each is read as one word.
 pub fn hears(area: &[u8], i: usize) -> bool
     requires { ⌜ (i < 16) × (57344 ≤ length (now area)) × Plain (now area) i ⌝ }
     ensures value { λ r. ⌜ r ≡ hearsIn (recordAt (now (area .entry)) i) ⌝ }
     ensures octets { λ r. ⌜ Octets (now (area .entry)) ⌝ }
 {
-    let r = area::read_code(area, i, 5);
-    let d = area::read_code(area, i, 0);
-    let e = area::read_code(area, i, 13);
-    octets::both(1 < r, octets::both(d == 1, e == 0))
+    let r = area::read_word(area, i, 5);
+    let d = area::read_word(area, i, 0);
+    let e = area::read_word(area, i, 13);
+    octets::both(1 < r, d as u64 + 2 * e as u64 == 1)
 }
 
 // Whether station i is in a gap, and receives nothing.
@@ -57,10 +58,10 @@ pub fn gaps(area: &[u8], i: usize) -> bool
     ensures value { λ r. ⌜ r ≡ gapsIn (recordAt (now (area .entry)) i) ⌝ }
     ensures octets { λ r. ⌜ Octets (now (area .entry)) ⌝ }
 {
-    let d = area::read_code(area, i, 0);
-    let e = area::read_code(area, i, 13);
-    let r = area::read_code(area, i, 5);
-    octets::both(d == 2, octets::both(e == 0, r <= 1))
+    let d = area::read_word(area, i, 0);
+    let e = area::read_word(area, i, 13);
+    let r = area::read_word(area, i, 5);
+    octets::both(d == 2, 2 * e as u64 + r as u64 <= 1)
 }
 
 // Whether station i is quiet and in backoff, and receives nothing.
@@ -69,11 +70,11 @@ pub fn backs(area: &[u8], i: usize) -> bool
     ensures value { λ r. ⌜ r ≡ backsIn (recordAt (now (area .entry)) i) ⌝ }
     ensures octets { λ r. ⌜ Octets (now (area .entry)) ⌝ }
 {
-    let d = area::read_code(area, i, 0);
-    let x = area::read_code(area, i, 3);
-    let e = area::read_code(area, i, 13);
-    let r = area::read_code(area, i, 5);
-    octets::both(d == 0, octets::both(x == 2, octets::both(e == 0, r <= 1)))
+    let d = area::read_word(area, i, 0);
+    let x = area::read_word(area, i, 3);
+    let e = area::read_word(area, i, 13);
+    let r = area::read_word(area, i, 5);
+    octets::both(x == 2, 2 * d as u64 + 2 * e as u64 + r as u64 <= 1)
 }
 
 // Whether the transmitter of station i, with this code, goes on as it is, but for a step of backoff.

@@ -24,7 +24,7 @@ fn flag_of(b: bool) -> u32
 }
 
 // The phase that a code stands for. A code over 1 reads as gap.
-fn deference_of(code: u32, own: bool, count: u32) -> Deference
+pub fn deference_of(code: u32, own: bool, count: u32) -> Deference
     ensures { λ r. ⌜ r ≡ deferenceOf code own count ⌝ }
 {
     if code == 0 {
@@ -67,7 +67,7 @@ fn deference_count(d: Deference) -> u32
 }
 
 // The phase that a code stands for. A code over 4 reads as jamming.
-fn transmitter_of(code: u32, number: u32) -> Transmitter
+pub fn transmitter_of(code: u32, number: u32) -> Transmitter
     ensures { λ r. ⌜ r ≡ transmitterOf code number ⌝ }
 {
     if code == 0 {
@@ -115,7 +115,7 @@ fn transmitter_number(t: Transmitter) -> u32
 }
 
 // The state that a code stands for. A code over 2 reads as collecting.
-fn receiver_of(code: u32, number: u32, spoiled: bool, own: bool) -> Receiver
+pub fn receiver_of(code: u32, number: u32, spoiled: bool, own: bool) -> Receiver
     ensures { λ r. ⌜ r ≡ receiverOf code number spoiled own ⌝ }
 {
     if code == 0 {

@@ -6,12 +6,17 @@ use pair::Act;
 use pair::Events;
 use receiver::ReceiveEvent;
 use receiver::Stored;
+use state::Deference;
+use state::Receiver;
+use state::Station;
+use state::Transmitter;
 use station::Stepped;
 use transmitter::TransmitEvent;
 ghost use mathlib.Core.Path.{_≡_};
-ghost use Prim.Native.Nat.{_<_, _≤_};
+ghost use Prim.Native.Nat.{_+_, _*_, _<_, _≤_};
 ghost use lib.ListN.{length};
-ghost use Rattle.pair.specs.BitTime.{happened, withStored, withCounted, placed, settled, isTransmit, isReceive, actIn, turnIn, eventsOf};
+ghost use Rattle.area.specs.Area.{stationAt, withStation};
+ghost use Rattle.pair.specs.BitTime.{happened, withStored, withCounted, placed, settled, isTransmit, isReceive, actIn, turnIn, eventsOf, noEvents};
 ghost use Rattle.pair.specs.InPlace.{Kept};
 ghost use Rattle.pair.specs.Ready.{Able};
 
@@ -73,6 +78,68 @@ pub fn count_step(area: &mut [u8], i: usize, o: Stepped)
     }
 }
 
+fn load_deference(area: &[u8], i: usize) -> Deference
+    requires { ⌜ (i < 16) × (57344 ≤ length (now area)) ⌝ }
+    ensures { λ r. ⌜ r ≡ stationAt (now (area .entry)) i .deference ⌝ }
+{
+    let code = area::read_word(area, i, 0);
+    let own = area::read_word(area, i, 1);
+    let count = area::read_word(area, i, 2);
+    record::deference_of(code, own == 1, count)
+}
+
+fn load_transmitter(area: &[u8], i: usize) -> Transmitter
+    requires { ⌜ (i < 16) × (57344 ≤ length (now area)) ⌝ }
+    ensures { λ r. ⌜ r ≡ stationAt (now (area .entry)) i .transmitter ⌝ }
+{
+    let code = area::read_word(area, i, 3);
+    let number = area::read_word(area, i, 4);
+    record::transmitter_of(code, number)
+}
+
+fn load_receiver(area: &[u8], i: usize) -> Receiver
+    requires { ⌜ (i < 16) × (57344 ≤ length (now area)) ⌝ }
+    ensures { λ r. ⌜ r ≡ stationAt (now (area .entry)) i .receiver ⌝ }
+{
+    let code = area::read_word(area, i, 5);
+    let number = area::read_word(area, i, 6);
+    let spoiled = area::read_word(area, i, 7);
+    let own = area::read_word(area, i, 8);
+    record::receiver_of(code, number, spoiled == 1, own == 1)
+}
+
+// Station i. It is `area::read_station`, here once more: called from one place it is put in there, and no word goes
+// through memory.
+fn load(area: &[u8], i: usize) -> Station
+    requires { ⌜ (i < 16) × (57344 ≤ length (now area)) ⌝ }
+    ensures { λ r. ⌜ r ≡ stationAt (now (area .entry)) i ⌝ }
+{
+    let deference = load_deference(area, i);
+    let transmitter = load_transmitter(area, i);
+    let receiver = load_receiver(area, i);
+    let address = area::read_address(area, i);
+    Station {
+        address,
+        deference,
+        transmitter,
+        receiver,
+        frame: area::read_word(area, i, 9),
+        attempts: area::read_word(area, i, 10),
+        draw: area::read_word(area, i, 11),
+        deferred: area::read_word(area, i, 12) == 1,
+        emitted: area::read_word(area, i, 13) == 1,
+    }
+}
+
+// Writes station i, as `area::write_station` does.
+fn store(area: &mut [u8], i: usize, s: Station)
+    requires { ⌜ (i < 16) × (57344 ≤ length (now area)) ⌝ }
+    ensures { λ r. ⌜ now (area .exit) ≡ withStation (now (area .entry)) i s ⌝ }
+{
+    let w = record::encode(s);
+    words::store_words(area, 2048 + 64 * i, &w);
+}
+
 // Station i is what its step t made of it: its record, its counters, the bit it collected; what reached it is taken from its line.
 fn place(area: &mut [u8], t: usize, i: usize, o: Stepped)
     requires { ⌜ (i < 16) × (57344 ≤ length (now area)) × Kept (o .stored) ⌝ }
@@ -80,7 +147,7 @@ fn place(area: &mut [u8], t: usize, i: usize, o: Stepped)
 {
     let next = o.station;
     let stored = o.stored;
-    area::write_station(area, i, next);
+    store(area, i, next);
     count_step(area, i, o);
     keep_bit(area, i, stored);
     delay::put_arrival(area, i, t, Heard::Nothing);
@@ -101,7 +168,7 @@ fn acts(area: &[u8], depth: u32, t: usize, f: Figures, i: usize) -> Act
     requires { ⌜ (i < 16) × (57344 ≤ length (now area)) × Able f (now area) i ⌝ }
     ensures { λ r. ⌜ r ≡ actIn f depth t (now (area .entry)) i ⌝ }
 {
-    let s = area::read_station(area, i);
+    let s = load(area, i);
     let h = delay::arrival(area, i, t);
     let draw = area::read_draw(area, i, s.draw as usize);
     let transmitter = s.transmitter;
@@ -112,8 +179,8 @@ fn acts(area: &[u8], depth: u32, t: usize, f: Figures, i: usize) -> Act
     Act { outcome, symbol }
 }
 
-// Station i's turn in step t: it acts from the area as the stations before it have left it.
-pub fn turn(area: &mut [u8], n: usize, depth: u32, t: usize, f: Figures, i: usize) -> Events
+// Any turn of station i in step t.
+fn general(area: &mut [u8], n: usize, depth: u32, t: usize, f: Figures, i: usize) -> Events
     requires { ⌜ (i < 16) × (n ≤ 16) × (t < 4294967296) × (57344 ≤ length (now area)) × Able f (now area) i ⌝ }
     ensures area { λ r. ⌜ now (area .exit) ≡ turnIn f depth n t i (now (area .entry)) ⌝ }
     ensures events { λ r. ⌜ r ≡ eventsOf (actIn f depth t (now (area .entry)) i) ⌝ }
@@ -124,4 +191,49 @@ pub fn turn(area: &mut [u8], n: usize, depth: u32, t: usize, f: Figures, i: usiz
     let sent = o.sent;
     let got = o.got;
     Events { sent, got }
+}
+
+fn no_events() -> Events
+    ensures { λ r. ⌜ r ≡ noEvents ⌝ }
+{
+    Events {
+        sent: TransmitEvent::NoTransmit,
+        got: ReceiveEvent::NoReceive,
+    }
+}
+
+// Station i's turn in step t, where its gap or its backoff goes on, or any other. The general turn is called from two
+// places, and so is this one: each is then a function of its own. Put together, the octets that one reads would take
+// apart the words that another reads.
+fn work(area: &mut [u8], n: usize, depth: u32, t: usize, f: Figures, i: usize) -> Events
+    requires { ⌜ (i < 16) × (n ≤ 16) × (t < 4294967296) × (57344 ≤ length (now area)) × Able f (now area) i ⌝ }
+    ensures area { λ r. ⌜ now (area .exit) ≡ turnIn f depth n t i (now (area .entry)) ⌝ }
+    ensures events { λ r. ⌜ r ≡ eventsOf (actIn f depth t (now (area .entry)) i) ⌝ }
+{
+    if delay::read_symbol(area, i, t) == 0 {
+        if easy::waits(area, n, depth, t, f, i) {
+            return no_events();
+        }
+        return general(area, n, depth, t, f, i);
+    }
+    general(area, n, depth, t, f, i)
+}
+
+// Station i's turn in step t: it acts from the area as the stations before it have left it. One that rests, and that
+// nothing reaches, leaves all as it is; of one whose reception goes on few words change.
+pub fn turn(area: &mut [u8], n: usize, depth: u32, t: usize, f: Figures, i: usize) -> Events
+    requires { ⌜ (i < 16) × (n ≤ 16) × (t < 4294967296) × (57344 ≤ length (now area)) × Able f (now area) i ⌝ }
+    ensures area { λ r. ⌜ now (area .exit) ≡ turnIn f depth n t i (now (area .entry)) ⌝ }
+    ensures events { λ r. ⌜ r ≡ eventsOf (actIn f depth t (now (area .entry)) i) ⌝ }
+{
+    if delay::read_symbol(area, i, t) == 0 {
+        if easy::rests(area, i) {
+            return no_events();
+        }
+        return work(area, n, depth, t, f, i);
+    }
+    if easy::hearing(area, n, depth, t, f, i) {
+        return no_events();
+    }
+    work(area, n, depth, t, f, i)
 }

@@ -48,10 +48,10 @@ module _ (a : List ℕ) (i : ℕ) where
   pub line-end : (u p : ℕ) → u ≤ 256 → 256 ≤ u → some (symbolWrong a i) u ≡ ltb 4 p → ltb 4 p ≡ some (symbolWrong a i) 256
   line-end u p h k e = let z : u ≡ 256 = omega arith in sym (rw z at e)
 
-pub station-is : (a w : List ℕ) (i d t : ℕ) (f : Figures) (r b c : Bool) → r ≡ (b || c) → c ≡ some (symbolWrong a i) 256
-    → b ≡ recordWrong f d t w → w ≡ recordAt a i → f ≡ figuresAt a → d ≡ depthAt a → t ≡ clockAt a → r ≡ stationWrong a i
+pub station-is : (a : List ℕ) (i d t : ℕ) (f : Figures) (r b c : Bool) → r ≡ (b || c) → c ≡ some (symbolWrong a i) 256
+    → b ≡ recordWrong f d t (recordAt a i) → f ≡ figuresAt a → d ≡ depthAt a → t ≡ clockAt a → r ≡ stationWrong a i
 unfolding stationWrong
-station-is a w i d t f r b c p q e ew ef ed et = p ∙ rw (q, e, ew, ef, ed, et)
+station-is a i d t f r b c p q e ef ed et = p ∙ rw (q, e, ef, ed, et)
 
 module _ (a : List ℕ) (y : Layout) (k d t : ℕ) where
   pub wrong-layout : k ≡ refusalOf y → y ≡ layoutAt a → (k ≡ 0 → ⊥) → true ≡ areaWrong a

@@ -6,27 +6,27 @@ ghost use Prim.Native.Nat.{_+_, _<_, _≤_};
 ghost use lib.ListN.{length};
 ghost use lib.Dec.{ltb};
 ghost use Rattle.octets.specs.Base.{pick, some};
-ghost use Rattle.area.specs.Area.{figuresAt};
+ghost use Rattle.area.specs.Area.{figuresAt, recordAt};
 ghost use Rattle.valid.specs.Valid.{deferenceWrong, attemptsWrong, numberWrong, transmitterWrong, receiverWrong, recordWrong, symbolWrong, stationWrong, areaWrong, areaRefusal};
 
-fn deference_wrong(f: Figures, w: [u32; 14]) -> bool
-    requires { ⌜ f .gap1 + f .gap2 < 65536 ⌝ }
-    ensures { λ r. ⌜ r ≡ deferenceWrong f w ⌝ }
+fn deference_wrong(area: &[u8], i: usize, f: Figures) -> bool
+    requires { ⌜ (i < 16) × (57344 ≤ length (now area)) × (f .gap1 + f .gap2 < 65536) ⌝ }
+    ensures { λ r. ⌜ r ≡ deferenceWrong f (recordAt (now (area .entry)) i) ⌝ }
 {
-    let code = w[0];
+    let code = area::read_word(area, i, 0);
     if 2 < code {
         return true;
     }
     if code == 0 {
         return false;
     }
-    if 1 < w[1] {
+    if 1 < area::read_word(area, i, 1) {
         return true;
     }
     if code == 1 {
         return false;
     }
-    octets::out_of(w[2], 1, f.gap1 + f.gap2)
+    octets::out_of(area::read_word(area, i, 2), 1, f.gap1 + f.gap2)
 }
 
 fn attempts_wrong(limit: u32, code: u32, n: u32) -> bool
@@ -57,34 +57,35 @@ fn number_wrong(f: Figures, code: u32, n: u32, frame: u32) -> bool
     octets::out_of(n, 1, f.jam)
 }
 
-fn transmitter_wrong(f: Figures, w: [u32; 14]) -> bool
-    requires { ⌜ f .slot < 65536 ⌝ }
-    ensures { λ r. ⌜ r ≡ transmitterWrong f w ⌝ }
+fn transmitter_wrong(area: &[u8], i: usize, f: Figures) -> bool
+    requires { ⌜ (i < 16) × (57344 ≤ length (now area)) × (f .slot < 65536) ⌝ }
+    ensures { λ r. ⌜ r ≡ transmitterWrong f (recordAt (now (area .entry)) i) ⌝ }
 {
-    let code = w[3];
-    let frame = w[9];
+    let code = area::read_word(area, i, 3);
     if 5 < code {
         return true;
     }
-    if attempts_wrong(f.limit, code, w[10]) {
+    if attempts_wrong(f.limit, code, area::read_word(area, i, 10)) {
         return true;
     }
     if code == 0 {
         return false;
     }
+    let frame = area::read_word(area, i, 9);
     if octets::out_of(frame, 64, 1518) {
         return true;
     }
-    if 1 < w[12] {
+    if 1 < area::read_word(area, i, 12) {
         return true;
     }
-    number_wrong(f, code, w[4], frame)
+    number_wrong(f, code, area::read_word(area, i, 4), frame)
 }
 
-fn receiver_wrong(clock: u32, w: [u32; 14]) -> bool
-    ensures { λ r. ⌜ r ≡ receiverWrong clock w ⌝ }
+fn receiver_wrong(area: &[u8], i: usize, clock: u32) -> bool
+    requires { ⌜ (i < 16) × (57344 ≤ length (now area)) ⌝ }
+    ensures { λ r. ⌜ r ≡ receiverWrong clock (recordAt (now (area .entry)) i) ⌝ }
 {
-    let code = w[5];
+    let code = area::read_word(area, i, 5);
     if 3 < code {
         return true;
     }
@@ -92,38 +93,39 @@ fn receiver_wrong(clock: u32, w: [u32; 14]) -> bool
         return false;
     }
     if code == 1 {
-        return octets::out_of(w[6], 64, 1518);
+        return octets::out_of(area::read_word(area, i, 6), 64, 1518);
     }
-    if 1 < w[7] {
+    if 1 < area::read_word(area, i, 7) {
         return true;
     }
-    if 1 < w[8] {
+    if 1 < area::read_word(area, i, 8) {
         return true;
     }
     if code == 2 {
-        return octets::out_of(w[6], 1, 511);
+        return octets::out_of(area::read_word(area, i, 6), 1, 511);
     }
-    clock < w[6]
+    clock < area::read_word(area, i, 6)
 }
 
-// Whether a record's words hold what no call would leave, on a layout with these figures, so many draws and this clock.
-fn record_wrong(f: Figures, depth: u32, clock: u32, w: [u32; 14]) -> bool
-    requires { ⌜ (f .gap1 + f .gap2 < 65536) × (f .slot < 65536) ⌝ }
-    ensures { λ r. ⌜ r ≡ recordWrong f depth clock w ⌝ }
+// Whether the record of station i holds what no call would leave, on a layout with these figures, so many draws and
+// this clock. A word is read where it is looked at.
+fn record_wrong(area: &[u8], i: usize, f: Figures, depth: u32, clock: u32) -> bool
+    requires { ⌜ (i < 16) × (57344 ≤ length (now area)) × (f .gap1 + f .gap2 < 65536) × (f .slot < 65536) ⌝ }
+    ensures { λ r. ⌜ r ≡ recordWrong f depth clock (recordAt (now (area .entry)) i) ⌝ }
 {
-    if deference_wrong(f, w) {
+    if deference_wrong(area, i, f) {
         return true;
     }
-    if transmitter_wrong(f, w) {
+    if transmitter_wrong(area, i, f) {
         return true;
     }
-    if receiver_wrong(clock, w) {
+    if receiver_wrong(area, i, clock) {
         return true;
     }
-    if depth <= w[11] {
+    if depth <= area::read_word(area, i, 11) {
         return true;
     }
-    1 < w[13]
+    1 < area::read_word(area, i, 13)
 }
 
 fn larger(x: u8, y: u8) -> u8
@@ -154,8 +156,7 @@ fn station_wrong(area: &[u8], i: usize) -> bool
     let f = area::read_figures(area);
     let depth = area::read_depth(area);
     let clock = area::read_clock(area);
-    let w = area::read_record(area, i);
-    octets::either(record_wrong(f, depth, clock, w), line_wrong(area, i))
+    octets::either(record_wrong(area, i, f, depth, clock), line_wrong(area, i))
 }
 
 fn stations_wrong(area: &[u8], n: usize) -> bool

@@ -6,39 +6,59 @@ use borrow.Author.Needs.{needs}
 use Rattle.quick.proofs.backs.Statement.{statement}
 use Rattle.quick.proofs.backs.Tie as tie
 
-read-code-requires : tie.Need-read-code-requires
-read-code-requires c κs = search needs
+read-word-requires : tie.Need-read-word-requires
+read-word-requires c κs = search needs
 
-read-code-requires-2 : tie.Need-read-code-requires-2
-read-code-requires-2 c κs = search needs
+read-word-requires-2 : tie.Need-read-word-requires-2
+read-word-requires-2 c κs = search needs
 
-read-code-requires-3 : tie.Need-read-code-requires-3
-read-code-requires-3 c κs = search needs
+read-word-requires-3 : tie.Need-read-word-requires-3
+read-word-requires-3 c κs = search needs
 
-read-code-requires-4 : tie.Need-read-code-requires-4
-read-code-requires-4 c κs = search needs
+read-word-requires-4 : tie.Need-read-word-requires-4
+read-word-requires-4 c κs = search needs
+
+cast-both : tie.Need-cast-both
+cast-both c = search needs
+
+mul-both : tie.Need-mul-both
+mul-both c = search needs
+
+cast-both-2 : tie.Need-cast-both-2
+cast-both-2 c = search needs
+
+mul-both-2 : tie.Need-mul-both-2
+mul-both-2 c = search needs
+
+add-both : tie.Need-add-both
+add-both c = search needs
+
+cast-both-3 : tie.Need-cast-both-3
+cast-both-3 c = search needs
+
+add-both-2 : tie.Need-add-both-2
+add-both-2 c = search needs
 
 both-requires : tie.Need-both-requires
 both-requires c κs = search needs
 
-both-requires-2 : tie.Need-both-requires-2
-both-requires-2 c κs = search needs
-
-both-requires-3 : tie.Need-both-requires-3
-both-requires-3 c κs = search needs
-
 returns : tie.Need-returns
-returns c = (search backs-is, octets-by _ (λ k. omega (arith, c .before .before .before .before .before .before .before .shared-slice-known .given k)))
+returns c = (search backs-is, octets-by _ (λ k. omega (arith, c .before .before .before .before .before .shared-slice-known .given k)))
 
 pub backs-spec : {M : Type 1} → statement M
 backs-spec =
     tie.close
     (tie.spec
-    read-code-requires
-    read-code-requires-2
-    read-code-requires-3
-    read-code-requires-4
+    read-word-requires
+    read-word-requires-2
+    read-word-requires-3
+    read-word-requires-4
+    cast-both
+    mul-both
+    cast-both-2
+    mul-both-2
+    add-both
+    cast-both-3
+    add-both-2
     both-requires
-    both-requires-2
-    both-requires-3
     returns)

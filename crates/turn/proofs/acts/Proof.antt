@@ -6,8 +6,8 @@ use borrow.Author.Needs.{needs}
 use Rattle.turn.proofs.acts.Statement.{statement}
 use Rattle.turn.proofs.acts.Tie as tie
 
-read-station-requires : tie.Need-read-station-requires
-read-station-requires c κs = search needs
+load-requires : tie.Need-load-requires
+load-requires c κs = search needs
 
 arrival-requires : tie.Need-arrival-requires
 arrival-requires c κs = search needs
@@ -40,7 +40,7 @@ pub acts-spec : {M : Type 1} → statement M
 acts-spec =
     tie.close
     (tie.spec
-    read-station-requires
+    load-requires
     arrival-requires
     cast-read-draw
     read-draw-requires

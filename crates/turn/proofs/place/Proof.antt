@@ -4,8 +4,8 @@ use borrow.Author.Needs.{needs}
 use Rattle.turn.proofs.place.Statement.{statement}
 use Rattle.turn.proofs.place.Tie as tie
 
-write-station-requires : tie.Need-write-station-requires
-write-station-requires c κs = search needs
+store-requires : tie.Need-store-requires
+store-requires c κs = search needs
 
 count-step-requires : tie.Need-count-step-requires
 count-step-requires c κs = search needs
@@ -20,13 +20,13 @@ same-length : tie.Need-same-length
 same-length c = search needs
 
 returns : tie.Need-returns
-returns c = placed-is _ _ _ _ _ _ _ _ (c .before .before .put-arrival .ensures) (c .before .before .before .before .before .before .keep-bit .ensures) (c .before .before .before .before .before .before .before .before .before .before .count-step .ensures) (c .before .before .before .before .before .before .before .before .before .before .before .before .before .before .write-station .ensures)
+returns c = placed-is _ _ _ _ _ _ _ _ (c .before .before .put-arrival .ensures) (c .before .before .before .before .before .before .keep-bit .ensures) (c .before .before .before .before .before .before .before .before .before .before .count-step .ensures) (c .before .before .before .before .before .before .before .before .before .before .before .before .before .before .store .ensures)
 
 pub place-spec : {M : Type 1} → statement M
 place-spec =
     tie.close
     (tie.spec
-    write-station-requires
+    store-requires
     count-step-requires
     keep-bit-requires
     put-arrival-requires

@@ -4,8 +4,8 @@ use borrow.Author.Needs.{needs}
 use Rattle.valid.proofs.deference_wrong.Statement.{statement}
 use Rattle.valid.proofs.deference_wrong.Tie as tie
 
-array-read-code : tie.Need-array-read-code
-array-read-code c = search needs
+read-word-requires : tie.Need-read-word-requires
+read-word-requires c κs = search needs
 
 returns : tie.Need-returns
 returns c = search deference-1
@@ -13,8 +13,8 @@ returns c = search deference-1
 returns-2 : tie.Need-returns-2
 returns-2 c = search deference-2
 
-array-read-if3 : tie.Need-array-read-if3
-array-read-if3 c = search needs
+read-word-requires-2 : tie.Need-read-word-requires-2
+read-word-requires-2 c κs = search needs
 
 returns-3 : tie.Need-returns-3
 returns-3 c = search deference-3
@@ -22,8 +22,8 @@ returns-3 c = search deference-3
 returns-4 : tie.Need-returns-4
 returns-4 c = search deference-4
 
-array-read-out-of : tie.Need-array-read-out-of
-array-read-out-of c = search needs
+read-word-requires-3 : tie.Need-read-word-requires-3
+read-word-requires-3 c κs = search needs
 
 add-out-of : tie.Need-add-out-of
 add-out-of c = search needs
@@ -38,13 +38,13 @@ pub deference-wrong-spec : {M : Type 1} → statement M
 deference-wrong-spec =
     tie.close
     (tie.spec
-    array-read-code
+    read-word-requires
     returns
     returns-2
-    array-read-if3
+    read-word-requires-2
     returns-3
     returns-4
-    array-read-out-of
+    read-word-requires-3
     add-out-of
     out-of-requires
     returns-5)

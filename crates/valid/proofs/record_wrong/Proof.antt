@@ -22,14 +22,14 @@ receiver-wrong-requires c κs = search needs
 returns-3 : tie.Need-returns-3
 returns-3 c = search record-3
 
-array-read-if4 : tie.Need-array-read-if4
-array-read-if4 c = search needs
+read-word-requires : tie.Need-read-word-requires
+read-word-requires c κs = search needs
 
 returns-4 : tie.Need-returns-4
 returns-4 c = search record-4
 
-array-read-result : tie.Need-array-read-result
-array-read-result c = search needs
+read-word-requires-2 : tie.Need-read-word-requires-2
+read-word-requires-2 c κs = search needs
 
 returns-5 : tie.Need-returns-5
 returns-5 c = search record-5
@@ -44,7 +44,7 @@ record-wrong-spec =
     returns-2
     receiver-wrong-requires
     returns-3
-    array-read-if4
+    read-word-requires
     returns-4
-    array-read-result
+    read-word-requires-2
     returns-5)

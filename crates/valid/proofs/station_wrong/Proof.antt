@@ -1,6 +1,6 @@
 -- `valid::station_wrong` meets its contract. Assumes nothing.
-use Rattle.valid.specs.AreaCheckLaws.{gap-of, slot-of}
-use Rattle.valid.specs.AreaCheckLaws.{station-is}
+use Rattle.valid.specs.AreaCheckLaws.{gap-of, slot-of, station-is}
+use native.Mathlib.Omega.{arith}
 use borrow.Author.Needs.{needs}
 use Rattle.valid.proofs.station_wrong.Statement.{statement}
 use Rattle.valid.proofs.station_wrong.Tie as tie
@@ -14,11 +14,8 @@ read-depth-requires c κs = search needs
 read-clock-requires : tie.Need-read-clock-requires
 read-clock-requires c κs = search needs
 
-read-record-requires : tie.Need-read-record-requires
-read-record-requires c κs = search needs
-
 record-wrong-requires : tie.Need-record-wrong-requires
-record-wrong-requires c κs = (search gap-of, search slot-of)
+record-wrong-requires c κs = (omega arith, omega arith, search gap-of, search slot-of)
 
 line-wrong-requires : tie.Need-line-wrong-requires
 line-wrong-requires c κs = search needs
@@ -36,7 +33,6 @@ station-wrong-spec =
     read-figures-requires
     read-depth-requires
     read-clock-requires
-    read-record-requires
     record-wrong-requires
     line-wrong-requires
     either-requires

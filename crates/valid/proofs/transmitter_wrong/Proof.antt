@@ -1,21 +1,18 @@
 -- `valid::transmitter_wrong` meets its contract. Assumes nothing.
-use native.Mathlib.Omega.{arith}
 use Rattle.valid.specs.RecordLaws.{transmitter-1, transmitter-2, transmitter-3, transmitter-4, transmitter-5, transmitter-6, frame-small}
+use native.Mathlib.Omega.{arith}
 use borrow.Author.Needs.{needs}
 use Rattle.valid.proofs.transmitter_wrong.Statement.{statement}
 use Rattle.valid.proofs.transmitter_wrong.Tie as tie
 
-array-read-code : tie.Need-array-read-code
-array-read-code c = search needs
-
-array-read-frame : tie.Need-array-read-frame
-array-read-frame c = search needs
+read-word-requires : tie.Need-read-word-requires
+read-word-requires c κs = search needs
 
 returns : tie.Need-returns
 returns c = search transmitter-1
 
-array-read-attempts-wrong : tie.Need-array-read-attempts-wrong
-array-read-attempts-wrong c = search needs
+read-word-requires-2 : tie.Need-read-word-requires-2
+read-word-requires-2 c κs = search needs
 
 attempts-wrong-requires : tie.Need-attempts-wrong-requires
 attempts-wrong-requires c κs = search needs
@@ -26,23 +23,26 @@ returns-2 c = search transmitter-2
 returns-3 : tie.Need-returns-3
 returns-3 c = search transmitter-3
 
+read-word-requires-3 : tie.Need-read-word-requires-3
+read-word-requires-3 c κs = search needs
+
 out-of-requires : tie.Need-out-of-requires
 out-of-requires c κs = search needs
 
 returns-4 : tie.Need-returns-4
 returns-4 c = search transmitter-4
 
-array-read-if5 : tie.Need-array-read-if5
-array-read-if5 c = search needs
+read-word-requires-4 : tie.Need-read-word-requires-4
+read-word-requires-4 c κs = search needs
 
 returns-5 : tie.Need-returns-5
 returns-5 c = search transmitter-5
 
-array-read-number-wrong : tie.Need-array-read-number-wrong
-array-read-number-wrong c = search needs
+read-word-requires-5 : tie.Need-read-word-requires-5
+read-word-requires-5 c κs = search needs
 
 number-wrong-requires : tie.Need-number-wrong-requires
-number-wrong-requires c κs = (omega arith, frame-small _ _ (c .before .before .out-of .ensures) (c .before .if4 .left))
+number-wrong-requires c κs = (omega arith, search frame-small)
 
 returns-6 : tie.Need-returns-6
 returns-6 c = search transmitter-6
@@ -51,17 +51,17 @@ pub transmitter-wrong-spec : {M : Type 1} → statement M
 transmitter-wrong-spec =
     tie.close
     (tie.spec
-    array-read-code
-    array-read-frame
+    read-word-requires
     returns
-    array-read-attempts-wrong
+    read-word-requires-2
     attempts-wrong-requires
     returns-2
     returns-3
+    read-word-requires-3
     out-of-requires
     returns-4
-    array-read-if5
+    read-word-requires-4
     returns-5
-    array-read-number-wrong
+    read-word-requires-5
     number-wrong-requires
     returns-6)
