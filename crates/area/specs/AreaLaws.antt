@@ -14,7 +14,6 @@ use Rattle.octets.specs.NumberLaws.{length-put, get-put-same}
 use Rattle.octets.specs.Store.{part, part-same, length-part}
 use Rattle.octets.specs.Region.{Same, same-refl, same-part, same-trans, set-leaves, sets-leaves, put-leaves, words-leave, get-goes-by, words-go-by, part-goes-by}
 use Rattle.octets.specs.WordsLaws.{Small, length-put-words, words-same}
-use Rattle.layout.specs.declared.Figures.{Figures}
 use Rattle.packet.specs.declared.Heard.{Heard}
 use Rattle.packet.specs.declared.Heard.the-variants.{Nothing, Clean, Jammed, Several}
 use Rattle.state.specs.declared.Station.{Station}

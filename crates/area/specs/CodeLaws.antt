@@ -25,7 +25,6 @@ use Rattle.frame.specs.Build.{frameOf, built}
 use Rattle.frame.specs.BuildLaws.{frame-size, data-within}
 use Rattle.layout.specs.declared.Figures.{Figures}
 use Rattle.layout.specs.declared.Tap.{Tap}
-use Rattle.layout.specs.declared.Layout.{Layout}
 use Rattle.layout.specs.Layout.{placesOf}
 use Rattle.packet.specs.declared.Heard.{Heard}
 use Rattle.packet.specs.declared.Heard.the-variants.{Nothing, Clean, Jammed, Several}

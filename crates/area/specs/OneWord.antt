@@ -5,19 +5,19 @@ use mathlib.Core.List.{List, [], _∷_, _++_}
 use native.Mathlib.Decide.{decLt}
 use native.Mathlib.Omega.{arith}
 use lib.Dec.{ltb}
-use lib.ListN.{length, getD, set, length-set, List·getD-append}
-use lib.Seq.{sets, length-sets, getD-at, getD-set-same, getD-set-other, ext-getD}
+use lib.ListN.{length, getD, List·getD-append}
+use lib.Seq.{sets, length-sets, getD-at, ext-getD}
 use borrow.Author.Tests.{ltb-true, ltb-false}
 use Rattle.octets.specs.BaseLaws.{by-test, by-eq}
 use Rattle.octets.specs.Number.{get, spelled, put}
 use Rattle.octets.specs.NumberLaws.{Octets, get-by, length-spelled, length-put, get-put-other}
 use Rattle.octets.specs.Region.{Same, put-leaves}
 use Rattle.octets.specs.Store.{octet-same, octet-other}
-use Rattle.octets.specs.Words.{wordsAt, putWords}
-use Rattle.octets.specs.WordsLaws.{length-words, word-at}
+use Rattle.octets.specs.Words.{putWords}
+use Rattle.octets.specs.WordsLaws.{word-at}
 use Rattle.state.specs.declared.Station.{Station}
 use Rattle.record.specs.Codec.{encoded}
-use Rattle.area.specs.Places.{Part, station, at, size, Off, Keeps}
+use Rattle.area.specs.Places.{at}
 use Rattle.area.specs.Area.{recordAt, withStation, withWord}
 
 -- ---- a number written over itself
@@ -125,27 +125,6 @@ module _ (a : List ℕ) (i : ℕ) (s : Station) (hi : i < 16) (room : 57344 ≤ 
   station-back e =
       put-back a (2048 + 64 * i) (encoded s) o 14 (omega arith) (λ j h. ap (λ (ws : List ℕ). getD ws j 0) e ∙ word-at 14 a (2048 + 64 * i) j h)
 
-  pub station-one : (k v : ℕ) → k < 14 → encoded s ≡ set (recordAt a i) k v → withStation a i s ≡ withWord a i k v
-  unfolding withStation recordAt withWord
-  station-one k v h e =
-      put-one a (2048 + 64 * i) (encoded s) o 14 k v (omega arith) h
-      (ap (λ (ws : List ℕ). getD ws k 0) e ∙ getD-set-same (wordsAt 14 a (2048 + 64 * i)) k v 0 (omega (arith, length-words 14 a (2048 + 64 * i))))
-      (λ j g ne. ap (λ (ws : List ℕ). getD ws j 0) e ∙ getD-set-other (wordsAt 14 a (2048 + 64 * i)) k j v 0 ne ∙ word-at 14 a (2048 + 64 * i) j g)
-
-  pub station-two : (k v k′ v′ : ℕ) → k < k′ → k′ < 14 → encoded s ≡ set (set (recordAt a i) k v) k′ v′ → withStation a i s ≡ withWord (withWord a i k v) i k′ v′
-  unfolding withStation recordAt withWord two
-  station-two k v k′ v′ lt h e =
-      let n : length (wordsAt 14 a (2048 + 64 * i)) ≡ 14 = length-words 14 a (2048 + 64 * i) in
-      let r : List ℕ = set (wordsAt 14 a (2048 + 64 * i)) k v in
-      put-two a (2048 + 64 * i) (encoded s) o k v k′ v′ lt 14 (omega arith) h
-      (ap (λ (ws : List ℕ). getD ws k 0) e ∙ getD-set-other r k′ k v′ 0 (λ z. omega arith) ∙ getD-set-same (wordsAt 14 a (2048 + 64 * i)) k v 0 (omega arith))
-      (ap (λ (ws : List ℕ). getD ws k′ 0) e ∙ getD-set-same r k′ v′ 0 (omega (arith, length-set (wordsAt 14 a (2048 + 64 * i)) k v)))
-      (λ j g ne ne′. ap (λ (ws : List ℕ). getD ws j 0) e ∙ getD-set-other r k′ j v′ 0 ne′ ∙ getD-set-other (wordsAt 14 a (2048 + 64 * i)) k j v 0 ne ∙ word-at 14 a (2048 + 64 * i) j g)
-
 pub length-word : (a : List ℕ) (i k v : ℕ) → length (withWord a i k v) ≡ length a
 unfolding withWord
 length-word a i k v = length-put 4 a (2048 + 64 * i + 4 * k) v
-
-pub word-keeps : (p : Part) (a : List ℕ) (i k v : ℕ) → k < 14 → Off p (station i) → Keeps p (withWord a i k v) a
-unfolding withWord Keeps
-word-keeps p a i k v h o = put-leaves (at p) (size p) 4 (2048 + 64 * i + 4 * k) v a (λ x y. o (omega arith) (omega arith))

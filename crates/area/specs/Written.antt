@@ -151,11 +151,6 @@ module _ (i : ℕ) (x : List ℕ) (hi : i < 16) (room : 57344 ≤ length x) wher
 -- ---- a record beside other writes
 
 module _ (a : List ℕ) (i : ℕ) (hi : i < 16) (s : Station) where
-  -- any station's line
-  pub station-elsewhere : (j t : ℕ) (h : Heard) → withStation (withArrival a j t h) i s ≡ withArrival (withStation a i s) j t h
-  unfolding withStation withArrival
-  station-elsewhere j t h = words-past 14 a (encoded s) (2048 + 64 * i) (4096 + 256 * j + t % 256) (heardCode h) (λ x y. omega arith)
-
   pub station-bit : (k : ℕ) (b : Bool) → withStation (withBit a i k b) i s ≡ withBit (withStation a i s) i k b
   unfolding withStation withBit Same
   station-bit k b =

@@ -1,14 +1,13 @@
 -- A window without events: each station, by itself on what it hears by the plan, emits what the plan says and has no event. Then the window
 -- is what happens; a run counts nothing in it, and a stretch until an event goes on past it. Assumes nothing.
 use Prim.Native.Nat.{ℕ, zero, suc, _+_, _-_, _≤_, _<_}
-use mathlib.Core.Path.{_≡_, refl, sym, _∙_, ap, ap₂, subst}
+use mathlib.Core.Path.{_≡_, refl, _∙_, ap, ap₂}
 use mathlib.Core.Bool.{Bool, true, false}
 use mathlib.Core.List.{List}
 use native.Mathlib.Omega.{arith}
 use borrow.Author.Tests.{ltb-true, ltb-false}
 use lib.Dec.{ltb}
 use lib.ListN.{getD}
-use Rattle.octets.specs.Base.{pick, some}
 use Rattle.octets.specs.BaseLaws.{below-none}
 use Rattle.octets.specs.Filled.{filled, filled-same}
 use Rattle.octets.specs.Turns.{turns}
@@ -24,11 +23,11 @@ use Rattle.pair.specs.Ready.{Readiness}
 use Rattle.course.specs.Run.{tallied, runOf}
 use Rattle.course.specs.Until.{hasEvent, eventful, Stretched, oneMore, untilEvent}
 use Rattle.course.specs.UntilLaws.{plus}
-use Rattle.fast_plan.specs.Own.{actOn, byItself, by-itself-none, itself-split}
+use Rattle.fast_plan.specs.Own.{actOn, byItself, itself-split}
 use Rattle.fast_plan.specs.Plan.{Plan, hears, ownAfter, actAfter, Holds, steps}
-use Rattle.fast_plan.specs.Prefix.{Unhurt, holds-less}
+use Rattle.fast_plan.specs.Prefix.{Unhurt}
 use Rattle.fast_plan.specs.Runs.{eventsBy, talliedBy, run-steps, plan-events}
-use Rattle.fast_plan.specs.Does.{none-at, nothing-tallied}
+use Rattle.fast_plan.specs.NoEvents.{none-at, nothing-tallied}
 
 -- for m steps from x on station i, which hears H, emits Q and has no event
 pub record Calm (f : Figures) (d i : ℕ) (H : ℕ → Heard) (Q : ℕ → Symbol) (m : ℕ) (x : List ℕ) : Type 0 where

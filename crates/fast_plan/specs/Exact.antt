@@ -6,19 +6,19 @@ use native.Mathlib.Omega.{arith}
 use borrow.Author.Tests.{ltb-true, ltb-false, eqb-true, eqb-false}
 use lib.Dec.{eqb, ltb}
 use lib.ListN.{length, getD}
-use lib.Seq.{ext-getD, getD-set-same, getD-set-other}
+use lib.Seq.{ext-getD}
 use Rattle.octets.specs.BaseLaws.{by-test, by-eq}
 use Rattle.octets.specs.Region.{Same, put-leaves}
 use Rattle.octets.specs.Store.{Apart}
 use Rattle.octets.specs.Turns.{turns, length-turns}
 use Rattle.packet.specs.declared.Heard.{Heard}
-use Rattle.area.specs.Places.{Part, clock, layout, draws, counters, station, frame, buffer, place, Off, Keeps}
+use Rattle.area.specs.Places.{Part, clock, layout, draws, counters, station, frame, buffer, Keeps}
 use Rattle.area.specs.Area.{clockAt, withClock, depthAt, figuresAt, countAt, stationAt, heardOf, heardCode, symbolAt, arrivalAt, withArrival}
-use Rattle.area.specs.AreaLaws.{keeps-refl, keeps-trans, count-by, symbol-by, arrival-keeps, clock-keeps, length-arrival, length-clock}
+use Rattle.area.specs.AreaLaws.{keeps-refl, keeps-trans, count-by, length-arrival}
 use Rattle.pair.specs.Ready.{Readiness}
 use Rattle.fast_plan.specs.Own.{actOn, ownTurn, byItself, on-kept, length-itself, Others, itself-keeps, OwnSame, own-trans, Stays, Drawn, itself-same}
-use Rattle.fast_plan.specs.Plan.{Plan, hears, lineAfter, ownAfter, Holds, steps, Still, Planned}
-use Rattle.fast_plan.specs.Happens.{left-still, stamped, planned-station, drawn, plan-happens}
+use Rattle.fast_plan.specs.Plan.{Plan, hears, lineAfter, ownAfter, steps, Still, Planned}
+use Rattle.fast_plan.specs.Happens.{left-still, planned-station, drawn}
 
 -- ---- codes
 
@@ -149,94 +149,6 @@ unfolding lineOf
 length-line j u g m x =
     length-turns (λ v y. withArrival y j (u + v) (g v)) m x (λ v y. length-arrival y j (u + v) (g v))
 
-pub length-lines : (a : List ℕ) (P : Plan) (K k : ℕ) (x : List ℕ) → length (linesAll a P K k x) ≡ length x
-unfolding linesAll
-length-lines a P K k x =
-    length-turns _ k x (λ j y. length-line j (clockAt a + K) (λ v. lineAfter a P K j (K + v)) 256 y)
-
-symbol-set : (x : List ℕ) (j u : ℕ) (h : Heard) → j < 16 → 57344 ≤ length x
-    → symbolAt (withArrival x j u h) j u ≡ heardCode h
-unfolding symbolAt withArrival
-symbol-set x j u h hj room = getD-set-same x (4096 + 256 * j + u % 256) (heardCode h) 0 (omega arith)
-
-symbol-other : (x : List ℕ) (j u : ℕ) (h : Heard) (i v : ℕ) → (j ≡ i → u % 256 ≡ v % 256 → ⊥)
-    → symbolAt (withArrival x j u h) i v ≡ symbolAt x i v
-unfolding symbolAt withArrival
-symbol-other x j u h i v ne = getD-set-other x (4096 + 256 * j + u % 256) (4096 + 256 * i + v % 256) (heardCode h) 0
-    (λ z. ne (omega arith) (omega arith))
-
-line-set : (j u : ℕ) (g : ℕ → Heard) (m : ℕ) (x : List ℕ) (v : ℕ) → j < 16 → 57344 ≤ length x → m ≤ 256 → v < m
-    → symbolAt (lineOf j u g m x) j (u + v) ≡ heardCode (g v)
-unfolding lineOf turns
-line-set j u g zero x v hj room hm hv = absurd (omega arith)
-line-set j u g (suc m) x v hj room hm hv =
-    by-eq v m
-    (λ z. rw z (symbol-set (lineOf j u g m x) j (u + m) (g m) hj (omega (arith, length-line j u g m x))))
-    (λ z. symbol-other (lineOf j u g m x) j (u + m) (g m) j (u + v) (λ e y. omega arith) ∙ line-set j u g m x v hj room
-    (omega arith) (omega arith))
-
-line-other : (j u : ℕ) (g : ℕ → Heard) (m : ℕ) (x : List ℕ) (i v : ℕ) → (j ≡ i → ⊥)
-    → symbolAt (lineOf j u g m x) i v ≡ symbolAt x i v
-unfolding lineOf turns
-line-other j u g zero x i v ne = refl
-line-other j u g (suc m) x i v ne =
-    symbol-other (lineOf j u g m x) j (u + m) (g m) i v (λ e y. ne e) ∙ line-other j u g m x i v ne
-
-pub lines-set : (a : List ℕ) (P : Plan) (K k : ℕ) (x : List ℕ) (j v : ℕ) → j < k → k ≤ 16 → 57344 ≤ length x → v < 256
-    → symbolAt (linesAll a P K k x) j (clockAt a + K + v) ≡ heardCode (lineAfter a P K j (K + v))
-unfolding linesAll turns
-lines-set a P K zero x j v hj hk room hv = absurd (omega arith)
-lines-set a P K (suc k) x j v hj hk room hv =
-    by-eq j k
-    (λ z. rw z (line-set k (clockAt a + K) (λ w. lineAfter a P K k (K + w)) 256 (linesAll a P K k x) v hk
-    (omega (arith, length-lines a P K k x)) (omega arith) hv))
-    (λ z. line-other k (clockAt a + K) (λ w. lineAfter a P K k (K + w)) 256 (linesAll a P K k x) j (clockAt a + K + v)
-    (λ e. z (sym e)) ∙ lines-set a P K k x j v (omega arith) (omega arith) room hv)
-
--- what lines keep
-line-keeps : (p : Part) (j u : ℕ) (g : ℕ → Heard) (m : ℕ) (x : List ℕ) → ((v : ℕ) → Off p (place j v))
-    → Keeps p (lineOf j u g m x) x
-unfolding lineOf turns
-line-keeps p j u g zero x o = keeps-refl p x
-line-keeps p j u g (suc m) x o =
-    keeps-trans p (withArrival (lineOf j u g m x) j (u + m) (g m)) (lineOf j u g m x) x
-    (arrival-keeps p (lineOf j u g m x) j (u + m) (g m) (o (u + m))) (line-keeps p j u g m x o)
-
-lines-keep : (p : Part) (a : List ℕ) (P : Plan) (K k : ℕ) (x : List ℕ) → ((j v : ℕ) → j < k → Off p (place j v))
-    → Keeps p (linesAll a P K k x) x
-unfolding linesAll turns
-lines-keep p a P K zero x o = keeps-refl p x
-lines-keep p a P K (suc k) x o =
-    let y = linesAll a P K k x in
-    keeps-trans p (lineOf k (clockAt a + K) (λ v. lineAfter a P K k (K + v)) 256 y) y x
-    (line-keeps p k (clockAt a + K) (λ v. lineAfter a P K k (K + v)) 256 y (λ v. o k v (omega arith)))
-    (lines-keep p a P K k x (λ j v h. o j v (omega arith)))
-
-pub lines-own : (a : List ℕ) (P : Plan) (K k : ℕ) (x : List ℕ) (i : ℕ) → i < 16 → k ≤ 16
-    → OwnSame i (linesAll a P K k x) x
-lines-own a P K k x i hi hk =
-    record {
-      station = lines-keep (station i) a P K k x (λ j v h p q. omega arith);
-      counters = lines-keep (counters i) a P K k x (λ j v h p q. omega arith);
-      buffer = lines-keep (buffer i) a P K k x (λ j v h p q. omega arith);
-    }
-
-line-still : (n k : ℕ) → Still n k → (j u : ℕ) (g : ℕ → Heard) (m : ℕ) (x : List ℕ) → j < n
-    → getD (lineOf j u g m x) k 0 ≡ getD x k 0
-unfolding lineOf turns withArrival
-line-still n k st j u g zero x hj = refl
-line-still n k st j u g (suc m) x hj =
-    getD-set-other (lineOf j u g m x) _ k _ 0 (λ z. st .line j hj (omega arith) (omega arith))
-    ∙ line-still n k st j u g m x hj
-
-pub lines-still : (n k : ℕ) → Still n k → (a : List ℕ) (P : Plan) (K m : ℕ) (x : List ℕ) → m ≤ n
-    → getD (linesAll a P K m x) k 0 ≡ getD x k 0
-unfolding linesAll turns
-lines-still n k st a P K zero x hm = refl
-lines-still n k st a P K (suc m) x hm =
-    line-still n k st m (clockAt a + K) (λ v. lineAfter a P K m (K + v)) 256 (linesAll a P K m x) hm
-    ∙ lines-still n k st a P K m x (omega arith)
-
 -- ---- the stations by themselves
 
 pub length-own : (a : List ℕ) (P : Plan) (m k : ℕ) (x : List ℕ) → length (ownAll a P m k x) ≡ length x
@@ -315,50 +227,9 @@ own-still n k few st a P m (suc c) x hc =
 
 -- ---- what is built is so described
 
-pub planned-built : (a : List ℕ) (P : Plan) (K : ℕ) → countAt a ≤ 16 → 57344 ≤ length a
-    → ((s i : ℕ) → s < K → i < countAt a → Drawn (stationAt (ownAfter a P i s) i)) → Left a P K (planned a P K)
-unfolding planned
-planned-built a P K few room dr =
-    let n = countAt a in
-    let o = ownAll a P K n a in
-    let l = linesAll a P K n o in
-    let lo : length o ≡ length a = length-own a P K n a in
-    let ll : length l ≡ length o = length-lines a P K n o in
-    record {
-      long = length-clock l (clockAt a + K) ∙ ll ∙ lo;
-      stamp = stamped l a (clockAt a + K) (omega (arith, ll, lo)) room;
-      own = λ i hi.
-          own-trans i (withClock l (clockAt a + K)) l (ownAfter a P i K)
-          (record {
-            station = clock-keeps (station i) l (clockAt a + K) (λ p q. omega arith);
-            counters = clock-keeps
-                (counters i) l (clockAt a + K) (λ p q. omega arith);
-            buffer = clock-keeps (buffer i) l (clockAt a + K)
-                (λ p q. omega arith);
-          })
-          (own-trans i l o (ownAfter a P i K) (lines-own a P K n o i (omega arith) few)
-          (own-built a P K n i hi few room (λ s h. dr s i h hi)));
-      line = λ j v hj low up.
-          let z : clockAt a + v ≡ clockAt a + K + (v - K) = omega arith in
-          let y : K + (v - K) ≡ v = omega arith in
-          symbol-by (withClock l (clockAt a + K)) l j (clockAt a + v)
-          (clock-keeps (place j (clockAt a + v)) l (clockAt a + K) (λ p q. omega arith))
-          ∙ ap (symbolAt l j) z
-          ∙ lines-set a P K n o j (v - K) hj few (omega (arith, lo)) (omega arith)
-          ∙ ap (λ (c : ℕ). heardCode (lineAfter a P K j c)) y;
-      rest = λ k st. clock-still l k (clockAt a + K) (st .clock) ∙ lines-still n k st a P K n o (omega arith)
-          ∙ own-still n k few st a P K n a (omega arith);
-    }
-
 -- ---- Theorem 1, as octets
 
 pub own-drawn : (a : List ℕ) (P : Plan) (s i : ℕ) → Readiness a → Planned a P s (steps s a) → i < countAt a → Drawn (stationAt (ownAfter a P i s) i)
 own-drawn a P s i r w hi =
     let few = r .spread .few in
     subst Drawn (planned-station a (r .spread) P s (steps s a) w i (omega arith) hi) (drawn (steps s a) (w .ready) i (omega (arith, count-by (steps s a) a (w .stays 0 (omega arith) .layout))))
-
-pub steps-planned : (a : List ℕ) (P : Plan) (K : ℕ) → 0 < K → Readiness a → clockAt a + K ≤ 16777216 → Holds a P K → steps K a ≡ planned a P K
-unfolding Holds
-steps-planned a P K pos r early h =
-    left-same-area a P K (steps K a) (planned a P K) (r .spread .few) (planned-left a P K (steps K a) pos (plan-happens a P K r early h))
-    (planned-built a P K (r .spread .few) (r .long) (λ s i hs hi. own-drawn a P s i r (plan-happens a P s r (omega arith) (λ u j hu hj. h u j (omega arith) hj)) hi))

@@ -1,6 +1,6 @@
 -- The whole area as code makes it: each station's own update, each line cleared and pushed to, the clock. Assumes nothing.
 use Prim.Native.Nat.{ℕ, zero, suc, _+_, _-_, _≤_, _<_, min}
-use mathlib.Core.Path.{_≡_, refl, sym, _∙_, ap, subst}
+use mathlib.Core.Path.{_≡_, refl, sym, _∙_, subst}
 use mathlib.Core.Bool.{Bool}
 use mathlib.Core.List.{List}
 use native.Mathlib.Omega.{arith}
@@ -12,16 +12,12 @@ use Rattle.octets.specs.Turns.{turns}
 use Rattle.packet.specs.declared.Heard.{Heard}
 use Rattle.packet.specs.declared.Heard.the-variants.{Nothing}
 use Rattle.packet.specs.declared.Symbol.{Symbol}
-use Rattle.area.specs.Places.{Part, counters, station, buffer, place, Off, Keeps}
-use Rattle.area.specs.Area.{clockAt, withClock, countAt, spaceAt, heardCode, symbolAt, arrivalAt, withArrival, joined}
-use Rattle.area.specs.AreaLaws.{keeps-refl, keeps-trans, arrival-by, symbol-by, arrival-keeps, symbol-same, code-small, clock-keeps, length-arrival, length-clock}
+use Rattle.area.specs.Places.{Part, place, Off, Keeps}
+use Rattle.area.specs.Area.{clockAt, countAt, spaceAt, symbolAt, arrivalAt, withArrival, joined}
+use Rattle.area.specs.AreaLaws.{keeps-refl, keeps-trans, arrival-by, arrival-keeps, symbol-same, code-small, length-arrival}
 use Rattle.pair.specs.InPlace.{Spread}
-use Rattle.pair.specs.Ready.{Readiness}
-use Rattle.fast_plan.specs.Own.{OwnSame, own-trans}
-use Rattle.fast_plan.specs.Plan.{Plan, lineAfter, ownAfter, Holds, steps, Still}
-use Rattle.fast_plan.specs.Happens.{stamped, plan-happens, arrival-still}
-use Rattle.fast_plan.specs.Exact.{planned-left, left-same-area, symbol-code, clock-still}
-use Rattle.fast_plan.specs.Assemble.{Own, each-long, each-still, each-own, each-line}
+use Rattle.fast_plan.specs.Plan.{Plan, lineAfter, Still}
+use Rattle.fast_plan.specs.Happens.{arrival-still}
 use Rattle.fast_plan.specs.Push.{cleared, joinedAt, onWay, waysTo, lineDone, pushed-line}
 
 -- U writes places of the line of station j, codes of symbols all of them
@@ -128,53 +124,3 @@ module _ (a : List ℕ) (P : Plan) (K : ℕ) (few : countAt a ≤ 16) where
       (λ z. arrival-by (lineDone a P K k y) y j (clockAt a + v)
       (only k hk .off (place j (clockAt a + v)) y (λ u p q. z (omega arith))) ∙ done-line sp k j v x (omega arith)
       (omega arith) room same lo up)
-
--- ---- Theorem 1 as code makes it
-
-unfoldable pub madeOf : List ℕ → Plan → (K : ℕ) → (G : ℕ → List ℕ → List ℕ) → List ℕ
-madeOf a P K G = withClock (linesDone a P K (countAt a) (turns G (countAt a) a)) (clockAt a + K)
-
-pub steps-made : (a : List ℕ) (P : Plan) (K : ℕ) (G : ℕ → List ℕ → List ℕ) → 0 < K → Readiness a
-    → clockAt a + K ≤ 16777216 → Holds a P K → ((i : ℕ) → i < countAt a → Own (countAt a) i (G i))
-    → ((i : ℕ) → i < countAt a → ownAfter a P i K ≡ G i a) → steps K a ≡ madeOf a P K G
-unfolding madeOf
-steps-made a P K G pos r early h own is =
-    let n = countAt a in
-    let few = r .spread .few in
-    let o = turns G n a in
-    let l = linesDone a P K n o in
-    let x = withClock l (clockAt a + K) in
-    let lo : length o ≡ length a = each-long n few G own a (r .long) n (omega arith) in
-    let ll : length l ≡ length o = done-long a P K few n o (omega arith) in
-    let same : (i u : ℕ) → i < n → symbolAt o i u ≡ symbolAt a i u = λ i u hi. symbol-by o a i u
-    (each-line n few G own a (r .long) n i u (omega arith) hi) in
-    left-same-area a P K (steps K a) x few (planned-left a P K (steps K a) pos (plan-happens a P K r early h))
-    (record {
-      long = length-clock l (clockAt a + K) ∙ ll ∙ lo;
-      stamp = stamped l a (clockAt a + K) (omega (arith, ll, lo, r .long)) (r .long);
-      own = λ i hi.
-          own-trans i x l (ownAfter a P i K)
-          (record {
-            station = clock-keeps (station i) l (clockAt a + K) (λ p q. omega arith);
-            counters = clock-keeps
-                (counters i) l (clockAt a + K) (λ p q. omega arith);
-            buffer = clock-keeps (buffer i) l (clockAt a + K)
-                (λ p q. omega arith);
-          })
-          (own-trans i l o (ownAfter a P i K)
-          (record {
-            station = done-keeps a P K few (station i) n o (omega arith) (λ j u hj p q. omega arith);
-            counters = done-keeps a P K few (counters i) n o (omega arith) (λ j u hj p q. omega arith);
-            buffer = done-keeps a P K few (buffer i) n o (omega arith) (λ j u hj p q. omega arith);
-          })
-          (subst (OwnSame i o) (sym (is i hi)) (each-own n few G own a (r .long) n i hi (omega arith))));
-      line = λ j v hj low up.
-          symbol-by x l j (clockAt a + v) (clock-keeps (place j (clockAt a + v)) l (clockAt a + K) (λ p q. omega arith))
-          ∙ symbol-code l j (clockAt a + v)
-          (done-codes a P K few n o (omega arith) (omega (arith, lo, r .long))
-          (λ i u hi. rw (same i u hi) (r .codes i u hi)) j (clockAt a + v) hj)
-          ∙ ap heardCode (done-line a P K few (r .spread) n j v o (omega arith) hj (omega (arith, lo, r .long))
-          (λ i u hi. arrival-by o a i u (each-line n few G own a (r .long) n i u (omega arith) hi)) low up);
-      rest = λ k st. clock-still l k (clockAt a + K) (st .clock) ∙ done-still a P K few k n o (omega arith) st
-          ∙ each-still n few G own a (r .long) n k (omega arith) st;
-    })

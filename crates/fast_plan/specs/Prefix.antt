@@ -1,7 +1,7 @@
 -- Theorem 2: a plan holds as far as no station deviates from it; any lower bound of each station's first deviation will do.
 -- And a plan's later steps do not matter: two that agree on the first K steps hold alike there. Assumes nothing.
 use Prim.Native.Nat.{ℕ, zero, suc, _-_, _≤_, _<_, min}
-use mathlib.Core.Path.{_≡_, refl, sym, _∙_, ap, ap₂}
+use mathlib.Core.Path.{_≡_, refl, sym, ap}
 use mathlib.Core.Bool.{Bool, true, false, not, _||_, true≢false}
 use mathlib.Core.List.{List}
 use native.Mathlib.Omega.{arith}
@@ -10,17 +10,11 @@ use lib.Dec.{eqb}
 use Rattle.octets.specs.Base.{pick}
 use Rattle.octets.specs.BaseLaws.{by-test, by-eq, neither}
 use Rattle.octets.specs.Turns.{turns}
-use Rattle.packet.specs.declared.Heard.{Heard}
 use Rattle.packet.specs.declared.Symbol.{Symbol}
 use Rattle.packet.specs.declared.Symbol.the-variants.{Silence, Bit, Jam}
 use Rattle.tally.specs.Tally.{isLate}
-use Rattle.area.specs.Area.{countAt, depthAt, figuresAt, spaceAt}
-use Rattle.pair.specs.declared.Act.{Act}
-use Rattle.pair.specs.InPlace.{Spread}
-use Rattle.meeting.specs.Meet.{met}
-use Rattle.fast_plan.specs.Own.{actOn, ownTurn, byItself}
-use Rattle.fast_plan.specs.Plan.{Plan, netOf, lineNow, hears, ownAfter, actAfter, Holds}
-use Rattle.fast_plan.specs.Happens.{heard-by}
+use Rattle.area.specs.Area.{countAt}
+use Rattle.fast_plan.specs.Plan.{Plan, actAfter, Holds}
 
 -- ---- a station's first deviation
 
@@ -73,15 +67,6 @@ until t (suc m) = pick (eqb (until t m) m) (pick (t m) m (suc m)) (until t m)
 unfoldable pub least : (ℕ → ℕ) → (n m : ℕ) → ℕ
 least g n m = turns (λ i b. min (g i) b) n m
 
-pub until-most : (t : ℕ → Bool) (m : ℕ) → until t m ≤ m
-unfolding until
-until-most t zero = omega arith
-until-most t (suc m) =
-    by-eq (until t m) m
-    (λ e. by-test (t m) (λ c. rw (eq-eqb (until t m) m e, c) (omega arith))
-    (λ c. rw (eq-eqb (until t m) m e, c) (omega arith)))
-    (λ e. rw (ne-eqb (until t m) m e) (omega (arith, until-most t m)))
-
 pub until-below : (t : ℕ → Bool) (m s : ℕ) → s < until t m → t s ≡ false
 unfolding until
 until-below t zero s h = absurd (omega arith)
@@ -127,28 +112,3 @@ holds-prefix a P m =
 pub holds-less : (a : List ℕ) (P : Plan) (K m : ℕ) → m ≤ K → Holds a P K → Holds a P m
 unfolding Holds
 holds-less a P K m le h s i hs hi = h s i (omega arith) hi
-
--- ---- only the first steps matter
-
-module _ (a : List ℕ) (sp : Spread (countAt a) a) (P Q : Plan) (K : ℕ) (agree : (i s : ℕ) → s < K → P i s ≡ Q i s) where
-  pub hears-agree : (j s : ℕ) → j < countAt a → s ≤ K → hears a P j s ≡ hears a Q j s
-  unfolding hears netOf
-  hears-agree j s hj hs =
-      ap (met (lineNow a j s))
-      (heard-by (netOf a) P Q j s (λ i hi ne le. agree i (s - spaceAt a i j) (omega (arith, sp .pos i j hi hj ne))))
-
-  pub own-agree : (i s : ℕ) → i < countAt a → s ≤ suc K → ownAfter a P i s ≡ ownAfter a Q i s
-  unfolding ownAfter byItself turns
-  own-agree i zero hi hs = refl
-  own-agree i (suc s) hi hs = ap₂ (λ (h : Heard) (x : List ℕ). ownTurn (figuresAt a) (depthAt a) i h x)
-      (hears-agree i s hi (omega arith)) (own-agree i s hi (omega arith))
-
-  pub act-agree : (i s : ℕ) → i < countAt a → s ≤ K → actAfter a P i s ≡ actAfter a Q i s
-  unfolding actAfter
-  act-agree i s hi hs = ap₂ (λ (h : Heard) (x : List ℕ). actOn (figuresAt a) (depthAt a) i h x) (hears-agree i s hi hs)
-      (own-agree i s hi (omega arith))
-
-  pub holds-agree : Holds a P K → Holds a Q K
-  unfolding Holds
-  holds-agree h s i hs hi =
-      ap (λ (r : Act). r .symbol) (sym (act-agree i s hi (omega arith))) ∙ h s i hs hi ∙ agree i s hs

@@ -22,7 +22,6 @@ use Rattle.course.specs.Until.{eventful, Stretched, oneMore, untilEvent}
 use Rattle.course.specs.UntilLaws.{plus, stretch-first}
 use Rattle.fast_plan.specs.Plan.{Plan, actAfter, Holds, steps, Planned}
 use Rattle.fast_plan.specs.Happens.{plan-happens, plan-acts}
-use Rattle.fast_plan.specs.Exact.{planned, steps-planned}
 use Rattle.fast_plan.specs.Prefix.{Unhurt, holds-less}
 
 -- those of step s, by the plan
@@ -84,14 +83,6 @@ run-steps a P (suc K) r m ws ready early h u =
   where
     unhurt-less : (K : ℕ) → Unhurt a P (suc K) → Unhurt a P K
     unhurt-less K u = λ s i hs hi. u s i (omega arith) hi
-
--- Theorem 1 for a run: the first K steps are the plan's
-pub run-planned : (a : List ℕ) (P : Plan) (K r m : ℕ) (ws : List ℕ) → 0 < K → Readiness a → clockAt a + K ≤ 16777216
-    → Holds a P K → Unhurt a P K
-    → runOf (K + r) m ws a ≡ runOf r (m + K) (talliedBy a P K ws) (planned a P K)
-run-planned a P K r m ws pos ready early h u =
-    run-steps a P K r m ws ready early h u
-    ∙ ap (runOf r (m + K) (talliedBy a P K ws)) (steps-planned a P K pos ready early h)
 
 -- K steps without an event
 pub until-steps : (a : List ℕ) (K k : ℕ) → ((s : ℕ) → s < K → eventful (eventsAt (steps s a)) ≡ false)

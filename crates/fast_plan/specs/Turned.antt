@@ -1,18 +1,18 @@
 -- The whole area as code makes it that moves the stations in place: each station by itself, one after the other, then each line cleared and
 -- pushed to, then the clock. Assumes nothing.
-use Prim.Native.Nat.{ℕ, _+_, _*_, _≤_, _<_}
+use Prim.Native.Nat.{ℕ, _+_, _≤_, _<_}
 use mathlib.Core.Path.{_≡_, _∙_, ap}
 use mathlib.Core.List.{List}
 use native.Mathlib.Omega.{arith}
 use lib.ListN.{length}
 use Rattle.area.specs.Places.{counters, station, buffer, place, Keeps}
-use Rattle.area.specs.Area.{clockAt, withClock, countAt, heardCode, symbolAt, arrivalAt}
+use Rattle.area.specs.Area.{clockAt, withClock, countAt, heardCode, symbolAt}
 use Rattle.area.specs.AreaLaws.{arrival-by, symbol-by, clock-keeps, length-clock}
 use Rattle.pair.specs.Ready.{Readiness}
-use Rattle.fast_plan.specs.Own.{OwnSame, own-trans}
-use Rattle.fast_plan.specs.Plan.{Plan, lineAfter, ownAfter, Holds, steps}
+use Rattle.fast_plan.specs.Own.{own-trans}
+use Rattle.fast_plan.specs.Plan.{Plan, ownAfter, Holds, steps}
 use Rattle.fast_plan.specs.Happens.{stamped, plan-happens}
-use Rattle.fast_plan.specs.Exact.{Left, planned-left, left-same-area, symbol-code, clock-still, ownAll, length-own, own-keeps, own-built, own-still, own-drawn}
+use Rattle.fast_plan.specs.Exact.{planned-left, left-same-area, symbol-code, clock-still, ownAll, length-own, own-keeps, own-built, own-still, own-drawn}
 use Rattle.fast_plan.specs.Placed.{linesDone, done-long, done-keeps, done-still, done-codes, done-line}
 
 unfoldable pub turnedOf : List ℕ → Plan → ℕ → List ℕ

@@ -37,7 +37,7 @@ use Rattle.pair.specs.Range.{Fine, fine-fit, held-small}
 use Rattle.quick.specs.Quick.{quietly}
 use Rattle.fast_plan.specs.Own.{actOn, byItself}
 use Rattle.fast_plan.specs.Goes.{wentTo, goes-on, goes-there, goes-act, goes-symbol}
-use Rattle.fast_plan.specs.Does.{quiet-events, rest-symbol}
+use Rattle.fast_plan.specs.NoEvents.{quiet-events, rest-symbol}
 use Rattle.fast_plan.specs.Calm.{Calm}
 use Rattle.fast_silence.specs.Rested.{Lasts}
 use Rattle.fast_station.specs.Forms.{heardRest, hearOn, calmed, restOn, emittedAt, emitsFor, emitOn}

@@ -1,3 +1,1 @@
 pub mod Quick
-pub mod Stretch
-pub mod StretchLaws

@@ -64,10 +64,6 @@ Taken f d n t i x b false = b ≡ x
 unfoldable pub restsIn : List ℕ → Bool
 restsIn w = eqb (getD w 0 0) 0 && (eqb (getD w 3 0) 0 && (eqb (getD w 13 0) 0 && leb (getD w 5 0) 1))
 
--- busy by its own frame, which it sends; listening or readable
-unfoldable pub sendsIn : List ℕ → Bool
-sendsIn w = eqb (getD w 3 0) 3 && (eqb (getD w 0 0) 1 && (eqb (getD w 1 0) 1 && (eqb (getD w 13 0) 1 && leb (getD w 5 0) 1)))
-
 -- in a reception, busy, nothing emitted
 unfoldable pub hearsIn : List ℕ → Bool
 hearsIn w = ltb 1 (getD w 5 0) && (eqb (getD w 0 0) 1 && eqb (getD w 13 0) 0)
@@ -280,19 +276,6 @@ module _ (w a : List ℕ) where
       let r = both-true (eqb (getD w 13 0) 0) _ (q .1) in
       let e : getD w 13 0 ≡ 0 = eqb-true (getD w 13 0) 0 (r .0) in
       (rw (p .0, q .0, e), r .1)
-
-  pub send-state : sendsIn w ≡ true
-      → (decoded w a ≡ mk a (Busy true) (Sending (getD w 4 0)) (receiverOf (getD w 5 0) (getD w 6 0) (eqb (getD w 7 0) 1) (eqb (getD w 8 0) 1)) (getD w 9 0) (getD w 10 0) (getD w 11 0) (eqb (getD w 12 0) 1) true)
-      × (leb (getD w 5 0) 1 ≡ true)
-  unfolding sendsIn decoded deferenceOf transmitterOf mk
-  send-state h =
-      let p = both-true (eqb (getD w 3 0) 3) _ h in
-      let q = both-true (eqb (getD w 0 0) 1) _ (p .1) in
-      let r = both-true (eqb (getD w 1 0) 1) _ (q .1) in
-      let u = both-true (eqb (getD w 13 0) 1) _ (r .1) in
-      let e₃ : getD w 3 0 ≡ 3 = eqb-true (getD w 3 0) 3 (p .0) in
-      let e₀ : getD w 0 0 ≡ 1 = eqb-true (getD w 0 0) 1 (q .0) in
-      (rw (e₃, e₀, r .0, u .0), u .1)
 
   pub hear-state : hearsIn w ≡ true
       → decoded w a ≡ mk a (Busy (eqb (getD w 1 0) 1)) (transmitterOf (getD w 3 0) (getD w 4 0)) (within (getD w 5 0) (getD w 6 0) (eqb (getD w 7 0) 1) (eqb (getD w 8 0) 1)) (getD w 9 0) (getD w 10 0) (getD w 11 0) (eqb (getD w 12 0) 1) false
@@ -656,26 +639,12 @@ low : (c v : ℕ) → v < 256 → c ≡ v % 256 → c ≡ v
 low c v h e = omega arith
 
 module _ (a : List ℕ) (i : ℕ) (p : Plain a i) where
-  pub code-transmitter : (c : ℕ) → c ≡ getD (recordAt a i) 3 0 % 256 → c ≡ getD (recordAt a i) 3 0
-  code-transmitter c e = low c _ (plain-codes a i p .2) e
-
   pub rests-is : (d x e r : ℕ) (b₁ b₂ b₃ : Bool) → b₁ ≡ (eqb d 0 && b₂) → b₂ ≡ (eqb x 0 && b₃) → b₃ ≡ (eqb e 0 && leb r 1)
       → r ≡ getD (recordAt a i) 5 0 % 256 → e ≡ getD (recordAt a i) 13 0 % 256 → x ≡ getD (recordAt a i) 3 0 % 256 → d ≡ getD (recordAt a i) 0 0 % 256 → b₁ ≡ restsIn (recordAt a i)
   unfolding restsIn
   rests-is d x e r b₁ b₂ b₃ q s u er ee ex ed =
       let k = plain-codes a i p in
       q ∙ rw (s, u, low r _ (k .3) er, low e _ (k .5) ee, low x _ (k .2) ex, low d _ (k .0) ed)
-
-  pub sends-is : (x d own e r : ℕ) (b₁ b₂ b₃ b₄ : Bool) → b₁ ≡ (eqb x 3 && b₂) → b₂ ≡ (eqb d 1 && b₃) → b₃ ≡ (eqb own 1 && b₄) → b₄ ≡ (eqb e 1 && leb r 1)
-      → r ≡ getD (recordAt a i) 5 0 % 256 → e ≡ getD (recordAt a i) 13 0 % 256 → own ≡ getD (recordAt a i) 1 0 % 256 → d ≡ getD (recordAt a i) 0 0 % 256 → x ≡ getD (recordAt a i) 3 0 % 256
-      → b₁ ≡ sendsIn (recordAt a i)
-  unfolding sendsIn
-  sends-is x d own e r b₁ b₂ b₃ b₄ q s u v er ee eo ed ex =
-      let k = plain-codes a i p in
-      q ∙ rw (s, u, v, low r _ (k .3) er, low e _ (k .5) ee, low own _ (k .1) eo, low d _ (k .0) ed, low x _ (k .2) ex)
-
-  pub code-receiver : (c : ℕ) → c ≡ getD (recordAt a i) 5 0 % 256 → c ≡ getD (recordAt a i) 5 0
-  code-receiver c e = low c _ (plain-codes a i p .3) e
 
   pub hears-is : (r d e : ℕ) (b₁ : Bool) → b₁ ≡ (ltb 1 r && eqb (d + 2 * e) 1)
       → e ≡ getD (recordAt a i) 13 0 → d ≡ getD (recordAt a i) 0 0 → r ≡ getD (recordAt a i) 5 0 → b₁ ≡ hearsIn (recordAt a i)
@@ -812,10 +781,6 @@ pub found : (b c : Bool) → b ≡ c → b ≡ true → c ≡ true
 found b c p q = sym p ∙ q
 
 -- ---- in its turn, and after a step
-
--- shut, so that a search does not enter it
-unfoldable pub AllPlain : Bool → ℕ → List ℕ → Type 0
-AllPlain swift n a = swift ≡ true → (i : ℕ) → i < n → Plain a i
 
 module _ (f : Figures) (d n t i : ℕ) (x b : List ℕ) (r : Bool) (h : Taken f d n t i x b r) where
   pub taken-area : r ≡ true → b ≡ turnIn f d n t i x
