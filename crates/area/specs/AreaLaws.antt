@@ -7,30 +7,39 @@ use mathlib.Core.List.{List}
 use native.Mathlib.Decide.{ℕ-discrete}
 use native.Mathlib.Omega.{arith}
 use lib.ListN.{length, getD, set, drop, length-set}
-use lib.Seq.{length-sets, getD-set-same, getD-set-other, getD-take, getD-drop, ext-getD}
+use lib.Seq.{sets, length-sets, getD-set-same, getD-set-other, getD-take, getD-drop, ext-getD}
 use Rattle.octets.specs.BaseLaws.{by-eq}
-use Rattle.octets.specs.Number.{get}
+use Rattle.octets.specs.Number.{get, put}
 use Rattle.octets.specs.NumberLaws.{length-put, get-put-same}
 use Rattle.octets.specs.Store.{part, part-same, length-part}
 use Rattle.octets.specs.Region.{Same, same-refl, same-part, same-trans, set-leaves, sets-leaves, put-leaves, words-leave, get-goes-by, words-go-by, part-goes-by}
+use Rattle.octets.specs.Words.{putWords}
 use Rattle.octets.specs.WordsLaws.{Small, length-put-words, words-same}
 use Rattle.packet.specs.declared.Heard.{Heard}
 use Rattle.packet.specs.declared.Heard.the-variants.{Nothing, Clean, Jammed, Several}
 use Rattle.state.specs.declared.Station.{Station}
 use Rattle.record.specs.Codec.{decoded, encoded}
 use Rattle.record.specs.CodecLaws.{Fit, decoded-encoded, encoded-small, length-encoded}
-use Rattle.area.specs.Places.{Part, clock, depth, layout, draws, counters, station, frame, buffer, place, at, size, Off, Keeps}
+use Rattle.area.specs.Offsets.{theLine, from, width}
+use Rattle.area.specs.Places.{Part, piece, clock, depth, layout, draws, counters, station, frame, buffer, place, Off, Keeps}
 use Rattle.area.specs.Area.{clockAt, withClock, depthAt, drawAt, figuresAt, countAt, positionAt, addressAt, distance, spaceAt, countersAt, withCounters, recordAt, stationAt, withStation, frameAt, withFrame, bufferAt, octetWith, withBit, heardOf, heardCode, symbolAt, arrivalAt, withArrival}
 
 -- ---- parts
 
 pub keeps-refl : (p : Part) (l : List ℕ) → Keeps p l l
 unfolding Keeps
-keeps-refl p l = same-refl (at p) (size p) l
+keeps-refl (piece p) l = same-refl (from p) (width p) l
+keeps-refl (place i u) l = refl
 
 pub keeps-trans : (p : Part) (l m o : List ℕ) → Keeps p l m → Keeps p m o → Keeps p l o
 unfolding Keeps
-keeps-trans p l m o s t = same-trans (at p) (size p) l m o s t
+keeps-trans (piece p) l m o s t = same-trans (from p) (width p) l m o s t
+keeps-trans (place i u) l m o s t = s ∙ t
+
+pub keeps-sym : (p : Part) (l m : List ℕ) → Keeps p l m → Keeps p m l
+unfolding Keeps Same
+keeps-sym (piece p) l m s = λ k lo up. sym (s k lo up)
+keeps-sym (place i u) l m s = sym s
 
 -- ---- readers
 
@@ -93,8 +102,12 @@ module _ (l m : List ℕ) where
   station-by i h p q k s = ap₂ decoded (record-by i s) (address-by i h p q k)
 
   pub symbol-by : (i u : ℕ) → Keeps (place i u) l m → symbolAt l i u ≡ symbolAt m i u
-  unfolding symbolAt Keeps Same
-  symbol-by i u k = k (4096 + 256 * i + u % 256) (omega arith) (omega arith)
+  unfolding Keeps
+  symbol-by i u k = k
+
+  pub place-keeps : (i u : ℕ) → symbolAt l i u ≡ symbolAt m i u → Keeps (place i u) l m
+  unfolding Keeps
+  place-keeps i u e = e
 
   pub arrival-by : (i u : ℕ) → Keeps (place i u) l m → arrivalAt l i u ≡ arrivalAt m i u
   unfolding arrivalAt
@@ -113,32 +126,53 @@ module _ (l m : List ℕ) where
 
 -- ---- writers
 
-module _ (p : Part) (a : List ℕ) where
-  pub clock-keeps : (t : ℕ) → Off p clock → Keeps p (withClock a t) a
-  unfolding withClock Keeps
-  clock-keeps t o = put-leaves (at p) (size p) 4 0 t a o
+-- an octet of the line of station i keeps its value where all of them do
+at-place : (i u : ℕ) (l m : List ℕ) → Same (4096 + 256 * i) 256 l m → symbolAt l i u ≡ symbolAt m i u
+unfolding symbolAt Same
+at-place i u l m s = s (4096 + 256 * i + u % 256) (omega arith) (omega arith)
 
-  pub counters-keeps : (i : ℕ) (cs : List ℕ) → Off p (counters i) → Keeps p (withCounters a i cs) a
-  unfolding withCounters Keeps
-  counters-keeps i cs o = words-leave (at p) (size p) 16 (1024 + 64 * i) a cs o
+pub clock-keeps : (p : Part) (a : List ℕ) (t : ℕ) → Off p clock → Keeps p (withClock a t) a
+unfolding withClock Keeps
+clock-keeps (piece p) a t o = put-leaves (from p) (width p) 4 0 t a o
+clock-keeps (place i u) a t o = at-place i u (put 4 a 0 t) a (put-leaves (4096 + 256 * i) 256 4 0 t a o)
 
-  pub station-keeps : (i : ℕ) (s : Station) → Off p (station i) → Keeps p (withStation a i s) a
-  unfolding withStation Keeps
-  station-keeps i s o = words-leave (at p) (size p) 14 (2048 + 64 * i) a (encoded s) (λ x y. o (omega arith) (omega arith))
+pub counters-keeps : (p : Part) (a : List ℕ) (i : ℕ) (cs : List ℕ) → Off p (counters i) → Keeps p (withCounters a i cs) a
+unfolding withCounters Keeps
+counters-keeps (piece p) a i cs o = words-leave (from p) (width p) 16 (1024 + 64 * i) a cs o
+counters-keeps (place j u) a i cs o =
+    at-place j u (putWords 16 a (1024 + 64 * i) cs) a (words-leave (4096 + 256 * j) 256 16 (1024 + 64 * i) a cs o)
 
-  pub arrival-keeps : (i u : ℕ) (h : Heard) → Off p (place i u) → Keeps p (withArrival a i u h) a
-  unfolding withArrival Keeps
-  arrival-keeps i u h o = set-leaves (at p) (size p) (4096 + 256 * i + u % 256) (heardCode h) a o
+pub station-keeps : (p : Part) (a : List ℕ) (i : ℕ) (s : Station) → Off p (station i) → Keeps p (withStation a i s) a
+unfolding withStation Keeps
+station-keeps (piece p) a i s o =
+    words-leave (from p) (width p) 14 (2048 + 64 * i) a (encoded s) (λ x y. o (omega arith) (omega arith))
+station-keeps (place j u) a i s o =
+    at-place j u (putWords 14 a (2048 + 64 * i) (encoded s)) a
+    (words-leave (4096 + 256 * j) 256 14 (2048 + 64 * i) a (encoded s) (λ x y. o (omega arith) (omega arith)))
 
-  pub frame-keeps : (i : ℕ) (f : List ℕ) → length f ≤ 1536 → Off p (frame i) → Keeps p (withFrame a i f) a
-  unfolding withFrame Keeps
-  frame-keeps i f h o = sets-leaves (at p) (size p) (8192 + 1536 * i) f a (λ x y. o (omega arith) y)
+pub arrival-keeps : (p : Part) (a : List ℕ) (i u : ℕ) (h : Heard) → Off p (place i u) → Keeps p (withArrival a i u h) a
+unfolding withArrival Keeps symbolAt
+arrival-keeps (piece p) a i u h o =
+    set-leaves (from p) (width p) (4096 + 256 * i + u % 256) (heardCode h) a (λ x y. o (omega arith) (omega arith))
+arrival-keeps (place j v) a i u h o =
+    getD-set-other a (4096 + 256 * i + u % 256) (4096 + 256 * j + v % 256) (heardCode h) 0 (λ e. o (omega arith) (omega arith))
 
-  pub bit-keeps : (i k : ℕ) (b : Bool) → k < 12144 → Off p (buffer i) → Keeps p (withBit a i k b) a
-  unfolding withBit Keeps
-  bit-keeps i k b h o =
-      set-leaves (at p) (size p) (32768 + 1536 * i + k / 8) (octetWith (getD a (32768 + 1536 * i + k / 8) 0) (k % 8) b) a
-      (λ x y. o (omega arith) (omega arith))
+pub frame-keeps : (p : Part) (a : List ℕ) (i : ℕ) (f : List ℕ) → length f ≤ 1536 → Off p (frame i) → Keeps p (withFrame a i f) a
+unfolding withFrame Keeps
+frame-keeps (piece p) a i f h o = sets-leaves (from p) (width p) (8192 + 1536 * i) f a (λ x y. o (omega arith) y)
+frame-keeps (place j u) a i f h o =
+    at-place j u (sets a (8192 + 1536 * i) f) a
+    (sets-leaves (4096 + 256 * j) 256 (8192 + 1536 * i) f a (λ x y. o (omega arith) y))
+
+pub bit-keeps : (p : Part) (a : List ℕ) (i k : ℕ) (b : Bool) → k < 12144 → Off p (buffer i) → Keeps p (withBit a i k b) a
+unfolding withBit Keeps
+bit-keeps (piece p) a i k b h o =
+    set-leaves (from p) (width p) (32768 + 1536 * i + k / 8) (octetWith (getD a (32768 + 1536 * i + k / 8) 0) (k % 8) b) a
+    (λ x y. o (omega arith) (omega arith))
+bit-keeps (place j u) a i k b h o =
+    at-place j u (withBit a i k b) a
+    (set-leaves (4096 + 256 * j) 256 (32768 + 1536 * i + k / 8)
+    (octetWith (getD a (32768 + 1536 * i + k / 8) 0) (k % 8) b) a (λ x y. o (omega arith) (omega arith)))
 
 module _ (a : List ℕ) where
   pub length-clock : (t : ℕ) → length (withClock a t) ≡ length a
@@ -242,6 +276,12 @@ module _ (a : List ℕ) (big : 57344 ≤ length a) where
   pub arrival-same : (i u v : ℕ) (h : Heard) → i < 16 → u % 256 ≡ v % 256 → arrivalAt (withArrival a i u h) i v ≡ h
   unfolding arrivalAt symbolAt withArrival
   arrival-same i u v h k e = rw e (ap heardOf (getD-set-same a (4096 + 256 * i + v % 256) (heardCode h) 0 (omega arith)) ∙ heard-back h)
+
+-- a line of zeros
+pub symbol-zero : (a : List ℕ) (i u : ℕ)
+    → ((k : ℕ) → from (theLine i) ≤ k → k < from (theLine i) + width (theLine i) → getD a k 0 ≡ 0) → symbolAt a i u ≡ 0
+unfolding symbolAt
+symbol-zero a i u h = h (4096 + 256 * i + u % 256) (omega arith) (omega arith)
 
 pub symbol-turn : (a : List ℕ) (i u v : ℕ) → u % 256 ≡ v % 256 → symbolAt a i u ≡ symbolAt a i v
 unfolding symbolAt

@@ -17,7 +17,6 @@ use Rattle.octets.specs.Words.{putWords}
 use Rattle.octets.specs.WordsLaws.{word-at}
 use Rattle.state.specs.declared.Station.{Station}
 use Rattle.record.specs.Codec.{encoded}
-use Rattle.area.specs.Places.{at}
 use Rattle.area.specs.Area.{recordAt, withStation, withWord}
 
 -- ---- a number written over itself

@@ -1,45 +1,50 @@
--- Where each thing lies in the work area. Only this file, Area and src/lib.rt know an offset. Assumes nothing.
+-- Parts of the work area: pieces, which are regions of octets, and places of delay lines. How a place is kept is not said here: two areas
+-- hold the same at a place where they have the same symbol there. Assumes nothing.
 use Prim.Native.Nat.{ℕ, _+_, _*_, _%_}
+use mathlib.Core.Path.{_≡_}
 use mathlib.Core.List.{List}
 use Rattle.octets.specs.Store.{Apart}
 use Rattle.octets.specs.Region.{Same}
+use Rattle.area.specs.Offsets.{ring, Piece, theClock, theDepth, theLayout, theDraws, theCounters, theStation, theLine, theFrame, theBuffer, from, width}
+use Rattle.area.specs.Area.{symbolAt}
 
--- "The work area is shorter than 57,344 octets."
-abbrev pub areaSize : ℕ
-areaSize = 57344
-
--- the clock; D; the layout; the draws; of station i its counters, its record, place u of its delay line, its frame, what it collected
+-- a piece, or place u of the delay line of station i
 pub data Part : Type 0 where
-  clock depth layout draws : Part
-  counters station frame buffer : ℕ → Part
+  piece : Piece → Part
   place : ℕ → ℕ → Part
 
-abbrev pub at : Part → ℕ
-at clock = 0
-at depth = 4
-at layout = 8
-at draws = 320
-at (counters i) = 1024 + 64 * i
-at (station i) = 2048 + 64 * i
-at (place i u) = 4096 + 256 * i + u % 256
-at (frame i) = 8192 + 1536 * i
-at (buffer i) = 32768 + 1536 * i
+abbrev pub clock : Part
+clock = piece theClock
 
-abbrev pub size : Part → ℕ
-size clock = 4
-size depth = 4
-size layout = 312
-size draws = 512
-size (counters i) = 64
-size (station i) = 64
-size (place i u) = 1
-size (frame i) = 1536
-size (buffer i) = 1536
+abbrev pub depth : Part
+depth = piece theDepth
 
--- two parts have no octet in common: `λ x y. omega arith` proves it where it holds
+abbrev pub layout : Part
+layout = piece theLayout
+
+abbrev pub draws : Part
+draws = piece theDraws
+
+abbrev pub counters : ℕ → Part
+counters i = piece (theCounters i)
+
+abbrev pub station : ℕ → Part
+station i = piece (theStation i)
+
+abbrev pub frame : ℕ → Part
+frame i = piece (theFrame i)
+
+abbrev pub buffer : ℕ → Part
+buffer i = piece (theBuffer i)
+
+-- two parts have nothing in common: `λ x y. omega arith` proves it where it holds
 abbrev pub Off : Part → Part → Type 0
-Off p q = Apart (at p) (size p) (at q) (size q)
+Off (piece p) (piece q) = Apart (from p) (width p) (from q) (width q)
+Off (piece p) (place i u) = Apart (from p) (width p) (from (theLine i)) (width (theLine i))
+Off (place i u) (piece q) = Apart (from (theLine i)) (width (theLine i)) (from q) (width q)
+Off (place i u) (place j v) = Apart (ring * i + u % ring) 1 (ring * j + v % ring) 1
 
 -- the two areas hold the same there
 unfoldable pub Keeps : Part → List ℕ → List ℕ → Type 0
-Keeps p l m = Same (at p) (size p) l m
+Keeps (piece p) l m = Same (from p) (width p) l m
+Keeps (place i u) l m = symbolAt l i u ≡ symbolAt m i u

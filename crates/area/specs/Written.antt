@@ -6,7 +6,7 @@ use mathlib.Core.List.{List, [], _∷_}
 use native.Mathlib.Omega.{arith}
 use lib.Dec.{ltb}
 use lib.ListN.{length, getD, set, length-set, List·getD-append}
-use lib.Seq.{sets, getD-at, getD-set-same, getD-set-other, set-comm, set-out, ext-getD}
+use lib.Seq.{sets, getD-at, getD-set-same, getD-set-other, set-comm, set-getD, set-out, ext-getD}
 use borrow.Author.Tests.{ltb-true, ltb-false}
 use Rattle.octets.specs.BaseLaws.{by-test, by-eq}
 use Rattle.octets.specs.Number.{spelled, put}
@@ -18,7 +18,7 @@ use Rattle.octets.specs.WordsLaws.{length-words, length-put-words, word-at}
 use Rattle.packet.specs.declared.Heard.{Heard}
 use Rattle.state.specs.declared.Station.{Station}
 use Rattle.record.specs.Codec.{encoded}
-use Rattle.area.specs.Area.{recordAt, withStation, withWord, withBit, heardCode, withArrival}
+use Rattle.area.specs.Area.{recordAt, withStation, withWord, withBit, heardCode, symbolAt, withArrival}
 use Rattle.area.specs.AreaLaws.{code-small}
 use Rattle.area.specs.OneWord.{station-back, length-word}
 
@@ -35,6 +35,11 @@ words-past zero l ws b p c o = refl
 words-past (suc n) l ws b p c o =
     ap (λ (m : List ℕ). sets m (b + 4 * n) (spelled 4 (getD ws n 0))) (words-past n l ws b p c (λ x y. o (omega arith) (omega arith)))
     ∙ sets-past (spelled 4 (getD ws n 0)) (putWords n l b ws) (b + 4 * n) p c (λ x y. o (omega (arith, length-spelled 4 (getD ws n 0))) (omega arith))
+
+-- what stands at a place is put there again
+pub arrival-back : (x : List ℕ) (i t : ℕ) (h : Heard) → symbolAt x i t ≡ heardCode h → withArrival x i t h ≡ x
+unfolding symbolAt withArrival
+arrival-back x i t h e = ap (set x (4096 + 256 * i + t % 256)) (sym e) ∙ set-getD x (4096 + 256 * i + t % 256) 0
 
 module _ (a : List ℕ) (i t : ℕ) (h : Heard) (hi : i < 16) where
   pub station-arrival : (s : Station) → withStation (withArrival a i t h) i s ≡ withArrival (withStation a i s) i t h

@@ -15,7 +15,7 @@ use Rattle.sheet.specs.Sheet.{readSheet}
 use Rattle.draws.specs.Draws.{drawsIn}
 use Rattle.opener.specs.Open.{opened}
 use Rattle.frame.specs.Build.{built}
-use Rattle.area.specs.Places.{areaSize}
+use Rattle.area.specs.Offsets.{areaSize}
 use Rattle.area.specs.Area.{clockAt}
 use Rattle.valid.specs.Valid.{areaRefusal, lastClock}
 use Rattle.start.specs.Start.{started}

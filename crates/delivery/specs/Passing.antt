@@ -30,7 +30,7 @@ use Rattle.state.specs.declared.Station.{Station}
 use Rattle.station.specs.Count.{added}
 use Rattle.record.specs.Codec.{decoded, encoded}
 use Rattle.record.specs.CodecLaws.{Fit, decoded-encoded}
-use Rattle.area.specs.Places.{Part, clock, depth, layout, counters, station, frame, place, at, Off, Keeps}
+use Rattle.area.specs.Places.{Part, clock, depth, layout, counters, station, frame, place, Off, Keeps}
 use Rattle.area.specs.Area.{clockAt, depthAt, figuresAt, countAt, addressAt, tapAt, layoutAt, countersAt, recordAt, stationAt, withStation, withFrame}
 use Rattle.area.specs.AreaLaws.{keeps-trans, clock-by, depth-by, figures-by, count-by, address-by, counters-by, record-by, station-by, symbol-by, station-keeps, counters-keeps, frame-keeps, record-same, counters-same, length-station, length-counters, length-frame}
 use Rattle.start.specs.Fresh.{fresh}

@@ -1,23 +1,21 @@
 -- What K steps by a plan leave, as a list of octets: two areas that are so described are one, and one is built. Assumes nothing.
-use Prim.Native.Nat.{ℕ, zero, suc, _+_, _-_, _*_, _/_, _%_, _≤_, _<_}
+use Prim.Native.Nat.{ℕ, zero, suc, _+_, _-_, _%_, _≤_, _<_}
 use mathlib.Core.Path.{_≡_, refl, sym, _∙_, ap, subst}
 use mathlib.Core.List.{List}
 use native.Mathlib.Omega.{arith}
-use borrow.Author.Tests.{ltb-true, ltb-false, eqb-true, eqb-false}
-use lib.Dec.{eqb, ltb}
+use borrow.Author.Tests.{eqb-true, eqb-false}
+use lib.Dec.{eqb}
 use lib.ListN.{length, getD}
-use lib.Seq.{ext-getD}
 use Rattle.octets.specs.BaseLaws.{by-test, by-eq}
-use Rattle.octets.specs.Region.{Same, put-leaves}
-use Rattle.octets.specs.Store.{Apart}
 use Rattle.octets.specs.Turns.{turns, length-turns}
 use Rattle.packet.specs.declared.Heard.{Heard}
 use Rattle.area.specs.Places.{Part, clock, layout, draws, counters, station, frame, buffer, Keeps}
+use Rattle.area.specs.Whole.{Still, area-same}
 use Rattle.area.specs.Area.{clockAt, withClock, depthAt, figuresAt, countAt, stationAt, heardOf, heardCode, symbolAt, arrivalAt, withArrival}
-use Rattle.area.specs.AreaLaws.{keeps-refl, keeps-trans, count-by, length-arrival}
+use Rattle.area.specs.AreaLaws.{keeps-refl, keeps-trans, keeps-sym, place-keeps, symbol-turn, count-by, length-arrival}
 use Rattle.pair.specs.Ready.{Readiness}
 use Rattle.fast_plan.specs.Own.{actOn, ownTurn, byItself, on-kept, length-itself, Others, itself-keeps, OwnSame, own-trans, Stays, Drawn, itself-same}
-use Rattle.fast_plan.specs.Plan.{Plan, hears, lineAfter, ownAfter, steps, Still, Planned}
+use Rattle.fast_plan.specs.Plan.{Plan, hears, lineAfter, ownAfter, steps, Planned}
 use Rattle.fast_plan.specs.Happens.{left-still, planned-station, drawn}
 
 -- ---- codes
@@ -36,19 +34,11 @@ pub symbol-code : (x : List ℕ) (j u : ℕ) → symbolAt x j u ≤ 4 → symbol
 unfolding arrivalAt
 symbol-code x j u h = sym (code-back (symbolAt x j u) h)
 
-at-place : (x : List ℕ) (j u : ℕ) → getD x (4096 + 256 * j + u % 256) 0 ≡ symbolAt x j u
-unfolding symbolAt
-at-place x j u = refl
-
-pub clock-still : (x : List ℕ) (k c : ℕ) → 4 ≤ k → getD (withClock x c) k 0 ≡ getD x k 0
-unfolding withClock Same
-clock-still x k c h = put-leaves k 1 4 0 c x (λ p q. omega arith) k (omega arith) (omega arith)
-
 -- ---- what determines an area
 
 pub record Left (a : List ℕ) (P : Plan) (K : ℕ) (x : List ℕ) : Type 0 where
   pub long : length x ≡ length a
-  pub stamp : Same 0 4 x (withClock a (clockAt a + K))
+  pub stamp : Keeps clock x (withClock a (clockAt a + K))
   pub own : (i : ℕ) → i < countAt a → OwnSame i x (ownAfter a P i K)
   pub line : (j v : ℕ) → j < countAt a → K ≤ v → v < K + 256
       → symbolAt x j (clockAt a + v) ≡ heardCode (lineAfter a P K j v)
@@ -67,63 +57,26 @@ planned-left a P K x h w =
       rest = w .rest;
     }
 
-by-lt : {C : Type 0} (m n : ℕ) → (m < n → C) → (n ≤ m → C) → C
-by-lt m n f g = by-test (ltb m n) (λ c. f (ltb-true m n c)) (λ c. g (ltb-false m n c))
-
--- where an octet lies
-by-place : {C : Type 0} (n k : ℕ) → n ≤ 16 → (k < 4 → C)
-    → ((i : ℕ) → i < n → 1024 + 64 * i ≤ k → k < 1024 + 64 * i + 64 → C)
-    → ((i : ℕ) → i < n → 2048 + 64 * i ≤ k → k < 2048 + 64 * i + 64 → C)
-    → ((i : ℕ) → i < n → 4096 + 256 * i ≤ k → k < 4096 + 256 * i + 256 → C)
-    → ((i : ℕ) → i < n → 32768 + 1536 * i ≤ k → k < 32768 + 1536 * i + 1536 → C)
-    → (Still n k → C) → C
-by-place n k few t c s l b r =
-    by-lt k 4 t
-    (λ h₀. by-lt k 1024 (λ h. r
-    (still h₀ (λ i hi p q. omega arith) (λ i hi p q. omega arith) (λ i hi p q. omega arith)
-    (λ i hi p q. omega arith)))
-    (λ h₁. by-lt k (1024 + 64 * n) (λ h. c ((k - 1024) / 64) (omega arith) (omega arith) (omega arith))
-    (λ h₂. by-lt k 2048 (λ h. r
-    (still h₀ (λ i hi p q. omega arith) (λ i hi p q. omega arith) (λ i hi p q. omega arith)
-    (λ i hi p q. omega arith)))
-    (λ h₃. by-lt k (2048 + 64 * n) (λ h. s ((k - 2048) / 64) (omega arith) (omega arith) (omega arith))
-    (λ h₄. by-lt k 4096 (λ h. r
-    (still h₀ (λ i hi p q. omega arith) (λ i hi p q. omega arith) (λ i hi p q. omega arith)
-    (λ i hi p q. omega arith)))
-    (λ h₅. by-lt k (4096 + 256 * n) (λ h. l ((k - 4096) / 256) (omega arith) (omega arith) (omega arith))
-    (λ h₆. by-lt k 32768
-    (λ h. r (still h₀ (λ i hi p q. omega arith) (λ i hi p q. omega arith) (λ i hi p q. omega arith)
-    (λ i hi p q. omega arith)))
-    (λ h₇. by-lt k (32768 + 1536 * n) (λ h. b ((k - 32768) / 1536) (omega arith) (omega arith) (omega arith))
-    (λ h. r (still h₀ (λ i hi p q. omega arith) (λ i hi p q. omega arith) (λ i hi p q. omega arith)
-    (λ i hi p q. omega arith)))))))))))
-  where
-    still : 4 ≤ k → ((i : ℕ) → i < n → Apart k 1 (2048 + 64 * i) 64) → ((i : ℕ) → i < n → Apart k 1 (1024 + 64 * i) 64)
-        → ((i : ℕ) → i < n → Apart k 1 (32768 + 1536 * i) 1536)
-        → ((i : ℕ) → i < n → Apart k 1 (4096 + 256 * i) 256) → Still n k
-    still p q u v w = record { clock = p; station = q; counters = u; buffer = v; line = w }
-
 -- two that are so described are one
 pub left-same-area : (a : List ℕ) (P : Plan) (K : ℕ) (x y : List ℕ) → countAt a ≤ 16 → Left a P K x → Left a P K y
     → x ≡ y
-unfolding Same Keeps
 left-same-area a P K x y few p q =
-    ext-getD 0 x y (p .long ∙ sym (q .long))
-    (λ k h. by-place (countAt a) k few
-    (λ l. p .stamp k (omega arith) l ∙ sym (q .stamp k (omega arith) l))
-    (λ i hi lo up. p .own i hi .counters k lo up ∙ sym (q .own i hi .counters k lo up))
-    (λ i hi lo up. p .own i hi .station k lo up ∙ sym (q .own i hi .station k lo up))
-    (λ i hi lo up. line-octet k i hi lo up)
-    (λ i hi lo up. p .own i hi .buffer k lo up ∙ sym (q .own i hi .buffer k lo up))
-    (λ st. p .rest k st ∙ sym (q .rest k st)))
+    area-same (countAt a) x y few (p .long ∙ sym (q .long)) (both clock (withClock a (clockAt a + K)) (p .stamp) (q .stamp))
+    (λ i hi. both (station i) (ownAfter a P i K) (p .own i hi .station) (q .own i hi .station))
+    (λ i hi. both (counters i) (ownAfter a P i K) (p .own i hi .counters) (q .own i hi .counters))
+    (λ i hi. both (buffer i) (ownAfter a P i K) (p .own i hi .buffer) (q .own i hi .buffer))
+    (λ i u hi. place-keeps x y i u (line i u hi)) (λ k st. p .rest k st ∙ sym (q .rest k st))
   where
-    line-octet : (k i : ℕ) → i < countAt a → 4096 + 256 * i ≤ k → k < 4096 + 256 * i + 256 → getD x k 0 ≡ getD y k 0
-    line-octet k i hi lo up =
+    both : (r : Part) (w : List ℕ) → Keeps r x w → Keeps r y w → Keeps r x y
+    both r w h g = keeps-trans r x w y h (keeps-sym r y w g)
+
+    line : (i u : ℕ) → i < countAt a → symbolAt x i u ≡ symbolAt y i u
+    line i u hi =
         let t = clockAt a in
-        let v = K + (k - (4096 + 256 * i) + (256 - (t + K) % 256)) % 256 in
-        let z : 4096 + 256 * i + (t + v) % 256 ≡ k = omega arith in
-        ap (λ (m : ℕ). getD x m 0) (sym z) ∙ at-place x i (t + v) ∙ p .line i v hi (omega arith) (omega arith)
-        ∙ sym (q .line i v hi (omega arith) (omega arith)) ∙ sym (at-place y i (t + v)) ∙ ap (λ (m : ℕ). getD y m 0) z
+        let v = K + (u + (256 - (t + K) % 256)) % 256 in
+        let z : u % 256 ≡ (t + v) % 256 = omega arith in
+        symbol-turn x i u (t + v) z ∙ p .line i v hi (omega arith) (omega arith)
+        ∙ sym (q .line i v hi (omega arith) (omega arith)) ∙ sym (symbol-turn y i u (t + v) z)
 
 -- ---- such an area, built
 

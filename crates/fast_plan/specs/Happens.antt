@@ -1,17 +1,12 @@
 -- Theorem 1: a plan that holds is what happens. Assumes nothing.
-use Prim.Native.Nat.{ℕ, zero, suc, _+_, _-_, _*_, _≤_, _<_}
+use Prim.Native.Nat.{ℕ, zero, suc, _+_, _-_, _≤_, _<_}
 use mathlib.Core.Path.{_≡_, refl, sym, _∙_, ap, ap₂, subst}
 use mathlib.Core.List.{List}
 use native.Mathlib.Omega.{arith}
 use borrow.Author.Tests.{eq-eqb, ne-eqb, ltb-true, ltb-false, lt-ltb, le-ltb, leb-true}
 use lib.Dec.{eqb, ltb, leb}
 use lib.ListN.{length, getD}
-use lib.Seq.{sets, getD-set-other}
-use Rattle.octets.specs.Number.{spelled, put}
-use Rattle.octets.specs.NumberLaws.{length-spelled}
 use Rattle.octets.specs.BaseLaws.{by-test, by-eq}
-use Rattle.octets.specs.Region.{Same, words-leave, put-leaves}
-use Rattle.octets.specs.Store.{octet-same}
 use Rattle.octets.specs.Turns.{turns}
 use Rattle.layout.specs.declared.Figures.{Figures}
 use Rattle.packet.specs.declared.Heard.{Heard}
@@ -21,9 +16,9 @@ use Rattle.packet.specs.declared.Symbol.the-variants.{Silence}
 use Rattle.receiver.specs.declared.Stored.{Stored}
 use Rattle.receiver.specs.declared.Stored.the-variants.{NoStore, Store}
 use Rattle.station.specs.declared.Stepped.{Stepped}
-use Rattle.state.specs.declared.Station.{Station}
 use Rattle.area.specs.Places.{Part, clock, depth, layout, draws, counters, station, frame, buffer, place, Off, Keeps}
-use Rattle.area.specs.Area.{clockAt, withClock, depthAt, figuresAt, countAt, spaceAt, stationAt, withStation, withCounters, withBit, arrivalAt, withArrival}
+use Rattle.area.specs.Area.{clockAt, withClock, depthAt, figuresAt, countAt, spaceAt, stationAt, arrivalAt}
+use Rattle.area.specs.Whole.{Still, clock-still, station-still, counters-still, bit-still, arrival-still, clock-on}
 use Rattle.area.specs.AreaLaws.{keeps-refl, keeps-trans, depth-by, figures-by, count-by, space-by, station-by, arrival-by, arrival-turn, arrival-keeps, clock-keeps}
 use Rattle.medium.specs.Medium.{sendTo, isSilence, pushed}
 use Rattle.pair.specs.declared.Act.{Act}
@@ -38,7 +33,7 @@ use Rattle.meeting.specs.Gather.{gathered-same, gathered-none}
 use Rattle.meeting.specs.Meet.{met, met-none, met-group, adds, heard-grown, heard-far}
 use Rattle.meeting.specs.Lines.{share, share-adds, line-all, clear-all}
 use Rattle.fast_plan.specs.Own.{actOn, ownLeft, ownTurn, byItself, by-itself-more, act-heard, length-itself, OwnSame, own-refl, own-sym, own-trans, left-same, Stays, stays-refl, stays-trans, stays-sym, Drawn, on-same, itself-stays}
-use Rattle.fast_plan.specs.Plan.{Plan, cut, netOf, lineNow, hears, lineAfter, ownAfter, actAfter, Holds, steps, Still, Planned}
+use Rattle.fast_plan.specs.Plan.{Plan, cut, netOf, lineNow, hears, lineAfter, ownAfter, actAfter, Holds, steps, Planned}
 
 -- ---- the plan's symbols on their way
 
@@ -125,9 +120,8 @@ module _ (a : List ℕ) (sp : Spread (countAt a) a) (P : Plan) where
 
 module _ (n k : ℕ) (few : n ≤ 16) (still : Still n k) where
   send-still : (t i : ℕ) (s : Symbol) (j : ℕ) (x : List ℕ) → j < n → getD (sendTo t i s j x) k 0 ≡ getD x k 0
-  unfolding sendTo withArrival
-  send-still t i s j x hj = by-test (eqb j i) (λ e. rw e)
-      (λ e. rw e (getD-set-other x _ k _ 0 (λ z. still .line j hj (omega arith) (omega arith))))
+  unfolding sendTo
+  send-still t i s j x hj = by-test (eqb j i) (λ e. rw e) (λ e. rw e (arrival-still n k still x j _ _ hj))
 
   sends-still : (t i : ℕ) (s : Symbol) (m : ℕ) (x : List ℕ) → m ≤ n → getD (turns (sendTo t i s) m x) k 0 ≡ getD x k 0
   unfolding turns
@@ -140,38 +134,26 @@ module _ (n k : ℕ) (few : n ≤ 16) (still : Still n k) where
   pushed-still t i s x = by-test (isSilence s) (λ e. rw e) (λ e. rw e (sends-still t i s n x (omega arith)))
 
   pub stored-still : (i : ℕ) (s : Stored) (x : List ℕ) → i < n → Kept s → getD (withStored i s x) k 0 ≡ getD x k 0
-  unfolding withBit
   stored-still i NoStore x hi h = refl
-  stored-still i (Store m b) x hi h = getD-set-other x _ k _ 0 (λ z. still .buffer i hi (omega arith) (omega arith))
+  stored-still i (Store m b) x hi h = bit-still n k still x i m b hi h
 
   counted-still : (i : ℕ) (o : Stepped) (x : List ℕ) → i < n → getD (withCounted i o x) k 0 ≡ getD x k 0
-  unfolding withCounted withCounters Same
-  counted-still i o x hi = by-test (happened o)
-      (λ e. rw e (words-leave k 1 16 (1024 + 64 * i) x _ (λ p q. still .counters i hi (omega arith) (omega arith)) k
-      (omega arith) (omega arith))) (λ e. rw e)
-
-  pub station-still : (i : ℕ) (s : Station) (x : List ℕ) → i < n → getD (withStation x i s) k 0 ≡ getD x k 0
-  unfolding withStation Same
-  station-still i s x hi = words-leave k 1 14 (2048 + 64 * i) x _
-      (λ p q. still .station i hi (omega arith) (omega arith)) k (omega arith) (omega arith)
-
-  pub arrival-still : (t i : ℕ) (h : Heard) (x : List ℕ) → i < n → getD (withArrival x i t h) k 0 ≡ getD x k 0
-  unfolding withArrival
-  arrival-still t i h x hi = getD-set-other x _ k _ 0 (λ z. still .line i hi (omega arith) (omega arith))
+  unfolding withCounted
+  counted-still i o x hi = by-test (happened o) (λ e. rw e (counters-still n k still x i _ hi)) (λ e. rw e)
 
   pub left-still : (i : ℕ) (o : Stepped) (x : List ℕ) → i < n → Kept (o .stored) → getD (ownLeft i o x) k 0 ≡ getD x k 0
   unfolding ownLeft
-  left-still i o x hi h = stored-still i (o .stored) _ hi h ∙ counted-still i o _ hi ∙ station-still i (o .station) x hi
+  left-still i o x hi h = stored-still i (o .stored) _ hi h ∙ counted-still i o _ hi ∙ station-still n k still x i (o .station) hi
 
   settled-still : (t i : ℕ) (r : Act) (x : List ℕ) → i < n → Kept (r .outcome .stored)
       → getD (settled n t i r x) k 0 ≡ getD x k 0
   unfolding settled placed
   settled-still t i r x hi h =
       pushed-still t i (r .symbol) _
-      ∙ arrival-still t i Nothing _ hi
+      ∙ arrival-still n k still _ i t Nothing hi
       ∙ stored-still i (r .outcome .stored) _ hi h
       ∙ counted-still i (r .outcome) _ hi
-      ∙ station-still i (r .outcome .station) x hi
+      ∙ station-still n k still x i (r .outcome .station) hi
 
   turns-still : (t : ℕ) (r : ℕ → Act) (m : ℕ) (x : List ℕ) → m ≤ n → ((i : ℕ) → i < n → Kept (r i .outcome .stored))
       → getD (turns (λ i y. settled n t i (r i) y) m x) k 0 ≡ getD x k 0
@@ -240,17 +222,6 @@ module _ (n t : ℕ) (r : ℕ → Act) (x : List ℕ) (sp : Spread n x) (kept : 
       }
 
 -- ---- one step more
-
-front : (v l : List ℕ) (k : ℕ) → k < length v → length v ≤ length l → getD (sets l 0 v) k 0 ≡ getD v k 0
-front v l k h g =
-    let z : k ≡ 0 + k = omega arith in ap (λ (i : ℕ). getD (sets l 0 v) i 0) z ∙ octet-same v l 0 k h (omega arith)
-
--- the clock's octets go by the clock alone
-pub stamped : (x y : List ℕ) (c : ℕ) → 57344 ≤ length x → 57344 ≤ length y → Same 0 4 (withClock x c) (withClock y c)
-unfolding withClock put Same
-stamped x y c lx ly k lo up =
-    let m : length (spelled 4 c) ≡ 4 = length-spelled 4 c in
-    front (spelled 4 c) x k (omega arith) (omega arith) ∙ sym (front (spelled 4 c) y k (omega arith) (omega arith))
 
 pub drawn : (x : List ℕ) → Readiness x → (i : ℕ) → i < countAt x → Drawn (stationAt x i)
 drawn x r i h =
@@ -393,22 +364,21 @@ module _ (a : List ℕ) (sp : Spread (countAt a) a) (P : Plan) (K : ℕ) (x : Li
         ∙ by-eq v (K + 256) (λ z. rw z (line-last j hj)) (λ z. line-turned j v hj lo (omega arith))
 
     next-rest : (k : ℕ) → Still (countAt a) k → getD (stepArea x) k 0 ≡ getD a k 0
-    unfolding stepArea withClock Same
+    unfolding stepArea
     next-rest k st =
-        let few = sp .few in
-        put-leaves k 1 4 0 (clockAt x + 1) _ (λ p q. omega (arith, st .clock)) k (omega arith) (omega arith)
-        ∙ turns-still (countAt x) k (omega (arith, count-same)) (subst (λ (m : ℕ). Still m k) (sym count-same) st)
+        clock-still (countAt a) k st _ (clockAt x + 1)
+        ∙ turns-still (countAt x) k (omega (arith, sp .few, count-same)) (subst (λ (m : ℕ). Still m k) (sym count-same) st)
         (clockAt x) (actAt x) (countAt x) x (omega arith) (kept-at x)
         ∙ w .rest k st
 
-    next-stamp : Same 0 4 (stepArea x) (withClock a (clockAt a + suc K))
-    unfolding stepArea turned Same
-    next-stamp k lo up =
+    next-stamp : Keeps clock (stepArea x) (withClock a (clockAt a + suc K))
+    unfolding stepArea turned
+    next-stamp =
         let t : clockAt x + 1 ≡ clockAt a + suc K = omega (arith, w .time) in
         let l : length turned ≡ length x = length-after (countAt x) (clockAt x) (actAt x) x (w .ready .spread)
         (kept-at x) room (countAt x) in
-        stamped turned a (clockAt x + 1) (omega (arith, l, room)) (omega (arith, w .long, room)) k lo up
-        ∙ ap (λ (c : ℕ). getD (withClock a c) k 0) t
+        subst (λ (c : ℕ). Keeps clock (withClock turned (clockAt x + 1)) (withClock a c)) t
+        (clock-on turned a (clockAt x + 1) (omega (arith, l, room)) (omega (arith, w .long, room)))
 
     pub next-planned : clockAt x < 16777216 → Planned a P (suc K) (stepArea x)
     next-planned early =

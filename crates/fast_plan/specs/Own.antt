@@ -1,13 +1,11 @@
 -- A station by itself: its turns on what it is told that it hears, with no line read or written. What they leave of its own parts goes by
 -- these parts alone. Assumes nothing.
-use Prim.Native.Nat.{ℕ, zero, suc, _+_, _*_, _/_, _%_, _≤_, _<_}
+use Prim.Native.Nat.{ℕ, zero, suc, _+_, _≤_, _<_}
 use mathlib.Core.Path.{_≡_, refl, sym, _∙_, ap, ap₂, subst}
 use mathlib.Core.List.{List}
 use native.Mathlib.Omega.{arith}
-use lib.ListN.{length, getD}
-use lib.Seq.{getD-set-same, getD-set-other}
-use Rattle.octets.specs.BaseLaws.{by-test, by-eq}
-use Rattle.octets.specs.Region.{Same}
+use lib.ListN.{length}
+use Rattle.octets.specs.BaseLaws.{by-test}
 use Rattle.octets.specs.Turns.{turns, length-turns}
 use Rattle.layout.specs.declared.Figures.{Figures}
 use Rattle.packet.specs.declared.Heard.{Heard}
@@ -19,11 +17,10 @@ use Rattle.state.specs.declared.Station.{Station}
 use Rattle.station.specs.declared.Stepped.{Stepped}
 use Rattle.station.specs.Step.{stepped}
 use Rattle.station.specs.Count.{counted}
-use Rattle.record.specs.Codec.{encoded}
 use Rattle.area.specs.Places.{Part, layout, draws, counters, station, frame, buffer, Off, Keeps}
-use Rattle.area.specs.Area.{drawAt, countersAt, withCounters, stationAt, withStation, frameAt, bufferAt, octetWith, withBit, arrivalAt}
-use Rattle.area.specs.AreaLaws.{keeps-refl, keeps-trans, draw-by, counters-by, station-by, frame-by, buffer-by, station-keeps, length-station}
-use Rattle.area.specs.Written.{words-over}
+use Rattle.area.specs.Area.{drawAt, countersAt, stationAt, withStation, frameAt, bufferAt, arrivalAt}
+use Rattle.area.specs.AreaLaws.{keeps-refl, keeps-trans, keeps-sym, draw-by, counters-by, station-by, frame-by, buffer-by, station-keeps, length-station}
+use Rattle.area.specs.Whole.{station-on, counters-on, bit-on}
 use Rattle.pair.specs.declared.Act.{Act}
 use Rattle.pair.specs.BitTime.{outcomeIn, actIn, withStored, happened, withCounted}
 use Rattle.pair.specs.Ready.{receive-kept}
@@ -151,10 +148,6 @@ own-trans i x y z p q =
       buffer = keeps-trans (buffer i) x y z (p .buffer) (q .buffer);
     }
 
-pub keeps-sym : (p : Part) (x y : List ℕ) → Keeps p x y → Keeps p y x
-unfolding Keeps Same
-keeps-sym p x y s k lo up = sym (s k lo up)
-
 pub own-sym : (i : ℕ) (x y : List ℕ) → OwnSame i x y → OwnSame i y x
 own-sym i x y p = record {
   station = keeps-sym (station i) x y (p .station);
@@ -164,36 +157,16 @@ own-sym i x y p = record {
 }
 
 module _ (i : ℕ) (hi : i < 16) (x y : List ℕ) (lx : 57344 ≤ length x) (ly : 57344 ≤ length y) where
-  pub station-on : (s : Station) → Keeps (station i) x y → Keeps (station i) (withStation x i s) (withStation y i s)
-  unfolding Keeps Same withStation
-  station-on s e k lo up = words-over 14 x y (2048 + 64 * i) (encoded s) k (omega arith) (omega arith) (λ o. e k lo up)
-
-  counters-on : (o : Stepped) → Keeps (counters i) x y
-      → Keeps (counters i) (withCounters x i (counted (countersAt x i) o))
-      (withCounters y i (counted (countersAt y i) o))
-  unfolding withCounters Keeps Same
-  counters-on o e k lo up = rw (counters-by x y i e)
-      (words-over 16 x y (1024 + 64 * i) (counted (countersAt y i) o) k (omega arith) (omega arith) (λ a. e k lo up))
-
   counted-on : (o : Stepped) → Keeps (counters i) x y → Keeps (counters i) (withCounted i o x) (withCounted i o y)
   unfolding withCounted
-  counted-on o e = by-test (happened o) (λ b. rw b (counters-on o e)) (λ b. rw b e)
+  counted-on o e =
+      by-test (happened o)
+      (λ b. rw (b, counters-by x y i e) (counters-on i hi x y lx ly (counted (countersAt y i) o) e))
+      (λ b. rw b e)
 
   pub stored-on : (s : Stored) → Kept s → Keeps (buffer i) x y → Keeps (buffer i) (withStored i s x) (withStored i s y)
-  unfolding Keeps Same withBit
   stored-on NoStore k e = e
-  stored-on (Store m b) h e = λ k lo up.
-      by-eq k (32768 + 1536 * i + m / 8)
-      (λ z. rw (
-        z,
-        getD-set-same x (32768 + 1536 * i + m / 8)
-            (octetWith (getD x (32768 + 1536 * i + m / 8) 0) (m % 8) b) 0 (omega arith),
-        getD-set-same y
-            (32768 + 1536 * i + m / 8) (octetWith (getD y (32768 + 1536 * i + m / 8) 0) (m % 8) b) 0 (omega arith),
-      )
-      (ap (λ (v : ℕ). octetWith v (m % 8) b) (e (32768 + 1536 * i + m / 8) (omega arith) (omega arith))))
-      (λ z. getD-set-other x (32768 + 1536 * i + m / 8) k _ 0 z ∙ e k lo up ∙ sym
-      (getD-set-other y (32768 + 1536 * i + m / 8) k _ 0 z))
+  stored-on (Store m b) h e = bit-on i hi x y lx ly m b h e
 
 -- what it leaves of its own goes by that
 pub left-same : (i : ℕ) (o : Stepped) (x y : List ℕ) → i < 16 → 57344 ≤ length x → 57344 ≤ length y → Kept (o .stored)

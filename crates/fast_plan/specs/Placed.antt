@@ -14,10 +14,10 @@ use Rattle.packet.specs.declared.Heard.the-variants.{Nothing}
 use Rattle.packet.specs.declared.Symbol.{Symbol}
 use Rattle.area.specs.Places.{Part, place, Off, Keeps}
 use Rattle.area.specs.Area.{clockAt, countAt, spaceAt, symbolAt, arrivalAt, withArrival, joined}
+use Rattle.area.specs.Whole.{Still, arrival-still}
 use Rattle.area.specs.AreaLaws.{keeps-refl, keeps-trans, arrival-by, arrival-keeps, symbol-same, code-small, length-arrival}
 use Rattle.pair.specs.InPlace.{Spread}
-use Rattle.fast_plan.specs.Plan.{Plan, lineAfter, Still}
-use Rattle.fast_plan.specs.Happens.{arrival-still}
+use Rattle.fast_plan.specs.Plan.{Plan, lineAfter}
 use Rattle.fast_plan.specs.Push.{cleared, joinedAt, onWay, waysTo, lineDone, pushed-line}
 
 -- U writes places of the line of station j, codes of symbols all of them
@@ -37,7 +37,7 @@ module _ (n j : ℕ) (few : n ≤ 16) (hj : j < n) where
       record {
         long = λ x. length-arrival x j u (h x);
         off = λ p x o. arrival-keeps p x j u (h x) (o u);
-        still = λ k x s. arrival-still n k few s u j (h x) x hj;
+        still = λ k x s. arrival-still n k s x j u (h x) hj;
         codes = λ x room c i v hi. symbol-same x room j u i v (h x) 4 (omega arith) (omega arith) (code-small (h x))
             (c i v hi);
       }

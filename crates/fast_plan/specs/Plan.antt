@@ -1,19 +1,18 @@
 -- A plan: what each station is to emit in the steps from now on; what each hears by it, and what is on its way after some steps.
 -- The plan holds where each station, by itself on what it hears by the plan, emits what the plan says. Assumes nothing.
-use Prim.Native.Nat.{ℕ, _+_, _*_, _≤_, _<_}
+use Prim.Native.Nat.{ℕ, _+_, _≤_, _<_}
 use mathlib.Core.Path.{_≡_}
 use mathlib.Core.List.{List}
 use lib.Dec.{ltb}
 use lib.ListN.{length, getD}
 use Rattle.octets.specs.Base.{pick}
-use Rattle.octets.specs.Region.{Same}
-use Rattle.octets.specs.Store.{Apart}
 use Rattle.octets.specs.Turns.{turns}
 use Rattle.packet.specs.declared.Heard.{Heard}
 use Rattle.packet.specs.declared.Heard.the-variants.{Nothing}
 use Rattle.packet.specs.declared.Symbol.{Symbol}
 use Rattle.packet.specs.declared.Symbol.the-variants.{Silence}
-use Rattle.area.specs.Places.{depth, Keeps}
+use Rattle.area.specs.Places.{clock, depth, Keeps}
+use Rattle.area.specs.Whole.{Still}
 use Rattle.area.specs.Area.{clockAt, withClock, depthAt, drawAt, figuresAt, countAt, addressAt, spaceAt, bufferAt, arrivalAt}
 use Rattle.pair.specs.declared.Act.{Act}
 use Rattle.pair.specs.BitTime.{stepArea}
@@ -70,21 +69,13 @@ Holds a P K = (s i : ℕ) → s < K → i < countAt a → actAfter a P i s .symb
 unfoldable pub steps : ℕ → List ℕ → List ℕ
 steps K a = turns (λ s x. stepArea x) K a
 
--- an octet that is neither the clock's nor any station's
-pub record Still (n k : ℕ) : Type 0 where
-  pub clock : 4 ≤ k
-  pub station : (i : ℕ) → i < n → Apart k 1 (2048 + 64 * i) 64
-  pub counters : (i : ℕ) → i < n → Apart k 1 (1024 + 64 * i) 64
-  pub buffer : (i : ℕ) → i < n → Apart k 1 (32768 + 1536 * i) 1536
-  pub line : (i : ℕ) → i < n → Apart k 1 (4096 + 256 * i) 256
-
 -- x is what K steps by the plan leave of a: the clock; of each station its own parts, as it leaves them by itself; in each line what was on
 -- its way and what the plan put there; and all else as it was
 pub record Planned (a : List ℕ) (P : Plan) (K : ℕ) (x : List ℕ) : Type 0 where
   pub ready : Readiness x
   pub long : length x ≡ length a
   pub time : clockAt x ≡ clockAt a + K
-  pub stamp : 0 < K → Same 0 4 x (withClock a (clockAt a + K))
+  pub stamp : 0 < K → Keeps clock x (withClock a (clockAt a + K))
   pub depth : Keeps depth x a
   pub stays : (i : ℕ) → i < 16 → Stays i x a
   pub own : (i : ℕ) → i < countAt a → OwnSame i x (ownAfter a P i K)

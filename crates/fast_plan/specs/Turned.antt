@@ -7,12 +7,13 @@ use native.Mathlib.Omega.{arith}
 use lib.ListN.{length}
 use Rattle.area.specs.Places.{counters, station, buffer, place, Keeps}
 use Rattle.area.specs.Area.{clockAt, withClock, countAt, heardCode, symbolAt}
+use Rattle.area.specs.Whole.{clock-still, clock-on}
 use Rattle.area.specs.AreaLaws.{arrival-by, symbol-by, clock-keeps, length-clock}
 use Rattle.pair.specs.Ready.{Readiness}
 use Rattle.fast_plan.specs.Own.{own-trans}
 use Rattle.fast_plan.specs.Plan.{Plan, ownAfter, Holds, steps}
-use Rattle.fast_plan.specs.Happens.{stamped, plan-happens}
-use Rattle.fast_plan.specs.Exact.{planned-left, left-same-area, symbol-code, clock-still, ownAll, length-own, own-keeps, own-built, own-still, own-drawn}
+use Rattle.fast_plan.specs.Happens.{plan-happens}
+use Rattle.fast_plan.specs.Exact.{planned-left, left-same-area, symbol-code, ownAll, length-own, own-keeps, own-built, own-still, own-drawn}
 use Rattle.fast_plan.specs.Placed.{linesDone, done-long, done-keeps, done-still, done-codes, done-line}
 
 unfoldable pub turnedOf : List ℕ → Plan → ℕ → List ℕ
@@ -37,7 +38,7 @@ steps-turned a P K pos r early h =
     left-same-area a P K (steps K a) x few (planned-left a P K (steps K a) pos (plan-happens a P K r early h))
     (record {
       long = length-clock l (clockAt a + K) ∙ ll ∙ lo;
-      stamp = stamped l a (clockAt a + K) (omega (arith, ll, lo, r .long)) (r .long);
+      stamp = clock-on l a (clockAt a + K) (omega (arith, ll, lo, r .long)) (r .long);
       own = λ i hi.
           own-trans i x l (ownAfter a P i K)
           (record { station = clock-keeps (station i) l (clockAt a + K) (λ p q. omega arith); counters = clock-keeps (counters i) l (clockAt a + K) (λ p q. omega arith); buffer = clock-keeps (buffer i) l (clockAt a + K) (λ p q. omega arith) })
@@ -52,5 +53,5 @@ steps-turned a P K pos r early h =
           symbol-by x l j (clockAt a + v) (clock-keeps (place j (clockAt a + v)) l (clockAt a + K) (λ p q. omega arith))
           ∙ symbol-code l j (clockAt a + v) (done-codes a P K few n o (omega arith) (omega (arith, lo, r .long)) (λ i u hi. rw (same i u hi) (r .codes i u hi)) j (clockAt a + v) hj)
           ∙ ap heardCode (done-line a P K few (r .spread) n j v o (omega arith) hj (omega (arith, lo, r .long)) (λ i u hi. arrival-by o a i u (all-line a P K n i u (omega arith) few)) low up);
-      rest = λ k st. clock-still l k (clockAt a + K) (st .clock) ∙ done-still a P K few k n o (omega arith) st ∙ own-still n k few st a P K n a (omega arith);
+      rest = λ k st. clock-still n k st l (clockAt a + K) ∙ done-still a P K few k n o (omega arith) st ∙ own-still n k few st a P K n a (omega arith);
     })

@@ -29,8 +29,9 @@ use Rattle.record.specs.Codec.{decoded}
 use Rattle.record.specs.CodecLaws.{Fit}
 use Rattle.area.specs.Places.{Part, counters, station, frame, buffer, place, Off, Keeps}
 use Rattle.area.specs.Area.{clockAt, withClock, depthAt, drawAt, figuresAt, countAt, addressAt, stationAt, withStation, frameAt, bufferAt, heardOf, heardCode, symbolAt, arrivalAt}
-use Rattle.area.specs.AreaLaws.{keeps-refl, keeps-trans, station-keeps, clock-keeps, symbol-by, symbol-turn, station-same, length-station, length-clock}
+use Rattle.area.specs.AreaLaws.{keeps-refl, keeps-trans, keeps-sym, station-keeps, clock-keeps, symbol-by, symbol-turn, station-same, length-station, length-clock}
 use Rattle.area.specs.Written.{station-over}
+use Rattle.area.specs.Whole.{Still, clock-still, station-still, station-on, clock-on}
 use Rattle.pair.specs.declared.Events.{Events}
 use Rattle.pair.specs.BitTime.{happened, withCounted, eventsOf, noEvents, eventAt, eventsAt}
 use Rattle.pair.specs.Range.{Fine, fine-fit}
@@ -41,10 +42,10 @@ use Rattle.course.specs.UntilLaws.{plus}
 use Rattle.meeting.specs.Net.{heard}
 use Rattle.meeting.specs.Meet.{met, met-none}
 use Rattle.quick.specs.Quick.{quietly}
-use Rattle.fast_plan.specs.Own.{outcomeOn, actOn, ownLeft, ownTurn, byItself, itself-heard, OwnSame, own-trans, keeps-sym, station-on}
-use Rattle.fast_plan.specs.Plan.{Plan, cut, netOf, lineNow, hears, lineAfter, ownAfter, actAfter, Holds, steps, Still, Planned}
-use Rattle.fast_plan.specs.Happens.{heard-none, stamped, station-still, plan-happens}
-use Rattle.fast_plan.specs.Exact.{Left, symbol-code, clock-still, left-same-area, planned-left}
+use Rattle.fast_plan.specs.Own.{outcomeOn, actOn, ownLeft, ownTurn, byItself, itself-heard, OwnSame, own-trans}
+use Rattle.fast_plan.specs.Plan.{Plan, cut, netOf, lineNow, hears, lineAfter, ownAfter, actAfter, Holds, steps, Planned}
+use Rattle.fast_plan.specs.Happens.{heard-none, plan-happens}
+use Rattle.fast_plan.specs.Exact.{Left, symbol-code, left-same-area, planned-left}
 use Rattle.fast_plan.specs.Prefix.{Unhurt}
 use Rattle.fast_plan.specs.Runs.{eventsBy, plan-events, talliedBy, run-steps, until-steps}
 use Rattle.fast_silence.specs.Rested.{rested, Rests, rested-step, rested-none, rested-fit, rested-address}
@@ -246,7 +247,7 @@ module _ (a : List ℕ) (K : ℕ) (r : Readiness a) (s : Silent a K) where
   unfolding restedAll turns
   rested-still k zero st hm = refl
   rested-still k (suc m) st hm =
-      station-still (countAt a) k (r .spread .few) st m (rested (figuresAt a) K (stationAt a m)) (restedAll a K m a) hm
+      station-still (countAt a) k st (restedAll a K m a) m (rested (figuresAt a) K (stationAt a m)) hm
       ∙ rested-still k m st (omega arith)
 
   line-silent : (j v : ℕ) → lineAfter a silentPlan K j v ≡ lineNow a j v
@@ -272,7 +273,7 @@ module _ (a : List ℕ) (K : ℕ) (r : Readiness a) (s : Silent a K) where
       let ly : length y ≡ length a = rested-length a K n in
       record {
         long = length-clock y (clockAt a + K) ∙ ly;
-        stamp = stamped y a (clockAt a + K) (omega (arith, ly, r .long)) (r .long);
+        stamp = clock-on y a (clockAt a + K) (omega (arith, ly, r .long)) (r .long);
         own = λ i hi. let w = withStation a i (rested (figuresAt a) K (stationAt a i)) in
             subst (OwnSame i x) (sym (own-rested i hi pos))
             (own-trans i x y w
@@ -296,7 +297,7 @@ module _ (a : List ℕ) (K : ℕ) (r : Readiness a) (s : Silent a K) where
             ∙ symbol-by y a j (clockAt a + v) (rested-keeps a K (place j (clockAt a + v)) n (λ i h p q. omega arith))
             ∙ line-code j v hj lo up
             ∙ ap heardCode (sym (line-silent j v));
-        rest = λ k st. clock-still y k (clockAt a + K) (st .clock) ∙ rested-still k n st (omega arith);
+        rest = λ k st. clock-still n k st y (clockAt a + K) ∙ rested-still k n st (omega arith);
       }
 
   -- Stage 1

@@ -9,7 +9,7 @@ use lib.ListN.{length, replicate}
 use Rattle.octets.specs.Base.{pick, some, Outcome, numberOf}
 use Rattle.layout.specs.declared.Layout.{Layout}
 use Rattle.layout.specs.Layout.{fitsWell}
-use Rattle.area.specs.Places.{areaSize}
+use Rattle.area.specs.Offsets.{areaSize}
 use Rattle.area.specs.Area.{clockAt}
 use Rattle.start.specs.Fresh.{fresh}
 use Rattle.pair.specs.BitTime.{eventsAt, stepArea}

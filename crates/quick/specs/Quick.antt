@@ -8,8 +8,8 @@ use mathlib.Core.List.{List}
 use native.Mathlib.Omega.{arith}
 use borrow.Author.Tests.{eqb-true, eqb-false, eq-eqb, ne-eqb, leb-true, ltb-true, lt-ltb, le-ltb, le-leb, lt-leb}
 use lib.Dec.{eqb, leb, ltb}
-use lib.ListN.{length, getD, set, length-set}
-use lib.Seq.{getD-set-same, getD-set-other, ext-getD}
+use lib.ListN.{length, getD, set}
+use lib.Seq.{getD-set-other}
 use Rattle.octets.specs.Base.{pick}
 use Rattle.octets.specs.Bits.{digit}
 use Rattle.octets.specs.BaseLaws.{by-test, by-eq}
@@ -40,10 +40,10 @@ use Rattle.state.specs.declared.Station.{Station}
 use Rattle.station.specs.declared.Stepped.{Stepped}
 use Rattle.station.specs.Step.{stepped, nextStation, triesAfter, drawAfter, deferredAfter}
 use Rattle.record.specs.Codec.{flag, deferenceOf, deferenceCode, deferenceOwn, transmitterOf, transmitterCode, receiverOf, receiverCode, decoded, encoded}
-use Rattle.area.specs.Places.{station}
+use Rattle.area.specs.Places.{station, place}
 use Rattle.area.specs.Area.{drawAt, addressAt, recordAt, stationAt, withStation, withWord, frameAt, bufferAt, withBit, heardOf, symbolAt, arrivalAt, withArrival}
-use Rattle.area.specs.AreaLaws.{record-by, arrival-keeps, length-arrival}
-use Rattle.area.specs.Written.{Wrote, wrote-none, wrote-word, wrote-station, station-arrival, bit-arrival, octets-arrival, word-small}
+use Rattle.area.specs.AreaLaws.{record-by, symbol-by, station-keeps, arrival-keeps, length-arrival}
+use Rattle.area.specs.Written.{Wrote, wrote-none, wrote-word, wrote-station, arrival-back, station-arrival, bit-arrival, octets-arrival, word-small}
 use Rattle.area.specs.OneWord.{station-back}
 use Rattle.pair.specs.BitTime.{outcomeIn, actIn, withStored, happened, withCounted, placed, settled, turnIn, eventsOf, noEvents}
 use Rattle.medium.specs.Medium.{pushed}
@@ -354,17 +354,6 @@ still-code c k sp own h =
 
 -- ---- the line
 
-set-back : (l : List ℕ) (k v : ℕ) → getD l k 0 ≡ v → set l k v ≡ l
-set-back l k v e =
-    ext-getD 0 (set l k v) l (length-set l k v)
-    (λ j h. by-eq j k
-    (λ z. rw z (getD-set-same l k v 0 (omega (arith, length-set l k v)) ∙ sym e))
-    (λ z. getD-set-other l k j v 0 z))
-
-pub clear-back : (x : List ℕ) (i t : ℕ) → symbolAt x i t ≡ 0 → withArrival x i t Nothing ≡ x
-unfolding symbolAt withArrival
-clear-back x i t e = set-back x (4096 + 256 * i + t % 256) 0 e
-
 pub hears-nothing : (x : List ℕ) (i t : ℕ) → symbolAt x i t ≡ 0 → arrivalAt x i t ≡ Nothing
 unfolding arrivalAt heardOf
 hears-nothing x i t e = rw e
@@ -431,7 +420,7 @@ module _ (f : Figures) (d n t i : ℕ) (x : List ℕ) (hi : i < 16) (room : 5734
       let es : stationAt x i ≡ s = q .0 in
       taken-by f d n t i x s Rest NoStore x
       (rw (es, hears-nothing x i t hs) (rest-step f (addressAt x i) (getD w 9 0) (getD w 10 0) (getD w 11 0) (eqb (getD w 12 0) 1) d (drawAt x i (getD w 11 0)) (bufferAt x i) r (still-code (getD w 5 0) (getD w 6 0) (eqb (getD w 7 0) 1) (eqb (getD w 8 0) 1) (q .1))))
-      (rw (station-back x i s hi room o (plain-as s es)) (sym (clear-back x i t hs)))
+      (rw (station-back x i s hi room o (plain-as s es)) (sym (arrival-back x i t Nothing hs)))
 
   -- the state, with a transmitter q, and with the one after it
   such : Deference → Transmitter → Receiver → Station
@@ -465,10 +454,11 @@ module _ (f : Figures) (d n t i : ℕ) (x : List ℕ) (hi : i < 16) (room : 5734
 
   -- a turn that hears nothing and writes the state's words
   silent-by : (s : Station) (y : List ℕ) → symbolAt x i t ≡ 0 → Wrote i x y (encoded s) → y ≡ withArrival (withStation x i s) i t Nothing
-  unfolding symbolAt
   silent-by s y hs v =
       let e : withStation x i s ≡ y = wrote-station i x hi room y s v in
-      sym (clear-back y i t (v .rest (4096 + 256 * i + t % 256) (λ a b. omega arith) ∙ hs)) ∙ rw e
+      let k : symbolAt (withStation x i s) i t ≡ symbolAt x i t =
+      symbol-by (withStation x i s) x i t (station-keeps (place i t) x i s (λ a b. omega arith)) in
+      sym (arrival-back y i t Nothing (ap (λ (z : List ℕ). symbolAt z i t) (sym e) ∙ k ∙ hs)) ∙ rw e
 
   -- a turn that hears nothing, emits nothing and writes the state's words
   quiet-taken : (s : Station) (y : List ℕ) → symbolAt x i t ≡ 0

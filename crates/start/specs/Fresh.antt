@@ -10,7 +10,7 @@ use Rattle.octets.specs.Words.{putWords}
 use Rattle.layout.specs.declared.Figures.{Figures}
 use Rattle.layout.specs.declared.Tap.{Tap}
 use Rattle.layout.specs.declared.Layout.{Layout}
-use Rattle.area.specs.Places.{areaSize}
+use Rattle.area.specs.Offsets.{areaSize}
 
 -- ---- the layout: its figures and N, and its stations
 

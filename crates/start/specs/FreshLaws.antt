@@ -1,5 +1,5 @@
 -- A law for each way through the code of a fresh start, and what is read of the area that it leaves. Assumes nothing.
-use Prim.Native.Nat.{ℕ, zero, suc, _+_, _*_, _-_, _^_, _%_, _≤_, _<_}
+use Prim.Native.Nat.{ℕ, zero, suc, _+_, _*_, _-_, _^_, _≤_, _<_}
 use mathlib.Core.Path.{_≡_, refl, sym, _∙_, ap, ap₂}
 use mathlib.Core.List.{List, [], _∷_, _++_}
 use Rattle.octets.specs.BaseLaws.{by-eq}
@@ -18,9 +18,9 @@ use Rattle.layout.specs.declared.Figures.{Figures}
 use Rattle.layout.specs.declared.Tap.{Tap}
 use Rattle.layout.specs.declared.Layout.{Layout}
 use Rattle.layout.specs.Layout as lay
-use Rattle.layout.specs.CheckLaws.{Figured, Sound}
+use Rattle.layout.specs.CheckLaws.{Figured}
 use Rattle.packet.specs.declared.Heard.the-variants.{Nothing}
-use Rattle.area.specs.Places.{Part, at, Off, Keeps}
+use Rattle.area.specs.AreaLaws.{symbol-zero}
 use Rattle.area.specs.Area.{clockAt, depthAt, drawAt, figuresAt, countAt, positionAt, addressAt, recordAt, countersAt, symbolAt, arrivalAt, heardOf}
 use Rattle.start.specs.Fresh.{withFigures, withTap, tapIn, withTaps, withDepth, withDraw, withRow, withDraws, withPlan, fresh}
 
@@ -271,8 +271,9 @@ module _ (y : Layout) (d : ℕ) (ds : List (List ℕ)) (a : List ℕ) (big : 573
   fresh-counters i h = ap (λ (x : List ℕ). wordsAt 16 x (1024 + 64 * i)) is-fresh ∙ words-zero 16 z (1024 + 64 * i) (λ k p q. zero-at k (omega arith) (λ u v. omega arith))
 
   pub fresh-symbol : (i u : ℕ) → i < 16 → symbolAt (fresh y d ds a) i u ≡ 0
-  unfolding symbolAt
-  fresh-symbol i u h = ap (λ (x : List ℕ). getD x (4096 + 256 * i + u % 256) 0) is-fresh ∙ zero-at (4096 + 256 * i + u % 256) (omega arith) (λ p q. omega arith)
+  fresh-symbol i u h =
+      ap (λ (x : List ℕ). symbolAt x i u) is-fresh
+      ∙ symbol-zero z i u (λ k lo up. zero-at k (omega arith) (λ p q. omega arith))
 
   pub fresh-arrival : (i u : ℕ) → i < 16 → arrivalAt (fresh y d ds a) i u ≡ Nothing
   unfolding arrivalAt heardOf

@@ -7,7 +7,7 @@ use lib.ListN.{length}
 use Rattle.octets.specs.Base.{pick, outside, refused, accepted, Outcome, outcome}
 use Rattle.layout.specs.declared.Layout.{Layout}
 use Rattle.layout.specs.Check.{refusalOf}
-use Rattle.area.specs.Places.{areaSize}
+use Rattle.area.specs.Offsets.{areaSize}
 use Rattle.start.specs.Fresh.{fresh}
 
 unfoldable pub started : List ℕ → Layout → ℕ → List (List ℕ) → Outcome

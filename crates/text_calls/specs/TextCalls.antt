@@ -8,7 +8,7 @@ use lib.ListN.{length, take, drop}
 use Rattle.octets.specs.Base.{pick, Answer, numberOf}
 use Rattle.octets.specs.Number.{get}
 use Rattle.octets.specs.Words.{putWords}
-use Rattle.area.specs.Places.{areaSize}
+use Rattle.area.specs.Offsets.{areaSize}
 use Rattle.valid.specs.Valid.{areaRefusal}
 use Rattle.pieces.specs.declared.Progress.{Progress}
 use Rattle.pieces.specs.Pieces.{standing, Hand, begun, advanced}

@@ -9,7 +9,7 @@ use Rattle.layout.specs.declared.Figures.{Figures}
 use Rattle.layout.specs.declared.Layout.{Layout}
 use Rattle.layout.specs.Layout.{gapOf}
 use Rattle.layout.specs.Check.{refusalOf}
-use Rattle.area.specs.Places.{areaSize}
+use Rattle.area.specs.Offsets.{areaSize}
 use Rattle.area.specs.Area.{clockAt, depthAt, figuresAt, countAt, layoutAt, recordAt, symbolAt}
 
 -- ---- a record's words w, in use where the state that carries them stands; a flag over 1, a code past the last, stands for nothing

@@ -6,7 +6,7 @@ use lib.Dec.{ltb}
 use lib.ListN.{length, take, drop}
 use lib.Seq.{sets}
 use Rattle.octets.specs.Base.{pick, Answer, refused, accepted}
-use Rattle.area.specs.Places.{areaSize}
+use Rattle.area.specs.Offsets.{areaSize}
 use Rattle.pieces.specs.Printed.{inputCourse, printed}
 
 -- what the call leaves: its answer, the area, the lent output
