@@ -72,7 +72,7 @@ pub fn step(area: &mut [u8]) -> BitTime
     if 16777216 <= area::read_clock(area) {
         return no_step(13);
     }
-    let events = step::step(area);
+    let events = turn::step::step(area);
     BitTime {
         done: Done::Made,
         events,

@@ -20,7 +20,7 @@ fn run_steps(area: &mut [u8], words: &mut [u32], n: u32) -> Course
     let mut ended = Ended::All;
     let mut t: u32 = 0;
     'steps: while t < n {
-        let events = step::step(area);
+        let events = turn::step::step(area);
         course::count_events(words, events, 32 * t);
         t += 1;
         let mut i: usize = 0;

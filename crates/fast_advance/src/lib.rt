@@ -55,6 +55,6 @@ pub fn advance(area: &mut [u8], left: u32) -> Stretch
     if steps != 0 {
         return eventless(steps);
     }
-    let events = step::step(area);
+    let events = turn::step::step(area);
     Stretch { steps: 1, events }
 }

@@ -1,6 +1,9 @@
 // Turns that change little: whether a station hears, is in a gap or in backoff, by a few words of its record. The turns
 // are taken by `heard` and `easy`.
 
+pub mod easy;
+pub mod heard;
+
 ghost use mathlib.Core.Path.{_≡_};
 ghost use mathlib.Core.Bool.{true};
 ghost use Prim.Native.Nat.{_<_, _≤_, min};

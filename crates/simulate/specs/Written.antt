@@ -11,7 +11,7 @@ use Rattle.pieces.specs.Printed.{printed}
 use Rattle.pieces.specs.Pieces.{Moved, moved, move, firstPiece}
 use Rattle.told.specs.Whole.{pieces, first-pieces}
 use Rattle.told.specs.Along.{Along, end-place}
-use Rattle.parts.specs.PartLaws.{part-size, begun-along, along-more, along-less}
+use Rattle.whole.specs.PartLaws.{part-size, begun-along, along-more, along-less}
 
 -- 16,777,282 pieces of 2,048 octets
 abbrev pub most : ℕ

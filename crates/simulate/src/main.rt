@@ -42,7 +42,7 @@ fn write_rest(input: &[u8], area: &mut [u8], at: usize, g: Progress) -> Written
     let mut at = at;
     let mut g = g;
     while !g.ended {
-        let p = parts::next(input, area, &mut buf, g);
+        let p = whole::parts::next(input, area, &mut buf, g);
         let size = p.size;
         let w = write_piece(input, at, &buf[0..size]);
         if !w.done {
@@ -60,7 +60,7 @@ fn write_run(input: &[u8], area: &mut [u8]) -> Written
     ensures { λ r. ⌜ (r .done ≡ true → r .at ≡ length (printed (now (input .entry)))) ⌝ }
 {
     let mut buf = [0u8; 2048];
-    let p = parts::first(input, area, &mut buf);
+    let p = whole::parts::first(input, area, &mut buf);
     let size = p.size;
     let w = write_piece(input, 0, &buf[0..size]);
     if !w.done {

@@ -1,5 +1,7 @@
 // The turn of one station, in place: it acts on what it hears, its symbol goes to every other, its record and counters are written.
 
+pub mod step;
+
 use layout::Figures;
 use packet::Heard;
 use pair::Act;
@@ -211,7 +213,7 @@ fn work(area: &mut [u8], n: usize, depth: u32, t: usize, f: Figures, i: usize) -
     ensures events { λ r. ⌜ r ≡ eventsOf (actIn f depth t (now (area .entry)) i) ⌝ }
 {
     if delay::read_symbol(area, i, t) == 0 {
-        if easy::waits(area, n, depth, t, f, i) {
+        if quick::easy::waits(area, n, depth, t, f, i) {
             return no_events();
         }
         return general(area, n, depth, t, f, i);
@@ -227,12 +229,12 @@ pub fn turn(area: &mut [u8], n: usize, depth: u32, t: usize, f: Figures, i: usiz
     ensures events { λ r. ⌜ r ≡ eventsOf (actIn f depth t (now (area .entry)) i) ⌝ }
 {
     if delay::read_symbol(area, i, t) == 0 {
-        if easy::rests(area, i) {
+        if quick::easy::rests(area, i) {
             return no_events();
         }
         return work(area, n, depth, t, f, i);
     }
-    if easy::hearing(area, n, depth, t, f, i) {
+    if quick::easy::hearing(area, n, depth, t, f, i) {
         return no_events();
     }
     work(area, n, depth, t, f, i)

@@ -15,7 +15,7 @@ use Rattle.pieces.specs.declared.Progress.{Progress}
 use Rattle.pieces.specs.Printed.{inputCourse, printed}
 use Rattle.pieces.specs.Pieces.{moved, move, firstPiece, remaining}
 use Rattle.told.specs.Along.{Along, first-area, next-area, end-place, end-area}
-use Rattle.parts.specs.PartLaws.{part-size, begun-along, begun-part, along-more, along-part}
+use Rattle.whole.specs.PartLaws.{part-size, begun-along, begun-part, along-more, along-part}
 use Rattle.whole.specs.Print.{print, printedInto}
 
 -- ---- a piece, of k octets in buffer x, is stored

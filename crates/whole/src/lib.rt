@@ -1,5 +1,7 @@
 // The whole text of a run input at once: what `begin` and `advance` hand out piece by piece, one piece behind the other in a lent output.
 
+pub mod parts;
+
 use pieces::Piece;
 use pieces::Progress;
 ghost use mathlib.Core.Path.{_≡_};
@@ -22,7 +24,7 @@ fn rest_fits(input: &[u8], area: &mut [u8], room: usize, at: usize, g: Progress)
     let mut at = at;
     let mut g = g;
     while !g.ended {
-        let p = parts::next(input, area, &mut buf, g);
+        let p = crate::parts::next(input, area, &mut buf, g);
         if room - at < p.size {
             return false;
         }
@@ -38,7 +40,7 @@ fn fits(input: &[u8], room: usize) -> bool
 {
     let mut area = [0u8; 57344];
     let mut buf = [0u8; 2048];
-    let p = parts::first(input, &mut area, &mut buf);
+    let p = crate::parts::first(input, &mut area, &mut buf);
     if room < p.size {
         return false;
     }
@@ -57,7 +59,7 @@ fn store_rest(input: &[u8], area: &mut [u8], out: &mut [u8], at: usize, g: Progr
     let mut at = at;
     let mut g = g;
     while !g.ended {
-        let p = parts::next(input, area, &mut buf, g);
+        let p = crate::parts::next(input, area, &mut buf, g);
         let size = p.size;
         copies::store(out, at, &buf[0..size]);
         at += size;
@@ -74,7 +76,7 @@ fn store_run(input: &[u8], area: &mut [u8], out: &mut [u8]) -> usize
     ensures area { λ r. ⌜ now (area .exit) ≡ inputCourse (now (input .entry)) (now (area .entry)) .octets ⌝ }
 {
     let mut buf = [0u8; 2048];
-    let p = parts::first(input, area, &mut buf);
+    let p = crate::parts::first(input, area, &mut buf);
     let size = p.size;
     copies::store(out, 0, &buf[0..size]);
     let g = p.progress;

@@ -1,5 +1,5 @@
 -- `simulate::write_rest` meets its contract. Assumes nothing.
-use Rattle.parts.specs.PartLaws.{may-advance, along-part, along-less}
+use Rattle.whole.specs.PartLaws.{may-advance, along-part, along-less}
 use Rattle.simulate.specs.Written.{most, next-room, next-end, next-most, not-done, all-done}
 use Prim.Native.Nat.{_+_, _*_, _≤_}
 use mathlib.Core.Path.{_≡_}

@@ -1,5 +1,5 @@
 -- `turn::turn` meets its contract. Assumes nothing.
-use Rattle.easy.specs.Easy.{rests-area, rests-events, no-events, still-able, still-turn, still-events}
+use Rattle.quick.specs.Easy.{rests-area, rests-events, no-events, still-able, still-turn, still-events}
 use Rattle.quick.specs.Quick.{taken-area}
 use native.Mathlib.Omega.{arith}
 use borrow.Author.Needs.{needs}

@@ -1,5 +1,5 @@
 -- `turn::work` meets its contract. Assumes nothing.
-use Rattle.easy.specs.Easy.{able-gap, nothing-here, no-events, still-able, still-turn, still-events}
+use Rattle.quick.specs.Easy.{able-gap, nothing-here, no-events, still-able, still-turn, still-events}
 use Rattle.quick.specs.Quick.{taken-area}
 use native.Mathlib.Omega.{arith}
 use borrow.Author.Needs.{needs}

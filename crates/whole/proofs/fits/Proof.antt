@@ -1,5 +1,5 @@
 -- `whole::fits` meets its contract. Assumes nothing.
-use Rattle.parts.specs.PartLaws.{begun-along}
+use Rattle.whole.specs.PartLaws.{begun-along}
 use Rattle.whole.specs.PrintLaws.{begun-over}
 use native.Mathlib.Omega.{arith}
 use borrow.Author.Needs.{needs}

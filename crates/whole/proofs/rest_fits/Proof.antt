@@ -1,5 +1,5 @@
 -- `whole::rest_fits` meets its contract. Assumes nothing.
-use Rattle.parts.specs.PartLaws.{may-advance, along-more, along-less}
+use Rattle.whole.specs.PartLaws.{may-advance, along-more, along-less}
 use Rattle.whole.specs.PrintLaws.{along-over, fits-all}
 use Prim.Native.Nat.{_≤_}
 use mathlib.Core.Path.{_≡_}

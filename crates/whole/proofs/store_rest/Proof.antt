@@ -1,5 +1,5 @@
 -- `whole::store_rest` meets its contract. Assumes nothing.
-use Rattle.parts.specs.PartLaws.{may-advance, along-more, along-room, along-less}
+use Rattle.whole.specs.PartLaws.{may-advance, along-more, along-room, along-less}
 use Rattle.whole.specs.PrintLaws.{along-store, along-area, along-text, all-place, all-area, all-text}
 use mathlib.Core.Path.{_≡_, refl}
 use lib.ListN.{length, drop}

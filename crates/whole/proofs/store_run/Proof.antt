@@ -1,5 +1,5 @@
 -- `whole::store_run` meets its contract. Assumes nothing.
-use Rattle.parts.specs.PartLaws.{begun-along}
+use Rattle.whole.specs.PartLaws.{begun-along}
 use Rattle.whole.specs.PrintLaws.{begun-store, begun-text, begun-area}
 use native.Mathlib.Omega.{arith}
 use borrow.Author.Needs.{needs}
