@@ -20,7 +20,7 @@ use Rattle.packet.specs.declared.Heard.the-variants.{Nothing, Clean, Jammed, Se
 use Rattle.state.specs.declared.Station.{Station}
 use Rattle.record.specs.Codec.{decoded, encoded}
 use Rattle.record.specs.CodecLaws.{Fit, decoded-encoded, encoded-small, length-encoded}
-use Rattle.area.specs.Offsets.{theLine, from, width}
+use Rattle.area.specs.Offsets.{theLine, from, width, areaSize}
 use Rattle.area.specs.Places.{Part, piece, clock, depth, layout, draws, counters, station, frame, buffer, place, Off, Keeps}
 use Rattle.area.specs.Area.{clockAt, withClock, depthAt, drawAt, figuresAt, countAt, positionAt, addressAt, distance, spaceAt, countersAt, withCounters, recordAt, stationAt, withStation, frameAt, withFrame, bufferAt, octetWith, withBit, heardOf, heardCode, symbolAt, arrivalAt, withArrival}
 
@@ -84,7 +84,7 @@ module _ (l m : List ℕ) where
   unfolding spaceAt
   space-by i j hi hj k = ap₂ distance (position-by i hi k) (position-by j hj k)
 
-  pub address-by : (i : ℕ) → i < 16 → 57344 ≤ length l → 57344 ≤ length m → Keeps layout l m → addressAt l i ≡ addressAt m i
+  pub address-by : (i : ℕ) → i < 16 → areaSize ≤ length l → areaSize ≤ length m → Keeps layout l m → addressAt l i ≡ addressAt m i
   unfolding addressAt Keeps
   address-by i h p q k =
       part-goes-by 6 (68 + 16 * i) l m (omega arith) (omega arith) (same-part 8 312 (68 + 16 * i) 6 l m (omega arith) (omega arith) k)
@@ -97,7 +97,7 @@ module _ (l m : List ℕ) where
   unfolding recordAt Keeps
   record-by i s = words-go-by 14 (2048 + 64 * i) l m (same-part (2048 + 64 * i) 64 (2048 + 64 * i) 56 l m (omega arith) (omega arith) s)
 
-  pub station-by : (i : ℕ) → i < 16 → 57344 ≤ length l → 57344 ≤ length m → Keeps layout l m → Keeps (station i) l m → stationAt l i ≡ stationAt m i
+  pub station-by : (i : ℕ) → i < 16 → areaSize ≤ length l → areaSize ≤ length m → Keeps layout l m → Keeps (station i) l m → stationAt l i ≡ stationAt m i
   unfolding stationAt
   station-by i h p q k s = ap₂ decoded (record-by i s) (address-by i h p q k)
 
@@ -113,12 +113,12 @@ module _ (l m : List ℕ) where
   unfolding arrivalAt
   arrival-by i u k = ap heardOf (symbol-by i u k)
 
-  pub frame-by : (i n : ℕ) → i < 16 → n ≤ 1536 → 57344 ≤ length l → 57344 ≤ length m → Keeps (frame i) l m → frameAt l i n ≡ frameAt m i n
+  pub frame-by : (i n : ℕ) → i < 16 → n ≤ 1536 → areaSize ≤ length l → areaSize ≤ length m → Keeps (frame i) l m → frameAt l i n ≡ frameAt m i n
   unfolding frameAt Keeps
   frame-by i n h g p q k =
       part-goes-by n (8192 + 1536 * i) l m (omega arith) (omega arith) (same-part (8192 + 1536 * i) 1536 (8192 + 1536 * i) n l m (omega arith) (omega arith) k)
 
-  pub buffer-by : (i : ℕ) → i < 16 → 57344 ≤ length l → 57344 ≤ length m → Keeps (buffer i) l m → bufferAt l i ≡ bufferAt m i
+  pub buffer-by : (i : ℕ) → i < 16 → areaSize ≤ length l → areaSize ≤ length m → Keeps (buffer i) l m → bufferAt l i ≡ bufferAt m i
   unfolding bufferAt Keeps
   buffer-by i h p q k =
       part-goes-by 1518 (32768 + 1536 * i) l m (omega arith) (omega arith)
@@ -231,7 +231,7 @@ part-set l b n m v h g =
     (λ z. rw z (getD-set-same l (b + m) v 0 (omega arith) ∙ sym (getD-set-same (part l b n) m v 0 (omega arith))))
     (λ z. getD-set-other l (b + m) (b + i) v 0 (λ y. z (omega arith)) ∙ sym (getD-set-other (part l b n) m i v 0 z ∙ part-at l b n i q)))
 
-module _ (a : List ℕ) (big : 57344 ≤ length a) where
+module _ (a : List ℕ) (big : areaSize ≤ length a) where
   -- a collected bit, in the octets that are kept
   pub bit-same : (i k : ℕ) (b : Bool) → i < 16 → k < 12144
       → bufferAt (withBit a i k b) i ≡ set (bufferAt a i) (k / 8) (octetWith (getD (bufferAt a i) (k / 8) 0) (k % 8) b)

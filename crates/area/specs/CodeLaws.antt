@@ -35,6 +35,7 @@ use Rattle.packet.specs.Packet.{symbolOf}
 use Rattle.state.specs.declared.Station.{Station}
 use Rattle.record.specs.Codec.{decoded, encoded}
 use Rattle.area.specs.Area.{clockAt, withClock, depthAt, drawAt, figuresAt, countAt, positionAt, addressAt, tapAt, layoutAt, distance, spaceAt, countersAt, withCounters, recordAt, stationAt, withStation, withWord, octetWith, withBit, withOctet, heardOf, heardCode, symbolAt, arrivalAt, withArrival, alone, overlaid, joined, withSymbol, withFrame, frameAt, bufferAt, frameBuilt}
+use Rattle.area.specs.Offsets.{areaSize}
 
 -- ---- numbers
 
@@ -254,7 +255,7 @@ module _ (a d s : List ℕ) (v : ℕ) (x : List ℕ) (b : ℕ) where
       let n : length (frameOf d s v x) ≤ 1518 = omega (arith, frame-size d s v x hd hs, data-within v (length x) h) in
       rw (h, le-ltb (length (midOf b 1518 a)) (length (frameOf d s v x)) (omega (arith, length-part a b 1518 g)), lent-store (frameOf d s v x) b 1518 a n)
 
-lent-frame : (a d s : List ℕ) (v : ℕ) (x : List ℕ) (i : ℕ) → s ≡ addressAt a i → length d ≡ 6 → length s ≡ 6 → i < 16 → 57344 ≤ length a
+lent-frame : (a d s : List ℕ) (v : ℕ) (x : List ℕ) (i : ℕ) → s ≡ addressAt a i → length d ≡ 6 → length s ≡ 6 → i < 16 → areaSize ≤ length a
     → after (8192 + 1536 * i) 1518 a (built (midOf (8192 + 1536 * i) 1518 a) d s v x) ≡ frameBuilt a i d v x
 unfolding frameBuilt withFrame
 lent-frame a d s v x i es hd hs hi hl = go (refusesData v (length x)) refl
@@ -269,7 +270,7 @@ lent-frame a d s v x i es hd hs hi hl = go (refusesData v (length x)) refl
 
 pub built-is : (a d s : List ℕ) (v : ℕ) (x : List ℕ) (i : ℕ) (r : Answer) (m : List ℕ)
     → outcome r m ≡ built (midOf (8192 + 1536 * i) (8192 + 1536 * i + 1518 - (8192 + 1536 * i)) a) d s v x → s ≡ addressAt a i
-    → length d ≡ 6 → length s ≡ 6 → i < 16 → 57344 ≤ length a
+    → length d ≡ 6 → length s ≡ 6 → i < 16 → areaSize ≤ length a
     → outcome r (putMid (8192 + 1536 * i) (8192 + 1536 * i + 1518 - (8192 + 1536 * i)) a m) ≡ frameBuilt a i d v x
 unfolding after
 built-is a d s v x i r m p es hd hs hi hl =

@@ -18,6 +18,7 @@ use Rattle.octets.specs.WordsLaws.{word-at}
 use Rattle.state.specs.declared.Station.{Station}
 use Rattle.record.specs.Codec.{encoded}
 use Rattle.area.specs.Area.{recordAt, withStation, withWord}
+use Rattle.area.specs.Offsets.{areaSize}
 
 -- ---- a number written over itself
 
@@ -118,7 +119,7 @@ module _ (l : List ℕ) (b : ℕ) (ws : List ℕ) (o : Octets l) where
 
 -- ---- a record
 
-module _ (a : List ℕ) (i : ℕ) (s : Station) (hi : i < 16) (room : 57344 ≤ length a) (o : Octets a) where
+module _ (a : List ℕ) (i : ℕ) (s : Station) (hi : i < 16) (room : areaSize ≤ length a) (o : Octets a) where
   pub station-back : encoded s ≡ recordAt a i → withStation a i s ≡ a
   unfolding withStation recordAt
   station-back e =

@@ -17,7 +17,7 @@ use Rattle.octets.specs.Store.{Apart, octet-same}
 use Rattle.packet.specs.declared.Heard.{Heard}
 use Rattle.state.specs.declared.Station.{Station}
 use Rattle.record.specs.Codec.{encoded}
-use Rattle.area.specs.Offsets.{theClock, theCounters, theStation, theLine, theBuffer, from, width}
+use Rattle.area.specs.Offsets.{theClock, theCounters, theStation, theLine, theBuffer, from, width, areaSize}
 use Rattle.area.specs.Places.{clock, counters, station, buffer, place, Keeps}
 use Rattle.area.specs.Written.{words-over}
 use Rattle.area.specs.Area.{withClock, withCounters, withStation, octetWith, withBit, heardCode, symbolAt, withArrival}
@@ -64,13 +64,13 @@ front v l k h g =
     let z : k ≡ 0 + k = omega arith in ap (λ (i : ℕ). getD (sets l 0 v) i 0) z ∙ octet-same v l 0 k h (omega arith)
 
 -- the clock's octets go by the clock alone
-pub clock-on : (x y : List ℕ) (c : ℕ) → 57344 ≤ length x → 57344 ≤ length y → Keeps clock (withClock x c) (withClock y c)
+pub clock-on : (x y : List ℕ) (c : ℕ) → areaSize ≤ length x → areaSize ≤ length y → Keeps clock (withClock x c) (withClock y c)
 unfolding withClock put Same Keeps
 clock-on x y c lx ly k lo up =
     let m : length (spelled 4 c) ≡ 4 = length-spelled 4 c in
     front (spelled 4 c) x k (omega arith) (omega arith) ∙ sym (front (spelled 4 c) y k (omega arith) (omega arith))
 
-module _ (i : ℕ) (hi : i < 16) (x y : List ℕ) (lx : 57344 ≤ length x) (ly : 57344 ≤ length y) where
+module _ (i : ℕ) (hi : i < 16) (x y : List ℕ) (lx : areaSize ≤ length x) (ly : areaSize ≤ length y) where
   pub station-on : (s : Station) → Keeps (station i) x y → Keeps (station i) (withStation x i s) (withStation y i s)
   unfolding Keeps Same withStation
   station-on s e k lo up = words-over 14 x y (2048 + 64 * i) (encoded s) k (omega arith) (omega arith) (λ o. e k lo up)

@@ -21,6 +21,7 @@ use Rattle.record.specs.Codec.{encoded}
 use Rattle.area.specs.Area.{recordAt, withStation, withWord, withBit, heardCode, symbolAt, withArrival}
 use Rattle.area.specs.AreaLaws.{code-small}
 use Rattle.area.specs.OneWord.{station-back, length-word}
+use Rattle.area.specs.Offsets.{areaSize}
 
 -- ---- an octet elsewhere
 
@@ -109,7 +110,7 @@ pub word-small : (a : List ℕ) (i k : ℕ) → Octets a → k < 14 → getD (re
 unfolding recordAt
 word-small a i k o h = omega (arith, word-at 14 a (2048 + 64 * i) k h, get-small 4 a (2048 + 64 * i + 4 * k) o)
 
-module _ (i : ℕ) (x : List ℕ) (hi : i < 16) (room : 57344 ≤ length x) where
+module _ (i : ℕ) (x : List ℕ) (hi : i < 16) (room : areaSize ≤ length x) where
   pub wrote-none : (w : List ℕ) → Octets x → recordAt x i ≡ w → Wrote i x x w
   wrote-none w o e = record { long = refl; rest = λ k p. refl; words = e; octets = o }
 
@@ -164,7 +165,7 @@ module _ (a : List ℕ) (i : ℕ) (hi : i < 16) (s : Station) where
       rw e (words-past 14 a (encoded s) (2048 + 64 * i) at _ (λ x y. omega arith))
 
   -- what is written over another state
-  pub station-over : (s′ : Station) → 57344 ≤ length a → withStation (withStation a i s′) i s ≡ withStation a i s
+  pub station-over : (s′ : Station) → areaSize ≤ length a → withStation (withStation a i s′) i s ≡ withStation a i s
   unfolding withStation Same
   station-over s′ room =
       let b = 2048 + 64 * i in

@@ -22,19 +22,20 @@ ghost use Prim.Native.Nat.{_+_, _*_, _%_, _<_, _≤_, min, max};
 ghost use lib.ListN.{length, getD};
 ghost use Rattle.layout.specs.Layout.{placesOf};
 ghost use Rattle.area.specs.Area.{clockAt, withClock, depthAt, drawAt, figuresAt, countAt, positionAt, addressAt, tapAt, layoutAt, distance, countersAt, withCounters, recordAt, stationAt, withStation, withWord};
+ghost use Rattle.area.specs.Offsets.{areaSize};
 
 // The octets of a work area.
 pub const AREA: usize = 57344;
 
 pub fn read_clock(area: &[u8]) -> u32
-    requires { ⌜ 57344 ≤ length (now area) ⌝ }
+    requires { ⌜ areaSize ≤ length (now area) ⌝ }
     ensures { λ r. ⌜ r ≡ clockAt (now (area .entry)) ⌝ }
 {
     words::get32(area, 0)
 }
 
 pub fn write_clock(area: &mut [u8], t: u32)
-    requires { ⌜ 57344 ≤ length (now area) ⌝ }
+    requires { ⌜ areaSize ≤ length (now area) ⌝ }
     ensures { λ r. ⌜ now (area .exit) ≡ withClock (now (area .entry)) t ⌝ }
 {
     words::put32(area, 0, t);
@@ -42,7 +43,7 @@ pub fn write_clock(area: &mut [u8], t: u32)
 
 // D.
 pub fn read_depth(area: &[u8]) -> u32
-    requires { ⌜ 57344 ≤ length (now area) ⌝ }
+    requires { ⌜ areaSize ≤ length (now area) ⌝ }
     ensures { λ r. ⌜ r ≡ depthAt (now (area .entry)) ⌝ }
 {
     words::get32(area, 4)
@@ -50,14 +51,14 @@ pub fn read_depth(area: &[u8]) -> u32
 
 // Draw k of station i.
 pub fn read_draw(area: &[u8], i: usize, k: usize) -> u32
-    requires { ⌜ (i < 16) × (k < 16) × (57344 ≤ length (now area)) ⌝ }
+    requires { ⌜ (i < 16) × (k < 16) × (areaSize ≤ length (now area)) ⌝ }
     ensures { λ r. ⌜ r ≡ drawAt (now (area .entry)) i k ⌝ }
 {
     words::get16(area, 320 + 32 * i + 2 * k)
 }
 
 pub fn read_figures(area: &[u8]) -> Figures
-    requires { ⌜ 57344 ≤ length (now area) ⌝ }
+    requires { ⌜ areaSize ≤ length (now area) ⌝ }
     ensures { λ r. ⌜ r ≡ figuresAt (now (area .entry)) ⌝ }
 {
     Figures {
@@ -72,7 +73,7 @@ pub fn read_figures(area: &[u8]) -> Figures
 
 // N.
 pub fn read_count(area: &[u8]) -> u32
-    requires { ⌜ 57344 ≤ length (now area) ⌝ }
+    requires { ⌜ areaSize ≤ length (now area) ⌝ }
     ensures { λ r. ⌜ r ≡ countAt (now (area .entry)) ⌝ }
 {
     words::get32(area, 32)
@@ -80,21 +81,21 @@ pub fn read_count(area: &[u8]) -> u32
 
 // Where station i is.
 pub fn read_position(area: &[u8], i: usize) -> u32
-    requires { ⌜ (i < 16) × (57344 ≤ length (now area)) ⌝ }
+    requires { ⌜ (i < 16) × (areaSize ≤ length (now area)) ⌝ }
     ensures { λ r. ⌜ r ≡ positionAt (now (area .entry)) i ⌝ }
 {
     words::get32(area, 64 + 16 * i)
 }
 
 pub fn read_address(area: &[u8], i: usize) -> [u8; 6]
-    requires { ⌜ (i < 16) × (57344 ≤ length (now area)) ⌝ }
+    requires { ⌜ (i < 16) × (areaSize ≤ length (now area)) ⌝ }
     ensures { λ r. ⌜ r ≡ addressAt (now (area .entry)) i ⌝ }
 {
     copies::six(area, 68 + 16 * i)
 }
 
 fn read_tap(area: &[u8], i: usize) -> Tap
-    requires { ⌜ (i < 16) × (57344 ≤ length (now area)) ⌝ }
+    requires { ⌜ (i < 16) × (areaSize ≤ length (now area)) ⌝ }
     ensures { λ r. ⌜ r ≡ tapAt (now (area .entry)) i ⌝ }
 {
     let position = read_position(area, i);
@@ -104,7 +105,7 @@ fn read_tap(area: &[u8], i: usize) -> Tap
 
 // The first n stations, and blank places after them.
 fn read_taps(area: &[u8], n: usize) -> [Tap; 16]
-    requires { ⌜ (n ≤ 16) × (57344 ≤ length (now area)) ⌝ }
+    requires { ⌜ (n ≤ 16) × (areaSize ≤ length (now area)) ⌝ }
     ensures { λ r. ⌜ r ≡ placesOf (tapAt (now (area .entry))) n ⌝ }
 {
     let blank = Tap {
@@ -122,7 +123,7 @@ fn read_taps(area: &[u8], n: usize) -> [Tap; 16]
 }
 
 pub fn read_layout(area: &[u8]) -> Layout
-    requires { ⌜ 57344 ≤ length (now area) ⌝ }
+    requires { ⌜ areaSize ≤ length (now area) ⌝ }
     ensures { λ r. ⌜ r ≡ layoutAt (now (area .entry)) ⌝ }
 {
     let figures = read_figures(area);
@@ -156,7 +157,7 @@ pub fn apart(p: u32, q: u32) -> u32
 }
 
 pub fn read_counters(area: &[u8], i: usize) -> [u32; 16]
-    requires { ⌜ (i < 16) × (57344 ≤ length (now area)) ⌝ }
+    requires { ⌜ (i < 16) × (areaSize ≤ length (now area)) ⌝ }
     ensures { λ r. ⌜ r ≡ countersAt (now (area .entry)) i ⌝ }
 {
     let mut w = [0u32; 16];
@@ -165,7 +166,7 @@ pub fn read_counters(area: &[u8], i: usize) -> [u32; 16]
 }
 
 pub fn write_counters(area: &mut [u8], i: usize, counters: [u32; 16])
-    requires { ⌜ (i < 16) × (57344 ≤ length (now area)) ⌝ }
+    requires { ⌜ (i < 16) × (areaSize ≤ length (now area)) ⌝ }
     ensures { λ r. ⌜ now (area .exit) ≡ withCounters (now (area .entry)) i counters ⌝ }
 {
     words::store_words(area, 1024 + 64 * i, &counters);
@@ -173,7 +174,7 @@ pub fn write_counters(area: &mut [u8], i: usize, counters: [u32; 16])
 
 // The words of the record of station i.
 pub fn read_record(area: &[u8], i: usize) -> [u32; 14]
-    requires { ⌜ (i < 16) × (57344 ≤ length (now area)) ⌝ }
+    requires { ⌜ (i < 16) × (areaSize ≤ length (now area)) ⌝ }
     ensures { λ r. ⌜ r ≡ recordAt (now (area .entry)) i ⌝ }
 {
     let mut w = [0u32; 14];
@@ -183,7 +184,7 @@ pub fn read_record(area: &[u8], i: usize) -> [u32; 14]
 
 // Word k of the record of station i.
 pub fn read_word(area: &[u8], i: usize, k: usize) -> u32
-    requires { ⌜ (i < 16) × (k < 14) × (57344 ≤ length (now area)) ⌝ }
+    requires { ⌜ (i < 16) × (k < 14) × (areaSize ≤ length (now area)) ⌝ }
     ensures { λ r. ⌜ r ≡ getD (recordAt (now (area .entry)) i) k 0 ⌝ }
 {
     words::get32(area, 2048 + 64 * i + 4 * k)
@@ -191,7 +192,7 @@ pub fn read_word(area: &[u8], i: usize, k: usize) -> u32
 
 // The low octet of word k of the record of station i: all of it, where the word is a code or a flag.
 pub fn read_code(area: &[u8], i: usize, k: usize) -> u32
-    requires { ⌜ (i < 16) × (k < 14) × (57344 ≤ length (now area)) ⌝ }
+    requires { ⌜ (i < 16) × (k < 14) × (areaSize ≤ length (now area)) ⌝ }
     ensures { λ r. ⌜ r ≡ getD (recordAt (now (area .entry)) i) k 0 % 256 ⌝ }
 {
     octets::wide(area[2048 + 64 * i + 4 * k + 3])
@@ -199,14 +200,14 @@ pub fn read_code(area: &[u8], i: usize, k: usize) -> u32
 
 // Writes word k of the record of station i alone.
 pub fn write_word(area: &mut [u8], i: usize, k: usize, v: u32)
-    requires { ⌜ (i < 16) × (k < 14) × (57344 ≤ length (now area)) ⌝ }
+    requires { ⌜ (i < 16) × (k < 14) × (areaSize ≤ length (now area)) ⌝ }
     ensures { λ r. ⌜ now (area .exit) ≡ withWord (now (area .entry)) i k v ⌝ }
 {
     words::put32(area, 2048 + 64 * i + 4 * k, v);
 }
 
 pub fn read_station(area: &[u8], i: usize) -> Station
-    requires { ⌜ (i < 16) × (57344 ≤ length (now area)) ⌝ }
+    requires { ⌜ (i < 16) × (areaSize ≤ length (now area)) ⌝ }
     ensures { λ r. ⌜ r ≡ stationAt (now (area .entry)) i ⌝ }
 {
     let w = read_record(area, i);
@@ -215,7 +216,7 @@ pub fn read_station(area: &[u8], i: usize) -> Station
 }
 
 pub fn write_station(area: &mut [u8], i: usize, s: Station)
-    requires { ⌜ (i < 16) × (57344 ≤ length (now area)) ⌝ }
+    requires { ⌜ (i < 16) × (areaSize ≤ length (now area)) ⌝ }
     ensures { λ r. ⌜ now (area .exit) ≡ withStation (now (area .entry)) i s ⌝ }
 {
     let w = record::encode(s);

@@ -16,6 +16,7 @@ ghost use Rattle.text.specs.Text.{written, puts, refusedLine};
 ghost use Rattle.input.specs.Plan.{planRead, planReading, verdictAnswer};
 ghost use Rattle.pieces.specs.Printed.{firstText};
 ghost use Rattle.pieces.specs.Pieces.{pieceAnswer, handing, given, noProgress, startPiece, firstPiece, begun};
+ghost use Rattle.area.specs.Offsets.{areaSize};
 
 // The first line.
 fn put_heading(out: &mut [u8], y: Layout) -> usize
@@ -57,7 +58,7 @@ fn refused_piece(out: &mut [u8], n: u32) -> Handed
 // The first piece of an input that is read: a fresh start.
 fn start_piece(input: &[u8], area: &mut [u8], out: &mut [u8], p: Plan) -> Handed
     requires { ⌜ (planReading p ≡ planRead (now input)) × (numberOf (planRead (now input) .answer) ≡ 0) ⌝ }
-    requires { ⌜ (57344 ≤ length (now area)) × (2048 ≤ length (now out)) ⌝ }
+    requires { ⌜ (areaSize ≤ length (now area)) × (2048 ≤ length (now out)) ⌝ }
     ensures { λ r. ⌜ handing r (now (area .exit)) (now (out .exit)) ≡ given (now (out .entry)) (startPiece (now (input .entry)) (planReading p) (now (area .entry))) ⌝ }
 {
     let y = p.layout;
@@ -86,7 +87,7 @@ fn refusal_in(v: Verdict) -> u32
 }
 
 fn begin_on(input: &[u8], area: &mut [u8], out: &mut [u8]) -> Handed
-    requires { ⌜ (57344 ≤ length (now area)) × (2048 ≤ length (now out)) ⌝ }
+    requires { ⌜ (areaSize ≤ length (now area)) × (2048 ≤ length (now out)) ⌝ }
     ensures { λ r. ⌜ handing r (now (area .exit)) (now (out .exit)) ≡ given (now (out .entry)) (firstPiece (now (input .entry)) (now (area .entry))) ⌝ }
 {
     let p = input::read_plan(input);
@@ -108,5 +109,5 @@ pub fn begin(input: &[u8], area: &mut [u8], out: &mut [u8]) -> Handed
     if out.len() < pieces::ROOM {
         return pieces::withhold(15, no_progress());
     }
-    begin_on(input, &mut area[0..57344], out)
+    begin_on(input, &mut area[0..area::AREA], out)
 }

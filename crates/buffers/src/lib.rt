@@ -11,6 +11,7 @@ ghost use Rattle.octets.specs.Base.{outcome};
 ghost use Rattle.octets.specs.Bits.{digit};
 ghost use Rattle.packet.specs.Packet.{symbolOf};
 ghost use Rattle.frame.specs.Build.{builtAnswer};
+ghost use Rattle.area.specs.Offsets.{areaSize};
 
 pub fn power(p: usize) -> u32
     requires { ⌜ p < 8 ⌝ }
@@ -59,7 +60,7 @@ fn octet_with(x: u8, p: usize, one: bool) -> u8
 
 // Stores collected bit k of station i.
 pub fn store_bit(area: &mut [u8], i: usize, k: usize, one: bool)
-    requires { ⌜ (i < 16) × (k < 12144) × (57344 ≤ length (now area)) ⌝ }
+    requires { ⌜ (i < 16) × (k < 12144) × (areaSize ≤ length (now area)) ⌝ }
     ensures { λ r. ⌜ now (area .exit) ≡ withBit (now (area .entry)) i k one ⌝ }
 {
     let at = 32768 + 1536 * i + k / 8;
@@ -68,7 +69,7 @@ pub fn store_bit(area: &mut [u8], i: usize, k: usize, one: bool)
 
 // Writes octet k of what station i collected.
 pub fn write_octet(area: &mut [u8], i: usize, k: usize, v: u8)
-    requires { ⌜ (i < 16) × (k < 1518) × (57344 ≤ length (now area)) ⌝ }
+    requires { ⌜ (i < 16) × (k < 1518) × (areaSize ≤ length (now area)) ⌝ }
     ensures { λ r. ⌜ now (area .exit) ≡ withOctet (now (area .entry)) i k v ⌝ }
 {
     area[32768 + 1536 * i + k] = v;
@@ -76,7 +77,7 @@ pub fn write_octet(area: &mut [u8], i: usize, k: usize, v: u8)
 
 // What station i collected.
 pub fn buffer(area: &[u8], i: usize) -> &[u8]
-    requires { ⌜ (i < 16) × (57344 ≤ length (now area)) ⌝ }
+    requires { ⌜ (i < 16) × (areaSize ≤ length (now area)) ⌝ }
     ensures { λ r. ⌜ now r ≡ bufferAt (now (area .entry)) i ⌝ }
 {
     let at = 32768 + 1536 * i;
@@ -86,7 +87,7 @@ pub fn buffer(area: &[u8], i: usize) -> &[u8]
 
 // The n octets of the frame of station i.
 pub fn frame(area: &[u8], i: usize, n: usize) -> &[u8]
-    requires { ⌜ (i < 16) × (n ≤ 1536) × (57344 ≤ length (now area)) ⌝ }
+    requires { ⌜ (i < 16) × (n ≤ 1536) × (areaSize ≤ length (now area)) ⌝ }
     ensures { λ r. ⌜ now r ≡ frameAt (now (area .entry)) i n ⌝ }
 {
     let at = 8192 + 1536 * i;
@@ -96,7 +97,7 @@ pub fn frame(area: &[u8], i: usize, n: usize) -> &[u8]
 
 // The symbol that an emission of station i is, whose frame has n octets.
 pub fn symbol(area: &[u8], i: usize, n: usize, e: Emission) -> Symbol
-    requires { ⌜ (i < 16) × (n ≤ 1536) × (57344 ≤ length (now area)) ⌝ }
+    requires { ⌜ (i < 16) × (n ≤ 1536) × (areaSize ≤ length (now area)) ⌝ }
     ensures { λ r. ⌜ r ≡ symbolOf (frameAt (now (area .entry)) i n) e ⌝ }
 {
     let at = 8192 + 1536 * i;
@@ -112,7 +113,7 @@ pub fn build_frame(
     value: u16,
     payload: &[u8],
 ) -> Built
-    requires { ⌜ (i < 16) × (57344 ≤ length (now area)) ⌝ }
+    requires { ⌜ (i < 16) × (areaSize ≤ length (now area)) ⌝ }
     ensures { λ r. ⌜ outcome (builtAnswer r) (now (area .exit)) ≡ frameBuilt (now (area .entry)) i destination value (now (payload .entry)) ⌝ }
 {
     let source = area::read_address(area, i);

@@ -5,10 +5,11 @@ use lib.Dec.{ltb, eqb}
 use lib.ListN.{replicate}
 use Rattle.octets.specs.Base.{pick, Answer, refused, accepted, doneAnswer}
 use Rattle.area.specs.Area.{clockAt}
-use Rattle.valid.specs.Valid.{lastClock, areaRefusal}
+use Rattle.valid.specs.Valid.{areaRefusal}
 use Rattle.pair.specs.declared.Events.{Events}
 use Rattle.pair.specs.BitTime.{noEvents, eventsAt, stepArea}
 use Rattle.bus.specs.declared.BitTime.{BitTime}
+use Rattle.layout.specs.Limits.{lastClock}
 
 -- what a step leaves: its answer, the events of each station, the area
 pub record Bit : Type 0 where

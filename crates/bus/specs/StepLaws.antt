@@ -17,6 +17,7 @@ use Rattle.ready.specs.Passes.{passes-ready}
 use Rattle.bus.specs.declared.BitTime.{BitTime}
 use Rattle.bus.specs.Counters.{Reading, countersRead}
 use Rattle.bus.specs.Step.{Bit, bitTimeOutcome, unstepped, steppedOnce}
+use Rattle.layout.specs.Limits.{lastClock}
 
 module _ (a : List ℕ) (n : ℕ) (r : BitTime) where
   same-bit : (k : ℕ) → doneAnswer (r .done) ≡ refused k → r .events ≡ replicate 16 noEvents → bitTimeOutcome r a ≡ unstepped k a
@@ -26,15 +27,15 @@ module _ (a : List ℕ) (n : ℕ) (r : BitTime) where
   unfolding steppedOnce
   step-area p q e h = same-bit n p q ∙ rw (← e, ne-eqb n 0 h)
 
-  pub step-over : (t : ℕ) → doneAnswer (r .done) ≡ refused 13 → r .events ≡ replicate 16 noEvents → n ≡ areaRefusal a → n ≡ 0 → t ≡ clockAt a → 16777216 ≤ t
+  pub step-over : (t : ℕ) → doneAnswer (r .done) ≡ refused 13 → r .events ≡ replicate 16 noEvents → n ≡ areaRefusal a → n ≡ 0 → t ≡ clockAt a → lastClock ≤ t
       → bitTimeOutcome r a ≡ steppedOnce a
   unfolding steppedOnce
-  step-over t p q e h f g = same-bit 13 p q ∙ rw (← e, eq-eqb n 0 h, ← f, lt-ltb 16777216 (t + 1) (omega arith))
+  step-over t p q e h f g = same-bit 13 p q ∙ rw (← e, eq-eqb n 0 h, ← f, lt-ltb lastClock (t + 1) (omega arith))
 
-pub step-made : (a : List ℕ) (n t : ℕ) (es : List Events) (x : List ℕ) → x ≡ stepArea a → es ≡ eventsAt a → n ≡ areaRefusal a → n ≡ 0 → t ≡ clockAt a → t < 16777216
+pub step-made : (a : List ℕ) (n t : ℕ) (es : List Events) (x : List ℕ) → x ≡ stepArea a → es ≡ eventsAt a → n ≡ areaRefusal a → n ≡ 0 → t ≡ clockAt a → t < lastClock
     → record { answer = accepted []; events = es; octets = x } ≡ steppedOnce a
 unfolding steppedOnce
-step-made a n t es x p q e h f g = rw (← e, eq-eqb n 0 h, ← f, le-ltb 16777216 (t + 1) (omega arith), p, q)
+step-made a n t es x p q e h f g = rw (← e, eq-eqb n 0 h, ← f, le-ltb lastClock (t + 1) (omega arith), p, q)
 
 pub step-ready : (a : List ℕ) (n : ℕ) → n ≡ areaRefusal a → n ≡ 0 → Octets a → Ready a
 unfolding Ready

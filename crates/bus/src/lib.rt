@@ -69,7 +69,7 @@ pub fn step(area: &mut [u8]) -> BitTime
     if number != 0 {
         return no_step(number);
     }
-    if 16777216 <= area::read_clock(area) {
+    if layout::LAST_CLOCK <= area::read_clock(area) {
         return no_step(13);
     }
     let events = turn::step::step(area);

@@ -40,6 +40,8 @@ use Rattle.answers.specs.Answers.{replied, valueOf, layoutPut, clientWords, eve
 use Rattle.tables.specs.RunWords.{runPut}
 use Rattle.calls.specs.Calls.{codeOf, given, left, codeGiven, unless, kept, bothKept, short, sheetGiven, fitsGiven, buildGiven, statusGiven, clientGiven, drawsRefusal, drawnGiven, startGiven, offerGiven, stepLeft, runLeft, timeRefusal, frameGiven, countersGiven}
 use Rattle.calls.specs.Numbers.{sheet-low, sheet-few, fit-low, open-low, open-small, build-low, build-small, start-low, offer-low, time-low, frame-low, counters-low}
+use Rattle.layout.specs.Limits.{lastClock}
+use Rattle.area.specs.Offsets.{areaSize}
 
 -- ---- a refusal that stands, and one that does not
 
@@ -110,18 +112,18 @@ module _ (l : List ℕ) (f : Sheet) (n : ℕ) (q : n ≡ numberOf (sheetAnswer (
       let w : fitAnswer t ≡ fitOf (readSheet l .layout) = c ∙ ap fitOf layout-same in
       p ∙ ap₂ replied b a ∙ ap codeOf w ∙ passes (numberOf (readSheet l .answer)) 0 0 (λ k. k) _ (number-is ∙ z)
 
-  pub start-sheet : (a draws : List ℕ) (d r : ℕ) → r ≡ replied n 0 → (n ≡ 0 → ⊥) → 57344 ≤ length a → given r a ≡ startGiven a l d draws
+  pub start-sheet : (a draws : List ℕ) (d r : ℕ) → r ≡ replied n 0 → (n ≡ 0 → ⊥) → areaSize ≤ length a → given r a ≡ startGiven a l d draws
   unfolding startGiven
   start-sheet a draws d r p h g =
       refuses (numberOf (readSheet l .answer)) n r (kept a) _ p number-is h
-      ∙ passes (pick (ltb (length a) 57344) 1 0) 0 0 (kept a) _ (rw (le-ltb (length a) 57344 g))
+      ∙ passes (pick (ltb (length a) areaSize) 1 0) 0 0 (kept a) _ (rw (le-ltb (length a) areaSize g))
 
-  pub start-made : (a b draws : List ℕ) (d r : ℕ) → given r b ≡ drawnGiven a (f .layout) d draws → n ≡ 0 → 57344 ≤ length a → given r b ≡ startGiven a l d draws
+  pub start-made : (a b draws : List ℕ) (d r : ℕ) → given r b ≡ drawnGiven a (f .layout) d draws → n ≡ 0 → areaSize ≤ length a → given r b ≡ startGiven a l d draws
   unfolding startGiven
   start-made a b draws d r p z g =
       p ∙ ap (λ (y : Layout). drawnGiven a y d draws) layout-same
       ∙ passes (numberOf (readSheet l .answer)) 0 0 (kept a) _ (number-is ∙ z)
-      ∙ passes (pick (ltb (length a) 57344) 1 0) 0 0 (kept a) _ (rw (le-ltb (length a) 57344 g))
+      ∙ passes (pick (ltb (length a) areaSize) 1 0) 0 0 (kept a) _ (rw (le-ltb (length a) areaSize g))
 
 pub fit-number-low : (y : Layout) (t : Fit) (k : ℕ) → k ≡ numberOf (fitAnswer t) → fitAnswer t ≡ fitOf y → k ≤ 16
 fit-number-low y t k p q = let h : numberOf (fitAnswer t) ≡ numberOf (fitOf y) = ap numberOf q in omega (arith, fit-low y)
@@ -205,9 +207,9 @@ draws-deep d b q r = within d 1 16 (sym q ∙ r) .1
 pub draws-room : (l : List ℕ) (n d : ℕ) → length l ≡ 2 * (n * d) → 0 + 2 * (n * d) ≤ length l
 draws-room l n d h = omega arith
 
-pub start-short : (a s draws : List ℕ) (d r : ℕ) → r ≡ replied 1 0 → length a < 57344 → given r a ≡ startGiven a s d draws
+pub start-short : (a s draws : List ℕ) (d r : ℕ) → r ≡ replied 1 0 → length a < areaSize → given r a ≡ startGiven a s d draws
 unfolding startGiven
-start-short a s draws d r p h = refuses (pick (ltb (length a) 57344) 1 0) 1 r (kept a) _ p (rw (lt-ltb (length a) 57344 h)) (λ z. omega arith)
+start-short a s draws d r p h = refuses (pick (ltb (length a) areaSize) 1 0) 1 r (kept a) _ p (rw (lt-ltb (length a) areaSize h)) (λ z. omega arith)
 
 module _ (a b x d : List ℕ) (i dn v : ℕ) (t : Done) (n : ℕ) (q : n ≡ numberOf (doneAnswer t)) (e : outcome (doneAnswer t) b ≡ offered a i d v x) where
   pub offer-number-low : n ≤ 16
@@ -226,13 +228,13 @@ module _ (a : List ℕ) (n k : ℕ) (p : k ≡ areaRefusal a) where
   unfolding timeRefusal
   time-area h = rw (← p, ne-eqb k 0 h)
 
-  pub time-over : (c : ℕ) → k ≡ 0 → c ≡ clockAt a → 16777216 - c < n → 13 ≡ timeRefusal a n
+  pub time-over : (c : ℕ) → k ≡ 0 → c ≡ clockAt a → lastClock - c < n → 13 ≡ timeRefusal a n
   unfolding timeRefusal
-  time-over c h e g = rw (← p, eq-eqb k 0 h, ← e, lt-ltb 16777216 (c + n) (omega arith))
+  time-over c h e g = rw (← p, eq-eqb k 0 h, ← e, lt-ltb lastClock (c + n) (omega arith))
 
-  pub time-none : (c : ℕ) → k ≡ 0 → c ≡ clockAt a → c ≤ 16777216 → n ≤ 16777216 - c → 0 ≡ timeRefusal a n
+  pub time-none : (c : ℕ) → k ≡ 0 → c ≡ clockAt a → c ≤ lastClock → n ≤ lastClock - c → 0 ≡ timeRefusal a n
   unfolding timeRefusal
-  time-none c h e w g = rw (← p, eq-eqb k 0 h, ← e, le-ltb 16777216 (c + n) (omega arith))
+  time-none c h e w g = rw (← p, eq-eqb k 0 h, ← e, le-ltb lastClock (c + n) (omega arith))
 
 pub time-number-low : (a : List ℕ) (n m : ℕ) → m ≡ timeRefusal a n → m ≤ 16
 time-number-low a n m p = omega (arith, time-low a n)
@@ -247,7 +249,7 @@ short-only a n m r p q h = p ∙ rw (← q, eq-eqb m 0 h)
 
 step-number : (a : List ℕ) → numberOf (steppedOnce a .answer) ≡ timeRefusal a 1
 unfolding steppedOnce timeRefusal
-step-number a = go (eqb (areaRefusal a) 0) (ltb 16777216 (clockAt a + 1))
+step-number a = go (eqb (areaRefusal a) 0) (ltb lastClock (clockAt a + 1))
   where
     go : (b c : Bool) → numberOf (pick b (pick c (unstepped 13 a) (record { answer = accepted []; events = eventsAt a; octets = stepArea a })) (unstepped (areaRefusal a) a) .answer) ≡ pick b (pick c 13 0) (areaRefusal a)
     go true true = refl
@@ -256,7 +258,7 @@ step-number a = go (eqb (areaRefusal a) 0) (ltb 16777216 (clockAt a + 1))
 
 step-kept : (a : List ℕ) → (numberOf (steppedOnce a .answer) ≡ 0 → ⊥) → steppedOnce a .octets ≡ a
 unfolding steppedOnce
-step-kept a = go (eqb (areaRefusal a) 0) (ltb 16777216 (clockAt a + 1))
+step-kept a = go (eqb (areaRefusal a) 0) (ltb lastClock (clockAt a + 1))
   where
     go : (b c : Bool)
         → (numberOf (pick b (pick c (unstepped 13 a) (record { answer = accepted []; events = eventsAt a; octets = stepArea a })) (unstepped (areaRefusal a) a) .answer) ≡ 0 → ⊥)
@@ -310,7 +312,7 @@ run-accepted (suc k) m ws a = go (some (lateAt (eventsAt a)) 16) _ _ refl (run-a
 
 run-number : (a : List ℕ) (n : ℕ) → numberOf (ran a n .answer) ≡ timeRefusal a n
 unfolding ran timeRefusal
-run-number a n = go (eqb (areaRefusal a) 0) (ltb 16777216 (clockAt a + n))
+run-number a n = go (eqb (areaRefusal a) 0) (ltb lastClock (clockAt a + n))
   where
     go : (b c : Bool) → numberOf (pick b (pick c (unrun 13 a) (runOf n 0 (replicate 9 0) a)) (unrun (areaRefusal a) a) .answer) ≡ pick b (pick c 13 0) (areaRefusal a)
     go true true = refl
@@ -319,7 +321,7 @@ run-number a n = go (eqb (areaRefusal a) 0) (ltb 16777216 (clockAt a + n))
 
 run-kept : (a : List ℕ) (n : ℕ) → (numberOf (ran a n .answer) ≡ 0 → ⊥) → ran a n .octets ≡ a
 unfolding ran
-run-kept a n = go (eqb (areaRefusal a) 0) (ltb 16777216 (clockAt a + n))
+run-kept a n = go (eqb (areaRefusal a) 0) (ltb lastClock (clockAt a + n))
   where
     go : (b c : Bool) → (numberOf (pick b (pick c (unrun 13 a) (runOf n 0 (replicate 9 0) a)) (unrun (areaRefusal a) a) .answer) ≡ 0 → ⊥)
         → pick b (pick c (unrun 13 a) (runOf n 0 (replicate 9 0) a)) (unrun (areaRefusal a) a) .octets ≡ a

@@ -35,6 +35,8 @@ use Rattle.answers.specs.Answers.{refusalBit, replied, valueOf, layoutPut, clie
 use Rattle.tables.specs.RunWords.{runPut}
 use Rattle.calls.specs.Calls.{Given, given, Left, left, codeGiven, unless, kept, bothKept, short, sheetGiven, buildGiven, clientGiven, drawsRefusal, drawnGiven, startGiven, offerGiven, stepLeft, runLeft, frameGiven, countersGiven}
 use Rattle.calls.specs.Numbers.{sheet-small, build-size}
+use Rattle.layout.specs.Limits.{lastClock}
+use Rattle.area.specs.Offsets.{areaSize}
 
 -- a call that was lent l and gives x: where its reply has bit 31, l is as it was
 abbrev pub Keeps : List ℕ → Given → Type 0
@@ -117,7 +119,7 @@ client-keeps f e out =
 start-told : (a : List ℕ) (y : Layout) (d : ℕ) (ds : List (List ℕ)) → Told a (started a y d ds)
 unfolding started
 start-told a y d ds =
-    by-test (ltb (length a) 57344) (λ p. rw p (omega arith, λ h. refl))
+    by-test (ltb (length a) areaSize) (λ p. rw p (omega arith, λ h. refl))
     (λ p. by-test (eqb (refusalOf y) 0)
     (λ q. by-test (outside d 1 16) (λ r. rw (p, q, r) (omega arith, λ h. refl)) (λ r. rw (p, q, r) (omega arith, λ h. absurd (h refl))))
     (λ q. rw (p, q) (omega arith, λ h. refl)))
@@ -129,7 +131,7 @@ drawn-keeps a y d l = checks (drawsRefusal (y .count) d (length l)) a _ (coded a
 pub start-keeps : (a s : List ℕ) (d : ℕ) (l : List ℕ) → Keeps a (startGiven a s d l)
 unfolding startGiven
 start-keeps a s d l =
-    checks (pick (ltb (length a) 57344) 1 0) a _
+    checks (pick (ltb (length a) areaSize) 1 0) a _
     (checks (numberOf (readSheet s .answer)) a _ (drawn-keeps a (readSheet s .layout) d l))
 
 offer-told : (a : List ℕ) (i : ℕ) (d : List ℕ) (v : ℕ) (x : List ℕ) → Told a (offered a i d v x)
@@ -159,12 +161,12 @@ steps-most (suc k) m ws a =
     by-test (some (lateAt (eventsAt a)) 16) (λ p. rw p (omega arith))
     (λ p. rw p (omega (arith, steps-most k (m + 1) (tallied (eventsAt a) 16 ws) (stepArea a))))
 
-run-small : (a : List ℕ) (n : ℕ) → ran a n .steps ≤ 16777216
+run-small : (a : List ℕ) (n : ℕ) → ran a n .steps ≤ lastClock
 unfolding ran
 run-small a n =
     by-test (eqb (areaRefusal a) 0)
-    (λ p. by-test (ltb 16777216 (clockAt a + n)) (λ q. rw (p, q) (omega arith))
-    (λ q. rw (p, q) (omega (arith, steps-most n 0 (replicate 9 0) a, ltb-false 16777216 (clockAt a + n) q))))
+    (λ p. by-test (ltb lastClock (clockAt a + n)) (λ q. rw (p, q) (omega arith))
+    (λ q. rw (p, q) (omega (arith, steps-most n 0 (replicate 9 0) a, ltb-false lastClock (clockAt a + n) q))))
     (λ p. rw p (omega arith))
 
 pub run-keeps : (a : List ℕ) (n : ℕ) (out : List ℕ) → BothKept a out (runLeft a n out)

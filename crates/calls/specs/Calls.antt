@@ -17,7 +17,7 @@ use Rattle.opener.specs.Open.{opened}
 use Rattle.frame.specs.Build.{built}
 use Rattle.area.specs.Offsets.{areaSize}
 use Rattle.area.specs.Area.{clockAt}
-use Rattle.valid.specs.Valid.{areaRefusal, lastClock}
+use Rattle.valid.specs.Valid.{areaRefusal}
 use Rattle.start.specs.Start.{started}
 use Rattle.offer.specs.Offer.{offered}
 use Rattle.bus.specs.Step.{steppedOnce}
@@ -26,6 +26,7 @@ use Rattle.course.specs.Run.{ran}
 use Rattle.reading.specs.Read.{frameRead}
 use Rattle.answers.specs.Answers.{replied, valueOf, layoutPut, clientWords, eventsPut}
 use Rattle.tables.specs.RunWords.{runPut}
+use Rattle.layout.specs.Limits.{lastClock}
 
 -- ---- the number that a call returns
 

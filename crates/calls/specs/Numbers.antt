@@ -31,6 +31,8 @@ use Rattle.bus.specs.Counters.{countersRead}
 use Rattle.reading.specs.Read.{isReadable, frameRead}
 use Rattle.answers.specs.Answers.{valueOf}
 use Rattle.calls.specs.Calls.{timeRefusal}
+use Rattle.layout.specs.Limits.{lastClock}
+use Rattle.area.specs.Offsets.{areaSize}
 
 -- ---- sheets
 
@@ -173,14 +175,14 @@ build-small l d s v x = omega (arith, build-size l (spelled 6 d) (spelled 6 s) v
 pub area-low : (a : List ℕ) → areaRefusal a ≤ 16
 unfolding areaRefusal
 area-low a =
-    by-test (ltb (length a) 57344) (λ p. rw p (omega arith))
+    by-test (ltb (length a) areaSize) (λ p. rw p (omega arith))
     (λ p. by-test (areaWrong a) (λ q. rw (p, q) (omega arith))
     (λ q. rw (p, q) (omega arith)))
 
 pub start-low : (a : List ℕ) (y : Layout) (d : ℕ) (ds : List (List ℕ)) → numberOf (started a y d ds .answer) ≤ 16
 unfolding started
 start-low a y d ds =
-    by-test (ltb (length a) 57344) (λ p. rw p (omega arith))
+    by-test (ltb (length a) areaSize) (λ p. rw p (omega arith))
     (λ p. by-test (eqb (refusalOf y) 0)
     (λ q. by-test (outside d 1 16) (λ r. rw (p, q, r) (omega arith)) (λ r. rw (p, q, r) (omega arith)))
     (λ q. rw (p, q) (layout-low y)))
@@ -198,7 +200,7 @@ pub time-low : (a : List ℕ) (n : ℕ) → timeRefusal a n ≤ 16
 unfolding timeRefusal
 time-low a n =
     by-test (eqb (areaRefusal a) 0)
-    (λ p. by-test (ltb 16777216 (clockAt a + n)) (λ q. rw (p, q) (omega arith)) (λ q. rw (p, q) (omega arith)))
+    (λ p. by-test (ltb lastClock (clockAt a + n)) (λ q. rw (p, q) (omega arith)) (λ q. rw (p, q) (omega arith)))
     (λ p. rw p (area-low a))
 
 pub frame-low : (a : List ℕ) (i : ℕ) (out : List ℕ) → numberOf (frameRead a i out .answer) ≤ 16

@@ -39,7 +39,7 @@ fn time_refusal(area: &[u8], n: u32) -> u32
         return number;
     }
     let t = area::read_clock(area);
-    if 16777216 - t < n {
+    if layout::LAST_CLOCK - t < n {
         return 13;
     }
     0

@@ -29,6 +29,7 @@ use Rattle.calls.specs.Calls.{given, kept}
 use Rattle.calls.specs.Numbers.{area-low, layout-low, open-low, sheet-low}
 use Rattle.calls.specs.CallLaws.{refuses, passes, refuses-short, passes-long}
 use Rattle.check_calls.specs.CheckCalls.{receptionGiven, areaGiven, figuresWritten, tapWritten, layoutWritten, layoutGiven, planWords, planGiven}
+use Rattle.layout.specs.Limits.{lastClock}
 
 -- ---- a reception
 
@@ -88,7 +89,7 @@ last-low : (l : List ℕ) (c : ℕ) → lastRefusal l c ≤ 16
 unfolding lastRefusal
 last-low l c =
     by-test (planWrong l c) (λ p. rw p (omega arith))
-    (λ p. by-test (ltb 16777216 (timesIn l c)) (λ q. rw (p, q) (omega arith)) (λ q. rw (p, q) (omega arith)))
+    (λ p. by-test (ltb lastClock (timesIn l c)) (λ q. rw (p, q) (omega arith)) (λ q. rw (p, q) (omega arith)))
 
 after-low : (l : List ℕ) (u n : ℕ) → afterSheet l u n ≤ 16
 unfolding afterSheet

@@ -9,13 +9,14 @@ use Rattle.octets.specs.Base.{pick, some, Answer, refused, accepted, doneAnswer
 use Rattle.octets.specs.Turns.{turns}
 use Rattle.tally.specs.Tally.{sentCounted, gotCounted, isLate}
 use Rattle.area.specs.Area.{clockAt}
-use Rattle.valid.specs.Valid.{areaRefusal, lastClock}
+use Rattle.valid.specs.Valid.{areaRefusal}
 use Rattle.pair.specs.declared.Events.{Events}
 use Rattle.pair.specs.BitTime.{eventAt, eventsAt, stepArea}
 use Rattle.course.specs.declared.Ended.{Ended}
 use Rattle.course.specs.declared.Ended.the-variants as how
 use Rattle.course.specs.declared.Course.{Course}
 use Rattle.course.specs.declared.RunAnswer.{RunAnswer}
+use Rattle.layout.specs.Limits.{lastClock}
 
 -- ---- counting
 

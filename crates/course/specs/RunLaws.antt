@@ -24,6 +24,7 @@ use Rattle.course.specs.declared.Ended.the-variants as how
 use Rattle.course.specs.declared.RunAnswer.{RunAnswer}
 use Rattle.tally.specs.Tally.{sentCounted, gotCounted, isLate}
 use Rattle.course.specs.Run.{tallied, lateAt, first, Ran, runOf, runOutcome, ran}
+use Rattle.layout.specs.Limits.{lastClock}
 
 -- ---- the words have room
 
@@ -54,7 +55,7 @@ tally-end es ws us i p lo up = let e : i ≡ 16 = omega arith in rw e at p
 
 -- k steps can be made. Shut, so that a search does not enter it
 unfoldable pub Runnable : ℕ → List ℕ → Type 0
-Runnable k a = Readiness a × (clockAt a + k ≤ 16777216)
+Runnable k a = Readiness a × (clockAt a + k ≤ lastClock)
 
 module _ (n t : ℕ) (a : List ℕ) where
   pub run-next : (b : List ℕ) → b ≡ stepArea a → Runnable (n - t) a → t < n → Runnable (n - (t + 1)) b
@@ -172,7 +173,7 @@ pub run-ready : (n t : ℕ) (a : List ℕ) → Runnable (n - t) a → Ready a
 unfolding Runnable Ready
 run-ready n t a h = h .0
 
-pub run-clock : (n t : ℕ) (a : List ℕ) → Runnable (n - t) a → t < n → clockAt a < 16777216
+pub run-clock : (n t : ℕ) (a : List ℕ) → Runnable (n - t) a → t < n → clockAt a < lastClock
 unfolding Runnable
 run-clock n t a h g = omega (arith, h .1)
 
@@ -188,23 +189,23 @@ module _ (a : List ℕ) (k n : ℕ) where
 
   pub ran-over : (r : RunAnswer) (c : ℕ) → doneAnswer (r .done) ≡ refused 13 → r .steps ≡ 0 → r .words ≡ replicate 9 0
       → r .ended ≡ how.All → k ≡ areaRefusal a → k ≡ 0
-      → c ≡ clockAt a → 16777216 - c < n → runOutcome r a ≡ ran a n
+      → c ≡ clockAt a → lastClock - c < n → runOutcome r a ≡ ran a n
   unfolding ran
   ran-over r c p q s t e h ec g =
       (λ i. record { answer = p i; steps = q i; words = s i; ended = t i; octets = a })
-      ∙ rw (← e, eq-eqb k 0 h, ← ec, lt-ltb 16777216 (c + n) (omega arith))
+      ∙ rw (← e, eq-eqb k 0 h, ← ec, lt-ltb lastClock (c + n) (omega arith))
 
   pub ran-made : (R : Ran) (c : ℕ) → R ≡ runOf n 0 (replicate 9 0) a → k ≡ areaRefusal a → k ≡ 0 → c ≡ clockAt a
-      → c ≤ 16777216 → n ≤ 16777216 - c → R ≡ ran a n
+      → c ≤ lastClock → n ≤ lastClock - c → R ≡ ran a n
   unfolding ran
-  ran-made R c p e h ec l g = p ∙ rw (← e, eq-eqb k 0 h, ← ec, le-ltb 16777216 (c + n) (omega arith))
+  ran-made R c p e h ec l g = p ∙ rw (← e, eq-eqb k 0 h, ← ec, le-ltb lastClock (c + n) (omega arith))
 
-pub run-allowed : (a : List ℕ) (k n c : ℕ) → k ≡ areaRefusal a → k ≡ 0 → Octets a → c ≡ clockAt a → n ≤ 16777216 - c
+pub run-allowed : (a : List ℕ) (k n c : ℕ) → k ≡ areaRefusal a → k ≡ 0 → Octets a → c ≡ clockAt a → n ≤ lastClock - c
     → Runnable n a
 unfolding Runnable
 run-allowed a k n c e h o ec g = let r = passes-ready a o (sym e ∙ h) .ready in (r, omega (arith, r .clock))
 
-pub clock-within : (a : List ℕ) (k c : ℕ) → k ≡ areaRefusal a → k ≡ 0 → Octets a → c ≡ clockAt a → c ≤ 16777216
+pub clock-within : (a : List ℕ) (k c : ℕ) → k ≡ areaRefusal a → k ≡ 0 → Octets a → c ≡ clockAt a → c ≤ lastClock
 clock-within a k c e h o ec = let r = passes-ready a o (sym e ∙ h) .ready in omega (arith, r .clock)
 
 -- Two engines that promise `ran` agree, in what they answer and in every octet.

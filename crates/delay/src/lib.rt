@@ -8,6 +8,7 @@ ghost use lib.Dec.{eqb};
 ghost use lib.ListN.{length};
 ghost use Rattle.area.specs.Area.{heardOf, heardCode, symbolAt, arrivalAt, withArrival, alone, withSymbol};
 ghost use Rattle.octets.specs.Base.{pick};
+ghost use Rattle.area.specs.Offsets.{areaSize};
 
 fn heard_of(code: u8) -> Heard
     ensures { λ r. ⌜ r ≡ heardOf code ⌝ }
@@ -40,7 +41,7 @@ fn heard_code(h: Heard) -> u8
 
 // The code of what reaches station i in step u.
 pub fn read_symbol(area: &[u8], i: usize, u: usize) -> u8
-    requires { ⌜ (i < 16) × (57344 ≤ length (now area)) ⌝ }
+    requires { ⌜ (i < 16) × (areaSize ≤ length (now area)) ⌝ }
     ensures { λ r. ⌜ r ≡ symbolAt (now (area .entry)) i u ⌝ }
 {
     area[4096 + 256 * i + u % 256]
@@ -48,14 +49,14 @@ pub fn read_symbol(area: &[u8], i: usize, u: usize) -> u8
 
 // What reaches station i in step u.
 pub fn arrival(area: &[u8], i: usize, u: usize) -> Heard
-    requires { ⌜ (i < 16) × (57344 ≤ length (now area)) ⌝ }
+    requires { ⌜ (i < 16) × (areaSize ≤ length (now area)) ⌝ }
     ensures { λ r. ⌜ r ≡ arrivalAt (now (area .entry)) i u ⌝ }
 {
     heard_of(read_symbol(area, i, u))
 }
 
 pub fn put_arrival(area: &mut [u8], i: usize, u: usize, h: Heard)
-    requires { ⌜ (i < 16) × (57344 ≤ length (now area)) ⌝ }
+    requires { ⌜ (i < 16) × (areaSize ≤ length (now area)) ⌝ }
     ensures { λ r. ⌜ now (area .exit) ≡ withArrival (now (area .entry)) i u h ⌝ }
 {
     area[4096 + 256 * i + u % 256] = heard_code(h);
@@ -81,7 +82,7 @@ fn mixed(there: u8, code: u8) -> u8
 
 // One symbol more, by its code, is to reach station i in step u.
 pub fn add_symbol(area: &mut [u8], i: usize, u: usize, code: u8)
-    requires { ⌜ (i < 16) × (57344 ≤ length (now area)) ⌝ }
+    requires { ⌜ (i < 16) × (areaSize ≤ length (now area)) ⌝ }
     ensures { λ r. ⌜ now (area .exit) ≡ withSymbol (now (area .entry)) i u code ⌝ }
 {
     let at = 4096 + 256 * i + u % 256;

@@ -46,6 +46,8 @@ use Rattle.offer.specs.OfferLaws.{address-six}
 use Rattle.start.specs.Start.{started}
 use Rattle.bus.specs.Step.{steppedOnce}
 use Rattle.delivery.specs.Passing.{by-start, freshStation, start-station, holding, offer-layout, offer-clock, offer-own, offer-other, offer-counters, offer-counters-other, frame-range}
+use Rattle.layout.specs.Limits.{lastClock}
+use Rattle.area.specs.Offsets.{areaSize}
 
 -- a frame still held counts one
 held : Transmitter → ℕ
@@ -241,7 +243,7 @@ pub stepped-balanced : (a : List ℕ) → Passing a → AllBalanced a → AllBal
 unfolding steppedOnce
 stepped-balanced a p v =
     rw (eq-eqb (areaRefusal a) 0 (ready-passes a p))
-    (by-test (ltb 16777216 (clockAt a + 1)) (λ c. rw c v)
+    (by-test (ltb lastClock (clockAt a + 1)) (λ c. rw c v)
     (λ c. rw c (area-balanced a p v)))
 
 -- ---- an offer
@@ -305,7 +307,7 @@ nothing-held address = refl
 zero-counter : (at k : ℕ) → k < 16 → getD (wordsAt 16 [] at) k 0 ≡ 0
 zero-counter at k h = word-at 16 [] at k h ∙ no-word (at + 4 * k)
 
-module _ (y : Layout) (d : ℕ) (ds : List (List ℕ)) (a : List ℕ) (big : 57344 ≤ length a) (ok : refusalOf y ≡ 0) (low : 1 ≤ d) (high : d ≤ 16)
+module _ (y : Layout) (d : ℕ) (ds : List (List ℕ)) (a : List ℕ) (big : areaSize ≤ length a) (ok : refusalOf y ≡ 0) (low : 1 ≤ d) (high : d ≤ 16)
     (formed : Formed (y .stations) (y .count)) where
   pub start-balanced : AllBalanced (fresh y d ds a)
   start-balanced i h =

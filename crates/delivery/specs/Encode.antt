@@ -36,6 +36,7 @@ use Rattle.meeting.specs.Gather.{gathered-same}
 use Rattle.trace.specs.Keep.{held-back}
 use Rattle.meeting.specs.Meet.{met, adds, Ends, grown-ends, heard-grown, heard-far}
 use Rattle.meeting.specs.Lines.{share, share-adds, line-all, clear-all}
+use Rattle.area.specs.Offsets.{areaSize}
 
 -- the layout, the draws and the addresses of area a are P's
 pub record Plan (P : Net) (a : List ℕ) : Type 0 where
@@ -59,7 +60,7 @@ pub record Encodes (P : Net) (a : List ℕ) (w : World) : Type 0 where
   pub line : (j u : ℕ) → j < P .n → w .clock ≤ u → u < w .clock + 256 → arrivalAt a j u ≡ heard P (w .past) j u
 
 -- a plan goes by its parts
-pub plan-by : (P : Net) (a b : List ℕ) → P .n ≤ 16 → 57344 ≤ length a → 57344 ≤ length b → Keeps layout b a → Keeps depth b a → Keeps draws b a → Plan P a → Plan P b
+pub plan-by : (P : Net) (a b : List ℕ) → P .n ≤ 16 → areaSize ≤ length a → areaSize ≤ length b → Keeps layout b a → Keeps depth b a → Keeps draws b a → Plan P a → Plan P b
 plan-by P a b few la lb k kd kw p =
     record {
       count = count-by b a k ∙ p .count;
@@ -187,7 +188,7 @@ module _ (P : Net) (a : List ℕ) (w : World) (e : Encodes P a w) (r : Readiness
   pub encodes-step : Encodes P (stepArea a) (step P w)
   unfolding step
   encodes-step =
-      let big : 57344 ≤ length (stepArea a) = omega (arith, step-length a r, r .long) in
+      let big : areaSize ≤ length (stepArea a) = omega (arith, step-length a r, r .long) in
       record {
         plan = plan-by P a (stepArea a) (few P a w e r) (r .long) big (step-layout a r) (step-depth a r) (step-draws a r) (e .plan);
         time = step-clock a r ∙ add-one (clockAt a) ∙ ap suc (e .time);

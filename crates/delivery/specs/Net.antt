@@ -32,6 +32,7 @@ use Rattle.meeting.specs.Gather.{gathered-none}
 use Rattle.trace.specs.Run as run
 use Rattle.delivery.specs.Passing.{freshStation, start-station, start-passing}
 use Rattle.delivery.specs.Encode.{Plan, Encodes}
+use Rattle.area.specs.Offsets.{areaSize}
 
 abbrev pub netOf : List ℕ → Net
 netOf b =
@@ -120,7 +121,7 @@ position-low y ok i h = sound y ok .position i h
 fresh-same : (p q : List ℕ) → p ≡ q → freshStation p ≡ freshStation q
 fresh-same p q e = ap freshStation e
 
-module _ (y : Layout) (d : ℕ) (ds : List (List ℕ)) (a : List ℕ) (big : 57344 ≤ length a) (ok : refusalOf y ≡ 0) (low : 1 ≤ d) (high : d ≤ 16) (w : Proper y) where
+module _ (y : Layout) (d : ℕ) (ds : List (List ℕ)) (a : List ℕ) (big : areaSize ≤ length a) (ok : refusalOf y ≡ 0) (low : 1 ≤ d) (high : d ≤ 16) (w : Proper y) where
   few : y .count ≤ 16
   few = sound y ok .count .1
 

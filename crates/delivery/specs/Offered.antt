@@ -20,13 +20,14 @@ use Rattle.trace.specs.World.{Offer, frameFor, World, given}
 use Rattle.delivery.specs.Passing.{holding, elsewhere, offer-layout, offer-clock, offer-own, offer-other}
 use Rattle.meeting.specs.Meet.{Ends}
 use Rattle.delivery.specs.Encode.{Plan, Encodes, plan-by, frame-room}
+use Rattle.area.specs.Offsets.{areaSize}
 
 holding-length : (a f : List ℕ) (i : ℕ) → length (holding a f i) ≡ length a
 unfolding withOffered withHeld
 holding-length a f i = length-counters _ i _ ∙ length-station _ i _ ∙ length-frame a i f
 
 -- the frame is at its place
-holding-frame : (a f : List ℕ) (i : ℕ) → 57344 ≤ length a → i < 16 → length f ≤ 1536 → frameAt (holding a f i) i (length f) ≡ f
+holding-frame : (a f : List ℕ) (i : ℕ) → areaSize ≤ length a → i < 16 → length f ≤ 1536 → frameAt (holding a f i) i (length f) ≡ f
 unfolding withOffered withHeld
 holding-frame a f i big hi h =
     let x = withFrame a i f in
@@ -47,7 +48,7 @@ module _ (P : Net) (a : List ℕ) (w : World) (e : Encodes P a w) (v : Passing a
   few : P .n ≤ 16
   few = let c = v .ready .spread .few in omega (arith, e .plan .count)
 
-  big : 57344 ≤ length (holding a f (o .to))
+  big : areaSize ≤ length (holding a f (o .to))
   big = omega (arith, holding-length a f (o .to), v .ready .long)
 
   keeps : (p : Part) → Off p (frame (o .to)) → Off p (station (o .to)) → Off p (counters (o .to)) → Keeps p (holding a f (o .to)) a

@@ -46,6 +46,8 @@ use Rattle.offer.specs.Offer.{holds, offeredStation, withHeld, withOffered, wit
 use Rattle.offer.specs.OfferLaws.{address-six}
 use Rattle.start.specs.Start.{started}
 use Rattle.bus.specs.Step.{Bit, steppedOnce}
+use Rattle.layout.specs.Limits.{lastClock}
+use Rattle.area.specs.Offsets.{areaSize}
 
 -- ---- a fresh start
 
@@ -82,7 +84,7 @@ zeros-small : (at : ℕ) → Small (wordsAt 16 [] at)
 unfolding wordsAt get
 zeros-small at = (omega arith, (omega arith, (omega arith, (omega arith, (omega arith, (omega arith, (omega arith, (omega arith, (omega arith, (omega arith, (omega arith, (omega arith, (omega arith, (omega arith, (omega arith, (omega arith, tt))))))))))))))))
 
-module _ (y : Layout) (d : ℕ) (ds : List (List ℕ)) (a : List ℕ) (big : 57344 ≤ length a) (ok : refusalOf y ≡ 0) (low : 1 ≤ d) (high : d ≤ 16)
+module _ (y : Layout) (d : ℕ) (ds : List (List ℕ)) (a : List ℕ) (big : areaSize ≤ length a) (ok : refusalOf y ≡ 0) (low : 1 ≤ d) (high : d ≤ 16)
     (formed : Formed (y .stations) (y .count)) where
   s : Sound y
   s = sound y ok
@@ -139,16 +141,16 @@ module _ (y : Layout) (d : ℕ) (ds : List (List ℕ)) (a : List ℕ) (big : 573
 
 -- a start that was accepted is a fresh start, on a layout that passes
 pub by-start : (a : List ℕ) (y : Layout) (d : ℕ) (ds : List (List ℕ)) (D : List ℕ → Type 0) → started a y d ds .answer ≡ accepted []
-    → (57344 ≤ length a → refusalOf y ≡ 0 → 1 ≤ d → d ≤ 16 → D (fresh y d ds a)) → D (started a y d ds .octets)
+    → (areaSize ≤ length a → refusalOf y ≡ 0 → 1 ≤ d → d ≤ 16 → D (fresh y d ds a)) → D (started a y d ds .octets)
 unfolding started
 by-start a y d ds D h go =
-    by-test (ltb (length a) 57344)
+    by-test (ltb (length a) areaSize)
     (λ c. refused-none 1 [] (rw c at h))
     (λ c. by-test (eqb (refusalOf y) 0)
     (λ e. by-test (outside d 1 16)
     (λ o. refused-none 9 [] (rw (c, e, o) at h))
     (λ o. let q = within d 1 16 o in
-    rw (c, e, o) (go (ltb-false (length a) 57344 c) (eqb-true (refusalOf y) 0 e) (q .0) (q .1))))
+    rw (c, e, o) (go (ltb-false (length a) areaSize c) (eqb-true (refusalOf y) 0 e) (q .0) (q .1))))
     (λ e. refused-none (refusalOf y) [] (rw (c, e) at h)))
 
 pub started-passes : (a : List ℕ) (y : Layout) (d : ℕ) (ds : List (List ℕ)) → Formed (y .stations) (y .count) → started a y d ds .answer ≡ accepted []
@@ -290,7 +292,7 @@ module _ (a f : List ℕ) (i : ℕ) (v : Passing a) (hi : i < countAt a) (low : 
       let n = count-by (holding a f i) a offer-layout in
       let g = figures-by (holding a f i) a offer-layout in
       let few = r .spread .few in
-      let big : 57344 ≤ length (holding a f i) = omega (arith, offer-long, r .long) in
+      let big : areaSize ≤ length (holding a f i) = omega (arith, offer-long, r .long) in
       record {
         ready = record {
           long = big;
@@ -350,4 +352,4 @@ pub stepped-passes : (a : List ℕ) → Passing a → Passing (steppedOnce a .oc
 unfolding steppedOnce
 stepped-passes a p =
     rw (eq-eqb (areaRefusal a) 0 (ready-passes a p))
-    (by-test (ltb 16777216 (clockAt a + 1)) (λ c. rw c p) (λ c. rw c (step-passing a p (let h = ltb-false 16777216 (clockAt a + 1) c in omega arith))))
+    (by-test (ltb lastClock (clockAt a + 1)) (λ c. rw c p) (λ c. rw c (step-passing a p (let h = ltb-false lastClock (clockAt a + 1) c in omega arith))))

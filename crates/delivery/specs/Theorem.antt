@@ -67,6 +67,8 @@ use Rattle.delivery.specs.Passing.{by-start, start-passing}
 use Rattle.delivery.specs.Balance.{AllBalanced, area-balanced, stepped-balanced, offered-balanced, start-balanced}
 use Rattle.delivery.specs.Traced.{Row, Traced, event-is, tries-count, end-none, end-late, end-on, run-early, run-room, run-fits, clock-is, traced-step, traced-call, traced-all, traced-begin}
 use Rattle.delivery.specs.Demand3.{called, counted, apart, Sender, frameSent, offerSent, readAs, ReadFrom, Demand3, Demand3For}
+use Rattle.layout.specs.Limits.{lastClock}
+use Rattle.area.specs.Offsets.{areaSize}
 
 -- ---- from a step made to the step of the execution
 
@@ -341,21 +343,21 @@ module _ (m : Moment) (n : ℕ) (ok : areaRefusal (m .area) ≡ 0) where
   ran-steps : ran (m .area) n .steps ≡ length (made (run n) m)
   unfolding ran made
   ran-steps =
-      by-test (ltb 16777216 (clockAt (m .area) + n))
+      by-test (ltb lastClock (clockAt (m .area) + n))
       (λ c. rw (eq-eqb (areaRefusal (m .area)) 0 ok, c))
       (λ c. rw (eq-eqb (areaRefusal (m .area)) 0 ok, c, eq-eqb (numberOf (runOf n 0 (replicate 9 0) (m .area) .answer)) 0 number-none) (run-steps n 0 (replicate 9 0) m ∙ omega arith))
 
   ran-words : ran (m .area) n .words ≡ counted (made (run n) m) (replicate 9 0)
   unfolding ran made
   ran-words =
-      by-test (ltb 16777216 (clockAt (m .area) + n))
+      by-test (ltb lastClock (clockAt (m .area) + n))
       (λ c. rw (eq-eqb (areaRefusal (m .area)) 0 ok, c))
       (λ c. rw (eq-eqb (areaRefusal (m .area)) 0 ok, c, eq-eqb (numberOf (runOf n 0 (replicate 9 0) (m .area) .answer)) 0 number-none) (run-words n 0 (replicate 9 0) m))
 
   ran-octets : leaves (run n) m .area ≡ ran (m .area) n .octets
   unfolding ran leaves
   ran-octets =
-      by-test (ltb 16777216 (clockAt (m .area) + n))
+      by-test (ltb lastClock (clockAt (m .area) + n))
       (λ c. rw (eq-eqb (areaRefusal (m .area)) 0 ok, c))
       (λ c. rw (eq-eqb (areaRefusal (m .area)) 0 ok, c, eq-eqb (numberOf (runOf n 0 (replicate 9 0) (m .area) .answer)) 0 number-none) (sym (run-octets n 0 (replicate 9 0) m)))
 
@@ -379,7 +381,7 @@ module _ (P : Net) (span : ℕ) (L : exec.Sound P span) (g : lay.gapOf (P .fig) 
   last-moment : (T : List Moment) (m : Moment) (i : ℕ) → sentAt (T ++ (m ∷ [])) (length T) i ≡ eventAt (eventsAt (m .area)) i .sent
   last-moment T m i = ap (λ (x : Moment). eventAt (eventsAt (x .area)) i .sent) (getD-append-seam T m [] (begin []))
 
-  timely : (m : Moment) (T : List Moment) → Traced P m T → clockAt (m .area) < 16777216 → late m ≡ false
+  timely : (m : Moment) (T : List Moment) → Traced P m T → clockAt (m .area) < lastClock → late m ≡ false
   unfolding late lateAt
   timely m T v early =
       let t : Traced P (next m) (T ++ (m ∷ [])) = traced-step P m T v early in
@@ -390,7 +392,7 @@ module _ (P : Net) (span : ℕ) (L : exec.Sound P span) (g : lay.gapOf (P .fig) 
       (λ c. not-late-event (eventAt (eventsAt (m .area)) i .sent)
       (λ k e. not-late P span L (next m) (T ++ (m ∷ [])) t g slot (length T) i k (omega (arith, length-append T (m ∷ []))) (omega arith) (last-moment T m i ∙ e))))
 
-  run-ends : (k t : ℕ) (ws : List ℕ) (m : Moment) (T : List Moment) → Traced P m T → length T + k ≤ 16777216
+  run-ends : (k t : ℕ) (ws : List ℕ) (m : Moment) (T : List Moment) → Traced P m T → length T + k ≤ lastClock
       → (runOf k t ws (m .area) .ended ≡ how.All) × (runOf k t ws (m .area) .steps ≡ t + k)
   unfolding runOf late next
   run-ends zero t ws m T v h = (refl, omega arith)
@@ -405,9 +407,9 @@ module _ (P : Net) (span : ℕ) (L : exec.Sound P span) (g : lay.gapOf (P .fig) 
   ran-ends m T v n =
       let ok = ready-passes (m .area) (v .here .passing) in
       let c = clock-is P m T v in
-      by-test (ltb 16777216 (clockAt (m .area) + n))
+      by-test (ltb lastClock (clockAt (m .area) + n))
       (λ o. rw (eq-eqb (areaRefusal (m .area)) 0 ok, o) (refl, λ h. refused-none 13 [] h))
-      (λ o. let l = ltb-false 16777216 (clockAt (m .area) + n) o in
+      (λ o. let l = ltb-false lastClock (clockAt (m .area) + n) o in
       let r = run-ends n 0 (replicate 9 0) m T v (omega arith) in
       rw (eq-eqb (areaRefusal (m .area)) 0 ok, o) (r .0, λ h. r .1 ∙ omega arith))
 
@@ -416,7 +418,7 @@ step-answers : (m : Moment) → areaRefusal (m .area) ≡ 0 → steppedOnce (m .
     → (made step m ≡ m ∷ []) × (steppedOnce (m .area) .events ≡ eventsAt (m .area))
 unfolding steppedOnce made
 step-answers m ok =
-    by-test (ltb 16777216 (clockAt (m .area) + 1))
+    by-test (ltb lastClock (clockAt (m .area) + 1))
     (λ c. rw (eq-eqb (areaRefusal (m .area)) 0 ok, c) (λ h. refused-none 13 [] h))
     (λ c. rw (eq-eqb (areaRefusal (m .area)) 0 ok, c) (λ h. (refl, refl)))
 
@@ -425,7 +427,7 @@ step-answers m ok =
 step-octets : (m : Moment) → areaRefusal (m .area) ≡ 0 → leaves step m .area ≡ steppedOnce (m .area) .octets
 unfolding leaves steppedOnce next
 step-octets m ok =
-    by-test (ltb 16777216 (clockAt (m .area) + 1))
+    by-test (ltb lastClock (clockAt (m .area) + 1))
     (λ c. rw (eq-eqb (areaRefusal (m .area)) 0 ok, c))
     (λ c. rw (eq-eqb (areaRefusal (m .area)) 0 ok, c))
 
@@ -453,7 +455,7 @@ next-balanced : (m : Moment) → Passing (m .area) → AllBalanced (m .area) →
 unfolding next
 next-balanced m p b = area-balanced (m .area) p b
 
-run-balanced : (P : Net) (k : ℕ) (m : Moment) (T : List Moment) → Traced P m T → length T + k ≤ 16777216 → AllBalanced (m .area) → AllBalanced (runEnd k m .area)
+run-balanced : (P : Net) (k : ℕ) (m : Moment) (T : List Moment) → Traced P m T → length T + k ≤ lastClock → AllBalanced (m .area) → AllBalanced (runEnd k m .area)
 run-balanced P zero m T t h b = subst (λ (x : Moment). AllBalanced (x .area)) (sym (end-none m)) b
 run-balanced P (suc k) m T t h b =
     let s : Traced P (next m) (T ++ (m ∷ [])) = traced-step P m T t (run-early P k m T t h) in
@@ -652,7 +654,7 @@ fit-yes y h =
     (λ e. absurd (let z : _≡_ {A = ℕ} 0 1 = ap (λ (r : Answer). getD (valuesOf r) 0 0) (rw (c, e) at h) in omega arith)))
     (λ c. refused-none (refusalOf y) (1 ∷ []) (rw c at h))
 
-module _ (y : Layout) (d : ℕ) (ds : List (List ℕ)) (a : List ℕ) (proper : Proper y) (big : 57344 ≤ length a) (ok : refusalOf y ≡ 0) (low : 1 ≤ d) (high : d ≤ 16) where
+module _ (y : Layout) (d : ℕ) (ds : List (List ℕ)) (a : List ℕ) (proper : Proper y) (big : areaSize ≤ length a) (ok : refusalOf y ≡ 0) (low : 1 ≤ d) (high : d ≤ 16) where
   fresh-known : Fresh y (fresh y d ds a)
   fresh-known =
       record {

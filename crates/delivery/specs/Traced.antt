@@ -45,6 +45,7 @@ use Rattle.delivery.specs.Passing.{frame-range, holding, offer-passing}
 use Rattle.delivery.specs.Encode.{Plan, Encodes, same-outcome, encodes-step}
 use Rattle.delivery.specs.Offered.{encodes-offer}
 use Rattle.delivery.specs.Calls.{Call, offer, step, run, read, FairOffer, Fair, AllFair, Moment, next, accept, late, runMade, runEnd, made, leaves, log, end, begin, momentAt, sentAt, Ends}
+use Rattle.layout.specs.Limits.{lastClock}
 
 -- ---- inputs that agree make the same worlds
 
@@ -126,7 +127,7 @@ step-world : (P : Net) (inp : ℕ → List (Offer P)) (t : ℕ) → inp (suc t) 
 unfolding ready offers
 step-world P inp t e = ap (λ (os : List (Offer P)). offers P os (before P inp (suc t))) e ∙ before-suc P inp t
 
-row-step : (P : Net) (m : Moment) (w : World) → Row P m w → clockAt (m .area) < 16777216 → Row P (next m) (world.step P w)
+row-step : (P : Net) (m : Moment) (w : World) → Row P m w → clockAt (m .area) < lastClock → Row P (next m) (world.step P w)
 unfolding next world.step
 row-step P m w r early =
     record {
@@ -195,7 +196,7 @@ since-step P T m w r s u i n hu hi =
     (λ z. rw z (subst (λ (x : Moment). Ends (eventAt (eventsAt (x .area)) i .sent) n → Over (x .offers i) (next m) (world.step P w) i) (sym (last-is T m)) (over-now P m w r i n hi)))
     (λ ne e. over-step P m w _ i (since-longer P T m (length T) m w (omega arith) s u i n (omega (arith, ne)) hi e))
 
-pub traced-step : (P : Net) (m : Moment) (T : List Moment) → Traced P m T → clockAt (m .area) < 16777216 → Traced P (next m) (T ++ (m ∷ []))
+pub traced-step : (P : Net) (m : Moment) (T : List Moment) → Traced P m T → clockAt (m .area) < lastClock → Traced P (next m) (T ++ (m ∷ []))
 traced-step P m T v early =
     record {
       inp = v .inp;
@@ -259,13 +260,13 @@ run-turn P k m T s r =
     (λ e. moved P (runEnd k (next m)) (runEnd (suc k) m) ((T ++ (m ∷ [])) ++ runMade k (next m)) (T ++ runMade (suc k) m) (end-on k m e)
     (ap (λ (L : List Moment). T ++ L) (made-on k m e) ∙ sym (append-assoc T (m ∷ []) (runMade k (next m)))) r)
 
-pub run-early : (P : Net) (k : ℕ) (m : Moment) (T : List Moment) → Traced P m T → length T + suc k ≤ 16777216 → clockAt (m .area) < 16777216
+pub run-early : (P : Net) (k : ℕ) (m : Moment) (T : List Moment) → Traced P m T → length T + suc k ≤ lastClock → clockAt (m .area) < lastClock
 run-early P k m T v h = let c = clock-is P m T v in omega arith
 
-pub run-room : (k : ℕ) (m : Moment) (T : List Moment) → length T + suc k ≤ 16777216 → length (T ++ (m ∷ [])) + k ≤ 16777216
+pub run-room : (k : ℕ) (m : Moment) (T : List Moment) → length T + suc k ≤ lastClock → length (T ++ (m ∷ [])) + k ≤ lastClock
 run-room k m T h = omega (arith, long T m)
 
-traced-run : (P : Net) (k : ℕ) (m : Moment) (T : List Moment) → Traced P m T → length T + k ≤ 16777216 → Traced P (runEnd k m) (T ++ runMade k m)
+traced-run : (P : Net) (k : ℕ) (m : Moment) (T : List Moment) → Traced P m T → length T + k ≤ lastClock → Traced P (runEnd k m) (T ++ runMade k m)
 traced-run P zero m T v h = moved P m (runEnd zero m) T (T ++ runMade zero m) (end-none m) (ap (λ (L : List Moment). T ++ L) (made-none m) ∙ append-nil T) v
 traced-run P (suc k) m T v h =
     let s : Traced P (next m) (T ++ (m ∷ [])) = traced-step P m T v (run-early P k m T v h) in
@@ -369,24 +370,24 @@ traced-offer P m T t i d v x q k =
 
 -- ---- the calls
 
-step-taken : (a : List ℕ) → areaRefusal a ≡ 0 → numberOf (steppedOnce a .answer) ≡ 0 → clockAt a < 16777216
+step-taken : (a : List ℕ) → areaRefusal a ≡ 0 → numberOf (steppedOnce a .answer) ≡ 0 → clockAt a < lastClock
 unfolding steppedOnce
 step-taken a ok =
-    by-test (ltb 16777216 (clockAt a + 1))
+    by-test (ltb lastClock (clockAt a + 1))
     (λ c. rw (eq-eqb (areaRefusal a) 0 ok, c) (no-number 13 (λ z. omega arith)))
-    (λ c. λ n. let l = ltb-false 16777216 (clockAt a + 1) c in omega arith)
+    (λ c. λ n. let l = ltb-false lastClock (clockAt a + 1) c in omega arith)
 
-pub ran-taken : (a : List ℕ) (n : ℕ) → areaRefusal a ≡ 0 → numberOf (ran a n .answer) ≡ 0 → clockAt a + n ≤ 16777216
+pub ran-taken : (a : List ℕ) (n : ℕ) → areaRefusal a ≡ 0 → numberOf (ran a n .answer) ≡ 0 → clockAt a + n ≤ lastClock
 unfolding ran
 ran-taken a n ok =
-    by-test (ltb 16777216 (clockAt a + n))
+    by-test (ltb lastClock (clockAt a + n))
     (λ c. rw (eq-eqb (areaRefusal a) 0 ok, c) (no-number 13 (λ z. omega arith)))
-    (λ c. λ e. ltb-false 16777216 (clockAt a + n) c)
+    (λ c. λ e. ltb-false lastClock (clockAt a + n) c)
 
 none-more : (P : Net) (m : Moment) (T : List Moment) → Traced P m T → Traced P m (T ++ [])
 none-more P m T v = subst (Traced P m) (sym (append-nil T)) v
 
-pub run-fits : (P : Net) (n : ℕ) (m : Moment) (T : List Moment) → Traced P m T → numberOf (ran (m .area) n .answer) ≡ 0 → length T + n ≤ 16777216
+pub run-fits : (P : Net) (n : ℕ) (m : Moment) (T : List Moment) → Traced P m T → numberOf (ran (m .area) n .answer) ≡ 0 → length T + n ≤ lastClock
 run-fits P n m T t e = let c = clock-is P m T t in let h = ran-taken (m .area) n (ready-passes (m .area) (t .here .passing)) e in omega arith
 
 pub traced-call : (P : Net) (c : Call) (m : Moment) (T : List Moment) → Fair c → Traced P m T → Traced P (leaves c m) (T ++ made c m)

@@ -22,6 +22,7 @@ use Rattle.start.specs.Start.{started}
 use Rattle.delivery.specs.Calls.{Call, AllFair}
 use Rattle.delivery.specs.Demand3.{Demand3For}
 use Rattle.delivery.specs.Theorem.{demand-3}
+use Rattle.area.specs.Offsets.{areaSize}
 
 -- "sheet 00 02, 00 020000000001, 0A 020000000002"
 pub two : List ℕ
@@ -29,7 +30,7 @@ two = 0 ∷ 2 ∷ 0 ∷ 2 ∷ 0 ∷ 0 ∷ 0 ∷ 0 ∷ 1 ∷ 10 ∷ 2 ∷ 0 ∷ 0
 
 -- an area, and the draws 0 and 1
 pub blank : List ℕ
-blank = replicate 57344 0
+blank = replicate areaSize 0
 
 pub draws : List (List ℕ)
 draws = (0 ∷ []) ∷ (1 ∷ []) ∷ []
@@ -61,13 +62,13 @@ two-passes : refusalOf (readSheet two .layout) ≡ 0
 unfolding two readSheet sheetSize some outside equal get tapAt gap1Out figuresOut addressWrong refusalOf fieldAt field figuresIn tapIn listed filled layoutIn
 two-passes = refl
 
-blank-long : length blank ≡ 57344
+blank-long : length blank ≡ areaSize
 unfolding blank
-blank-long = length-replicate {A = ℕ} 57344 0
+blank-long = length-replicate {A = ℕ} areaSize 0
 
 two-starts : started blank (readSheet two .layout) 1 draws .answer ≡ accepted []
 unfolding started outside
-two-starts = rw (le-ltb (length blank) 57344 (omega (arith, blank-long)), two-passes) refl
+two-starts = rw (le-ltb (length blank) areaSize (omega (arith, blank-long)), two-passes) refl
 
 pub two-demand : (cs : List Call) → AllFair cs → Demand3For (readSheet two .layout) (started blank (readSheet two .layout) 1 draws .octets) cs
 two-demand cs fair = demand-3 two two-octets 16 two-read blank 1 draws two-starts cs fair two-fits

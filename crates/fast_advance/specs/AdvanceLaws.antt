@@ -29,6 +29,7 @@ use Rattle.fast_silence.specs.Bound.{silentFor, silent-most, skipped, silence-r
 use Rattle.fast_heard.specs.Hearing.{planOf}
 use Rattle.fast_window.specs.Window.{Passed}
 use Rattle.fast_advance.specs.Advance.{Quiet, Leap, Advance, quiet, stepped, Leapt, Advanced}
+use Rattle.layout.specs.Limits.{lastClock}
 
 -- ---- many steps at once
 
@@ -41,7 +42,7 @@ module _ (left : ℕ) (a : List ℕ) (h : Runnable left a) where
   unfolding Runnable Ready
   left-ready = h .0
 
-  pub left-room : clockAt a + left ≤ 16777216
+  pub left-room : clockAt a + left ≤ lastClock
   unfolding Runnable
   left-room = h .1
 
@@ -54,7 +55,7 @@ module _ (left : ℕ) (a : List ℕ) (h : Runnable left a) where
     silence-quiet ne =
         let pos : 0 < r = omega (arith, ne) in
         let low : r ≤ silentFor left a = omega arith in
-        let early : clockAt a + r ≤ 16777216 = omega (arith, h .1, most) in
+        let early : clockAt a + r ≤ lastClock = omega (arith, h .1, most) in
         let eq : b ≡ jumped r a = rw (ne-eqb r 0 ne) at eb in
         let w : Planned a silentPlan r (jumped r a) = silence-plans a left r (h .0) pos low early in
         subst (Quiet r a) (sym eq)
@@ -79,13 +80,13 @@ module _ (left : ℕ) (a : List ℕ) (h : Runnable left a) where
     pub unmoved-ready : r ≡ 0 → Ready b
     unmoved-ready z = rw (unmoved z) left-ready
 
-    pub unmoved-room : r ≡ 0 → clockAt b + left ≤ 16777216
+    pub unmoved-room : r ≡ 0 → clockAt b + left ≤ lastClock
     unmoved-room z = rw (unmoved z) left-room
 
     window-quiet : r ≡ 0 → (k : ℕ) (x : List ℕ) → Passed left k b x → (k ≡ 0 → ⊥) → Quiet k a x
     unfolding Passed Runnable
     window-quiet z k x p ne =
-        let early : clockAt b + k ≤ 16777216 = omega (arith, unmoved-room z, p .within) in
+        let early : clockAt b + k ≤ lastClock = omega (arith, unmoved-room z, p .within) in
         let rd : Readiness b = rw (unmoved z) (h .0) in
         let w : Planned b (planOf b) k (steps k b) = plan-happens b (planOf b) k rd early (calm-holds b (planOf b) k (p .calm)) in
         subst (λ (y : List ℕ). Quiet k y x) (unmoved z)
@@ -125,7 +126,7 @@ module _ (left r : ℕ) (a b : List ℕ) (w : Leapt left r a b) where
     unfolding Runnable Ready
     stayed-ready h = rw stayed (h .0)
 
-    pub stayed-clock : Runnable left a → 0 < left → clockAt b < 16777216
+    pub stayed-clock : Runnable left a → 0 < left → clockAt b < lastClock
     unfolding Runnable
     stayed-clock h g = rw stayed (omega (arith, h .1))
 

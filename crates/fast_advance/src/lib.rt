@@ -10,6 +10,7 @@ ghost use lib.ListN.{length, replicate};
 ghost use Rattle.pair.specs.BitTime.{noEvents};
 ghost use Rattle.course.specs.RunLaws.{Runnable};
 ghost use Rattle.fast_advance.specs.Advance.{Leapt, Advanced};
+ghost use Rattle.area.specs.Offsets.{areaSize};
 
 // Fewer steps than these are made singly.
 const LEAST: u32 = 4;
@@ -31,7 +32,7 @@ pub fn eventless(steps: u32) -> Stretch
 
 // Steps of silence at once, or of a window, at most so many as are left; none where neither can be.
 fn leap(area: &mut [u8], left: u32) -> u32
-    requires { ⌜ Runnable left (now area) × (57344 ≤ length (now area)) × (0 < left) ⌝ }
+    requires { ⌜ Runnable left (now area) × (areaSize ≤ length (now area)) × (0 < left) ⌝ }
     ensures made { λ r. ⌜ Leapt left r (now (area .entry)) (now (area .exit)) ⌝ }
     ensures bound { λ r. ⌜ r ≤ left ⌝ }
 {
@@ -47,7 +48,7 @@ fn leap(area: &mut [u8], left: u32) -> u32
 
 // Many steps at once, or one: at most so many as are left, and the events of the last of them.
 pub fn advance(area: &mut [u8], left: u32) -> Stretch
-    requires { ⌜ Runnable left (now area) × (57344 ≤ length (now area)) × (0 < left) ⌝ }
+    requires { ⌜ Runnable left (now area) × (areaSize ≤ length (now area)) × (0 < left) ⌝ }
     ensures made { λ r. ⌜ Advanced (r .steps) (r .events) (now (area .entry)) (now (area .exit)) ⌝ }
     ensures bound { λ r. ⌜ (0 < r .steps) × (r .steps ≤ left) ⌝ }
 {

@@ -46,6 +46,8 @@ use Rattle.fast_segment.specs.Alone.{Moves, itself-moves}
 use Rattle.fast_segment.specs.Segments.{Segment, heard-segment, emit-segment, rest-segment}
 use Rattle.fast_heard.specs.Hearing.{planOf, emits, emitsAt, heldAt, goesOn}
 use Rattle.fast_heard.specs.NearLaws.{silent-off}
+use Rattle.layout.specs.Limits.{lastClock}
+use Rattle.area.specs.Offsets.{areaSize}
 
 calm-bits : (m : ℕ) (r : Receiver) → 0 < m → bitsIn (calmed m r) ≡ 0
 unfolding calmed
@@ -113,7 +115,7 @@ module _ (a : List ℕ) (r : Readiness a) (j : ℕ) (hj : j < countAt a) where
   abbrev pub after : ℕ → List ℕ
   after s = byItself (figuresAt a) (depthAt a) j (hears a (planOf a) j) s a
 
-  moves : (s : ℕ) → clockAt a + s ≤ 16777216 → Moves (figuresAt a) (depthAt a) j (clockAt a + s) (after s)
+  moves : (s : ℕ) → clockAt a + s ≤ lastClock → Moves (figuresAt a) (depthAt a) j (clockAt a + s) (after s)
   moves s h = itself-moves (figuresAt a) (depthAt a) j (hears a (planOf a) j) s (clockAt a) a (omega arith) starts-moving
 
   -- ---- a station that emits nothing
@@ -144,7 +146,7 @@ module _ (a : List ℕ) (r : Readiness a) (j : ℕ) (hj : j < countAt a) where
       }
 
   -- a record written leaves the octets collected as they are
-  same-buffer : (x : List ℕ) (u : Station) → 57344 ≤ length x → bufferAt (withStation x j u) j ≡ bufferAt x j
+  same-buffer : (x : List ℕ) (u : Station) → areaSize ≤ length x → bufferAt (withStation x j u) j ≡ bufferAt x j
   same-buffer x u room =
       buffer-by (withStation x j u) x j (omega (arith, r .spread .few)) (omega (arith, length-station x j u)) room
       (station-keeps (buffer j) x j u (λ p q. omega arith))
@@ -153,7 +155,7 @@ module _ (a : List ℕ) (r : Readiness a) (j : ℕ) (hj : j < countAt a) where
   split : (s m : ℕ) → after (s + m) ≡ byItself (figuresAt a) (depthAt a) j (λ k. hears a (planOf a) j (s + k)) m (after s)
   split s m = itself-split (figuresAt a) (depthAt a) j (hears a (planOf a) j) s m a
 
-  module _ (off : emitsAt a j ≡ false) (s m : ℕ) (pos : 0 < m) (early : clockAt a + (s + m) ≤ 16777216) where
+  module _ (off : emitsAt a j ≡ false) (s m : ℕ) (pos : 0 < m) (early : clockAt a + (s + m) ≤ lastClock) where
     H : ℕ → Heard
     H k = hears a (planOf a) j (s + k)
 
@@ -183,7 +185,7 @@ module _ (a : List ℕ) (r : Readiness a) (j : ℕ) (hj : j < countAt a) where
       small : receiverNumber (stationAt (after s) j .receiver) < 256 ^ 4
       small = fine-fit (figuresAt a) (r .figures) (depthAt a) (clockAt a + s) (stationAt (after s) j) (r .depth .1) (omega arith) (moves s (omega arith) .fine) .received
 
-      collected : bitsIn (stationAt (after s) j .receiver) ≤ 16777216
+      collected : bitsIn (stationAt (after s) j .receiver) ≤ lastClock
       collected = omega (arith, bits-clock (clockAt a + s) (stationAt (after s) j .receiver) (moves s (omega arith) .fine .receiver))
 
       -- others are heard for m steps more
@@ -211,7 +213,7 @@ module _ (a : List ℕ) (r : Readiness a) (j : ℕ) (hj : j < countAt a) where
             bits = subst (λ (y : Receiver). bitsIn y ≤ q + m) (sym (ap (λ (y : Station). y .receiver) e ∙ heard-receiver (figuresAt a) m (rs m) u)) (omega (arith, v .bits));
             harmless = λ c.
                 let w = withStation (after s) j (hearOn (figuresAt a) m (rs m) u) in
-                let long : 57344 ≤ length (after s) = moves s (omega arith) .room in
+                let long : areaSize ≤ length (after s) = moves s (omega arith) .room in
                 let n : M - (s + m) ≡ M - s - m = omega arith in
                 may-same (ap (λ (y : Station). y .address) e ∙ hear-address (figuresAt a) m (rs m) u) (ap (λ (y : List ℕ). bufferAt y j) (split s m ∙ g .leaves)) n
                 (ap (λ (y : Station). y .receiver) e ∙ heard-receiver (figuresAt a) m (rs m) u)
@@ -277,7 +279,7 @@ module _ (a : List ℕ) (r : Readiness a) (j : ℕ) (hj : j < countAt a) where
   held-is (Heading k) z h = refl
   held-is (Jamming k) z h = refl
 
-  module _ (m : ℕ) (pos : 0 < m) (early : clockAt a + m ≤ 16777216) (busy : stationAt a j .deference ≡ Busy true)
+  module _ (m : ℕ) (pos : 0 < m) (early : clockAt a + m ≤ lastClock) (busy : stationAt a j .deference ≡ Busy true)
       (on : stationAt a j .emitted ≡ true)
       (lasts : m ≤ emitsFor (stationAt a j .frame) (stationAt a j .transmitter)) (octets : stationAt a j .frame ≤ 1518) where
     as-planned : (k : ℕ) → symbolOf (frameAt a j (stationAt a j .frame)) (emittedAt k (stationAt a j .transmitter)) ≡ planOf a j k

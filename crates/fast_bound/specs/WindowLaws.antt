@@ -43,6 +43,7 @@ use Rattle.fast_heard.specs.HearingLaws.{segment-hears}
 use Rattle.fast_bound.specs.declared.Ahead.{Ahead}
 use Rattle.fast_bound.specs.Foresee.{Foreseen, bits-clock, foreseen-start, foreseen-heard, foreseen-rest, emits-unheard, emits-heard}
 use Rattle.fast_bound.specs.Bound.{restSteps, hearSteps, restedTo, heardTo, restAhead, hearAhead, ahead, aheadOf, ownBusy, sends, unhurt, emitsWith, emitSteps, isLike, Alike, CalmFor, CalmIf, CalmAmong, AllLast, ReadFrom, NearTo, Underway}
+use Rattle.layout.specs.Limits.{lastClock}
 
 -- ---- in a run of any kind but silence others are heard
 
@@ -73,7 +74,7 @@ unfolding hearSteps
 hear-within f m d x k e = (omega arith, omega arith)
 
 module _ (a : List ℕ) (r : Readiness a) (j : ℕ) (hj : j < countAt a) (off : emitsAt a j ≡ false) (m s n : ℕ)
-    (early : clockAt a + (s + n) ≤ 16777216) (within : s + n ≤ m) (g : Ahead)
+    (early : clockAt a + (s + n) ≤ lastClock) (within : s + n ≤ m) (g : Ahead)
     (v : Foreseen a r j hj m s (g .deference) (g .transmitter) (g .bits) (g .harmless)) where
   Next : Ahead → Type 0
   Next h = Foreseen a r j hj m (s + h .len) (h .deference) (h .transmitter) (h .bits) (h .harmless)
@@ -135,7 +136,7 @@ module _ (a : List ℕ) (f : Figures) (j t : ℕ) (w : Near) (k : ℕ) (v : Near
   bits-most =
       omega (arith, v .read .clock, bits-clock (clockAt a) (stationAt a j .receiver) (v .read .ready .fine j (v .station) .receiver))
 
-  pub bits-room : (m : ℕ) (s : Station) (x : Receiver) → s ≡ stationAt a j → x ≡ s .receiver → t + m ≤ 16777216
+  pub bits-room : (m : ℕ) (s : Station) (x : Receiver) → s ≡ stationAt a j → x ≡ s .receiver → t + m ≤ lastClock
       → bitsIn x + m < 4294967296
   bits-room m s x es ex h =
       subst (λ (y : Receiver). bitsIn y + m < 4294967296) (sym (ex ∙ ap (λ (y : Station). y .receiver) es))
@@ -159,7 +160,7 @@ module _ (a : List ℕ) (f : Figures) (j t : ℕ) (w : Near) (k : ℕ) (v : Near
 
   module _ (off : emitsAt a j ≡ false) (m s : ℕ) (run : Segment) (h : Segmented a j t w k s run) (g next : Ahead)
       (u : Underway a j m s g) (e : next ≡ ahead f (run .kind) (run .len) g)
-      (hs : s < m) (len : run .len ≤ m - s) (early : t + m ≤ 16777216) where
+      (hs : s < m) (len : run .len ≤ m - s) (early : t + m ≤ lastClock) where
     under-on : 0 < next .len → Underway a j m (s + next .len) next
     unfolding NearTo Underway Next
     under-on pos =
@@ -242,7 +243,7 @@ module _ (a : List ℕ) (j : ℕ) (q : Bool) where
       (run-says a (figuresAt a) j t w k n s run h) (sym e ∙ not-false b p) (v - s) (omega arith)))
 
 module _ (a : List ℕ) (r : Readiness a) (j : ℕ) (hj : j < countAt a) (on : emitsAt a j ≡ true) (k : ℕ) (pos : 0 < k)
-    (early : clockAt a + k ≤ 16777216) (emitted : stationAt a j .emitted ≡ true) (busy : stationAt a j .deference ≡ Busy true)
+    (early : clockAt a + k ≤ lastClock) (emitted : stationAt a j .emitted ≡ true) (busy : stationAt a j .deference ≡ Busy true)
     (lasts : k ≤ emitsFor (stationAt a j .frame) (stationAt a j .transmitter)) where
   emit-goes : (q : Bool) → ((v : ℕ) → v < k → hearsAny (hears a (planOf a) j v) ≡ not q)
       → unhurt q (stationAt a j .receiver) (stationAt a j .transmitter) ≡ true → CalmFor a j k
@@ -265,7 +266,7 @@ module _ (a : List ℕ) (j t : ℕ) (w : Near) (b : ℕ) (v : NearTo a (figuresA
   unfolding NearTo
   frame-small = omega (arith, ap (λ (y : Station). y .frame) es, frame-most a (v .read .ready) j (v .station) on)
 
-  pub emit-calm : (q : Bool) (m n y k : ℕ) → Alike a j q n → n ≤ m → t + m ≤ 16777216 → y ≡ emitSteps q s → k ≡ min n y
+  pub emit-calm : (q : Bool) (m n y k : ℕ) → Alike a j q n → n ≤ m → t + m ≤ lastClock → y ≡ emitSteps q s → k ≡ min n y
       → CalmFor a j k
   unfolding NearTo emitsWith Alike
   emit-calm q m n y k al len early ey ek =

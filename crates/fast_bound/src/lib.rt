@@ -18,6 +18,8 @@ ghost use Rattle.fast_plan.specs.Calm.{AllCalm};
 ghost use Rattle.fast_heard.specs.Hearing.{planOf, emitsAt};
 ghost use Rattle.fast_heard.specs.Sights.{sightsOf};
 ghost use Rattle.fast_bound.specs.Bound.{restSteps, hearSteps, restAhead, hearAhead, ahead, aheadOf, ownBusy, sends, unhurt, emitSteps, isLike, Alike, CalmFor, CalmIf, CalmAmong, AllLast, ReadFrom, NearTo, Underway};
+ghost use Rattle.layout.specs.Limits.{lastClock};
+ghost use Rattle.area.specs.Offsets.{areaSize};
 
 // Fewer steps than these are not worth a window.
 pub const LEAST: u32 = 4;
@@ -209,7 +211,7 @@ fn silent_runs(
     first: Ahead,
     m: u32,
 ) -> u32
-    requires { ⌜ (j < 16) × (57344 ≤ length (now area)) × (t + m ≤ 16777216) × (f .gap1 + f .gap2 < 65536) × NearTo (now area) f j t near bit × (emitsAt (now area) j ≡ false) × (first .bits ≤ t + 0) × Underway (now area) j m 0 first ⌝ }
+    requires { ⌜ (j < 16) × (areaSize ≤ length (now area)) × (t + m ≤ lastClock) × (f .gap1 + f .gap2 < 65536) × NearTo (now area) f j t near bit × (emitsAt (now area) j ≡ false) × (first .bits ≤ t + 0) × Underway (now area) j m 0 first ⌝ }
     ensures calm { λ r. ⌜ CalmFor (now (area .entry)) j r ⌝ }
     ensures bound { λ r. ⌜ r ≤ m ⌝ }
 {
@@ -239,7 +241,7 @@ fn silent_runs(
 
 // A station that emits nothing: at most m steps in which it starts nothing and has no event.
 fn silent_bound(area: &[u8], f: Figures, j: usize, t: u32, near: Near, bit: u32, m: u32) -> u32
-    requires { ⌜ (j < 16) × (57344 ≤ length (now area)) × (t + m ≤ 16777216) × (f .gap1 + f .gap2 < 65536) × NearTo (now area) f j t near bit × (emitsAt (now area) j ≡ false) ⌝ }
+    requires { ⌜ (j < 16) × (areaSize ≤ length (now area)) × (t + m ≤ lastClock) × (f .gap1 + f .gap2 < 65536) × NearTo (now area) f j t near bit × (emitsAt (now area) j ≡ false) ⌝ }
     ensures calm { λ r. ⌜ CalmFor (now (area .entry)) j r ⌝ }
     ensures bound { λ r. ⌜ r ≤ m ⌝ }
 {
@@ -267,7 +269,7 @@ fn is_like(kind: Kind, quiet: bool) -> bool
 
 // Of m steps those before station j hears something, where `quiet`, or before it hears nothing.
 fn alike_for(area: &[u8], j: usize, t: u32, near: Near, bit: u32, quiet: bool, m: u32) -> u32
-    requires { ⌜ (j < 16) × (57344 ≤ length (now area)) × (t + m ≤ 16777216) × NearTo (now area) (figuresAt (now area)) j t near bit ⌝ }
+    requires { ⌜ (j < 16) × (areaSize ≤ length (now area)) × (t + m ≤ lastClock) × NearTo (now area) (figuresAt (now area)) j t near bit ⌝ }
     ensures alike { λ r. ⌜ Alike (now (area .entry)) j quiet r ⌝ }
     ensures bound { λ r. ⌜ r ≤ m ⌝ }
 {
@@ -293,7 +295,7 @@ fn alike_for(area: &[u8], j: usize, t: u32, near: Near, bit: u32, quiet: bool, m
 
 // A station that emits: at most m steps through which it goes on and has no event.
 fn emit_bound(area: &[u8], j: usize, t: u32, near: Near, bit: u32, m: u32) -> u32
-    requires { ⌜ (j < 16) × (57344 ≤ length (now area)) × (t + m ≤ 16777216) × NearTo (now area) (figuresAt (now area)) j t near bit × (emitsAt (now area) j ≡ true) ⌝ }
+    requires { ⌜ (j < 16) × (areaSize ≤ length (now area)) × (t + m ≤ lastClock) × NearTo (now area) (figuresAt (now area)) j t near bit × (emitsAt (now area) j ≡ true) ⌝ }
     ensures calm { λ r. ⌜ CalmFor (now (area .entry)) j r ⌝ }
     ensures bound { λ r. ⌜ r ≤ m ⌝ }
 {
@@ -308,7 +310,7 @@ fn emit_bound(area: &[u8], j: usize, t: u32, near: Near, bit: u32, m: u32) -> u3
 
 // Station j, if it emits: at most m steps through which it goes on and has no event.
 fn emitter_bound(area: &[u8], j: usize, t: u32, w: Sight, m: u32) -> u32
-    requires { ⌜ (j < 16) × (57344 ≤ length (now area)) × (t + m ≤ 16777216) × NearTo (now area) (figuresAt (now area)) j t (w .near) (w .bit) ⌝ }
+    requires { ⌜ (j < 16) × (areaSize ≤ length (now area)) × (t + m ≤ lastClock) × NearTo (now area) (figuresAt (now area)) j t (w .near) (w .bit) ⌝ }
     ensures calm { λ r. ⌜ CalmIf (now (area .entry)) true j r ⌝ }
     ensures bound { λ r. ⌜ r ≤ m ⌝ }
 {
@@ -321,7 +323,7 @@ fn emitter_bound(area: &[u8], j: usize, t: u32, w: Sight, m: u32) -> u32
 
 // Station j, if it emits nothing: at most m steps in which it starts nothing and has no event.
 fn listener_bound(area: &[u8], f: Figures, j: usize, t: u32, w: Sight, m: u32) -> u32
-    requires { ⌜ (j < 16) × (57344 ≤ length (now area)) × (t + m ≤ 16777216) × (f .gap1 + f .gap2 < 65536) × NearTo (now area) f j t (w .near) (w .bit) ⌝ }
+    requires { ⌜ (j < 16) × (areaSize ≤ length (now area)) × (t + m ≤ lastClock) × (f .gap1 + f .gap2 < 65536) × NearTo (now area) f j t (w .near) (w .bit) ⌝ }
     ensures calm { λ r. ⌜ CalmIf (now (area .entry)) false j r ⌝ }
     ensures bound { λ r. ⌜ r ≤ m ⌝ }
 {
@@ -334,7 +336,7 @@ fn listener_bound(area: &[u8], f: Figures, j: usize, t: u32, w: Sight, m: u32) -
 
 // Of m steps those through which each of n stations that emits goes on and has no event; none where they are few.
 fn emitters_bound(area: &[u8], n: usize, t: u32, seen: [Sight; 16], m: u32) -> u32
-    requires { ⌜ (n ≤ 16) × (57344 ≤ length (now area)) × (t + m ≤ 16777216) × ReadFrom (now area) (figuresAt (now area)) n t × (seen ≡ sightsOf (now area) n) ⌝ }
+    requires { ⌜ (n ≤ 16) × (areaSize ≤ length (now area)) × (t + m ≤ lastClock) × ReadFrom (now area) (figuresAt (now area)) n t × (seen ≡ sightsOf (now area) n) ⌝ }
     ensures calm { λ r. ⌜ CalmAmong (now (area .entry)) true n r ⌝ }
     ensures bound { λ r. ⌜ r ≤ m ⌝ }
 {
@@ -354,7 +356,7 @@ fn emitters_bound(area: &[u8], n: usize, t: u32, seen: [Sight; 16], m: u32) -> u
 // Of m steps those in which each of n stations that emits nothing starts nothing and has no event; none where they are
 // few.
 fn listeners_bound(area: &[u8], f: Figures, n: usize, t: u32, seen: [Sight; 16], m: u32) -> u32
-    requires { ⌜ (n ≤ 16) × (57344 ≤ length (now area)) × (t + m ≤ 16777216) × (f .gap1 + f .gap2 < 65536) × ReadFrom (now area) f n t × (seen ≡ sightsOf (now area) n) ⌝ }
+    requires { ⌜ (n ≤ 16) × (areaSize ≤ length (now area)) × (t + m ≤ lastClock) × (f .gap1 + f .gap2 < 65536) × ReadFrom (now area) f n t × (seen ≡ sightsOf (now area) n) ⌝ }
     ensures calm { λ r. ⌜ CalmAmong (now (area .entry)) false n r ⌝ }
     ensures bound { λ r. ⌜ r ≤ m ⌝ }
 {
@@ -374,7 +376,7 @@ fn listeners_bound(area: &[u8], f: Figures, n: usize, t: u32, seen: [Sight; 16],
 // How long a window of n stations may be, of m steps from clock t on. Emitters are looked at first: they allow the fewest
 // steps, and the others need not be looked at past those.
 pub fn bound(area: &[u8], f: Figures, n: usize, t: u32, seen: [Sight; 16], m: u32) -> u32
-    requires { ⌜ (n ≤ 16) × (57344 ≤ length (now area)) × (t + m ≤ 16777216) × ReadFrom (now area) f n t × (seen ≡ sightsOf (now area) n) ⌝ }
+    requires { ⌜ (n ≤ 16) × (areaSize ≤ length (now area)) × (t + m ≤ lastClock) × ReadFrom (now area) f n t × (seen ≡ sightsOf (now area) n) ⌝ }
     ensures calm { λ r. ⌜ AllCalm (now (area .entry)) (planOf (now (area .entry))) r ⌝ }
     ensures last { λ r. ⌜ AllLast (now (area .entry)) r ⌝ }
     ensures bound { λ r. ⌜ r ≤ m ⌝ }

@@ -10,6 +10,7 @@ ghost use Rattle.octets.specs.Filled.{filled};
 ghost use Rattle.area.specs.Area.{positionAt};
 ghost use Rattle.fast_heard.specs.Sights.{sightOf, sightsOf};
 ghost use Rattle.fast_heard.specs.Hearing.{emitsAt, nearer, noted, spaceTo, nearestOf, nearBit, begun, before, lineFrom, RunOf, kindNear, kindHeard, Segmented};
+ghost use Rattle.area.specs.Offsets.{areaSize};
 
 // The nearest other emitter and its distance, and the distance of the second nearest; 256 where there is none.
 pub struct Near {
@@ -55,7 +56,7 @@ fn nearer_with(near: Near, i: usize, d: usize) -> Near
 
 // Which of n stations emit.
 fn emitting(area: &[u8], n: usize) -> [bool; 16]
-    requires { ⌜ (n ≤ 16) × (57344 ≤ length (now area)) ⌝ }
+    requires { ⌜ (n ≤ 16) × (areaSize ≤ length (now area)) ⌝ }
     ensures { λ r. ⌜ r ≡ filled false (emitsAt (now (area .entry))) n ⌝ }
 {
     let mut all = [false; 16];
@@ -70,7 +71,7 @@ fn emitting(area: &[u8], n: usize) -> [bool; 16]
 
 // With station i more, seen from station j, which is at p.
 fn note(area: &[u8], j: usize, p: u32, i: usize, emits: bool, near: Near) -> Near
-    requires { ⌜ (i < 16) × (57344 ≤ length (now area)) × (p ≡ positionAt (now area) j) × (emits ≡ emitsAt (now area) i) ⌝ }
+    requires { ⌜ (i < 16) × (areaSize ≤ length (now area)) × (p ≡ positionAt (now area) j) × (emits ≡ emitsAt (now area) i) ⌝ }
     ensures { λ r. ⌜ r ≡ noted (emitsAt (now (area .entry))) (spaceTo (now (area .entry)) j) j i near ⌝ }
 {
     if !emits {
@@ -85,7 +86,7 @@ fn note(area: &[u8], j: usize, p: u32, i: usize, emits: bool, near: Near) -> Nea
 
 // The emitters nearest to station j, of n stations, of which these emit.
 fn nearest(area: &[u8], n: usize, j: usize, emits: [bool; 16]) -> Near
-    requires { ⌜ (j < 16) × (n ≤ 16) × (57344 ≤ length (now area)) × (emits ≡ filled false (emitsAt (now area)) n) ⌝ }
+    requires { ⌜ (j < 16) × (n ≤ 16) × (areaSize ≤ length (now area)) × (emits ≡ filled false (emitsAt (now area)) n) ⌝ }
     ensures { λ r. ⌜ r ≡ nearestOf (now (area .entry)) n j ⌝ }
 {
     let p = area::read_position(area, j);
@@ -105,7 +106,7 @@ fn nearest(area: &[u8], n: usize, j: usize, emits: [bool; 16]) -> Near
 
 // The next packet bit of the nearest emitter; 0 where there is none, or it jams.
 fn near_bit(area: &[u8], near: Near) -> u32
-    requires { ⌜ (57344 ≤ length (now area)) × (near .d1 < 256 → near .from < 16) ⌝ }
+    requires { ⌜ (areaSize ≤ length (now area)) × (near .d1 < 256 → near .from < 16) ⌝ }
     ensures { λ r. ⌜ r ≡ nearBit (now (area .entry)) near ⌝ }
 {
     if 256 <= near.d1 {
@@ -145,7 +146,7 @@ fn steps_before(d: usize, s: usize, m: usize) -> usize
 
 // The line of station j at step t, from s steps on: it holds nothing after 256 steps.
 fn line_ahead(area: &[u8], j: usize, t: usize, s: usize, m: usize) -> LineRun
-    requires { ⌜ (j < 16) × (57344 ≤ length (now area)) × (t + s + m < 4294967296) × (0 < m) ⌝ }
+    requires { ⌜ (j < 16) × (areaSize ≤ length (now area)) × (t + s + m < 4294967296) × (0 < m) ⌝ }
     ensures run { λ r. ⌜ RunOf (lineFrom (now (area .entry)) j t) s r ⌝ }
     ensures bound { λ r. ⌜ (0 < r .len) × (r .len ≤ m) ⌝ }
 {
@@ -201,7 +202,7 @@ pub fn heard_run(
     s: usize,
     m: usize,
 ) -> Segment
-    requires { ⌜ (j < 16) × (57344 ≤ length (now area)) × (t + s + m < 4294967296) × (0 < m) ⌝ }
+    requires { ⌜ (j < 16) × (areaSize ≤ length (now area)) × (t + s + m < 4294967296) × (0 < m) ⌝ }
     ensures says { λ r. ⌜ Segmented (now (area .entry)) j t near bit s r ⌝ }
     ensures bound { λ r. ⌜ (0 < r .len) × (r .len ≤ m) ⌝ }
 {
@@ -231,7 +232,7 @@ pub struct Sight {
 
 // What station j, of n, hears of.
 fn see(area: &[u8], n: usize, j: usize, emits: [bool; 16]) -> Sight
-    requires { ⌜ (j < 16) × (n ≤ 16) × (57344 ≤ length (now area)) × (emits ≡ filled false (emitsAt (now area)) n) ⌝ }
+    requires { ⌜ (j < 16) × (n ≤ 16) × (areaSize ≤ length (now area)) × (emits ≡ filled false (emitsAt (now area)) n) ⌝ }
     ensures { λ r. ⌜ r ≡ sightOf (now (area .entry)) n j ⌝ }
 {
     let near = nearest(area, n, j, emits);
@@ -256,7 +257,7 @@ fn see(area: &[u8], n: usize, j: usize, emits: [bool; 16]) -> Sight
 
 // What each of n stations hears of: to be taken before they move on.
 pub fn sights(area: &[u8], n: usize) -> [Sight; 16]
-    requires { ⌜ (n ≤ 16) × (57344 ≤ length (now area)) ⌝ }
+    requires { ⌜ (n ≤ 16) × (areaSize ≤ length (now area)) ⌝ }
     ensures { λ r. ⌜ r ≡ sightsOf (now (area .entry)) n ⌝ }
 {
     let emits = emitting(area, n);

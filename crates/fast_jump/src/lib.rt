@@ -8,10 +8,12 @@ ghost use Rattle.area.specs.Area.{clockAt, figuresAt};
 ghost use Rattle.pair.specs.Ready.{Ready};
 ghost use Rattle.fast_silence.specs.Jump.{restedAll, jumped};
 ghost use Rattle.fast_silence.specs.Bound.{silentFor, skipped};
+ghost use Rattle.layout.specs.Limits.{lastClock};
+ghost use Rattle.area.specs.Offsets.{areaSize};
 
 // Each of n stations after m steps of silence.
 fn rest_all(area: &mut [u8], n: usize, m: u32, f: Figures)
-    requires { ⌜ (n ≤ 16) × (57344 ≤ length (now area)) × (f .gap1 + f .gap2 < 65536) × (f ≡ figuresAt (now area)) ⌝ }
+    requires { ⌜ (n ≤ 16) × (areaSize ≤ length (now area)) × (f .gap1 + f .gap2 < 65536) × (f ≡ figuresAt (now area)) ⌝ }
     ensures { λ r. ⌜ now (area .exit) ≡ restedAll (now (area .entry)) m n (now (area .entry)) ⌝ }
 {
     let mut i: usize = 0;
@@ -25,7 +27,7 @@ fn rest_all(area: &mut [u8], n: usize, m: u32, f: Figures)
 
 // m steps of a silence that lasts so long.
 fn jump(area: &mut [u8], m: u32)
-    requires { ⌜ (57344 ≤ length (now area)) × (clockAt (now area) + m ≤ 16777216) × Ready (now area) ⌝ }
+    requires { ⌜ (areaSize ≤ length (now area)) × (clockAt (now area) + m ≤ lastClock) × Ready (now area) ⌝ }
     ensures { λ r. ⌜ now (area .exit) ≡ jumped m (now (area .entry)) ⌝ }
 {
     let n = area::read_count(area) as usize;
@@ -37,7 +39,7 @@ fn jump(area: &mut [u8], m: u32)
 
 // Of the next m steps those that are silence, where they are worth a jump: says how many.
 pub fn skip(area: &mut [u8], m: u32) -> u32
-    requires { ⌜ (57344 ≤ length (now area)) × (clockAt (now area) + m ≤ 16777216) × Ready (now area) ⌝ }
+    requires { ⌜ (areaSize ≤ length (now area)) × (clockAt (now area) + m ≤ lastClock) × Ready (now area) ⌝ }
     ensures steps { λ r. ⌜ r ≡ silentFor m (now (area .entry)) ⌝ }
     ensures area { λ r. ⌜ now (area .exit) ≡ skipped r (now (area .entry)) ⌝ }
 {

@@ -30,6 +30,7 @@ use Rattle.meeting.specs.Gather.{joined-none}
 use Rattle.fast_plan.specs.Push.{cleared, joinedAt, onWay}
 use Rattle.fast_plan.specs.Placed.{way-only}
 use Rattle.fast_line.specs.Line.{kindOf, kindAt, firstOf, otherKind, lasts, runAt, AllOf, inUse, isClear, bitsFrom, jams}
+use Rattle.area.specs.Offsets.{areaSize}
 
 -- ---- the first that passes a test
 
@@ -389,7 +390,7 @@ module _ (t d K : ℕ) (Q : ℕ → Symbol) (j : ℕ) (x : List ℕ) where
   way-end m s y r p q e = turns-end _ (min d K) s x y (omega arith) (omega arith) r
 
 -- symbols put change no frame
-module _ (t d K : ℕ) (Q : ℕ → Symbol) (j : ℕ) (x : List ℕ) (s i n : ℕ) (y : List ℕ) (ey : y ≡ onWay t d K Q j s x) (hj : j < 16) (hi : i < 16) (hn : n ≤ 1536) (room : 57344 ≤ length x) where
+module _ (t d K : ℕ) (Q : ℕ → Symbol) (j : ℕ) (x : List ℕ) (s i n : ℕ) (y : List ℕ) (ey : y ≡ onWay t d K Q j s x) (hj : j < 16) (hi : i < 16) (hn : n ≤ 1536) (room : areaSize ≤ length x) where
   way-frame : frameAt y i n ≡ frameAt x i n
   way-frame =
       let o = way-only 16 j (omega arith) hj t d K Q s in
@@ -405,7 +406,7 @@ module _ (t d K : ℕ) (Q : ℕ → Symbol) (j : ℕ) (x : List ℕ) (s i n : �
       omega arith
 
 pub bits-more : (t d K i n k j : ℕ) (x : List ℕ) (s f c : ℕ) (F y z : List ℕ) → z ≡ withSymbol y j (t + (f + s + d)) c → c ≡ heardCode (alone (Bit (packetBit F (k + (f + s))))) → F ≡ frameAt y i n
-    → f ≡ K - d → y ≡ onWay t d K (bitsFrom (frameAt x i n) k) j s x → j < 16 → i < 16 → n ≤ 1536 → 57344 ≤ length x → z ≡ onWay t d K (bitsFrom (frameAt x i n) k) j (s + 1) x
+    → f ≡ K - d → y ≡ onWay t d K (bitsFrom (frameAt x i n) k) j s x → j < 16 → i < 16 → n ≤ 1536 → areaSize ≤ length x → z ≡ onWay t d K (bitsFrom (frameAt x i n) k) j (s + 1) x
 unfolding bitsFrom
 bits-more t d K i n k j x s f c F y z ez ec eF ef ey hj hi hn room =
     let G = frameAt x i n in

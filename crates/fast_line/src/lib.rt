@@ -11,6 +11,7 @@ ghost use Rattle.packet.specs.Packet.{packetBit};
 ghost use Rattle.area.specs.Area.{heardOf, heardCode, symbolAt, alone, frameAt};
 ghost use Rattle.fast_plan.specs.Push.{cleared, onWay};
 ghost use Rattle.fast_line.specs.Line.{kindOf, lasts, runAt, AllOf, isClear, bitsFrom, jams};
+ghost use Rattle.area.specs.Offsets.{areaSize};
 
 // Places of one kind, and how many: 0 nothing, 1 clean bits, 2 spoiled.
 pub struct LineRun {
@@ -20,7 +21,7 @@ pub struct LineRun {
 
 // Whether nothing is on its way to station j. The codes are put together without a branch: many are looked at at once.
 pub fn is_clear(area: &[u8], j: usize) -> bool
-    requires { ⌜ (j < 16) × (57344 ≤ length (now area)) ⌝ }
+    requires { ⌜ (j < 16) × (areaSize ≤ length (now area)) ⌝ }
     ensures { λ r. ⌜ r ≡ isClear (now (area .entry)) j ⌝ }
 {
     let mut all: u8 = 0;
@@ -46,7 +47,7 @@ fn kind_of(code: u8) -> u8
 
 // The code at place p of the line of station j.
 fn code_at(area: &[u8], j: usize, p: usize) -> u8
-    requires { ⌜ (j < 16) × (57344 ≤ length (now area)) × (p < 256) ⌝ }
+    requires { ⌜ (j < 16) × (areaSize ≤ length (now area)) × (p < 256) ⌝ }
     ensures { λ r. ⌜ r ≡ symbolAt (now (area .entry)) j p ⌝ }
 {
     area[4096 + 256 * j + p]
@@ -55,7 +56,7 @@ fn code_at(area: &[u8], j: usize, p: usize) -> u8
 // Whether the n places from p on are of this kind. Without a branch: they are looked at at once. Half of a code, rounded
 // up, is its kind.
 fn are_alike(area: &[u8], j: usize, p: usize, kind: u8, n: usize) -> bool
-    requires { ⌜ (j < 16) × (57344 ≤ length (now area)) × (p + n ≤ 256) × (kind ≤ 2) ⌝ }
+    requires { ⌜ (j < 16) × (areaSize ≤ length (now area)) × (p + n ≤ 256) × (kind ≤ 2) ⌝ }
     ensures { λ r. ⌜ (r ≡ true → AllOf (now (area .entry)) j p kind n) ⌝ }
 {
     let mut other: u8 = 0;
@@ -70,7 +71,7 @@ fn are_alike(area: &[u8], j: usize, p: usize, kind: u8, n: usize) -> bool
 
 // Of the m places from p on, the first s of which are of this kind, n more at a time as long as all of them are.
 fn go_on(area: &[u8], j: usize, p: usize, kind: u8, m: usize, s: usize, n: usize) -> usize
-    requires { ⌜ (j < 16) × (57344 ≤ length (now area)) × (p + m ≤ 256) × (kind ≤ 2) × (s ≤ m) × (0 < n) × (n ≤ 16) × AllOf (now area) j p kind s ⌝ }
+    requires { ⌜ (j < 16) × (areaSize ≤ length (now area)) × (p + m ≤ 256) × (kind ≤ 2) × (s ≤ m) × (0 < n) × (n ≤ 16) × AllOf (now area) j p kind s ⌝ }
     ensures alike { λ r. ⌜ AllOf (now (area .entry)) j p kind r ⌝ }
     ensures bound { λ r. ⌜ r ≤ m ⌝ }
 {
@@ -86,7 +87,7 @@ fn go_on(area: &[u8], j: usize, p: usize, kind: u8, m: usize, s: usize, n: usize
 
 // How many of the m places from p on, which lie in a row, are of this kind, up to the first that is not.
 fn lasting_row(area: &[u8], j: usize, p: usize, kind: u8, m: usize) -> usize
-    requires { ⌜ (j < 16) × (57344 ≤ length (now area)) × (p + m ≤ 256) × (kind ≤ 2) ⌝ }
+    requires { ⌜ (j < 16) × (areaSize ≤ length (now area)) × (p + m ≤ 256) × (kind ≤ 2) ⌝ }
     ensures same { λ r. ⌜ r ≡ lasts (now (area .entry)) j p kind m ⌝ }
     ensures bound { λ r. ⌜ r ≤ m ⌝ }
 {
@@ -105,7 +106,7 @@ fn lasting_row(area: &[u8], j: usize, p: usize, kind: u8, m: usize) -> usize
 
 // How many of the m places from u on are of this kind, up to the first that is not.
 fn lasting(area: &[u8], j: usize, u: usize, kind: u8, m: usize) -> usize
-    requires { ⌜ (j < 16) × (57344 ≤ length (now area)) × (m ≤ 256) × (kind ≤ 2) ⌝ }
+    requires { ⌜ (j < 16) × (areaSize ≤ length (now area)) × (m ≤ 256) × (kind ≤ 2) ⌝ }
     ensures same { λ r. ⌜ r ≡ lasts (now (area .entry)) j u kind m ⌝ }
     ensures bound { λ r. ⌜ r ≤ m ⌝ }
 {
@@ -120,7 +121,7 @@ fn lasting(area: &[u8], j: usize, u: usize, kind: u8, m: usize) -> usize
 
 // The kind of place u, and how many of the m places from there on have it.
 pub fn line_run(area: &[u8], j: usize, u: usize, m: usize) -> LineRun
-    requires { ⌜ (j < 16) × (57344 ≤ length (now area)) × (m ≤ 256) × (0 < m) ⌝ }
+    requires { ⌜ (j < 16) × (areaSize ≤ length (now area)) × (m ≤ 256) × (0 < m) ⌝ }
     ensures run { λ r. ⌜ r ≡ runAt (now (area .entry)) j u m ⌝ }
     ensures bound { λ r. ⌜ (0 < r .len) × (r .len ≤ m) ⌝ }
 {
@@ -131,7 +132,7 @@ pub fn line_run(area: &[u8], j: usize, u: usize, m: usize) -> LineRun
 
 // The m places of station j from step t on become nothing.
 pub fn clear(area: &mut [u8], j: usize, t: usize, m: usize)
-    requires { ⌜ (j < 16) × (57344 ≤ length (now area)) × (t + m < 4294967296) ⌝ }
+    requires { ⌜ (j < 16) × (areaSize ≤ length (now area)) × (t + m < 4294967296) ⌝ }
     ensures { λ r. ⌜ now (area .exit) ≡ cleared t j m (now (area .entry)) ⌝ }
 {
     let mut s: usize = 0;
@@ -171,7 +172,7 @@ pub fn push_bits(
     octets: usize,
     k: usize,
 )
-    requires { ⌜ (j < 16) × (i < 16) × (octets ≤ 1536) × (57344 ≤ length (now area)) × (t + steps + d < 4294967296) × (k + steps ≤ 65 + 8 * octets) ⌝ }
+    requires { ⌜ (j < 16) × (i < 16) × (octets ≤ 1536) × (areaSize ≤ length (now area)) × (t + steps + d < 4294967296) × (k + steps ≤ 65 + 8 * octets) ⌝ }
     ensures { λ r. ⌜ now (area .exit) ≡ onWay t d steps (bitsFrom (frameAt (now (area .entry)) i octets) k) j (min d steps) (now (area .entry)) ⌝ }
 {
     let m = quick::capped(d, steps);
@@ -186,7 +187,7 @@ pub fn push_bits(
 
 // The same where it jams.
 pub fn push_jam(area: &mut [u8], j: usize, t: usize, d: usize, steps: usize)
-    requires { ⌜ (j < 16) × (57344 ≤ length (now area)) × (t + steps + d < 4294967296) ⌝ }
+    requires { ⌜ (j < 16) × (areaSize ≤ length (now area)) × (t + steps + d < 4294967296) ⌝ }
     ensures { λ r. ⌜ now (area .exit) ≡ onWay t d steps jams j (min d steps) (now (area .entry)) ⌝ }
 {
     let m = quick::capped(d, steps);

@@ -16,6 +16,8 @@ use Rattle.fast_plan.specs.Plan.{Plan}
 use Rattle.fast_plan.specs.Push.{onWay}
 use Rattle.fast_line.specs.Line.{bitsFrom, jams}
 use Rattle.fast_lines.specs.declared.Emitter.{Emitter}
+use Rattle.layout.specs.Limits.{lastClock}
+use Rattle.area.specs.Offsets.{areaSize}
 
 -- ---- what a station emits
 
@@ -61,9 +63,9 @@ pub record Enough (K : ℕ) (e : Emitter) : Type 0 where
 pub record Pushes (j t K i : ℕ) (e : Emitter) (x : List ℕ) : Type 0 where
   pub from : i < 16
   pub to : j < 16
-  pub long : 57344 ≤ length x
+  pub long : areaSize ≤ length x
   pub near : spaceAt x i j < 256
-  pub early : t + K ≤ 16777216
+  pub early : t + K ≤ lastClock
   pub codes : (u : ℕ) → symbolAt x j u ≤ 4
   pub enough : Enough K e
 
@@ -80,8 +82,8 @@ pub record Settles (n t K : ℕ) (es : List Emitter) (x : List ℕ) : Type 0 whe
   pub few : n ≤ 16
   pub count : n ≡ countAt x
   pub time : t ≡ clockAt x
-  pub long : 57344 ≤ length x
-  pub early : t + K ≤ 16777216
+  pub long : areaSize ≤ length x
+  pub early : t + K ≤ lastClock
   pub near : (i j : ℕ) → i < n → j < n → spaceAt x i j < 256
   pub codes : (i u : ℕ) → i < n → symbolAt x i u ≤ 4
   pub enough : (i : ℕ) → i < n → Enough K (getD es i silent)

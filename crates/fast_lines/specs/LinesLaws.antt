@@ -38,6 +38,7 @@ use Rattle.fast_station.specs.Forms.{emitsFor}
 use Rattle.fast_heard.specs.Hearing.{goesOn, heldAt, planOf, emits}
 use Rattle.fast_lines.specs.declared.Emitter.{Emitter}
 use Rattle.fast_lines.specs.Lines.{silent, emitterOf, emitterAt, emittersOf, silence, emitted, planBy, Enough, Pushes, pushedFrom, Settles}
+use Rattle.layout.specs.Limits.{lastClock}
 
 -- ---- the code: what a station is about to emit
 
@@ -382,7 +383,7 @@ module _ (a : List ℕ) (r : Readiness a) (P : Plan) (K : ℕ) where
   moved-frame : (i : ℕ) → i < 16 → Keeps (frame i) (ownAll a P K (countAt a) a) a
   moved-frame i hi = moved-keeps (frame i) (λ j h. record { station = λ p q. omega arith; counters = λ p q. omega arith; buffer = λ p q. omega arith })
 
-  pub moved-settles : clockAt a + K ≤ 16777216
+  pub moved-settles : clockAt a + K ≤ lastClock
       → ((i : ℕ) → i < countAt a → emits (stationAt a i .transmitter) ≡ true → K ≤ emitsFor (stationAt a i .frame) (stationAt a i .transmitter))
       → Settles (countAt a) (clockAt a) K (emittersOf a (countAt a)) (ownAll a P K (countAt a) a)
   unfolding emittersOf emitterAt

@@ -8,6 +8,8 @@ ghost use Rattle.area.specs.Area.{symbolAt};
 ghost use Rattle.fast_plan.specs.Push.{cleared, waysTo, lineDone};
 ghost use Rattle.fast_plan.specs.Placed.{linesDone};
 ghost use Rattle.fast_lines.specs.Lines.{emitterAt, emittersOf, planBy, Pushes, pushedFrom, Settles};
+ghost use Rattle.layout.specs.Limits.{lastClock};
+ghost use Rattle.area.specs.Offsets.{areaSize};
 
 // What a station emits in a window. Kind 0: nothing. Kind 1: its packet's bits from `bit` on, of the frame of so many
 // octets. Kind 2: jam.
@@ -19,7 +21,7 @@ pub struct Emitter {
 
 // What station i is about to emit.
 fn read_emitter(area: &[u8], i: usize) -> Emitter
-    requires { ⌜ (i < 16) × (57344 ≤ length (now area)) ⌝ }
+    requires { ⌜ (i < 16) × (areaSize ≤ length (now area)) ⌝ }
     ensures { λ r. ⌜ r ≡ emitterAt (now (area .entry)) i ⌝ }
 {
     let phase = area::read_word(area, i, 3);
@@ -48,7 +50,7 @@ fn read_emitter(area: &[u8], i: usize) -> Emitter
 
 // What the first n stations are about to emit: to be taken before the stations move on.
 pub fn emitters(area: &[u8], n: usize) -> [Emitter; 16]
-    requires { ⌜ (n ≤ 16) × (57344 ≤ length (now area)) ⌝ }
+    requires { ⌜ (n ≤ 16) × (areaSize ≤ length (now area)) ⌝ }
     ensures { λ r. ⌜ r ≡ emittersOf (now (area .entry)) n ⌝ }
 {
     let silent = Emitter {
@@ -89,7 +91,7 @@ fn push_from(area: &mut [u8], j: usize, t: usize, steps: usize, i: usize, e: Emi
 
 // Clears the places of so many steps from t on, all 256 at most. A line that holds nothing is left alone.
 fn clear_line(area: &mut [u8], j: usize, t: usize, steps: usize)
-    requires { ⌜ (j < 16) × (57344 ≤ length (now area)) × (t ≤ 16777216) × ((u : ℕ) → symbolAt (now area) j u ≤ 4) ⌝ }
+    requires { ⌜ (j < 16) × (areaSize ≤ length (now area)) × (t ≤ lastClock) × ((u : ℕ) → symbolAt (now area) j u ≤ 4) ⌝ }
     ensures { λ r. ⌜ now (area .exit) ≡ cleared t j (min steps 256) (now (area .entry)) ⌝ }
 {
     if fast_line::is_clear(area, j) {

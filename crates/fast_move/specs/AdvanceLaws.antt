@@ -27,6 +27,7 @@ use Rattle.fast_stretch.specs.Stretch.{heardStretch, quietStretch, Movable}
 use Rattle.fast_stretch.specs.StretchLaws.{fine-movable, bits-room}
 use Rattle.fast_move.specs.Move.{heardIn, isHeard, emitting, restsAll, hearsAll, emitsAll, canMove, stretched, Moving, Audible, Held}
 use Rattle.fast_move.specs.MoveLaws.{frame-small, moves-once}
+use Rattle.layout.specs.Limits.{lastClock}
 
 -- ---- whether it can go over them at once
 
@@ -114,11 +115,11 @@ all-heard From x j u F b m a h = bits-heard F b m
 all-heard Spoiled x j u F b m a h = spoils-heard m
 
 module _ (f : Figures) (D j u : ℕ) (x : List ℕ) (v : Moving f D j u x) where
-  pub moving-able : (m : ℕ) → 0 < m → u + m ≤ 16777216 → Able f x j
+  pub moving-able : (m : ℕ) → 0 < m → u + m ≤ lastClock → Able f x j
   unfolding Moving
   moving-able m pos early = moves-able f D j u x v (omega arith)
 
-  pub moving-movable : (m : ℕ) → u + m ≤ 16777216 → Movable f m x j
+  pub moving-movable : (m : ℕ) → u + m ≤ lastClock → Movable f m x j
   unfolding Moving
   moving-movable m early = fine-movable f D u m j x (v .figured) (v .fine) early
 
@@ -130,7 +131,7 @@ module _ (f : Figures) (D j u : ℕ) (x : List ℕ) (v : Moving f D j u x) where
       omega (arith, z, frame-small (stationAt x j .transmitter) (stationAt x j .frame) w (v .fine .frame))
 
   module _ (K : Kind) (F : List ℕ) (b : ℕ) (y : List ℕ) where
-    pub advance-all : (m : ℕ) (s : Station) (t : Transmitter) (c e : Bool) → 0 < m → u + m ≤ 16777216 → Audible K x j u m → s ≡ stationAt x j → t ≡ s .transmitter
+    pub advance-all : (m : ℕ) (s : Station) (t : Transmitter) (c e : Bool) → 0 < m → u + m ≤ lastClock → Audible K x j u m → s ≡ stationAt x j → t ≡ s .transmitter
         → e ≡ emitting t → c ≡ canMove f m K x j → c ≡ true → y ≡ stretched f e K m j x u F b → y ≡ byItself f D j (heardIn K x j u F b) m x
     unfolding Moving
     advance-all m s t c e pos early a es et ee ec p ey =

@@ -42,6 +42,7 @@ use Rattle.fast_segment.specs.Alone.{Moves, address-in}
 use Rattle.fast_segment.specs.Segments.{Segment, heard-segment, emit-segment, rest-segment}
 use Rattle.fast_stretch.specs.Stretch.{heardStretch, quietStretch, movedOn, quietOn}
 use Rattle.fast_move.specs.Move.{heardIn, isHeard, emitting, isBusyOwn, sending, restsAll, hearsAll, emitsAll, canMove, stretched, Moving}
+use Rattle.layout.specs.Limits.{lastClock}
 
 -- ---- the tests
 
@@ -120,7 +121,7 @@ bits-clock t f D s v = go (s .receiver) (v .receiver)
 
 -- ---- m steps at once are what the station does by itself
 
-module _ (f : Figures) (D j u : ℕ) (x : List ℕ) (v : Moves f D j u x) (m : ℕ) (pos : 0 < m) (early : u + m ≤ 16777216) where
+module _ (f : Figures) (D j u : ℕ) (x : List ℕ) (v : Moves f D j u x) (m : ℕ) (pos : 0 < m) (early : u + m ≤ lastClock) where
   r : Receiver
   r = stationAt x j .receiver
 

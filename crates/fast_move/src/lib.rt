@@ -17,6 +17,8 @@ ghost use Rattle.fast_silence.specs.Bound.{idle};
 ghost use Rattle.area.specs.Area.{stationAt};
 ghost use Rattle.fast_stretch.specs.Stretch.{Movable};
 ghost use Rattle.fast_move.specs.Move.{heardIn, isHeard, emitting, sending, isBusyOwn, restsAll, hearsAll, emitsAll, canMove, stretched, Moving, Audible, Held};
+ghost use Rattle.layout.specs.Limits.{lastClock};
+ghost use Rattle.area.specs.Offsets.{areaSize};
 
 fn is_heard(kind: Kind) -> bool
     ensures { λ r. ⌜ r ≡ isHeard kind ⌝ }
@@ -118,7 +120,7 @@ fn emits_all(m: u32, heard: bool, s: Station) -> bool
 
 // Whether station j, which is s, can go over m steps of a kind at once.
 fn can_move(area: &[u8], f: Figures, m: u32, kind: Kind, j: usize, s: Station) -> bool
-    requires { ⌜ (j < 16) × (57344 ≤ length (now area)) × (f .gap1 + f .gap2 < 65536) × Movable f m (now area) j × Held s × (s ≡ stationAt (now area) j) ⌝ }
+    requires { ⌜ (j < 16) × (areaSize ≤ length (now area)) × (f .gap1 + f .gap2 < 65536) × Movable f m (now area) j × Held s × (s ≡ stationAt (now area) j) ⌝ }
     ensures { λ r. ⌜ r ≡ canMove f m kind (now (area .entry)) j ⌝ }
 {
     let heard = is_heard(kind);
@@ -146,7 +148,7 @@ fn move_at_once(
     b: u32,
     m: u32,
 )
-    requires { ⌜ (j < 16) × (57344 ≤ length (now area)) × Movable f m (now area) j × (u + m < 4294967296) × (b + m < 4294967296) × Audible kind (now area) j u m ⌝ }
+    requires { ⌜ (j < 16) × (areaSize ≤ length (now area)) × Movable f m (now area) j × (u + m < 4294967296) × (b + m < 4294967296) × Audible kind (now area) j u m ⌝ }
     ensures { λ r. ⌜ now (area .exit) ≡ stretched f e kind m j (now (area .entry)) u (now (frame .entry)) b ⌝ }
 {
     match kind {
@@ -159,7 +161,7 @@ fn move_at_once(
 
 // What station j hears in the first step of a kind.
 fn heard_first(area: &[u8], kind: Kind, j: usize, u: usize, frame: &[u8], b: u32) -> Heard
-    requires { ⌜ (j < 16) × (57344 ≤ length (now area)) ⌝ }
+    requires { ⌜ (j < 16) × (areaSize ≤ length (now area)) ⌝ }
     ensures { λ r. ⌜ r ≡ heardIn kind (now (area .entry)) j u (now (frame .entry)) b 0 ⌝ }
 {
     match kind {
@@ -186,7 +188,7 @@ pub fn advance(
     b: u32,
     m: u32,
 ) -> u32
-    requires { ⌜ (j < 16) × (57344 ≤ length (now area)) × (0 < m) × (u + m ≤ 16777216) × (b + m < 4294967296) × (f .gap1 + f .gap2 < 65536) × Moving f depth j u (now area) × Audible kind (now area) j u m ⌝ }
+    requires { ⌜ (j < 16) × (areaSize ≤ length (now area)) × (0 < m) × (u + m ≤ lastClock) × (b + m < 4294967296) × (f .gap1 + f .gap2 < 65536) × Moving f depth j u (now area) × Audible kind (now area) j u m ⌝ }
     ensures moved { λ r. ⌜ now (area .exit) ≡ byItself f depth j (heardIn kind (now (area .entry)) j u (now (frame .entry)) b) r (now (area .entry)) ⌝ }
     ensures bound { λ r. ⌜ (0 < r) × (r ≤ m) ⌝ }
 {

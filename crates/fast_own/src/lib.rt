@@ -9,10 +9,11 @@ ghost use lib.ListN.{length};
 ghost use Rattle.pair.specs.InPlace.{Kept};
 ghost use Rattle.pair.specs.Ready.{Able};
 ghost use Rattle.fast_plan.specs.Own.{outcomeOn, ownLeft, ownTurn};
+ghost use Rattle.area.specs.Offsets.{areaSize};
 
 // What station i does on hearing h.
 fn outcome(area: &[u8], f: Figures, depth: u32, i: usize, h: Heard) -> Stepped
-    requires { ⌜ (i < 16) × (57344 ≤ length (now area)) × Able f (now area) i ⌝ }
+    requires { ⌜ (i < 16) × (areaSize ≤ length (now area)) × Able f (now area) i ⌝ }
     ensures { λ r. ⌜ r ≡ outcomeOn f depth i h (now (area .entry)) ⌝ }
 {
     let s = area::read_station(area, i);
@@ -22,7 +23,7 @@ fn outcome(area: &[u8], f: Figures, depth: u32, i: usize, h: Heard) -> Stepped
 
 // What it leaves of its own: its record, its counters, the bit that it collected.
 fn leave(area: &mut [u8], i: usize, o: Stepped)
-    requires { ⌜ (i < 16) × (57344 ≤ length (now area)) × Kept (o .stored) ⌝ }
+    requires { ⌜ (i < 16) × (areaSize ≤ length (now area)) × Kept (o .stored) ⌝ }
     ensures { λ r. ⌜ now (area .exit) ≡ ownLeft i o (now (area .entry)) ⌝ }
 {
     let next = o.station;
@@ -33,7 +34,7 @@ fn leave(area: &mut [u8], i: usize, o: Stepped)
 }
 
 pub fn turn_alone(area: &mut [u8], f: Figures, depth: u32, i: usize, h: Heard)
-    requires { ⌜ (i < 16) × (57344 ≤ length (now area)) × Able f (now area) i ⌝ }
+    requires { ⌜ (i < 16) × (areaSize ≤ length (now area)) × Able f (now area) i ⌝ }
     ensures { λ r. ⌜ now (area .exit) ≡ ownTurn f depth i h (now (area .entry)) ⌝ }
 {
     let o = outcome(area, f, depth, i, h);

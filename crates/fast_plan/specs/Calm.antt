@@ -28,6 +28,7 @@ use Rattle.fast_plan.specs.Plan.{Plan, hears, ownAfter, actAfter, Holds,
 use Rattle.fast_plan.specs.Prefix.{Unhurt}
 use Rattle.fast_plan.specs.Runs.{eventsBy, talliedBy, run-steps, plan-events}
 use Rattle.fast_plan.specs.NoEvents.{none-at, nothing-tallied}
+use Rattle.layout.specs.Limits.{lastClock}
 
 -- for m steps from x on station i, which hears H, emits Q and has no event
 pub record Calm (f : Figures) (d i : ℕ) (H : ℕ → Heard) (Q : ℕ → Symbol) (m : ℕ) (x : List ℕ) : Type 0 where
@@ -88,7 +89,7 @@ module _ (a : List ℕ) (P : Plan) (K : ℕ) (all : AllCalm a P K) where
   no-words zero ws h = refl
   no-words (suc m) ws h = ap₂ (λ (es : List Events) (vs : List ℕ). tallied es 16 vs) (no-events m h) (no-words m ws (omega arith)) ∙ nothing-tallied (countAt a) 16 ws
 
-  module _ (r : Readiness a) (early : clockAt a + K ≤ 16777216) where
+  module _ (r : Readiness a) (early : clockAt a + K ≤ lastClock) where
     -- a run
     pub calm-run : (k m : ℕ) (ws : List ℕ) → runOf (K + k) m ws a ≡ runOf k (m + K) ws (steps K a)
     calm-run k m ws = run-steps a P K k m ws r early calm-holds calm-unhurt ∙ ap (λ (vs : List ℕ). runOf k (m + K) vs (steps K a)) (no-words K ws (omega arith))

@@ -17,6 +17,7 @@ use Rattle.pair.specs.Ready.{Readiness}
 use Rattle.fast_plan.specs.Own.{actOn, ownTurn, byItself, on-kept, length-itself, Others, itself-keeps, OwnSame, own-trans, Stays, Drawn, itself-same}
 use Rattle.fast_plan.specs.Plan.{Plan, hears, lineAfter, ownAfter, steps, Planned}
 use Rattle.fast_plan.specs.Happens.{left-still, planned-station, drawn}
+use Rattle.area.specs.Offsets.{areaSize}
 
 -- ---- codes
 
@@ -139,7 +140,7 @@ own-ahead a P m k x i hi hk = (
   },
 )
 
-pub own-built : (a : List ℕ) (P : Plan) (m k : ℕ) (i : ℕ) → i < k → k ≤ 16 → 57344 ≤ length a → ((s : ℕ) → s < m → Drawn (stationAt (ownAfter a P i s) i)) → OwnSame i (ownAll a P m k a) (ownAfter a P i m)
+pub own-built : (a : List ℕ) (P : Plan) (m k : ℕ) (i : ℕ) → i < k → k ≤ 16 → areaSize ≤ length a → ((s : ℕ) → s < m → Drawn (stationAt (ownAfter a P i s) i)) → OwnSame i (ownAll a P m k a) (ownAfter a P i m)
 unfolding ownAll turns ownAfter
 own-built a P m zero i hi hk room dr = absurd (omega arith)
 own-built a P m (suc k) i hi hk room dr =

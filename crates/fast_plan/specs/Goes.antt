@@ -25,6 +25,7 @@ use Rattle.pair.specs.BitTime.{withStored, happened, withCounted}
 use Rattle.pair.specs.InPlace.{Kept, length-stored, stored-keeps}
 use Rattle.quick.specs.Quick.{quietly}
 use Rattle.fast_plan.specs.Own.{outcomeOn, actOn, ownLeft, ownTurn, byItself}
+use Rattle.area.specs.Offsets.{areaSize}
 
 -- the bits of m steps
 unfoldable pub storedAll : ℕ → (ℕ → Stored) → (m : ℕ) → List ℕ → List ℕ
@@ -62,7 +63,7 @@ station-all i st zero s x hi = refl
 station-all i st (suc m) s x hi =
     station-stored i (st m) s (storedAll i st m x) hi ∙ ap (withStored i (st m)) (station-all i st m s x hi)
 
-module _ (f : Figures) (d i : ℕ) (a : List ℕ) (K : ℕ) (hi : i < 16) (room : 57344 ≤ length a) (on : ℕ → Station) (H : ℕ → Heard) (em : ℕ → Emission) (st : ℕ → Stored)
+module _ (f : Figures) (d i : ℕ) (a : List ℕ) (K : ℕ) (hi : i < 16) (room : areaSize ≤ length a) (on : ℕ → Station) (H : ℕ → Heard) (em : ℕ → Emission) (st : ℕ → Stored)
     (begins : stationAt a i ≡ on 0) (fit : (m : ℕ) → m ≤ K → Fit (on m)) (address : (m : ℕ) → on m .address ≡ addressAt a i) (kept : (m : ℕ) → Kept (st m))
     (step : (m draw : ℕ) (buf : List ℕ) → m < K → (m ≡ 0 → buf ≡ bufferAt a i) → stepped f (on m) d draw buf (H m) ≡ quietly (on (suc m)) (em m) (st m)) where
   after : ℕ → List ℕ
@@ -72,7 +73,7 @@ module _ (f : Figures) (d i : ℕ) (a : List ℕ) (K : ℕ) (hi : i < 16) (room 
   unfolding after
   there m h =
       let y = withStation a i (on m) in
-      let ly : 57344 ≤ length y = omega (arith, length-station a i (on m)) in
+      let ly : areaSize ≤ length y = omega (arith, length-station a i (on m)) in
       station-by (storedAll i st m y) y i hi (omega (arith, length-all i st m y)) ly
       (all-keeps layout i st m y kept (λ p q. omega arith))
       (all-keeps (station i) i st m y kept (λ p q. omega arith))
@@ -122,7 +123,7 @@ module _ (f : Figures) (d i : ℕ) (a : List ℕ) (K : ℕ) (hi : i < 16) (room 
   unfolding after
   frame-after m z hz =
       let y = withStation a i (on m) in
-      let ly : 57344 ≤ length y = omega (arith, length-station a i (on m)) in
+      let ly : areaSize ≤ length y = omega (arith, length-station a i (on m)) in
       frame-by (storedAll i st m y) a i z hi hz (omega (arith, length-all i st m y)) room
       (keeps-trans (frame i) (storedAll i st m y) y a (all-keeps (frame i) i st m y kept (λ p q. omega arith))
       (station-keeps (frame i) a i (on m) (λ p q. omega arith)))

@@ -34,6 +34,8 @@ use Rattle.meeting.specs.Meet.{met, met-none, met-group, adds, heard-grown, hea
 use Rattle.meeting.specs.Lines.{share, share-adds, line-all, clear-all}
 use Rattle.fast_plan.specs.Own.{actOn, ownLeft, ownTurn, byItself, by-itself-more, act-heard, length-itself, OwnSame, own-refl, own-sym, own-trans, left-same, Stays, stays-refl, stays-trans, stays-sym, Drawn, on-same, itself-stays}
 use Rattle.fast_plan.specs.Plan.{Plan, cut, netOf, lineNow, hears, lineAfter, ownAfter, actAfter, Holds, steps, Planned}
+use Rattle.layout.specs.Limits.{lastClock}
+use Rattle.area.specs.Offsets.{areaSize}
 
 -- ---- the plan's symbols on their way
 
@@ -164,7 +166,7 @@ module _ (n k : ℕ) (few : n ≤ 16) (still : Still n k) where
 -- ---- a station's own parts after the turns of all
 
 module _ (n t : ℕ) (r : ℕ → Act) (x : List ℕ) (sp : Spread n x) (kept : (i : ℕ) → i < n → Kept (r i .outcome .stored))
-    (room : 57344 ≤ length x) where
+    (room : areaSize ≤ length x) where
   part-own : (p : Part) (i : ℕ) → i < n → ((j : ℕ) → j < n → (j ≡ i → ⊥) → Foreign p t j)
       → ((j u : ℕ) → j < n → Off p (place j u))
       → Keeps p (turns (λ j y. settled n t j (r j) y) n x)
@@ -241,10 +243,10 @@ module _ (a : List ℕ) (sp : Spread (countAt a) a) (P : Plan) (K : ℕ) (x : Li
   below : (i : ℕ) → i < countAt a → i < countAt x
   below i h = omega (arith, count-same)
 
-  room : 57344 ≤ length x
+  room : areaSize ≤ length x
   room = w .ready .long
 
-  own-room : (i : ℕ) → 57344 ≤ length (ownAfter a P i K)
+  own-room : (i : ℕ) → areaSize ≤ length (ownAfter a P i K)
   unfolding ownAfter
   own-room i = omega (arith, length-itself (figuresAt a) (depthAt a) i (hears a P i) K a, w .long, room)
 
@@ -290,7 +292,7 @@ module _ (a : List ℕ) (sp : Spread (countAt a) a) (P : Plan) (K : ℕ) (x : Li
       let y = turns (λ j z. settled n (clockAt x) j (actAt x j) z) i x in
       let o = actAt x i .outcome in
       let b = ownAfter a P i K in
-      let ly : 57344 ≤ length
+      let ly : areaSize ≤ length
       y = omega (arith, length-after n (clockAt x) (actAt x) x (r .spread) (kept-at x) room i, room) in
       let one : OwnSame i (stepArea x) turned =
       record {
@@ -380,7 +382,7 @@ module _ (a : List ℕ) (sp : Spread (countAt a) a) (P : Plan) (K : ℕ) (x : Li
         subst (λ (c : ℕ). Keeps clock (withClock turned (clockAt x + 1)) (withClock a c)) t
         (clock-on turned a (clockAt x + 1) (omega (arith, l, room)) (omega (arith, w .long, room)))
 
-    pub next-planned : clockAt x < 16777216 → Planned a P (suc K) (stepArea x)
+    pub next-planned : clockAt x < lastClock → Planned a P (suc K) (stepArea x)
     next-planned early =
         let r = w .ready in
         record {
@@ -414,7 +416,7 @@ planned-none a P r =
       rest = λ k st. refl;
     }
 
-pub plan-happens : (a : List ℕ) (P : Plan) (K : ℕ) → Readiness a → clockAt a + K ≤ 16777216 → Holds a P K
+pub plan-happens : (a : List ℕ) (P : Plan) (K : ℕ) → Readiness a → clockAt a + K ≤ lastClock → Holds a P K
     → Planned a P K (steps K a)
 unfolding steps turns Holds
 plan-happens a P zero r early h = planned-none a P r
@@ -423,7 +425,7 @@ plan-happens a P (suc K) r early h =
     next-planned a (r .spread) P K (steps K a) w (λ i hi. h K i (omega arith) hi) (omega (arith, w .time))
 
 -- and what each station does in step s is what it does by itself
-pub plan-acts : (a : List ℕ) (P : Plan) (K s i : ℕ) → Readiness a → clockAt a + K ≤ 16777216 → Holds a P K → s ≤ K
+pub plan-acts : (a : List ℕ) (P : Plan) (K s i : ℕ) → Readiness a → clockAt a + K ≤ lastClock → Holds a P K → s ≤ K
     → i < countAt a → actAt (steps s a) i ≡ actAfter a P i s
 unfolding Holds
 plan-acts a P K s i r early h hs hi =

@@ -25,6 +25,7 @@ use Rattle.pair.specs.declared.Act.{Act}
 use Rattle.pair.specs.BitTime.{outcomeIn, actIn, withStored, happened, withCounted}
 use Rattle.pair.specs.Ready.{receive-kept}
 use Rattle.pair.specs.InPlace.{Kept, length-stored, length-counted, stored-keeps, counted-keeps}
+use Rattle.area.specs.Offsets.{areaSize}
 
 -- ---- a turn on what is heard
 
@@ -156,7 +157,7 @@ own-sym i x y p = record {
   buffer = keeps-sym (buffer i) x y (p .buffer);
 }
 
-module _ (i : ℕ) (hi : i < 16) (x y : List ℕ) (lx : 57344 ≤ length x) (ly : 57344 ≤ length y) where
+module _ (i : ℕ) (hi : i < 16) (x y : List ℕ) (lx : areaSize ≤ length x) (ly : areaSize ≤ length y) where
   counted-on : (o : Stepped) → Keeps (counters i) x y → Keeps (counters i) (withCounted i o x) (withCounted i o y)
   unfolding withCounted
   counted-on o e =
@@ -169,7 +170,7 @@ module _ (i : ℕ) (hi : i < 16) (x y : List ℕ) (lx : 57344 ≤ length x) (ly 
   stored-on (Store m b) h e = bit-on i hi x y lx ly m b h e
 
 -- what it leaves of its own goes by that
-pub left-same : (i : ℕ) (o : Stepped) (x y : List ℕ) → i < 16 → 57344 ≤ length x → 57344 ≤ length y → Kept (o .stored)
+pub left-same : (i : ℕ) (o : Stepped) (x y : List ℕ) → i < 16 → areaSize ≤ length x → areaSize ≤ length y → Kept (o .stored)
     → OwnSame i x y → OwnSame i (ownLeft i o x) (ownLeft i o y)
 unfolding ownLeft
 left-same i o x y hi lx ly k e =
@@ -179,10 +180,10 @@ left-same i o x y hi lx ly k e =
     let y₁ = withStation y i (o .station) in
     let y₂ = withCounted i o y₁ in
     let y₃ = withStored i (o .stored) y₂ in
-    let lx₁ : 57344 ≤ length x₁ = omega (arith, length-station x i (o .station)) in
-    let ly₁ : 57344 ≤ length y₁ = omega (arith, length-station y i (o .station)) in
-    let lx₂ : 57344 ≤ length x₂ = omega (arith, length-counted i o x₁) in
-    let ly₂ : 57344 ≤ length y₂ = omega (arith, length-counted i o y₁) in
+    let lx₁ : areaSize ≤ length x₁ = omega (arith, length-station x i (o .station)) in
+    let ly₁ : areaSize ≤ length y₁ = omega (arith, length-station y i (o .station)) in
+    let lx₂ : areaSize ≤ length x₂ = omega (arith, length-counted i o x₁) in
+    let ly₂ : areaSize ≤ length y₂ = omega (arith, length-counted i o y₁) in
     record {
       station = over (station i) x₃ x₂ y₂ y₃ (stored-keeps (station i) i (o .stored) x₂ k (λ p q. omega arith))
           (stored-keeps (station i) i (o .stored) y₂ k (λ p q. omega arith))
@@ -234,7 +235,7 @@ pub record Drawn (s : Station) : Type 0 where
   pub draw : s .draw < 16
   pub held : octetsHeld (s .transmitter) (s .frame) ≤ 1536
 
-pub on-same : (f : Figures) (d i : ℕ) (h : Heard) (x y : List ℕ) → i < 16 → 57344 ≤ length x → 57344 ≤ length y
+pub on-same : (f : Figures) (d i : ℕ) (h : Heard) (x y : List ℕ) → i < 16 → areaSize ≤ length x → areaSize ≤ length y
     → Drawn (stationAt y i) → Stays i x y → OwnSame i x y → actOn f d i h x ≡ actOn f d i h y
 unfolding actOn outcomeOn
 on-same f d i h x y hi lx ly dr q e =
@@ -260,16 +261,16 @@ itself-stays f d i H m x hi =
     }
 
 -- so do many turns
-pub itself-same : (f : Figures) (d i : ℕ) (H : ℕ → Heard) (m : ℕ) (x y : List ℕ) → i < 16 → 57344 ≤ length x
-    → 57344 ≤ length y → ((s : ℕ) → s < m → Drawn (stationAt (byItself f d i H s y) i))
+pub itself-same : (f : Figures) (d i : ℕ) (H : ℕ → Heard) (m : ℕ) (x y : List ℕ) → i < 16 → areaSize ≤ length x
+    → areaSize ≤ length y → ((s : ℕ) → s < m → Drawn (stationAt (byItself f d i H s y) i))
     → Stays i x y → OwnSame i x y → OwnSame i (byItself f d i H m x) (byItself f d i H m y)
 unfolding byItself turns ownTurn
 itself-same f d i H zero x y hi lx ly dr q e = e
 itself-same f d i H (suc m) x y hi lx ly dr q e =
     let u = byItself f d i H m x in
     let v = byItself f d i H m y in
-    let lu : 57344 ≤ length u = omega (arith, length-itself f d i H m x) in
-    let lv : 57344 ≤ length v = omega (arith, length-itself f d i H m y) in
+    let lu : areaSize ≤ length u = omega (arith, length-itself f d i H m x) in
+    let lv : areaSize ≤ length v = omega (arith, length-itself f d i H m y) in
     let s : OwnSame i u v = itself-same f d i H m x y hi lx ly (λ k h. dr k (omega arith)) q e in
     let w : Stays i u v = stays-trans i u x v (itself-stays f d i H m x hi)
     (stays-trans i x y v q (stays-sym i v y (itself-stays f d i H m y hi))) in

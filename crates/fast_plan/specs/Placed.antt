@@ -19,13 +19,14 @@ use Rattle.area.specs.AreaLaws.{keeps-refl, keeps-trans, arrival-by, arrival-ke
 use Rattle.pair.specs.InPlace.{Spread}
 use Rattle.fast_plan.specs.Plan.{Plan, lineAfter}
 use Rattle.fast_plan.specs.Push.{cleared, joinedAt, onWay, waysTo, lineDone, pushed-line}
+use Rattle.area.specs.Offsets.{areaSize}
 
 -- U writes places of the line of station j, codes of symbols all of them
 pub record LineOnly (n j : ℕ) (U : List ℕ → List ℕ) : Type 0 where
   pub long : (x : List ℕ) → length (U x) ≡ length x
   pub off : (p : Part) (x : List ℕ) → ((u : ℕ) → Off p (place j u)) → Keeps p (U x) x
   pub still : (k : ℕ) (x : List ℕ) → Still n k → getD (U x) k 0 ≡ getD x k 0
-  pub codes : (x : List ℕ) → 57344 ≤ length x → ((i u : ℕ) → i < n → symbolAt x i u ≤ 4) → (i u : ℕ) → i < n
+  pub codes : (x : List ℕ) → areaSize ≤ length x → ((i u : ℕ) → i < n → symbolAt x i u ≤ 4) → (i u : ℕ) → i < n
       → symbolAt (U x) i u ≤ 4
 
 module _ (n j : ℕ) (few : n ≤ 16) (hj : j < n) where
@@ -105,13 +106,13 @@ module _ (a : List ℕ) (P : Plan) (K : ℕ) (few : countAt a ≤ 16) where
   done-still m zero x h s = refl
   done-still m (suc k) x h s = only k h .still m (linesDone a P K k x) s ∙ done-still m k x (omega arith) s
 
-  pub done-codes : (k : ℕ) (x : List ℕ) → k ≤ countAt a → 57344 ≤ length x → ((i u : ℕ) → i < countAt a → symbolAt x i u ≤ 4) → (i u : ℕ) → i < countAt a → symbolAt (linesDone a P K k x) i u ≤ 4
+  pub done-codes : (k : ℕ) (x : List ℕ) → k ≤ countAt a → areaSize ≤ length x → ((i u : ℕ) → i < countAt a → symbolAt x i u ≤ 4) → (i u : ℕ) → i < countAt a → symbolAt (linesDone a P K k x) i u ≤ 4
   unfolding linesDone turns
   done-codes zero x h room c = c
   done-codes (suc k) x h room c = only k h .codes (linesDone a P K k x) (omega (arith, done-long k x (omega arith)))
       (done-codes k x (omega arith) room c)
 
-  pub done-line : (sp : Spread (countAt a) a) (k j v : ℕ) (x : List ℕ) → k ≤ countAt a → j < k → 57344 ≤ length x → ((i u : ℕ) → i < countAt a → arrivalAt x i u ≡ arrivalAt a i u) → K ≤ v → v < K + 256
+  pub done-line : (sp : Spread (countAt a) a) (k j v : ℕ) (x : List ℕ) → k ≤ countAt a → j < k → areaSize ≤ length x → ((i u : ℕ) → i < countAt a → arrivalAt x i u ≡ arrivalAt a i u) → K ≤ v → v < K + 256
       → arrivalAt (linesDone a P K k x) j (clockAt a + v) ≡ lineAfter a P K j v
   unfolding linesDone turns
   done-line sp zero j v x hk hj room same lo up = absurd (omega arith)

@@ -22,6 +22,7 @@ use Rattle.meeting.specs.Net.{gathered, reaches, heard}
 use Rattle.meeting.specs.Gather.{joined-none}
 use Rattle.meeting.specs.Meet.{met, met-none, met-group, joined-met}
 use Rattle.fast_plan.specs.Plan.{Plan, cut, netOf, lineNow, lineAfter}
+use Rattle.area.specs.Offsets.{areaSize}
 
 -- ---- places cleared
 
@@ -46,7 +47,7 @@ cleared-other t j (suc m) x v h =
     arrival-off (cleared t j m x) j (t + m) Nothing j v (λ e z. h m (omega arith) z)
     ∙ cleared-other t j m x v (λ s l. h s (omega arith))
 
-cleared-there : (t j m : ℕ) (x : List ℕ) (s : ℕ) → j < 16 → 57344 ≤ length x → m ≤ 256 → s < m
+cleared-there : (t j m : ℕ) (x : List ℕ) (s : ℕ) → j < 16 → areaSize ≤ length x → m ≤ 256 → s < m
     → arrivalAt (cleared t j m x) j (t + s) ≡ Nothing
 unfolding cleared turns
 cleared-there t j zero x s hj room hm h = absurd (omega arith)
@@ -58,7 +59,7 @@ cleared-there t j (suc m) x s hj room hm h =
     room (omega arith) (omega arith))
 
 -- what is left is what was on its way; x has the line of a
-pub cleared-line : (a x : List ℕ) (K j v : ℕ) → j < 16 → 57344 ≤ length x
+pub cleared-line : (a x : List ℕ) (K j v : ℕ) → j < 16 → areaSize ≤ length x
     → ((u : ℕ) → arrivalAt x j u ≡ arrivalAt a j u) → K ≤ v → v < K + 256
     → arrivalAt (cleared (clockAt a) j (min K 256) x) j (clockAt a + v) ≡ lineNow a j v
 unfolding lineNow
@@ -125,7 +126,7 @@ gets-more d K Q m v ne =
     (λ c. let p = leb-false d v c in gets-none d K Q (suc m) v (λ x y z. omega arith) ∙ sym
     (gets-none d K Q m v (λ x y z. omega arith)))
 
-pub way-line : (t d K : ℕ) (Q : ℕ → Symbol) (j m : ℕ) (x : List ℕ) (v : ℕ) → j < 16 → 57344 ≤ length x → d < 256
+pub way-line : (t d K : ℕ) (Q : ℕ → Symbol) (j m : ℕ) (x : List ℕ) (v : ℕ) → j < 16 → areaSize ≤ length x → d < 256
     → m ≤ min d K → K ≤ v → v < K + 256
     → arrivalAt (onWay t d K Q j m x) j (t + v) ≡ joined (arrivalAt x j (t + v)) (gets d K Q m v)
 unfolding onWay turns joinedAt
@@ -180,7 +181,7 @@ own-none : (a : List ℕ) (P : Plan) (K j v i : ℕ) → i ≡ j → reaches (sp
 unfolding reaches
 own-none a P K j v i z = rw (eq-eqb i j z)
 
-ways-line : (a : List ℕ) (P : Plan) (K j k : ℕ) (x : List ℕ) (v : ℕ) → j < 16 → 57344 ≤ length x
+ways-line : (a : List ℕ) (P : Plan) (K j k : ℕ) (x : List ℕ) (v : ℕ) → j < 16 → areaSize ≤ length x
     → ((i : ℕ) → i < k → spaceAt a i j < 256) → K ≤ v → v < K + 256
     → arrivalAt (waysTo a P K j k x) j (clockAt a + v) ≡ met (arrivalAt x j (clockAt a + v))
     (gathered k (reaches (spaceAt a) (cut K P) j v))
@@ -212,7 +213,7 @@ ways-line a P K j (suc k) x v hj room near lo up =
 unfoldable pub lineDone : List ℕ → Plan → (K j : ℕ) → List ℕ → List ℕ
 lineDone a P K j x = waysTo a P K j (countAt a) (cleared (clockAt a) j (min K 256) x)
 
-pub pushed-line : (a x : List ℕ) (P : Plan) (K j v : ℕ) → Spread (countAt a) a → j < countAt a → 57344 ≤ length x
+pub pushed-line : (a x : List ℕ) (P : Plan) (K j v : ℕ) → Spread (countAt a) a → j < countAt a → areaSize ≤ length x
     → ((u : ℕ) → arrivalAt x j u ≡ arrivalAt a j u) → K ≤ v → v < K + 256
     → arrivalAt (lineDone a P K j x) j (clockAt a + v) ≡ lineAfter a P K j v
 unfolding lineAfter heard netOf lineDone

@@ -23,12 +23,13 @@ use Rattle.course.specs.UntilLaws.{plus, stretch-first}
 use Rattle.fast_plan.specs.Plan.{Plan, actAfter, Holds, steps, Planned}
 use Rattle.fast_plan.specs.Happens.{plan-happens, plan-acts}
 use Rattle.fast_plan.specs.Prefix.{Unhurt, holds-less}
+use Rattle.layout.specs.Limits.{lastClock}
 
 -- those of step s, by the plan
 unfoldable pub eventsBy : List ℕ → Plan → ℕ → List Events
 eventsBy a P s = filled noEvents (λ i. eventsOf (actAfter a P i s)) (countAt a)
 
-pub plan-events : (a : List ℕ) (P : Plan) (K s : ℕ) → Readiness a → clockAt a + K ≤ 16777216 → Holds a P K → s ≤ K
+pub plan-events : (a : List ℕ) (P : Plan) (K s : ℕ) → Readiness a → clockAt a + K ≤ lastClock → Holds a P K → s ≤ K
     → eventsAt (steps s a) ≡ eventsBy a P s
 unfolding eventsAt eventsBy
 plan-events a P K s r early h hs =
@@ -63,7 +64,7 @@ unfolding runOf
 run-one k m ws a e = rw e
 
 -- K steps of a run
-pub run-steps : (a : List ℕ) (P : Plan) (K r m : ℕ) (ws : List ℕ) → Readiness a → clockAt a + K ≤ 16777216 → Holds a P K
+pub run-steps : (a : List ℕ) (P : Plan) (K r m : ℕ) (ws : List ℕ) → Readiness a → clockAt a + K ≤ lastClock → Holds a P K
     → Unhurt a P K
     → runOf (K + r) m ws a ≡ runOf r (m + K) (talliedBy a P K ws) (steps K a)
 unfolding talliedBy turns steps Unhurt

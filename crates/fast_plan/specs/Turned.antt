@@ -15,6 +15,7 @@ use Rattle.fast_plan.specs.Plan.{Plan, ownAfter, Holds, steps}
 use Rattle.fast_plan.specs.Happens.{plan-happens}
 use Rattle.fast_plan.specs.Exact.{planned-left, left-same-area, symbol-code, ownAll, length-own, own-keeps, own-built, own-still, own-drawn}
 use Rattle.fast_plan.specs.Placed.{linesDone, done-long, done-keeps, done-still, done-codes, done-line}
+use Rattle.layout.specs.Limits.{lastClock}
 
 unfoldable pub turnedOf : List ℕ → Plan → ℕ → List ℕ
 turnedOf a P K = withClock (linesDone a P K (countAt a) (ownAll a P K (countAt a) a)) (clockAt a + K)
@@ -24,7 +25,7 @@ module _ (a : List ℕ) (P : Plan) (K k : ℕ) where
   pub all-line : (i u : ℕ) → i < 16 → k ≤ 16 → Keeps (place i u) (ownAll a P K k a) a
   all-line i u hi hk = own-keeps (place i u) a P K k a (λ j h. record { station = λ p q. omega arith; counters = λ p q. omega arith; buffer = λ p q. omega arith })
 
-pub steps-turned : (a : List ℕ) (P : Plan) (K : ℕ) → 0 < K → Readiness a → clockAt a + K ≤ 16777216 → Holds a P K → steps K a ≡ turnedOf a P K
+pub steps-turned : (a : List ℕ) (P : Plan) (K : ℕ) → 0 < K → Readiness a → clockAt a + K ≤ lastClock → Holds a P K → steps K a ≡ turnedOf a P K
 unfolding turnedOf Holds
 steps-turned a P K pos r early h =
     let n = countAt a in

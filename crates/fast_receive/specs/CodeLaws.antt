@@ -29,6 +29,7 @@ use Rattle.fast_receive.specs.Received.{Taken, taken, stepTaken, heardAl
 use Rattle.fast_receive.specs.ReceivedLaws.{hear-range, heard-split, heard-keeps}
 use Rattle.fast_receive.specs.Copy.{octets-copied}
 use Rattle.fast_receive.specs.Zeros.{lowKept, blanks, zeroed, zeroedUpTo, zeros-stored, spoiled-seeking, spoiled-listening, spoiled-readable, spoiled-collecting}
+use Rattle.area.specs.Offsets.{areaSize}
 
 -- ---- one step
 
@@ -134,7 +135,7 @@ pub stay-bits : (t : Receiver) (bits s : ℕ) (sp own : Bool) → t ≡ Collecti
 stay-bits t bits s sp own p = omega (arith, ap bitsIn p)
 
 pub octets-heard : (j : ℕ) (e : Bool) (F : List ℕ) (a bits m n : ℕ) (sp own o : Bool) (x y : List ℕ) → j < 16
-    → 57344 ≤ length x → ((k : ℕ) → getD F k 0 < 256) → 65 ≤ a
+    → areaSize ≤ length x → ((k : ℕ) → getD F k 0 < 256) → 65 ≤ a
     → (a - 65) % 8 ≡ 0 → bits % 8 ≡ 0 → (8 * n ≤ m) × (n ≤ length F - (a - 65) / 8) × (n ≤ 1518 - bits / 8)
     → (n ≡ 0 → ⊥) → o ≡ (own || e) → y ≡ copied j (bits / 8) ((a - 65) / 8) n F x
     → taken (Collecting (bits + 8 * n) sp o) y ≡ heardAll j e (bitsFrom F a) (8 * n) (taken (Collecting bits sp own) x)
@@ -167,7 +168,7 @@ module _ (j : ℕ) (e : Bool) (F : List ℕ) (r : Receiver) (x : List ℕ) where
 
 -- ---- spoiled symbols
 
-pub buffer-long : (x b : List ℕ) (j : ℕ) → b ≡ bufferAt x j → j < 16 → 57344 ≤ length x → length b ≡ 1518
+pub buffer-long : (x b : List ℕ) (j : ℕ) → b ≡ bufferAt x j → j < 16 → areaSize ≤ length x → length b ≡ 1518
 unfolding bufferAt
 buffer-long x b j e hj room = ap length e ∙ length-part x (32768 + 1536 * j) 1518 (omega arith)
 
@@ -226,7 +227,7 @@ module _ (j : ℕ) (e : Bool) (m : ℕ) (r : Receiver) (x : List ℕ) where
   spoiled-seeks row sp own o p z w = ap (λ (b : Bool). taken (Seeking 1 true b) x) w ∙ heard-by z (taken (Seeking 1 true (own || e)) x) (Seeking row sp own) p (spoiled-seeking j e x row sp own (m - 1))
 
   pub spoiled-collects : (c : ℕ) (sp own o : Bool) (y : List ℕ) → r ≡ Collecting c sp own → (m ≡ 0 → ⊥) → j < 16
-      → 57344 ≤ length x → y ≡ zeroedUpTo j c m x → o ≡ (own || e)
+      → areaSize ≤ length x → y ≡ zeroedUpTo j c m x → o ≡ (own || e)
       → taken (Collecting (c + m) true o) y ≡ heardAll j e spoils m (taken r x)
   spoiled-collects c sp own o y p z hj room h w =
       let k : suc (m - 1) ≡ m = some z in

@@ -21,6 +21,7 @@ use Rattle.pair.specs.BitTime.{withStored}
 use Rattle.fast_plan.specs.Goes.{storedAll}
 use Rattle.fast_receive.specs.Received.{Taken, taken, stepTaken, heardAll, bitsFrom, copied}
 use Rattle.fast_receive.specs.ReceivedLaws.{turns-add}
+use Rattle.area.specs.Offsets.{areaSize}
 
 -- ---- one octet
 
@@ -44,7 +45,7 @@ grown (suc (suc (suc (suc (suc (suc (suc (suc m)))))))) v h = absurd (omega arit
 first-bit : (o v : ℕ) → o % 2 ^ 0 + (v / 2 ^ 0 % 2) * 2 ^ 0 ≡ v % 2 ^ 1
 first-bit o v = omega arith
 
-module _ (i q : ℕ) (x : List ℕ) (hi : i < 16) (hq : q < 1518) (room : 57344 ≤ length x) (v : ℕ) (small : v < 256) (bit : ℕ → Bool) (is : (s : ℕ) → s < 8 → bit s ≡ eqb (v / 2 ^ s % 2) 1) where
+module _ (i q : ℕ) (x : List ℕ) (hi : i < 16) (hq : q < 1518) (room : areaSize ≤ length x) (v : ℕ) (small : v < 256) (bit : ℕ → Bool) (is : (s : ℕ) → s < 8 → bit s ≡ eqb (v / 2 ^ s % 2) 1) where
   abbrev pub st : ℕ → Stored
   st s = storedBit (8 * q + s) (bit s)
 
@@ -92,7 +93,7 @@ length-copied : (j q p m : ℕ) (F x : List ℕ) → length (copied j q p m F x)
 unfolding copied withOctet
 length-copied j q p m F x = length-turns _ m x (λ u y. length-set y _ _)
 
-pub copied-bits : (j q p m : ℕ) (F x : List ℕ) → j < 16 → 57344 ≤ length x → q + m ≤ 1518 → p + m ≤ length F
+pub copied-bits : (j q p m : ℕ) (F x : List ℕ) → j < 16 → areaSize ≤ length x → q + m ≤ 1518 → p + m ≤ length F
     → ((k : ℕ) → getD F k 0 < 256)
     → storedAll j (λ s. storedBit (8 * q + s) (packetBit F (65 + (8 * p + s)))) (8 * m) x ≡ copied j q p m F x
 unfolding storedAll turns copied
@@ -145,7 +146,7 @@ module _ (j : ℕ) (e : Bool) (bit : ℕ → Bool) (c : ℕ) (sp own : Bool) (x 
 
 -- whole octets of a packet: collected bit c and packet bit a both begin one
 pub octets-copied : (j : ℕ) (e : Bool) (F : List ℕ) (c a q p n : ℕ) (sp own : Bool) (x : List ℕ) → j < 16
-    → 57344 ≤ length x → ((k : ℕ) → getD F k 0 < 256) → c ≡ 8 * q → a ≡ 65 + 8 * p → 0 < n → q + n ≤ 1518
+    → areaSize ≤ length x → ((k : ℕ) → getD F k 0 < 256) → c ≡ 8 * q → a ≡ 65 + 8 * p → 0 < n → q + n ≤ 1518
     → p + n ≤ length F
     → heardAll j e (bitsFrom F a) (8 * n) (taken (Collecting c sp own) x) ≡ taken (Collecting (c + 8 * n) sp (own || e)) (copied j q p n F x)
 unfolding bitsFrom

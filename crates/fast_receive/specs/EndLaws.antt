@@ -29,6 +29,7 @@ use Rattle.fast_plan.specs.Goes.{storedAll, length-all}
 use Rattle.fast_station.specs.Forms.{calmed}
 use Rattle.fast_receive.specs.Received.{receivedBy, keptBy, AllHeard, mayReport}
 use Rattle.fast_receive.specs.ReceivedLaws.{received-range}
+use Rattle.area.specs.Offsets.{areaSize}
 
 -- ---- a law for each way through the code
 
@@ -112,7 +113,7 @@ module _ (e : Bool) (H : ℕ → Heard) (r : Receiver) (v : Far r) where
       past-kept j k (keptBy e H r m) (storedAll j (keptBy e H r) m x) (far-step (receivedBy e H m r) (H m) e (a m (omega arith)) (far-all m (λ s l. a s (omega arith))) .1) h
       ∙ first-six j k m x (λ s l. a s (omega arith)) h
 
-  destination-stays : (address : List ℕ) (j m : ℕ) (x : List ℕ) → j < 16 → 57344 ≤ length x → AllHeard H m
+  destination-stays : (address : List ℕ) (j m : ℕ) (x : List ℕ) → j < 16 → areaSize ≤ length x → AllHeard H m
       → addressed address (bufferAt (storedAll j (keptBy e H r) m x) j) ≡ addressed address (bufferAt x j)
   unfolding addressed destinationOf bufferAt Same
   destination-stays address j m x hj room a =
@@ -241,7 +242,7 @@ not-not true h = refl
 not-not false h = absurd (true≢false h)
 
 -- it still may not after m steps in which others are heard
-module _ (address : List ℕ) (j : ℕ) (e : Bool) (H : ℕ → Heard) (m more : ℕ) (x : List ℕ) (hj : j < 16) (room : 57344 ≤ length x) (a : AllHeard H m) (few : m ≤ more) where
+module _ (address : List ℕ) (j : ℕ) (e : Bool) (H : ℕ → Heard) (m more : ℕ) (x : List ℕ) (hj : j < 16) (room : areaSize ≤ length x) (a : AllHeard H m) (few : m ≤ more) where
   short : (r : Receiver) → rowIn r < 512 → bitsIn r + more < 512 → mayReport address (bufferAt (storedAll j (keptBy e H r) m x) j) (more - m) (receivedBy e H m r) ≡ false
   short r w h = may-few address (bufferAt (storedAll j (keptBy e H r) m x) j) (more - m) (receivedBy e H m r) (omega (arith, received-range e H m r a w .1))
 
@@ -269,7 +270,7 @@ module _ (address : List ℕ) (j : ℕ) (e : Bool) (H : ℕ → Heard) (m more :
 
 -- ---- the code's own
 
-pub six-long : (x b : List ℕ) (j : ℕ) → b ≡ bufferAt x j → j < 16 → 57344 ≤ length x → 6 ≤ length b
+pub six-long : (x b : List ℕ) (j : ℕ) → b ≡ bufferAt x j → j < 16 → areaSize ≤ length x → 6 ≤ length b
 unfolding bufferAt
 six-long x b j e hj room = omega (arith, ap length e, length-part x (32768 + 1536 * j) 1518 (omega arith))
 

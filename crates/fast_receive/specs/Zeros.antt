@@ -24,6 +24,7 @@ use Rattle.fast_plan.specs.Goes.{storedAll}
 use Rattle.fast_receive.specs.Received.{Taken, taken, stepTaken, heardAll, spoils}
 use Rattle.fast_receive.specs.ReceivedLaws.{turns-add}
 use Rattle.fast_receive.specs.Copy.{or-twice}
+use Rattle.area.specs.Offsets.{areaSize}
 
 -- octets q + 1 .. q + n of the buffer of station i are 0
 unfoldable pub blanks : (i q n : ℕ) → List ℕ → List ℕ
@@ -61,7 +62,7 @@ unfolding withOctet
 no-change i q p y h = ap (set y (32768 + 1536 * i + q)) (mod-eq-of-lt h) ∙ set-getD y (32768 + 1536 * i + q) 0
 
 -- the last octet written
-last-low : (i q p s n : ℕ) (x : List ℕ) → i < 16 → q + n < 1518 → 57344 ≤ length x → (n ≡ 0 → p ≤ s)
+last-low : (i q p s n : ℕ) (x : List ℕ) → i < 16 → q + n < 1518 → areaSize ≤ length x → (n ≡ 0 → p ≤ s)
     → getD (blanks i q n (lowKept i q p x)) (32768 + 1536 * i + (q + n)) 0 < 2 ^ s
 unfolding blanks lowKept withOctet turns
 last-low i q p s zero x hi h room le =
@@ -72,7 +73,7 @@ last-low i q p s zero x hi h room le =
     omega (arith, g, b, pow-mono {i = p} {j = s} (le refl))
 last-low i q p s (suc n) x hi h room le =
     let y = blanks i q n (lowKept i q p x) in
-    let l : 57344 ≤ length y = omega (arith, length-blanks i q n (lowKept i q p x), length-low i q p x) in
+    let l : areaSize ≤ length y = omega (arith, length-blanks i q n (lowKept i q p x), length-low i q p x) in
     omega (arith, getD-set-same y (32768 + 1536 * i + (q + suc n)) 0 0 (omega arith), pow-pos s)
 
 blanks-none : (i q p : ℕ) (x : List ℕ)
@@ -90,7 +91,7 @@ unfolding storedAll turns
 none-stored i st x = refl
 
 -- m zeros stored one by one
-pub zeros-kept : (i c m : ℕ) (x : List ℕ) → i < 16 → 57344 ≤ length x → c + suc m ≤ 12144
+pub zeros-kept : (i c m : ℕ) (x : List ℕ) → i < 16 → areaSize ≤ length x → c + suc m ≤ 12144
     → storedAll i (λ s. storedBit (c + s) false) (suc m) x ≡ zeroed i c (suc m) x
 unfolding storedAll turns zeroed
 zeros-kept i c zero x hi room h =
@@ -134,7 +135,7 @@ unfolding turns storedBit
 none-past i c a zero y h = refl
 none-past i c a (suc b) y h = let g : 12144 ≤ c + a = h (omega arith) in rw (le-ltb (c + (a + b)) 12144 (omega arith)) (none-past i c a b y (λ k. g))
 
-all-kept : (i c m : ℕ) (x : List ℕ) → i < 16 → 57344 ≤ length x → c < 12144 → 0 < m
+all-kept : (i c m : ℕ) (x : List ℕ) → i < 16 → areaSize ≤ length x → c < 12144 → 0 < m
     → storedAll i (λ s. storedBit (c + s) false) m x ≡ zeroed i c (min m (12144 - c)) x
 unfolding storedAll
 all-kept i c m x hi room h pos =
@@ -148,7 +149,7 @@ all-kept i c m x hi room h pos =
     ∙ ap (λ (y : List ℕ). turns (λ s z. W (a + s) z) b y) (ap (λ (k : ℕ). turns W k x) f ∙ zeros-kept i c (a - 1) x hi room (omega arith) ∙ ap (λ (k : ℕ). zeroed i c k x) (sym f))
     ∙ none-past i c a b (zeroed i c a x) (λ g. omega arith)
 
-pub zeros-stored : (i c m : ℕ) (x : List ℕ) → i < 16 → 57344 ≤ length x
+pub zeros-stored : (i c m : ℕ) (x : List ℕ) → i < 16 → areaSize ≤ length x
     → storedAll i (λ s. storedBit (c + s) false) m x ≡ zeroedUpTo i c m x
 unfolding zeroedUpTo
 zeros-stored i c m x hi room =

@@ -9,6 +9,7 @@ ghost use Rattle.area.specs.Area.{addressAt, bufferAt};
 ghost use Rattle.state.specs.declared.Receiver.the-variants.{Collecting};
 ghost use Rattle.fast_receive.specs.Received.{taken, stepTaken, heardAll, spoils, lineFrom, bitsFrom, AllHeard, copied, mayReport};
 ghost use Rattle.fast_receive.specs.Zeros.{lowKept, blanks, zeroedUpTo};
+ghost use Rattle.area.specs.Offsets.{areaSize};
 
 // A receiver after so many steps.
 struct Part {
@@ -20,7 +21,7 @@ struct Part {
 
 // A step in which others are heard.
 fn hear_one(area: &mut [u8], j: usize, r: Receiver, clean: bool, one: bool, e: bool) -> Receiver
-    requires { ⌜ (j < 16) × (57344 ≤ length (now area)) × (rowIn r < 512) × (bitsIn r < 4294967295) ⌝ }
+    requires { ⌜ (j < 16) × (areaSize ≤ length (now area)) × (rowIn r < 512) × (bitsIn r < 4294967295) ⌝ }
     ensures heard { λ q. ⌜ taken q (now (area .exit)) ≡ stepTaken j (hear r clean one e) (now (area .entry)) ⌝ }
     ensures range { λ q. ⌜ (rowIn q < 512) × (bitsIn q ≤ bitsIn r + 1) ⌝ }
 {
@@ -33,7 +34,7 @@ fn hear_one(area: &mut [u8], j: usize, r: Receiver, clean: bool, one: bool, e: b
 
 // Station j hears for m steps what its line holds from step u on; e: whether it emits in them.
 pub fn hear_line(area: &mut [u8], j: usize, u: usize, e: bool, r: Receiver, m: u32) -> Receiver
-    requires { ⌜ (j < 16) × (57344 ≤ length (now area)) × (u + m < 4294967296) × (rowIn r < 512) × (bitsIn r + m < 4294967296) × AllHeard (lineFrom (now area) j u) m ⌝ }
+    requires { ⌜ (j < 16) × (areaSize ≤ length (now area)) × (u + m < 4294967296) × (rowIn r < 512) × (bitsIn r + m < 4294967296) × AllHeard (lineFrom (now area) j u) m ⌝ }
     ensures heard { λ q. ⌜ taken q (now (area .exit)) ≡ heardAll j e (lineFrom (now (area .entry)) j u) m (taken r (now (area .entry))) ⌝ }
     ensures range { λ q. ⌜ (rowIn q < 512) × (bitsIn q ≤ bitsIn r + m) ⌝ }
 {
@@ -57,7 +58,7 @@ fn hear_bits(
     r: Receiver,
     m: u32,
 ) -> Receiver
-    requires { ⌜ (j < 16) × (57344 ≤ length (now area)) × (a + m < 4294967296) × (rowIn r < 512) × (bitsIn r + m < 4294967296) ⌝ }
+    requires { ⌜ (j < 16) × (areaSize ≤ length (now area)) × (a + m < 4294967296) × (rowIn r < 512) × (bitsIn r + m < 4294967296) ⌝ }
     ensures heard { λ q. ⌜ taken q (now (area .exit)) ≡ heardAll j e (bitsFrom (now (frame .entry)) a) m (taken r (now (area .entry))) ⌝ }
     ensures range { λ q. ⌜ (rowIn q < 512) × (bitsIn q ≤ bitsIn r + m) ⌝ }
 {
@@ -101,7 +102,7 @@ fn hear_to_octet(
     r: Receiver,
     m: u32,
 ) -> Part
-    requires { ⌜ (j < 16) × (57344 ≤ length (now area)) × (a + m < 4294967296) × (rowIn r < 512) × (bitsIn r + m < 4294967296) ⌝ }
+    requires { ⌜ (j < 16) × (areaSize ≤ length (now area)) × (a + m < 4294967296) × (rowIn r < 512) × (bitsIn r + m < 4294967296) ⌝ }
     ensures heard { λ p. ⌜ taken (p .receiver) (now (area .exit)) ≡ heardAll j e (bitsFrom (now (frame .entry)) a) (p .steps) (taken r (now (area .entry))) ⌝ }
     ensures range { λ p. ⌜ (p .steps ≤ m) × (rowIn (p .receiver) < 512) × (bitsIn (p .receiver) ≤ bitsIn r + p .steps) ⌝ }
 {
@@ -126,7 +127,7 @@ fn hear_to_octet(
 
 // Octets q, q + 1, .. of what station j collected are n octets of the frame, from octet p on.
 fn copy_octets(area: &mut [u8], j: usize, frame: &[u8], q: usize, p: usize, n: usize)
-    requires { ⌜ (j < 16) × (57344 ≤ length (now area)) × (q + n ≤ 1518) × (p + n ≤ length (now frame)) ⌝ }
+    requires { ⌜ (j < 16) × (areaSize ≤ length (now area)) × (q + n ≤ 1518) × (p + n ≤ length (now frame)) ⌝ }
     ensures { λ r. ⌜ now (area .exit) ≡ copied j q p n (now (frame .entry)) (now (area .entry)) ⌝ }
 {
     let mut k: usize = 0;
@@ -171,7 +172,7 @@ fn collect_octets(
     own: bool,
     m: u32,
 ) -> Part
-    requires { ⌜ (j < 16) × (57344 ≤ length (now area)) × (a + m < 4294967296) × (bits + m < 4294967296) ⌝ }
+    requires { ⌜ (j < 16) × (areaSize ≤ length (now area)) × (a + m < 4294967296) × (bits + m < 4294967296) ⌝ }
     ensures heard { λ t. ⌜ taken (t .receiver) (now (area .exit)) ≡ heardAll j e (bitsFrom (now (frame .entry)) a) (t .steps) (taken (Collecting bits spoiled own) (now (area .entry))) ⌝ }
     ensures range { λ t. ⌜ (t .steps ≤ m) × (rowIn (t .receiver) < 512) × (bitsIn (t .receiver) ≤ bits + t .steps) ⌝ }
 {
@@ -212,7 +213,7 @@ fn hear_octets(
     r: Receiver,
     m: u32,
 ) -> Part
-    requires { ⌜ (j < 16) × (57344 ≤ length (now area)) × (a + m < 4294967296) × (rowIn r < 512) × (bitsIn r + m < 4294967296) ⌝ }
+    requires { ⌜ (j < 16) × (areaSize ≤ length (now area)) × (a + m < 4294967296) × (rowIn r < 512) × (bitsIn r + m < 4294967296) ⌝ }
     ensures heard { λ t. ⌜ taken (t .receiver) (now (area .exit)) ≡ heardAll j e (bitsFrom (now (frame .entry)) a) (t .steps) (taken r (now (area .entry))) ⌝ }
     ensures range { λ t. ⌜ (t .steps ≤ m) × (rowIn (t .receiver) < 512) × (bitsIn (t .receiver) ≤ bitsIn r + t .steps) ⌝ }
 {
@@ -235,7 +236,7 @@ pub fn hear_packet(
     r: Receiver,
     m: u32,
 ) -> Receiver
-    requires { ⌜ (j < 16) × (57344 ≤ length (now area)) × (a + m < 4294967296) × (rowIn r < 512) × (bitsIn r + m < 4294967296) ⌝ }
+    requires { ⌜ (j < 16) × (areaSize ≤ length (now area)) × (a + m < 4294967296) × (rowIn r < 512) × (bitsIn r + m < 4294967296) ⌝ }
     ensures heard { λ q. ⌜ taken q (now (area .exit)) ≡ heardAll j e (bitsFrom (now (frame .entry)) a) m (taken r (now (area .entry))) ⌝ }
     ensures range { λ q. ⌜ (rowIn q < 512) × (bitsIn q ≤ bitsIn r + m) ⌝ }
 {
@@ -252,7 +253,7 @@ pub fn hear_packet(
 
 // The low p bits of octet q of what station j collected stay, the others are 0.
 fn keep_low(area: &mut [u8], j: usize, q: usize, p: usize)
-    requires { ⌜ (j < 16) × (57344 ≤ length (now area)) × (q < 1518) × (p < 8) ⌝ }
+    requires { ⌜ (j < 16) × (areaSize ≤ length (now area)) × (q < 1518) × (p < 8) ⌝ }
     ensures { λ r. ⌜ now (area .exit) ≡ lowKept j q p (now (area .entry)) ⌝ }
 {
     let b = buffers::buffer(area, j);
@@ -264,7 +265,7 @@ fn keep_low(area: &mut [u8], j: usize, q: usize, p: usize)
 
 // The n octets behind octet q of what station j collected become 0.
 fn blank_octets(area: &mut [u8], j: usize, q: usize, n: usize)
-    requires { ⌜ (j < 16) × (57344 ≤ length (now area)) × (q + n < 1518) ⌝ }
+    requires { ⌜ (j < 16) × (areaSize ≤ length (now area)) × (q + n < 1518) ⌝ }
     ensures { λ r. ⌜ now (area .exit) ≡ blanks j q n (now (area .entry)) ⌝ }
 {
     let mut k: usize = 0;
@@ -276,7 +277,7 @@ fn blank_octets(area: &mut [u8], j: usize, q: usize, n: usize)
 
 // Collected bits c, c + 1, .. of station j are m zeros; those past what the buffer holds are not kept.
 fn store_zeros(area: &mut [u8], j: usize, c: usize, m: usize)
-    requires { ⌜ (j < 16) × (57344 ≤ length (now area)) × (0 < m) ⌝ }
+    requires { ⌜ (j < 16) × (areaSize ≤ length (now area)) × (0 < m) ⌝ }
     ensures { λ r. ⌜ now (area .exit) ≡ zeroedUpTo j c m (now (area .entry)) ⌝ }
 {
     if 12144 <= c {
@@ -289,7 +290,7 @@ fn store_zeros(area: &mut [u8], j: usize, c: usize, m: usize)
 
 // Station j hears m symbols that are spoiled; e: whether it emits in these steps.
 pub fn hear_spoiled(area: &mut [u8], j: usize, e: bool, r: Receiver, m: u32) -> Receiver
-    requires { ⌜ (j < 16) × (57344 ≤ length (now area)) × (rowIn r < 512) × (bitsIn r + m < 4294967296) ⌝ }
+    requires { ⌜ (j < 16) × (areaSize ≤ length (now area)) × (rowIn r < 512) × (bitsIn r + m < 4294967296) ⌝ }
     ensures heard { λ q. ⌜ taken q (now (area .exit)) ≡ heardAll j e spoils m (taken r (now (area .entry))) ⌝ }
     ensures range { λ q. ⌜ (rowIn q < 512) × (bitsIn q ≤ bitsIn r + m) ⌝ }
 {
@@ -335,7 +336,7 @@ pub fn hear_spoiled(area: &mut [u8], j: usize, e: bool, r: Receiver, m: u32) -> 
 
 // Whether the destination that station j collected is its own address or broadcast.
 fn has_destination(area: &[u8], j: usize) -> bool
-    requires { ⌜ (j < 16) × (57344 ≤ length (now area)) ⌝ }
+    requires { ⌜ (j < 16) × (areaSize ≤ length (now area)) ⌝ }
     ensures { λ b. ⌜ b ≡ addressed (addressAt (now (area .entry)) j) (bufferAt (now (area .entry)) j) ⌝ }
 {
     let address = area::read_address(area, j);
@@ -345,7 +346,7 @@ fn has_destination(area: &[u8], j: usize) -> bool
 
 // Whether the reception of station j, in which others are heard for at most `more` steps from now on, could be opened when it ends.
 pub fn may_report(area: &[u8], j: usize, r: Receiver, more: u32) -> bool
-    requires { ⌜ (j < 16) × (57344 ≤ length (now area)) × (bitsIn r + more < 4294967296) ⌝ }
+    requires { ⌜ (j < 16) × (areaSize ≤ length (now area)) × (bitsIn r + more < 4294967296) ⌝ }
     ensures { λ b. ⌜ b ≡ mayReport (addressAt (now (area .entry)) j) (bufferAt (now (area .entry)) j) more r ⌝ }
 {
     match r {

@@ -10,10 +10,12 @@ ghost use lib.ListN.{length};
 ghost use Rattle.course.specs.Run.{courseOf, runOf, runOutcome, ran};
 ghost use Rattle.course.specs.RunLaws.{Runnable};
 ghost use Rattle.tally.specs.TallyLaws.{Bounded};
+ghost use Rattle.layout.specs.Limits.{lastClock};
+ghost use Rattle.area.specs.Offsets.{areaSize};
 
 // At most n steps, on an area that is ready for them, counted into `words`.
 fn run_steps(area: &mut [u8], words: &mut [u32], n: u32) -> Course
-    requires { ⌜ Runnable n (now area) × (57344 ≤ length (now area)) × (n ≤ 16777216) ⌝ }
+    requires { ⌜ Runnable n (now area) × (areaSize ≤ length (now area)) × (n ≤ lastClock) ⌝ }
     requires { ⌜ (length (now words) ≡ 9) × Bounded (now words) 0 ⌝ }
     ensures { λ r. ⌜ courseOf r (now (words .exit)) (now (area .exit)) ≡ runOf n 0 (now (words .entry)) (now (area .entry)) ⌝ }
 {
@@ -47,7 +49,7 @@ pub fn run(area: &mut [u8], n: u32) -> RunAnswer
         return course::no_run(number);
     }
     let t = area::read_clock(area);
-    if 16777216 - t < n {
+    if layout::LAST_CLOCK - t < n {
         return course::no_run(13);
     }
     let mut words = [0u32; 9];

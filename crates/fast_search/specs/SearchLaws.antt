@@ -18,6 +18,7 @@ use Rattle.area.specs.AreaLaws.{symbol-turn}
 use Rattle.pair.specs.Ready.{Ready}
 use Rattle.course.specs.RunLaws.{first-hit}
 use Rattle.fast_silence.specs.Bound.{stationRests, used, lineRests, stationsRest, linesRest, worth, silentFor, worth-most, stations-fall, lines-fall}
+use Rattle.layout.specs.Limits.{lastClock}
 
 -- ---- who emitted
 
@@ -88,7 +89,7 @@ module _ (a : List ℕ) (m : ℕ) where
   unfolding worth
   lines-end n i k p h lo up = let e : i ≡ n = omega arith in rw (← e, ← p, le-ltb k 5 h)
 
-  pub lines-within : (t i k : ℕ) → k ≡ linesRest a m i → t + m ≤ 16777216 → t + k ≤ 16777216
+  pub lines-within : (t i k : ℕ) → k ≡ linesRest a m i → t + m ≤ lastClock → t + k ≤ lastClock
   unfolding linesRest
   lines-within t i k p h = omega (arith, lines-fall a m 0 i (omega arith))
 
@@ -168,8 +169,8 @@ module _ (a : List ℕ) (m : ℕ) where
   unfolding silentFor
   silent-is n k r e p q = q ∙ rw (p, e)
 
-  pub silent-within : (t n k : ℕ) → t ≡ clockAt a → k ≡ worth (stationsRest a m n) → clockAt a + m ≤ 16777216
-      → t + k ≤ 16777216
+  pub silent-within : (t n k : ℕ) → t ≡ clockAt a → k ≡ worth (stationsRest a m n) → clockAt a + m ≤ lastClock
+      → t + k ≤ lastClock
   unfolding stationsRest
   silent-within t n k e p h = omega (arith, worth-most (stationsRest a m n), stations-fall a m 0 n (omega arith))
 

@@ -9,10 +9,12 @@ ghost use Rattle.area.specs.Area.{clockAt, figuresAt};
 ghost use Rattle.pair.specs.Ready.{Ready};
 ghost use Rattle.fast_silence.specs.Bound.{stationsRest, linesRest, lineRests, worth, silentFor};
 ghost use Rattle.fast_search.specs.SearchLaws.{emittedAt, AtMost};
+ghost use Rattle.layout.specs.Limits.{lastClock};
+ghost use Rattle.area.specs.Offsets.{areaSize};
 
 // Whether station i emitted in the step before.
 fn emitted(area: &[u8], i: usize) -> bool
-    requires { ⌜ (i < 16) × (57344 ≤ length (now area)) ⌝ }
+    requires { ⌜ (i < 16) × (areaSize ≤ length (now area)) ⌝ }
     ensures { λ r. ⌜ r ≡ emittedAt (now (area .entry)) i ⌝ }
 {
     area::read_word(area, i, 13) == 1
@@ -20,7 +22,7 @@ fn emitted(area: &[u8], i: usize) -> bool
 
 // Whether one of n stations did.
 fn any_emitted(area: &[u8], n: usize) -> bool
-    requires { ⌜ (n ≤ 16) × (57344 ≤ length (now area)) ⌝ }
+    requires { ⌜ (n ≤ 16) × (areaSize ≤ length (now area)) ⌝ }
     ensures { λ r. ⌜ r ≡ some (emittedAt (now (area .entry))) n ⌝ }
 {
     let mut i: usize = 0;
@@ -35,7 +37,7 @@ fn any_emitted(area: &[u8], n: usize) -> bool
 
 // What n stations allow of m steps.
 fn stations_rest(area: &[u8], n: usize, f: Figures, m: u32) -> u32
-    requires { ⌜ (n ≤ 16) × (57344 ≤ length (now area)) × (f .gap1 + f .gap2 < 65536) × (f ≡ figuresAt (now area)) ⌝ }
+    requires { ⌜ (n ≤ 16) × (areaSize ≤ length (now area)) × (f .gap1 + f .gap2 < 65536) × (f ≡ figuresAt (now area)) ⌝ }
     ensures { λ r. ⌜ r ≡ worth (stationsRest (now (area .entry)) m n) ⌝ }
 {
     let mut left = m;
@@ -56,7 +58,7 @@ fn stations_rest(area: &[u8], n: usize, f: Figures, m: u32) -> u32
 
 // No less than any code in the line of station i: found without a branch.
 fn line_top(area: &[u8], i: usize) -> u32
-    requires { ⌜ (i < 16) × (57344 ≤ length (now area)) ⌝ }
+    requires { ⌜ (i < 16) × (areaSize ≤ length (now area)) ⌝ }
     ensures { λ r. ⌜ AtMost r (now (area .entry)) i 256 ⌝ }
 {
     let mut top: u32 = 0;
@@ -71,7 +73,7 @@ fn line_top(area: &[u8], i: usize) -> u32
 
 // The steps of m before something reaches station i.
 fn line_rests(area: &[u8], i: usize, t: u32, m: u32) -> u32
-    requires { ⌜ (i < 16) × (57344 ≤ length (now area)) × (t + m ≤ 16777216) × (t ≡ clockAt (now area)) ⌝ }
+    requires { ⌜ (i < 16) × (areaSize ≤ length (now area)) × (t + m ≤ lastClock) × (t ≡ clockAt (now area)) ⌝ }
     ensures { λ r. ⌜ r ≡ lineRests (now (area .entry)) m i ⌝ }
 {
     if line_top(area, i) == 0 {
@@ -90,7 +92,7 @@ fn line_rests(area: &[u8], i: usize, t: u32, m: u32) -> u32
 
 // What the lines to n stations allow of m steps.
 fn lines_rest(area: &[u8], n: usize, t: u32, m: u32) -> u32
-    requires { ⌜ (n ≤ 16) × (57344 ≤ length (now area)) × (t + m ≤ 16777216) × (t ≡ clockAt (now area)) ⌝ }
+    requires { ⌜ (n ≤ 16) × (areaSize ≤ length (now area)) × (t + m ≤ lastClock) × (t ≡ clockAt (now area)) ⌝ }
     ensures { λ r. ⌜ r ≡ worth (linesRest (now (area .entry)) m n) ⌝ }
 {
     let mut left = m;
@@ -110,7 +112,7 @@ fn lines_rest(area: &[u8], n: usize, t: u32, m: u32) -> u32
 
 // How many of the next m steps may be made as one jump; 0 where none.
 pub fn silent_for(area: &[u8], m: u32) -> u32
-    requires { ⌜ (57344 ≤ length (now area)) × (clockAt (now area) + m ≤ 16777216) × Ready (now area) ⌝ }
+    requires { ⌜ (areaSize ≤ length (now area)) × (clockAt (now area) + m ≤ lastClock) × Ready (now area) ⌝ }
     ensures { λ r. ⌜ r ≡ silentFor m (now (area .entry)) ⌝ }
 {
     if m < 5 {

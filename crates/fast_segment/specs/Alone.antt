@@ -20,13 +20,14 @@ use Rattle.pair.specs.InPlace.{Kept, length-stored, length-counted, stored-keep
 use Rattle.pair.specs.Range.{Fine, fine-room, fine-fit, fine-stepped, held-small}
 use Rattle.pair.specs.Ready.{CanAct, Able}
 use Rattle.fast_plan.specs.Own.{outcomeOn, actOn, ownLeft, ownTurn, byItself, by-itself-more, by-itself-none, on-kept, length-itself, itself-stays}
+use Rattle.area.specs.Offsets.{areaSize}
 
 -- Station i of area x, at clock t, is in range, and so are the figures and D.
 pub record Moves (f : Figures) (D i t : ℕ) (x : List ℕ) : Type 0 where
   pub figured : Figured f
   pub depth : (1 ≤ D) × (D ≤ 16)
   pub index : i < 16
-  pub room : 57344 ≤ length x
+  pub room : areaSize ≤ length x
   pub fine : Fine f D t (stationAt x i)
 
 module _ (f : Figures) (D i t : ℕ) (x : List ℕ) (v : Moves f D i t x) where
@@ -40,7 +41,7 @@ module _ (f : Figures) (D i t : ℕ) (x : List ℕ) (v : Moves f D i t x) where
       }
 
 -- what a turn leaves of the record
-left-station : (i : ℕ) (o : Stepped) (x : List ℕ) → i < 16 → 57344 ≤ length x → Kept (o .stored) → stationAt (withStation x i (o .station)) i ≡ o .station
+left-station : (i : ℕ) (o : Stepped) (x : List ℕ) → i < 16 → areaSize ≤ length x → Kept (o .stored) → stationAt (withStation x i (o .station)) i ≡ o .station
     → stationAt (ownLeft i o x) i ≡ o .station
 unfolding ownLeft
 left-station i o x hi room k e =

@@ -43,6 +43,7 @@ use Rattle.fast_silence.specs.Rested.{Lasts}
 use Rattle.fast_station.specs.Forms.{heardRest, hearOn, calmed, restOn, emittedAt, emitsFor, emitOn}
 use Rattle.fast_station.specs.FormLaws.{hear-step, hear-none, hear-address, hear-fit, rest-step, rest-none, rest-address, rest-fit, emit-step, emit-none, emit-address, emit-held, emit-fit}
 use Rattle.fast_segment.specs.Alone.{Moves, address-in}
+use Rattle.area.specs.Offsets.{areaSize}
 
 -- what a segment comes to: K turns by itself leave the station q, and the bits st; it emits Q and has no event
 pub record Segment (f : Figures) (D i : ℕ) (H : ℕ → Heard) (Q : ℕ → Symbol) (K : ℕ) (x : List ℕ) (st : ℕ → Stored) (q : Station) : Type 0 where
@@ -52,7 +53,7 @@ pub record Segment (f : Figures) (D i : ℕ) (H : ℕ → Heard) (Q : ℕ → Sy
 
 -- ---- any closed form
 
-module _ (f : Figures) (D i : ℕ) (x : List ℕ) (K : ℕ) (pos : 0 < K) (hi : i < 16) (room : 57344 ≤ length x) (on : ℕ → Station) (H : ℕ → Heard) (em : ℕ → Emission) (st : ℕ → Stored)
+module _ (f : Figures) (D i : ℕ) (x : List ℕ) (K : ℕ) (pos : 0 < K) (hi : i < 16) (room : areaSize ≤ length x) (on : ℕ → Station) (H : ℕ → Heard) (em : ℕ → Emission) (st : ℕ → Stored)
     (begins : stationAt x i ≡ on 0) (fit : (m : ℕ) → m ≤ K → Fit (on m)) (address : (m : ℕ) → on m .address ≡ addressAt x i) (kept : (m : ℕ) → Kept (st m))
     (step : (m draw : ℕ) (buf : List ℕ) → m < K → (m ≡ 0 → buf ≡ bufferAt x i) → stepped f (on m) D draw buf (H m) ≡ quietly (on (suc m)) (em m) (st m)) where
   form-leaves : byItself f D i H K x ≡ wentTo i st K (on K) x

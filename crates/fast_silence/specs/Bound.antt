@@ -24,6 +24,7 @@ use Rattle.course.specs.UntilLaws.{plus}
 use Rattle.fast_plan.specs.Plan.{Holds, Planned, steps}
 use Rattle.fast_silence.specs.Rested.{restsFor, Lasts, Idle, Rests}
 use Rattle.fast_silence.specs.Jump.{Silent, silentPlan, jumped, silence-holds, silence-jumps, jump-planned, run-jumps, until-jumps}
+use Rattle.layout.specs.Limits.{lastClock}
 
 -- ---- a station, of m steps asked
 
@@ -196,19 +197,19 @@ module _ (a : List ℕ) (m : ℕ) where
       }
 
   -- Stage 1 with its length
-  pub silence-run : (K k r : ℕ) (ws : List ℕ) → Readiness a → 0 < K → K ≤ silentFor m a → clockAt a + K ≤ 16777216
+  pub silence-run : (K k r : ℕ) (ws : List ℕ) → Readiness a → 0 < K → K ≤ silentFor m a → clockAt a + K ≤ lastClock
       → runOf (K + k) r ws a ≡ runOf k (r + K) ws (jumped K a)
   silence-run K k r ws ready pos h early = run-jumps a K ready (silent-for K pos h) k r ws pos early
 
-  pub silence-until : (K k : ℕ) → Readiness a → 0 < K → K ≤ silentFor m a → clockAt a + K ≤ 16777216
+  pub silence-until : (K k : ℕ) → Readiness a → 0 < K → K ≤ silentFor m a → clockAt a + K ≤ lastClock
       → untilEvent (K + k) a ≡ plus K (untilEvent k (jumped K a))
   silence-until K k ready pos h early = until-jumps a K ready (silent-for K pos h) k pos early
 
-  pub silence-plans : (K : ℕ) → Readiness a → 0 < K → K ≤ silentFor m a → clockAt a + K ≤ 16777216
+  pub silence-plans : (K : ℕ) → Readiness a → 0 < K → K ≤ silentFor m a → clockAt a + K ≤ lastClock
       → Planned a silentPlan K (jumped K a)
   silence-plans K ready pos h early = jump-planned a K ready (silent-for K pos h) pos early
 
-  pub silence-steps : (K : ℕ) → Readiness a → 0 < K → K ≤ silentFor m a → clockAt a + K ≤ 16777216
+  pub silence-steps : (K : ℕ) → Readiness a → 0 < K → K ≤ silentFor m a → clockAt a + K ≤ lastClock
       → (steps K a ≡ jumped K a) × Holds a silentPlan K
   silence-steps K ready pos h early =
       (silence-jumps a K ready (silent-for K pos h) pos early, silence-holds a K ready (silent-for K pos h))

@@ -49,6 +49,8 @@ use Rattle.fast_plan.specs.Exact.{Left, symbol-code, left-same-area, planned-le
 use Rattle.fast_plan.specs.Prefix.{Unhurt}
 use Rattle.fast_plan.specs.Runs.{eventsBy, plan-events, talliedBy, run-steps, until-steps}
 use Rattle.fast_silence.specs.Rested.{rested, Rests, rested-step, rested-none, rested-fit, rested-address}
+use Rattle.layout.specs.Limits.{lastClock}
+use Rattle.area.specs.Offsets.{areaSize}
 
 -- ---- what a silence is
 
@@ -86,7 +88,7 @@ quiet-left : (i : ℕ) (s : Station) (x : List ℕ) → ownLeft i (quietly s Res
 unfolding ownLeft withCounted happened quietly
 quiet-left i s x = refl
 
-module _ (f : Figures) (d i : ℕ) (a : List ℕ) (K : ℕ) (hi : i < 16) (room : 57344 ≤ length a) (g : Figured f)
+module _ (f : Figures) (d i : ℕ) (a : List ℕ) (K : ℕ) (hi : i < 16) (room : areaSize ≤ length a) (g : Figured f)
     (v : Fine f d (clockAt a) (stationAt a i)) (few : d ≤ 16) (early : clockAt a < 4294967295)
     (l : Rests f K (stationAt a i)) where
   q : Station
@@ -301,7 +303,7 @@ module _ (a : List ℕ) (K : ℕ) (r : Readiness a) (s : Silent a K) where
       }
 
   -- Stage 1
-  pub silence-jumps : 0 < K → clockAt a + K ≤ 16777216 → steps K a ≡ jumped K a
+  pub silence-jumps : 0 < K → clockAt a + K ≤ lastClock → steps K a ≡ jumped K a
   silence-jumps pos early =
       left-same-area a silentPlan K (steps K a) (jumped K a) (r .spread .few)
       (planned-left a silentPlan K (steps K a) pos (plan-happens a silentPlan K r early silence-holds))
@@ -320,23 +322,23 @@ module _ (a : List ℕ) (K : ℕ) (r : Readiness a) (s : Silent a K) where
       ap₂ (λ (es : List Events) (vs : List ℕ). tallied es 16 vs) (quiet-events m h) (quiet-words m ws (omega arith))
       ∙ nothing-tallied (countAt a) 16 ws
 
-  pub run-jumps : (k m : ℕ) (ws : List ℕ) → 0 < K → clockAt a + K ≤ 16777216
+  pub run-jumps : (k m : ℕ) (ws : List ℕ) → 0 < K → clockAt a + K ≤ lastClock
       → runOf (K + k) m ws a ≡ runOf k (m + K) ws (jumped K a)
   run-jumps k m ws pos early =
       run-steps a silentPlan K k m ws r early silence-holds silence-unhurt
       ∙ ap₂ (runOf k (m + K)) (quiet-words K ws (omega arith)) (silence-jumps pos early)
 
-  quiet-step : (u : ℕ) → u < K → clockAt a + K ≤ 16777216 → eventful (eventsAt (steps u a)) ≡ false
+  quiet-step : (u : ℕ) → u < K → clockAt a + K ≤ lastClock → eventful (eventsAt (steps u a)) ≡ false
   quiet-step u h early =
       ap eventful (plan-events a silentPlan K u r early silence-holds (omega arith) ∙ quiet-events u h)
       ∙ nothing-eventful (countAt a)
 
-  pub until-jumps : (k : ℕ) → 0 < K → clockAt a + K ≤ 16777216
+  pub until-jumps : (k : ℕ) → 0 < K → clockAt a + K ≤ lastClock
       → untilEvent (K + k) a ≡ plus K (untilEvent k (jumped K a))
   until-jumps k pos early =
       until-steps a K k (λ u h. quiet-step u h early)
       ∙ ap (λ (x : List ℕ). plus K (untilEvent k x)) (silence-jumps pos early)
 
-  pub jump-planned : 0 < K → clockAt a + K ≤ 16777216 → Planned a silentPlan K (jumped K a)
+  pub jump-planned : 0 < K → clockAt a + K ≤ lastClock → Planned a silentPlan K (jumped K a)
   jump-planned pos early =
       subst (Planned a silentPlan K) (silence-jumps pos early) (plan-happens a silentPlan K r early silence-holds)

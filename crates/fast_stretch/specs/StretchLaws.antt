@@ -24,6 +24,7 @@ use Rattle.fast_station.specs.Forms.{hearOn, calmed, restOn, emitOn}
 use Rattle.fast_receive.specs.Received.{taken, heardAll, receivedBy, keptBy}
 use Rattle.fast_receive.specs.ReceivedLaws.{heard-receiver, heard-octets}
 use Rattle.fast_stretch.specs.Stretch.{movedOn, heardStretch, quietOn, quietStretch, Room, Movable}
+use Rattle.layout.specs.Limits.{lastClock}
 
 -- ---- the code
 
@@ -132,7 +133,7 @@ bits-fine t (Collecting n sp own) v = v
 
 -- a station whose record is in range can move
 pub fine-movable : (f : Figures) (d t m j : ℕ) (x : List ℕ) → Figured f → Fine f d t (stationAt x j)
-    → t + m ≤ 16777216 → Movable f m x j
+    → t + m ≤ lastClock → Movable f m x j
 unfolding Movable
 fine-movable f d t m j x g v early =
     record {

@@ -9,6 +9,7 @@ ghost use lib.ListN.{length};
 ghost use Rattle.state.specs.State.{numberIn};
 ghost use Rattle.fast_receive.specs.Received.{spoils, lineFrom, bitsFrom, AllHeard};
 ghost use Rattle.fast_stretch.specs.Stretch.{Movable, movedOn, heardStretch, quietOn, quietStretch};
+ghost use Rattle.area.specs.Offsets.{areaSize};
 
 // A station that heard others for m steps; e: whether it emitted in them; its receiver is r then.
 fn move_on(f: Figures, e: bool, m: u32, r: Receiver, s: Station) -> Station
@@ -23,7 +24,7 @@ fn move_on(f: Figures, e: bool, m: u32, r: Receiver, s: Station) -> Station
 
 // Station j hears spoiled symbols for m steps.
 pub fn hear_spoiled(area: &mut [u8], j: usize, f: Figures, e: bool, m: u32)
-    requires { ⌜ (j < 16) × (57344 ≤ length (now area)) × Movable f m (now area) j ⌝ }
+    requires { ⌜ (j < 16) × (areaSize ≤ length (now area)) × Movable f m (now area) j ⌝ }
     ensures { λ r. ⌜ now (area .exit) ≡ heardStretch f e spoils m j (now (area .entry)) ⌝ }
 {
     let s = area::read_station(area, j);
@@ -35,7 +36,7 @@ pub fn hear_spoiled(area: &mut [u8], j: usize, f: Figures, e: bool, m: u32)
 
 // Station j hears for m steps what its line holds from step u on.
 pub fn hear_line(area: &mut [u8], j: usize, f: Figures, e: bool, u: usize, m: u32)
-    requires { ⌜ (j < 16) × (57344 ≤ length (now area)) × Movable f m (now area) j × (u + m < 4294967296) × AllHeard (lineFrom (now area) j u) m ⌝ }
+    requires { ⌜ (j < 16) × (areaSize ≤ length (now area)) × Movable f m (now area) j × (u + m < 4294967296) × AllHeard (lineFrom (now area) j u) m ⌝ }
     ensures { λ r. ⌜ now (area .exit) ≡ heardStretch f e (lineFrom (now (area .entry)) j u) m j (now (area .entry)) ⌝ }
 {
     let s = area::read_station(area, j);
@@ -47,7 +48,7 @@ pub fn hear_line(area: &mut [u8], j: usize, f: Figures, e: bool, u: usize, m: u3
 
 // Station j hears for m steps the packet that carries a frame, from its bit a on.
 pub fn hear_packet(area: &mut [u8], j: usize, f: Figures, e: bool, frame: &[u8], a: u32, m: u32)
-    requires { ⌜ (j < 16) × (57344 ≤ length (now area)) × Movable f m (now area) j × (a + m < 4294967296) ⌝ }
+    requires { ⌜ (j < 16) × (areaSize ≤ length (now area)) × Movable f m (now area) j × (a + m < 4294967296) ⌝ }
     ensures { λ r. ⌜ now (area .exit) ≡ heardStretch f e (bitsFrom (now (frame .entry)) a) m j (now (area .entry)) ⌝ }
 {
     let s = area::read_station(area, j);
@@ -71,7 +72,7 @@ fn keep_on(f: Figures, e: bool, m: u32, s: Station) -> Station
 
 // Station j hears nothing for m steps.
 pub fn hear_nothing(area: &mut [u8], j: usize, f: Figures, e: bool, m: u32)
-    requires { ⌜ (j < 16) × (57344 ≤ length (now area)) × Movable f m (now area) j ⌝ }
+    requires { ⌜ (j < 16) × (areaSize ≤ length (now area)) × Movable f m (now area) j ⌝ }
     ensures { λ r. ⌜ now (area .exit) ≡ quietStretch f e m j (now (area .entry)) ⌝ }
 {
     let s = area::read_station(area, j);

@@ -7,6 +7,7 @@ ghost use Prim.Native.Nat.{_≤_};
 ghost use lib.ListN.{length};
 ghost use Rattle.course.specs.RunLaws.{Runnable};
 ghost use Rattle.course.specs.Until.{hasEvent, eventful, untilEvent, stretchOf};
+ghost use Rattle.area.specs.Offsets.{areaSize};
 
 fn has_event(e: Events) -> bool
     ensures { λ r. ⌜ r ≡ hasEvent e ⌝ }
@@ -33,7 +34,7 @@ fn is_eventful(events: [Events; 16]) -> bool
 
 // At most n steps, until one has an event.
 pub fn until_event(area: &mut [u8], n: u32) -> Stretch
-    requires { ⌜ Runnable n (now area) × (57344 ≤ length (now area)) ⌝ }
+    requires { ⌜ Runnable n (now area) × (areaSize ≤ length (now area)) ⌝ }
     ensures { λ r. ⌜ stretchOf r (now (area .exit)) ≡ untilEvent n (now (area .entry)) ⌝ }
 {
     let mut t: u32 = 0;

@@ -55,6 +55,8 @@ use Rattle.fast_heard.specs.declared.Sight.{Sight}
 use Rattle.fast_heard.specs.Sights.{sightBy, sightOf, unseen, blankSight, sightsOf}
 use Rattle.fast_heard.specs.SightLaws.{bit-near, bit-from, sight-at}
 use Rattle.fast_window.specs.Window.{bitAt, heardBy, heardFrom, Begins}
+use Rattle.layout.specs.Limits.{lastClock}
+use Rattle.area.specs.Offsets.{areaSize}
 
 -- ---- turns that hear alike
 
@@ -123,7 +125,7 @@ module _ (f : Figures) (D j t : ℕ) (w : Near) (F : List ℕ) (k : ℕ) (x : Li
   runs-end m s y lo up e = let z : s ≡ m = omega arith in subst (λ (n : ℕ). y ≡ byItself f D j (heardBy x j t w F k) n x) z e
 
   module _ (s : ℕ) (y : List ℕ) (ey : y ≡ byItself f D j (heardBy x j t w F k) s x) where
-    pub runs-moving : (m : ℕ) → Moving f D j t x → t + m ≤ 16777216 → s < m → Moving f D j (t + s) y
+    pub runs-moving : (m : ℕ) → Moving f D j t x → t + m ≤ lastClock → s < m → Moving f D j (t + s) y
     unfolding Moving
     runs-moving m v early hs =
         subst (Moves f D j (t + s)) (sym ey) (itself-moves f D j (heardBy x j t w F k) s t x (omega arith) v)
@@ -147,14 +149,14 @@ module _ (f : Figures) (D j t : ℕ) (w : Near) (F : List ℕ) (k : ℕ) (x : Li
 
 -- ---- the frame of the nearest
 
-pub frame-long : (x F : List ℕ) (i n : ℕ) → i < 16 → n ≤ 1536 → 57344 ≤ length x → F ≡ frameAt x i n → length F ≡ n
+pub frame-long : (x F : List ℕ) (i n : ℕ) → i < 16 → n ≤ 1536 → areaSize ≤ length x → F ≡ frameAt x i n → length F ≡ n
 unfolding frameAt
 frame-long x F i n hi hn room e = ap length e ∙ length-part x (8192 + 1536 * i) n (omega arith)
 
-pub frame-room : (x F : List ℕ) (i n : ℕ) → i < 16 → n ≤ 1536 → 57344 ≤ length x → F ≡ frameAt x i n → 0 + length F ≤ 1536
+pub frame-room : (x F : List ℕ) (i n : ℕ) → i < 16 → n ≤ 1536 → areaSize ≤ length x → F ≡ frameAt x i n → 0 + length F ≤ 1536
 frame-room x F i n hi hn room e = omega (arith, frame-long x F i n hi hn room e)
 
-pub held-frame : (x F l : List ℕ) (i n : ℕ) (h : List ℕ) → i < 16 → n ≤ 1536 → 57344 ≤ length x → length l ≡ 1536 → F ≡ frameAt x i n → h ≡ sets l 0 F
+pub held-frame : (x F l : List ℕ) (i n : ℕ) (h : List ℕ) → i < 16 → n ≤ 1536 → areaSize ≤ length x → length l ≡ 1536 → F ≡ frameAt x i n → h ≡ sets l 0 F
     → take n h ≡ frameAt x i n
 held-frame x F l i n h hi hn room long e eh =
     let z = frame-long x F i n hi hn room e in ap (take n) eh ∙ take-sets F l n (sym z) (omega arith) ∙ e
@@ -214,7 +216,7 @@ module _ (a : List ℕ) (f : Figures) (d n t : ℕ) (v : Begins a f d n t) where
         rw c (bit-from a n j near bit refl refl ne begins-few, omega (arith, s .0), s .1))
 
     -- what it hears of is what the plan brings
-    frame-sent : (x : List ℕ) → 57344 ≤ length x → ((i : ℕ) → i < 16 → Keeps (frame i) x a)
+    frame-sent : (x : List ℕ) → areaSize ≤ length x → ((i : ℕ) → i < 16 → Keeps (frame i) x a)
         → (u : ℕ) → sends (frameAt x (sightOf a n j .from) (sightOf a n j .octets)) bit u ≡ sends (heldAt a (near .from)) bit u
     unfolding sightOf sightBy bit near sends heldAt Begins
     frame-sent x lx keeps u =
@@ -293,7 +295,7 @@ module _ (a : List ℕ) (f : Figures) (d n t : ℕ) (v : Begins a f d n t) where
   pub sight-octets : (j : ℕ) (ws : List Sight) (w : Sight) → j < n → ws ≡ sightsOf a n → w ≡ getD ws j blankSight → w .octets ≤ 1536
   sight-octets j ws w hj es ew = sight-asks j ws w hj es ew .1
 
-  pub sight-bit : (j m : ℕ) (ws : List Sight) (w : Sight) → t + m ≤ 16777216 → j < n → ws ≡ sightsOf a n → w ≡ getD ws j blankSight → w .bit + m < 4294967296
+  pub sight-bit : (j m : ℕ) (ws : List Sight) (w : Sight) → t + m ≤ lastClock → j < n → ws ≡ sightsOf a n → w ≡ getD ws j blankSight → w .bit + m < 4294967296
   sight-bit j m ws w h hj es ew = omega (arith, sight-asks j ws w hj es ew .2)
 
 pub all-none : (a : List ℕ) (m : ℕ) → a ≡ ownAll a (planOf a) m 0 a

@@ -20,6 +20,7 @@ use Rattle.fast_lines.specs.Lines.{emittersOf, planBy, Settles}
 use Rattle.fast_lines.specs.LinesLaws.{moved-settles, moved-lines}
 use Rattle.fast_bound.specs.Bound.{AllLast, ReadFrom}
 use Rattle.fast_window.specs.Window.{Begins, settledOf, Lasting, Passed}
+use Rattle.layout.specs.Limits.{lastClock}
 
 pub begins : (a : List ℕ) (f : Figures) (d n t c : ℕ) → Ready a → f ≡ figuresAt a → d ≡ depthAt a → c ≡ countAt a → n ≡ c → t ≡ clockAt a → Begins a f d n t
 unfolding Begins Ready
@@ -31,7 +32,7 @@ module _ (a : List ℕ) (f : Figures) (d n t r : ℕ) (v : Begins a f d n t) (es
   unfolding Begins
   count = v .count
 
-  pub steps-settles : t + r ≤ 16777216 → Lasting a r → Settles n t r es y
+  pub steps-settles : t + r ≤ lastClock → Lasting a r → Settles n t r es y
   unfolding Begins Lasting AllLast emitsAt
   steps-settles early l =
       subst (λ (q : List Emitter). Settles n t r q y) (sym ee)
@@ -62,7 +63,7 @@ module _ (a : List ℕ) (m r : ℕ) where
   unfolding Lasting
   lasting l h = record { some = omega arith; lasts = l }
 
-  pub pass-some : (f : Figures) (d n t : ℕ) (b : List ℕ) → Begins a f d n t → t + m ≤ 16777216 → AllCalm a (planOf a) r → r ≤ m → 4 ≤ r → b ≡ turnedOf a (planOf a) r → Passed m r a b
+  pub pass-some : (f : Figures) (d n t : ℕ) (b : List ℕ) → Begins a f d n t → t + m ≤ lastClock → AllCalm a (planOf a) r → r ≤ m → 4 ≤ r → b ≡ turnedOf a (planOf a) r → Passed m r a b
   unfolding Passed Begins
   pass-some f d n t b v early calm h pos eb =
       record {

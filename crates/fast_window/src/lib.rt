@@ -16,6 +16,8 @@ ghost use Rattle.fast_heard.specs.Hearing.{planOf};
 ghost use Rattle.fast_heard.specs.Sights.{sightsOf};
 ghost use Rattle.fast_move.specs.Move.{Moving};
 ghost use Rattle.fast_window.specs.Window.{bitAt, heardBy, heardFrom, Begins, settledOf, Lasting, Passed};
+ghost use Rattle.layout.specs.Limits.{lastClock};
+ghost use Rattle.area.specs.Offsets.{areaSize};
 
 // ---- one station
 
@@ -43,7 +45,7 @@ fn move_run(
     s: u32,
     m: u32,
 ) -> u32
-    requires { ⌜ (j < 16) × (57344 ≤ length (now area)) × (s < m) × (t + m ≤ 16777216) × (bit + m < 4294967296) × (f .gap1 + f .gap2 < 65536) × Moving f depth j (t + s) (now area) ⌝ }
+    requires { ⌜ (j < 16) × (areaSize ≤ length (now area)) × (s < m) × (t + m ≤ lastClock) × (bit + m < 4294967296) × (f .gap1 + f .gap2 < 65536) × Moving f depth j (t + s) (now area) ⌝ }
     ensures moved { λ r. ⌜ now (area .exit) ≡ byItself f depth j (heardFrom (now (area .entry)) j t near (now (frame .entry)) bit s) r (now (area .entry)) ⌝ }
     ensures bound { λ r. ⌜ (0 < r) × (s + r ≤ m) ⌝ }
 {
@@ -67,7 +69,7 @@ fn move_runs(
     frame: &[u8],
     m: u32,
 )
-    requires { ⌜ (j < 16) × (57344 ≤ length (now area)) × (t + m ≤ 16777216) × (bit + m < 4294967296) × (f .gap1 + f .gap2 < 65536) × Moving f depth j t (now area) ⌝ }
+    requires { ⌜ (j < 16) × (areaSize ≤ length (now area)) × (t + m ≤ lastClock) × (bit + m < 4294967296) × (f .gap1 + f .gap2 < 65536) × Moving f depth j t (now area) ⌝ }
     ensures { λ r. ⌜ now (area .exit) ≡ byItself f depth j (heardBy (now (area .entry)) j t near (now (frame .entry)) bit) m (now (area .entry)) ⌝ }
 {
     let mut s: u32 = 0;
@@ -78,7 +80,7 @@ fn move_runs(
 
 // The first n octets are the frame of station i.
 fn hold_frame(area: &[u8], i: usize, n: usize) -> [u8; 1536]
-    requires { ⌜ (i < 16) × (n ≤ 1536) × (57344 ≤ length (now area)) ⌝ }
+    requires { ⌜ (i < 16) × (n ≤ 1536) × (areaSize ≤ length (now area)) ⌝ }
     ensures { λ r. ⌜ take n r ≡ frameAt (now (area .entry)) i n ⌝ }
 {
     let mut held = [0u8; 1536];
@@ -88,7 +90,7 @@ fn hold_frame(area: &[u8], i: usize, n: usize) -> [u8; 1536]
 
 // Station j moves on over m steps from clock t on.
 fn move_station(area: &mut [u8], f: Figures, depth: u32, j: usize, t: u32, w: Sight, m: u32)
-    requires { ⌜ (j < 16) × (57344 ≤ length (now area)) × (t + m ≤ 16777216) × (w .bit + m < 4294967296) × (w .from < 16) × (w .octets ≤ 1536) × (f .gap1 + f .gap2 < 65536) × Moving f depth j t (now area) ⌝ }
+    requires { ⌜ (j < 16) × (areaSize ≤ length (now area)) × (t + m ≤ lastClock) × (w .bit + m < 4294967296) × (w .from < 16) × (w .octets ≤ 1536) × (f .gap1 + f .gap2 < 65536) × Moving f depth j t (now area) ⌝ }
     ensures { λ r. ⌜ now (area .exit) ≡ byItself f depth j (heardBy (now (area .entry)) j t (w .near) (frameAt (now (area .entry)) (w .from) (w .octets)) (w .bit)) m (now (area .entry)) ⌝ }
 {
     let near = w.near;
@@ -101,7 +103,7 @@ fn move_station(area: &mut [u8], f: Figures, depth: u32, j: usize, t: u32, w: Si
 
 // Each of n stations moves on over m steps from clock t on, by what it heard of before.
 fn move_all(area: &mut [u8], f: Figures, depth: u32, n: usize, t: u32, seen: [Sight; 16], m: u32)
-    requires { ⌜ (n ≤ 16) × (57344 ≤ length (now area)) × (t + m ≤ 16777216) × Begins (now area) f depth n t × (seen ≡ sightsOf (now area) n) ⌝ }
+    requires { ⌜ (n ≤ 16) × (areaSize ≤ length (now area)) × (t + m ≤ lastClock) × Begins (now area) f depth n t × (seen ≡ sightsOf (now area) n) ⌝ }
     ensures { λ r. ⌜ now (area .exit) ≡ ownAll (now (area .entry)) (planOf (now (area .entry))) m n (now (area .entry)) ⌝ }
 {
     let mut j: usize = 0;
@@ -114,7 +116,7 @@ fn move_all(area: &mut [u8], f: Figures, depth: u32, n: usize, t: u32, seen: [Si
 
 // A window of r steps from clock t on, but for the clock: the stations, and then the lines.
 fn make_steps(area: &mut [u8], f: Figures, depth: u32, n: usize, t: u32, seen: [Sight; 16], r: u32)
-    requires { ⌜ (n ≤ 16) × (57344 ≤ length (now area)) × (t + r ≤ 16777216) × Begins (now area) f depth n t × (seen ≡ sightsOf (now area) n) × Lasting (now area) r ⌝ }
+    requires { ⌜ (n ≤ 16) × (areaSize ≤ length (now area)) × (t + r ≤ lastClock) × Begins (now area) f depth n t × (seen ≡ sightsOf (now area) n) × Lasting (now area) r ⌝ }
     ensures { λ q. ⌜ now (area .exit) ≡ settledOf (now (area .entry)) r ⌝ }
 {
     let from = fast_lines::emitters(area, n);
@@ -124,7 +126,7 @@ fn make_steps(area: &mut [u8], f: Figures, depth: u32, n: usize, t: u32, seen: [
 
 // A window of r steps from clock t on.
 fn make(area: &mut [u8], f: Figures, depth: u32, n: usize, t: u32, seen: [Sight; 16], r: u32)
-    requires { ⌜ (n ≤ 16) × (57344 ≤ length (now area)) × (t + r ≤ 16777216) × Begins (now area) f depth n t × (seen ≡ sightsOf (now area) n) × Lasting (now area) r ⌝ }
+    requires { ⌜ (n ≤ 16) × (areaSize ≤ length (now area)) × (t + r ≤ lastClock) × Begins (now area) f depth n t × (seen ≡ sightsOf (now area) n) × Lasting (now area) r ⌝ }
     ensures { λ q. ⌜ now (area .exit) ≡ turnedOf (now (area .entry)) (planOf (now (area .entry))) r ⌝ }
 {
     make_steps(area, f, depth, n, t, seen, r);
@@ -133,7 +135,7 @@ fn make(area: &mut [u8], f: Figures, depth: u32, n: usize, t: u32, seen: [Sight;
 
 // Of the next m steps, from clock t on, those that are a window.
 fn pass_from(area: &mut [u8], f: Figures, depth: u32, n: usize, t: u32, m: u32) -> u32
-    requires { ⌜ (n ≤ 16) × (57344 ≤ length (now area)) × (t + m ≤ 16777216) × Begins (now area) f depth n t ⌝ }
+    requires { ⌜ (n ≤ 16) × (areaSize ≤ length (now area)) × (t + m ≤ lastClock) × Begins (now area) f depth n t ⌝ }
     ensures { λ r. ⌜ Passed m r (now (area .entry)) (now (area .exit)) ⌝ }
 {
     let seen = fast_heard::sights(area, n);
@@ -147,7 +149,7 @@ fn pass_from(area: &mut [u8], f: Figures, depth: u32, n: usize, t: u32, m: u32) 
 
 // Of the next m steps those that are a window, where they are worth one: says how many.
 pub fn pass(area: &mut [u8], m: u32) -> u32
-    requires { ⌜ (57344 ≤ length (now area)) × (clockAt (now area) + m ≤ 16777216) × Ready (now area) ⌝ }
+    requires { ⌜ (areaSize ≤ length (now area)) × (clockAt (now area) + m ≤ lastClock) × Ready (now area) ⌝ }
     ensures { λ r. ⌜ Passed m r (now (area .entry)) (now (area .exit)) ⌝ }
 {
     let n = area::read_count(area) as usize;

@@ -15,6 +15,7 @@ use Rattle.input.specs.declared.Verdict.{Verdict}
 use Rattle.input.specs.declared.Verdict.the-variants.{Refused, Whole}
 use Rattle.input.specs.declared.Plan.{Plan}
 use Rattle.input.specs.declared.Offered.{Offered}
+use Rattle.layout.specs.Limits.{lastClock}
 
 -- ---- D; the draws are in `draws`
 
@@ -98,7 +99,7 @@ planWrong l c = ltb 16384 (length l) || (ltb (length l) (c + 2) || (ltb 64 (offe
 
 -- 13: "Clock plus the bit times asked exceeds 16,777,216. A run input makes this check last."
 unfoldable pub lastRefusal : List ℕ → (c : ℕ) → ℕ
-lastRefusal l c = pick (planWrong l c) 16 (pick (ltb 16777216 (timesIn l c)) 13 0)
+lastRefusal l c = pick (planWrong l c) 16 (pick (ltb lastClock (timesIn l c)) 13 0)
 
 unfoldable pub afterSheet : List ℕ → (u n : ℕ) → ℕ
 afterSheet l u n = pick (drawsWrong l u n) 9 (lastRefusal l (offersPlace l u n))

@@ -20,6 +20,7 @@ use Rattle.sheet.specs.declared.SheetRead.the-variants as sheets
 use Rattle.sheet.specs.Sheet.{mapOf, stands, layoutIn, sheetSize, Reading, unread, readSheet, sheetAnswer, sheetReading}
 use Rattle.sheet.specs.SheetTheorems.{Read, read-sound}
 use Rattle.input.specs.Plan.{offersIn, offerData, offerIn, offerPlace, timesPlace, timesIn, drawsWrong, timeBefore, timeFalls, offersWrong, planWrong, lastRefusal, afterSheet, sheetRefusal, planRefusal, Planned, unplanned, wholeOf, wholeFrom, unless, planRead}
+use Rattle.layout.specs.Limits.{lastClock}
 
 -- N × D with both at most sixteen
 pub few : (n d : ℕ) (b : Bool) → n ≤ 16 → b ≡ outside d 1 16 → b ≡ false → n * d ≤ 256
@@ -154,23 +155,23 @@ module _ (l : List ℕ) (c : ℕ) where
   unfolding lastRefusal
   last-wrong b p q = rw (← p, q)
 
-  pub last-over : (b : Bool) (t : ℕ) → b ≡ planWrong l c → b ≡ false → t ≡ get 4 l (length l - 4) → 16777216 < t → 13 ≡ lastRefusal l c
+  pub last-over : (b : Bool) (t : ℕ) → b ≡ planWrong l c → b ≡ false → t ≡ get 4 l (length l - 4) → lastClock < t → 13 ≡ lastRefusal l c
   unfolding lastRefusal
   last-over b t p q e h =
       let f : t ≡ timesIn l c = e ∙ ap (get 4 l) (times-place (sym p ∙ q)) in
-      rw (← p, q, ← f, lt-ltb 16777216 t h)
+      rw (← p, q, ← f, lt-ltb lastClock t h)
 
-  pub last-none : (b : Bool) (t : ℕ) → b ≡ planWrong l c → b ≡ false → t ≡ get 4 l (length l - 4) → t ≤ 16777216 → 0 ≡ lastRefusal l c
+  pub last-none : (b : Bool) (t : ℕ) → b ≡ planWrong l c → b ≡ false → t ≡ get 4 l (length l - 4) → t ≤ lastClock → 0 ≡ lastRefusal l c
   unfolding lastRefusal
   last-none b t p q e h =
       let f : t ≡ timesIn l c = e ∙ ap (get 4 l) (times-place (sym p ∙ q)) in
-      rw (← p, q, ← f, le-ltb 16777216 t h)
+      rw (← p, q, ← f, le-ltb lastClock t h)
 
   none-right : lastRefusal l c ≡ 0 → planWrong l c ≡ false
   unfolding lastRefusal
   none-right h = go (planWrong l c) 0 refl (sym h)
     where
-      go : (b : Bool) (x : ℕ) → x ≡ 0 → x ≡ pick b 16 (pick (ltb 16777216 (timesIn l c)) 13 0) → b ≡ false
+      go : (b : Bool) (x : ℕ) → x ≡ 0 → x ≡ pick b 16 (pick (ltb lastClock (timesIn l c)) 13 0) → b ≡ false
       go true x q p = absurd (omega arith)
       go false x q p = refl
 

@@ -20,6 +20,7 @@ use Rattle.sheet.specs.SheetTheorems.{read-sound, layout-formed}
 use Rattle.input.specs.Plan.{depthIn, offersPlace, offersIn, offerTime, offerSize, offerPlace, timesIn, drawsWrong, timeBefore, timeFalls, offersWrong, planWrong, lastRefusal, afterSheet, sheetRefusal, planRefusal, Planned, unplanned, wholeFrom, unless, planRead, planReading}
 use Rattle.input.specs.declared.Plan.{Plan}
 use Rattle.input.specs.PlanLaws.{past, offer-next}
+use Rattle.layout.specs.Limits.{lastClock}
 
 pub record Right (l : List ℕ) (r : Planned) : Type 0 where
   pub sound : Sound (r .layout)
@@ -30,7 +31,7 @@ pub record Right (l : List ℕ) (r : Planned) : Type 0 where
   pub offer : (k : ℕ) → k < r .offers → offerPlace l (r .first) k + 15 + offerSize l (offerPlace l (r .first) k) ≤ length l
   pub rising : (k : ℕ) → k < r .offers → timeBefore l (r .first) k ≤ offerTime l (offerPlace l (r .first) k)
   pub ending : length l ≡ offerPlace l (r .first) (r .offers) + 4
-  pub times : r .times ≤ 16777216
+  pub times : r .times ≤ lastClock
 
 -- ---- no number, no refusal
 
@@ -81,12 +82,12 @@ module _ (l : List ℕ) (u n : ℕ) where
       (d .0, d .1, ltb-false (length l) (offersPlace l u n) (b .1))
 
 module _ (l : List ℕ) (c : ℕ) where
-  last-right : lastRefusal l c ≡ 0 → (planWrong l c ≡ false) × (timesIn l c ≤ 16777216)
+  last-right : lastRefusal l c ≡ 0 → (planWrong l c ≡ false) × (timesIn l c ≤ lastClock)
   unfolding lastRefusal
   last-right h =
-      let a = passed (planWrong l c) 16 (pick (ltb 16777216 (timesIn l c)) 13 0) (λ z. omega arith) h in
-      let b = passed (ltb 16777216 (timesIn l c)) 13 0 (λ z. omega arith) (a .1) in
-      (a .0, ltb-false 16777216 (timesIn l c) (b .0))
+      let a = passed (planWrong l c) 16 (pick (ltb lastClock (timesIn l c)) 13 0) (λ z. omega arith) h in
+      let b = passed (ltb lastClock (timesIn l c)) 13 0 (λ z. omega arith) (a .1) in
+      (a .0, ltb-false lastClock (timesIn l c) (b .0))
 
   plan-right : planWrong l c ≡ false → (length l ≤ 16384) × (offersIn l c ≤ 64) × (offersWrong l (c + 2) (offersIn l c) ≡ false)
   unfolding planWrong

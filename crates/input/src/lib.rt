@@ -124,7 +124,7 @@ fn last_refusal(s: &[u8], c: usize) -> u32
     if plan_wrong(s, c) {
         return 16;
     }
-    if 16777216 < words::get32(s, s.len() - 4) {
+    if layout::LAST_CLOCK < words::get32(s, s.len() - 4) {
         return 13;
     }
     0

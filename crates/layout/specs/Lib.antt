@@ -1,3 +1,4 @@
+pub mod Limits
 pub mod Layout
 pub mod Check
 pub mod Fit

@@ -3,6 +3,9 @@
 ghost use mathlib.Core.Path.{_≡_};
 ghost use Prim.Native.Nat.{_<_, _≤_, min};
 
+// The clock's top: "Clock plus the bit times asked exceeds 16,777,216."
+pub const LAST_CLOCK: u32 = 16777216;
+
 // The figures burned into the stations: slot, gap1, gap2 and jam in bit times, the attempt limit and the backoff limit.
 pub struct Figures {
     pub slot: u32,

@@ -6,10 +6,11 @@ ghost use Prim.Native.Nat.{_<_, _≤_};
 ghost use lib.ListN.{length};
 ghost use Rattle.area.specs.Area.{positionAt};
 ghost use Rattle.medium.specs.Medium.{codeTo, pushed};
+ghost use Rattle.area.specs.Offsets.{areaSize};
 
 // The symbol with this code that station i, at p, emits in step t is on its way to station j.
 fn send_to(area: &mut [u8], t: usize, i: usize, p: u32, code: u8, j: usize)
-    requires { ⌜ (i < 16) × (j < 16) × (t < 4294967296) × (57344 ≤ length (now area)) × (p ≡ positionAt (now area) i) ⌝ }
+    requires { ⌜ (i < 16) × (j < 16) × (t < 4294967296) × (areaSize ≤ length (now area)) × (p ≡ positionAt (now area) i) ⌝ }
     ensures { λ r. ⌜ now (area .exit) ≡ codeTo t i code j (now (area .entry)) ⌝ }
 {
     if j == i {
@@ -22,7 +23,7 @@ fn send_to(area: &mut [u8], t: usize, i: usize, p: u32, code: u8, j: usize)
 
 // The symbol goes to each of n stations but its own.
 pub fn push(area: &mut [u8], n: usize, t: usize, i: usize, s: Symbol)
-    requires { ⌜ (i < 16) × (n ≤ 16) × (t < 4294967296) × (57344 ≤ length (now area)) ⌝ }
+    requires { ⌜ (i < 16) × (n ≤ 16) × (t < 4294967296) × (areaSize ≤ length (now area)) ⌝ }
     ensures { λ r. ⌜ now (area .exit) ≡ pushed n t i s (now (area .entry)) ⌝ }
 {
     let code = delay::symbol_code(s);

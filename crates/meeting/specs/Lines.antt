@@ -27,6 +27,7 @@ use Rattle.ready.specs.After.{length-after, ahead, placed-clear}
 use Rattle.meeting.specs.Net.{gathered}
 use Rattle.meeting.specs.Gather.{joined-none}
 use Rattle.meeting.specs.Meet.{met, met-none, met-group, joined-met, adds}
+use Rattle.area.specs.Offsets.{areaSize}
 
 -- ---- one symbol
 
@@ -55,7 +56,7 @@ unfolding share
 share-none t d i j u =
     by-test (eqb i j) (λ e. rw e) (λ e. by-test (eqb ((t + d) % 256) (u % 256)) (λ f. rw (e, f)) (λ f. rw (e, f)))
 
-send-here : (t i : ℕ) (s : Symbol) (j u : ℕ) (x : List ℕ) → j < 16 → 57344 ≤ length x
+send-here : (t i : ℕ) (s : Symbol) (j u : ℕ) (x : List ℕ) → j < 16 → areaSize ≤ length x
     → arrivalAt (sendTo t i s j x) j u ≡ joined (arrivalAt x j u) (share t (spaceAt x i j) i s j u)
 unfolding sendTo share
 send-here t i s j u x hj room =
@@ -69,7 +70,7 @@ send-here t i s j u x hj room =
     (arrival-by _ x j u (arrival-keeps (place j u) x j (t + spaceAt x i j) _ (λ p q. e (omega arith))) ∙ sym
     (joined-none (arrivalAt x j u)))))
 
-sends-here : (t i : ℕ) (s : Symbol) (k j u : ℕ) (x : List ℕ) → i < 16 → k ≤ 16 → j < k → 57344 ≤ length x
+sends-here : (t i : ℕ) (s : Symbol) (k j u : ℕ) (x : List ℕ) → i < 16 → k ≤ 16 → j < k → areaSize ≤ length x
     → arrivalAt (turns (sendTo t i s) k x) j u ≡ joined (arrivalAt x j u) (share t (spaceAt x i j) i s j u)
 unfolding turns
 sends-here t i s zero j u x hi hk hj room = absurd (omega arith)
@@ -88,7 +89,7 @@ silence-is Silence h = refl
 silence-is (Bit b) h = absurd (true≢false (sym h))
 silence-is Jam h = absurd (true≢false (sym h))
 
-pushed-here : (n t i : ℕ) (s : Symbol) (j u : ℕ) (x : List ℕ) → i < 16 → n ≤ 16 → j < n → 57344 ≤ length x
+pushed-here : (n t i : ℕ) (s : Symbol) (j u : ℕ) (x : List ℕ) → i < 16 → n ≤ 16 → j < n → areaSize ≤ length x
     → arrivalAt (pushed n t i s x) j u ≡ joined (arrivalAt x j u) (share t (spaceAt x i j) i s j u)
 unfolding pushed
 pushed-here n t i s j u x hi hn hj room =
@@ -101,7 +102,7 @@ pushed-here n t i s j u x hi hn hj room =
 
 -- ---- one station's turn, at a place that is not the present one
 
-settled-here : (n t i j u : ℕ) (r : Act) (x : List ℕ) → i < 16 → n ≤ 16 → j < n → 57344 ≤ length x
+settled-here : (n t i j u : ℕ) (r : Act) (x : List ℕ) → i < 16 → n ≤ 16 → j < n → areaSize ≤ length x
     → Kept (r .outcome .stored) → (u % 256 ≡ t % 256 → ⊥)
     → arrivalAt (settled n t i r x) j u ≡ joined (arrivalAt x j u) (share t (spaceAt x i j) i (r .symbol) j u)
 unfolding settled
@@ -121,7 +122,7 @@ settled-here n t i j u r x hi hn hj room kept ne =
     (space-by (placed t i (r .outcome) x) x i j hi (omega arith) (placed-layout t i (r .outcome) x hi kept))
 
 -- and at the present one: it is cleared
-settled-clear : (n t i : ℕ) (r : Act) (x : List ℕ) → i < n → n ≤ 16 → 57344 ≤ length x → Kept (r .outcome .stored)
+settled-clear : (n t i : ℕ) (r : Act) (x : List ℕ) → i < n → n ≤ 16 → areaSize ≤ length x → Kept (r .outcome .stored)
     → arrivalAt (settled n t i r x) i t ≡ Nothing
 unfolding settled
 settled-clear n t i r x hi hn room kept =
@@ -133,11 +134,11 @@ settled-clear n t i r x hi hn room kept =
 -- ---- the turns of all stations
 
 module _ (n t : ℕ) (r : ℕ → Act) (a : List ℕ) (sp : Spread n a) (kept : (i : ℕ) → i < n → Kept (r i .outcome .stored))
-    (room : 57344 ≤ length a) where
+    (room : areaSize ≤ length a) where
   after : ℕ → List ℕ
   after k = turns (λ i x. settled n t i (r i) x) k a
 
-  long : (k : ℕ) → 57344 ≤ length (after k)
+  long : (k : ℕ) → areaSize ≤ length (after k)
   unfolding after
   long k = omega (arith, length-after n t r a sp kept room k)
 

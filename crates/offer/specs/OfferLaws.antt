@@ -17,6 +17,7 @@ use Rattle.station.specs.Count.{added}
 use Rattle.area.specs.Area.{countAt, addressAt, stationAt, withStation, countersAt, withCounters, withFrame, frameBuilt}
 use Rattle.valid.specs.Valid.{areaRefusal}
 use Rattle.offer.specs.Offer.{holds, offeredStation, withHeld, withOffered, withOffer, offered}
+use Rattle.area.specs.Offsets.{areaSize}
 
 pub held-is : (a b : List ℕ) (i n : ℕ) (s t : Station) → b ≡ withStation a i t → t ≡ offeredStation s n → s ≡ stationAt a i → b ≡ withHeld a i n
 unfolding withHeld
@@ -40,7 +41,7 @@ accepted-is a b c e d v x i n r p q en eb h hd hs =
     let z : n ≡ length (frameOf d (addressAt a i) v x) = en ∙ sym (frame-size d (addressAt a i) v x hd hs) in
     p ∙ rw (q, f, z)
 
-pub address-six : (a : List ℕ) (i : ℕ) → i < 16 → 57344 ≤ length a → length (addressAt a i) ≡ 6
+pub address-six : (a : List ℕ) (i : ℕ) → i < 16 → areaSize ≤ length a → length (addressAt a i) ≡ 6
 unfolding addressAt
 address-six a i h g = length-part a (68 + 16 * i) 6 (omega arith)
 

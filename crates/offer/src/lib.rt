@@ -10,6 +10,7 @@ ghost use lib.ListN.{length};
 ghost use Rattle.octets.specs.Base.{doneAnswer, outcome};
 ghost use Rattle.frame.specs.Limits.{refusesData};
 ghost use Rattle.offer.specs.Offer.{holds, offeredStation, withHeld, withOffered, withOffer, offered};
+ghost use Rattle.area.specs.Offsets.{areaSize};
 
 fn has_frame(t: Transmitter) -> bool
     ensures { λ r. ⌜ r ≡ holds t ⌝ }
@@ -45,7 +46,7 @@ fn with_offer(s: Station, n: u32) -> Station
 }
 
 fn hold_frame(area: &mut [u8], i: usize, n: u32)
-    requires { ⌜ (i < 16) × (57344 ≤ length (now area)) ⌝ }
+    requires { ⌜ (i < 16) × (areaSize ≤ length (now area)) ⌝ }
     ensures { λ r. ⌜ now (area .exit) ≡ withHeld (now (area .entry)) i n ⌝ }
 {
     let s = area::read_station(area, i);
@@ -54,7 +55,7 @@ fn hold_frame(area: &mut [u8], i: usize, n: u32)
 }
 
 fn count_offer(area: &mut [u8], i: usize)
-    requires { ⌜ (i < 16) × (57344 ≤ length (now area)) ⌝ }
+    requires { ⌜ (i < 16) × (areaSize ≤ length (now area)) ⌝ }
     ensures { λ r. ⌜ now (area .exit) ≡ withOffered (now (area .entry)) i ⌝ }
 {
     let c = area::read_counters(area, i);
@@ -64,7 +65,7 @@ fn count_offer(area: &mut [u8], i: usize)
 
 // The frame built at its place, held by the station, and counted.
 fn accept(area: &mut [u8], i: usize, destination: [u8; 6], value: u16, payload: &[u8])
-    requires { ⌜ (i < 16) × (57344 ≤ length (now area)) ⌝ }
+    requires { ⌜ (i < 16) × (areaSize ≤ length (now area)) ⌝ }
     requires { ⌜ refusesData value (length (now payload)) ≡ false ⌝ }
     ensures { λ r. ⌜ now (area .exit) ≡ withOffer (now (area .entry)) i destination value (now (payload .entry)) ⌝ }
 {

@@ -22,6 +22,7 @@ use Rattle.pair.specs.declared.Act.{Act}
 use Rattle.pair.specs.BitTime.{outcomeIn, actIn, withStored, happened, withCounted, placed, settled, turnedIn}
 use Rattle.medium.specs.Medium.{pushed}
 use Rattle.medium.specs.MediumLaws.{length-pushed, push-keeps}
+use Rattle.area.specs.Offsets.{areaSize}
 
 -- a bit that the receive buffer holds
 abbrev pub Kept : Stored → Type 0
@@ -161,7 +162,7 @@ ahead-all n t zero r a sp kept hk = ahead-start t a
 ahead-all n t (suc k) r a sp kept hk = ahead-step n t k (r k) a (turns (λ i x. settled n t i (r i) x) k a) sp hk (kept k hk) (ahead-all n t k r a sp kept (omega arith))
 
 -- a station acts by the layout, the draws, its frame, its record, what it collected and what it hears
-pub act-by : (f : Figures) (d t i : ℕ) (a x : List ℕ) → i < 16 → 57344 ≤ length a → 57344 ≤ length x → stationAt a i .draw < 16
+pub act-by : (f : Figures) (d t i : ℕ) (a x : List ℕ) → i < 16 → areaSize ≤ length a → areaSize ≤ length x → stationAt a i .draw < 16
     → octetsHeld (stationAt a i .transmitter) (stationAt a i .frame) ≤ 1536 → Keeps layout x a → Keeps draws x a → Keeps (frame i) x a → Keeps (station i) x a → Keeps (buffer i) x a
     → Keeps (place i t) x a → actIn f d t x i ≡ actIn f d t a i
 unfolding actIn outcomeIn
@@ -175,7 +176,7 @@ act-by f d t i a x hi room big hd hf plan lots frames own kept at =
     rw (s, b, h, w, z)
 
 -- a station acts the same from x as from a, where x is a but for what others have done in this step
-pub same-act : (f : Figures) (d t k i : ℕ) (a x : List ℕ) → i < 16 → k ≤ i → 57344 ≤ length a → length x ≡ length a → stationAt a i .draw < 16
+pub same-act : (f : Figures) (d t k i : ℕ) (a x : List ℕ) → i < 16 → k ≤ i → areaSize ≤ length a → length x ≡ length a → stationAt a i .draw < 16
     → octetsHeld (stationAt a i .transmitter) (stationAt a i .frame) ≤ 1536 → Ahead t k a x → actIn f d t x i ≡ actIn f d t a i
 same-act f d t k i a x hi hk room el hd hf v =
     act-by f d t i a x hi room (omega arith) hd hf (v .plan) (v .lots) (v .frames i hi) (v .record-of i hk hi) (v .buffer-of i hk hi) (v .place-of i hk hi)

@@ -33,6 +33,8 @@ use Rattle.pair.specs.declared.Events.{Events}
 use Rattle.pair.specs.BitTime.{outcomeIn, actIn, actAt, settled, turnedIn, turnIn, eventsIn, advancedIn, stepArea, eventsAt, eventsOf, noEvents}
 use Rattle.pair.specs.Range.{Fine, fine-room, held-small}
 use Rattle.pair.specs.InPlace.{Kept, Spread, Ahead, ahead-all, same-act, length-turned}
+use Rattle.layout.specs.Limits.{lastClock}
+use Rattle.area.specs.Offsets.{areaSize}
 
 -- ---- what each station must be
 
@@ -59,7 +61,7 @@ module _ (f : Figures) (a : List ℕ) (i : ℕ) (s : Station) (p : Able f a i) (
   pub able-held : (z : ℕ) → z ≡ octetsHeld (s .transmitter) (s .frame) → z ≤ 1536
   able-held z q = omega (arith, can .held)
 
-  pub able-room : (b : List ℕ) → b ≡ bufferAt a i → i < 16 → 57344 ≤ length a → Roomy f s (length b)
+  pub able-room : (b : List ℕ) → b ≡ bufferAt a i → i < 16 → areaSize ≤ length a → Roomy f s (length b)
   unfolding bufferAt
   able-room b q h g =
       let n : length b ≡ 1518 = ap length q ∙ length-part a (32768 + 1536 * i) 1518 (omega arith) in
@@ -117,7 +119,7 @@ acts-kept f d t a i r e = subst (λ (x : Act). Kept (x .outcome .stored)) (sym e
 
 -- ---- the turns
 
-module _ (f : Figures) (d n t i : ℕ) (a x : List ℕ) (v : AllAble n f a) (hi : i < n) (room : 57344 ≤ length a) (e : x ≡ turnedIn f d n t a i) where
+module _ (f : Figures) (d n t i : ℕ) (a x : List ℕ) (v : AllAble n f a) (hi : i < n) (room : areaSize ≤ length a) (e : x ≡ turnedIn f d n t a i) where
   behind : Ahead t i a x
   unfolding turnedIn AllAble
   behind = subst (Ahead t i a) (sym e) (ahead-all n t i (actIn f d t a) a (v .0) (λ k h. kept f d t a k) (omega arith))
@@ -151,12 +153,12 @@ module _ (f : Figures) (d n t i : ℕ) (a x : List ℕ) (v : AllAble n f a) (hi 
 -- ---- the area
 
 pub record Readiness (a : List ℕ) : Type 0 where
-  pub long : 57344 ≤ length a
+  pub long : areaSize ≤ length a
   pub sound : refusalOf (layoutAt a) ≡ 0
   pub figures : Figured (figuresAt a)
   pub spread : Spread (countAt a) a
   pub depth : (1 ≤ depthAt a) × (depthAt a ≤ 16)
-  pub clock : clockAt a ≤ 16777216
+  pub clock : clockAt a ≤ lastClock
   pub fine : (i : ℕ) → i < countAt a → Fine (figuresAt a) (depthAt a) (clockAt a) (stationAt a i)
   pub codes : (i u : ℕ) → i < countAt a → symbolAt a i u ≤ 4
   pub counts : (i : ℕ) → i < countAt a → Small (countersAt a i)

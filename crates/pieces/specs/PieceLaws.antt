@@ -39,6 +39,8 @@ use Rattle.pieces.specs.declared.Progress.{Progress}
 use Rattle.pieces.specs.declared.Handed.{Handed}
 use Rattle.pieces.specs.Printed.{nextOffer, lies, made, offerLine, offerText, firstText, startArea}
 use Rattle.pieces.specs.Pieces.{Moved, moved, standing, isDue, spanOf, lastPiece, offerPiece, timesLeft, stretchPiece, stepPiece, move, Hand, pieceAnswer, handing, given, withheld, offerShort, moveRefusal, advancedOn, onFront, advanced, noProgress, startPiece, firstPiece, begun}
+use Rattle.layout.specs.Limits.{lastClock}
+use Rattle.area.specs.Offsets.{areaSize}
 
 -- ---- the next offer
 
@@ -149,39 +151,39 @@ module _ (l a : List ℕ) (room : ℕ) (g : Progress) (k : ℕ) (e : k ≡ areaR
   unfolding moveRefusal
   refusal-area h = rw (← e, ne-eqb k 0 h)
 
-  pub refusal-clock : (c : ℕ) → k ≡ 0 → c ≡ clockAt a → 16777216 - c < g .times → 13 ≡ moveRefusal l a room g
+  pub refusal-clock : (c : ℕ) → k ≡ 0 → c ≡ clockAt a → lastClock - c < g .times → 13 ≡ moveRefusal l a room g
   unfolding moveRefusal
-  refusal-clock c z q h = rw (← e, eq-eqb k 0 z, ← q, lt-ltb 16777216 (c + g .times) (omega arith))
+  refusal-clock c z q h = rw (← e, eq-eqb k 0 z, ← q, lt-ltb lastClock (c + g .times) (omega arith))
 
-  pub refusal-room : (c : ℕ) → Octets a → k ≡ 0 → c ≡ clockAt a → g .times ≤ 16777216 - c → room < 2048 → 15 ≡ moveRefusal l a room g
+  pub refusal-room : (c : ℕ) → Octets a → k ≡ 0 → c ≡ clockAt a → g .times ≤ lastClock - c → room < 2048 → 15 ≡ moveRefusal l a room g
   unfolding moveRefusal
   refusal-room c o z q h r =
       let w = clock-within a k c e z o q in
-      rw (← e, eq-eqb k 0 z, ← q, le-ltb 16777216 (c + g .times) (omega arith), lt-ltb room 2048 r)
+      rw (← e, eq-eqb k 0 z, ← q, le-ltb lastClock (c + g .times) (omega arith), lt-ltb room 2048 r)
 
-  pub refusal-offer : (c : ℕ) (b : Bool) → Octets a → k ≡ 0 → c ≡ clockAt a → g .times ≤ 16777216 - c → 2048 ≤ room → b ≡ offerShort l g → b ≡ true → 16 ≡ moveRefusal l a room g
+  pub refusal-offer : (c : ℕ) (b : Bool) → Octets a → k ≡ 0 → c ≡ clockAt a → g .times ≤ lastClock - c → 2048 ≤ room → b ≡ offerShort l g → b ≡ true → 16 ≡ moveRefusal l a room g
   unfolding moveRefusal
   refusal-offer c b o z q h r s t =
       let w = clock-within a k c e z o q in
-      rw (← e, eq-eqb k 0 z, ← q, le-ltb 16777216 (c + g .times) (omega arith), le-ltb room 2048 r, ← s, t)
+      rw (← e, eq-eqb k 0 z, ← q, le-ltb lastClock (c + g .times) (omega arith), le-ltb room 2048 r, ← s, t)
 
-  pub refusal-none : (c : ℕ) (b : Bool) → Octets a → k ≡ 0 → c ≡ clockAt a → g .times ≤ 16777216 - c → 2048 ≤ room → b ≡ offerShort l g → b ≡ false → 0 ≡ moveRefusal l a room g
+  pub refusal-none : (c : ℕ) (b : Bool) → Octets a → k ≡ 0 → c ≡ clockAt a → g .times ≤ lastClock - c → 2048 ≤ room → b ≡ offerShort l g → b ≡ false → 0 ≡ moveRefusal l a room g
   unfolding moveRefusal
   refusal-none c b o z q h r s t =
       let w = clock-within a k c e z o q in
-      rw (← e, eq-eqb k 0 z, ← q, le-ltb 16777216 (c + g .times) (omega arith), le-ltb room 2048 r, ← s, t)
+      rw (← e, eq-eqb k 0 z, ← q, le-ltb lastClock (c + g .times) (omega arith), le-ltb room 2048 r, ← s, t)
 
 module _ (l a : List ℕ) (room : ℕ) (g : Progress) (k : ℕ) (e : k ≡ moveRefusal l a room g) (z : k ≡ 0) where
-  right : (areaRefusal a ≡ 0) × (clockAt a + g .times ≤ 16777216) × (2048 ≤ room) × (offerShort l g ≡ false)
+  right : (areaRefusal a ≡ 0) × (clockAt a + g .times ≤ lastClock) × (2048 ≤ room) × (offerShort l g ≡ false)
   unfolding moveRefusal
-  right = go (eqb (areaRefusal a) 0) (ltb 16777216 (clockAt a + g .times)) (ltb room 2048) (offerShort l g) refl refl refl (sym z ∙ e)
+  right = go (eqb (areaRefusal a) 0) (ltb lastClock (clockAt a + g .times)) (ltb room 2048) (offerShort l g) refl refl refl (sym z ∙ e)
     where
-      go : (p q r s : Bool) → eqb (areaRefusal a) 0 ≡ p → ltb 16777216 (clockAt a + g .times) ≡ q → ltb room 2048 ≡ r → 0 ≡ pick p (pick q 13 (pick r 15 (pick s 16 0))) (areaRefusal a)
-          → (areaRefusal a ≡ 0) × (clockAt a + g .times ≤ 16777216) × (2048 ≤ room) × (s ≡ false)
+      go : (p q r s : Bool) → eqb (areaRefusal a) 0 ≡ p → ltb lastClock (clockAt a + g .times) ≡ q → ltb room 2048 ≡ r → 0 ≡ pick p (pick q 13 (pick r 15 (pick s 16 0))) (areaRefusal a)
+          → (areaRefusal a ≡ 0) × (clockAt a + g .times ≤ lastClock) × (2048 ≤ room) × (s ≡ false)
       go true true r s x y w h = absurd (omega arith)
       go true false true s x y w h = absurd (omega arith)
       go true false false true x y w h = absurd (omega arith)
-      go true false false false x y w h = (eqb-true (areaRefusal a) 0 x, ltb-false 16777216 (clockAt a + g .times) y, ltb-false room 2048 w, refl)
+      go true false false false x y w h = (eqb-true (areaRefusal a) 0 x, ltb-false lastClock (clockAt a + g .times) y, ltb-false room 2048 w, refl)
       go false q r s x y w h = absurd (eqb-false (areaRefusal a) 0 x (sym h))
 
   pub refusal-room-left : 2048 ≤ room
@@ -406,22 +408,22 @@ module _ (l : List ℕ) (p : Plan) (n : ℕ) (q : n ≡ numberOf (verdictAnswer 
 -- ---- an area longer than one must be
 
 module _ (l a o : List ℕ) (r : Handed) where
-  pub advance-short : (g : Progress) → length a < 57344 → pieceAnswer (r .piece) ≡ refused 1 → r .progress ≡ g → handing r a o ≡ advanced l a o g
+  pub advance-short : (g : Progress) → length a < areaSize → pieceAnswer (r .piece) ≡ refused 1 → r .progress ≡ g → handing r a o ≡ advanced l a o g
   unfolding advanced
-  advance-short g h p q = rw (lt-ltb (length a) 57344 h) (hand-same r (withheld 1 g a o) a o p q refl refl)
+  advance-short g h p q = rw (lt-ltb (length a) areaSize h) (hand-same r (withheld 1 g a o) a o p q refl refl)
 
-  pub advance-front : (g : Progress) (m x : List ℕ) → 57344 ≤ length a → handing r m x ≡ advancedOn l (take (57344 - 0) a) o g → handing r (putMid 0 (57344 - 0) a m) x ≡ advanced l a o g
+  pub advance-front : (g : Progress) (m x : List ℕ) → areaSize ≤ length a → handing r m x ≡ advancedOn l (take (areaSize - 0) a) o g → handing r (putMid 0 (areaSize - 0) a m) x ≡ advanced l a o g
   unfolding advanced
-  advance-front g m x h p = rw (le-ltb (length a) 57344 h) (ap (onFront a) p)
+  advance-front g m x h p = rw (le-ltb (length a) areaSize h) (ap (onFront a) p)
 
-  pub begin-short : (g : Progress) → length a < 57344 → pieceAnswer (r .piece) ≡ refused 1 → r .progress ≡ g → g ≡ noProgress → handing r a o ≡ begun l a o
+  pub begin-short : (g : Progress) → length a < areaSize → pieceAnswer (r .piece) ≡ refused 1 → r .progress ≡ g → g ≡ noProgress → handing r a o ≡ begun l a o
   unfolding begun
-  begin-short g h p q s = rw (lt-ltb (length a) 57344 h) (hand-same r (withheld 1 noProgress a o) a o p (q ∙ s) refl refl)
+  begin-short g h p q s = rw (lt-ltb (length a) areaSize h) (hand-same r (withheld 1 noProgress a o) a o p (q ∙ s) refl refl)
 
-  pub begin-room : (g : Progress) → 57344 ≤ length a → length o < 2048 → pieceAnswer (r .piece) ≡ refused 15 → r .progress ≡ g → g ≡ noProgress → handing r a o ≡ begun l a o
+  pub begin-room : (g : Progress) → areaSize ≤ length a → length o < 2048 → pieceAnswer (r .piece) ≡ refused 15 → r .progress ≡ g → g ≡ noProgress → handing r a o ≡ begun l a o
   unfolding begun
-  begin-room g h k p q s = rw (le-ltb (length a) 57344 h, lt-ltb (length o) 2048 k) (hand-same r (withheld 15 noProgress a o) a o p (q ∙ s) refl refl)
+  begin-room g h k p q s = rw (le-ltb (length a) areaSize h, lt-ltb (length o) 2048 k) (hand-same r (withheld 15 noProgress a o) a o p (q ∙ s) refl refl)
 
-  pub begin-front : (m x : List ℕ) → 57344 ≤ length a → 2048 ≤ length o → handing r m x ≡ given o (firstPiece l (take (57344 - 0) a)) → handing r (putMid 0 (57344 - 0) a m) x ≡ begun l a o
+  pub begin-front : (m x : List ℕ) → areaSize ≤ length a → 2048 ≤ length o → handing r m x ≡ given o (firstPiece l (take (areaSize - 0) a)) → handing r (putMid 0 (areaSize - 0) a m) x ≡ begun l a o
   unfolding begun
-  begin-front m x h k p = rw (le-ltb (length a) 57344 h, le-ltb (length o) 2048 k) (ap (onFront a) p)
+  begin-front m x h k p = rw (le-ltb (length a) areaSize h, le-ltb (length o) 2048 k) (ap (onFront a) p)

@@ -9,7 +9,7 @@ use lib.Seq.{sets}
 use Rattle.octets.specs.Base.{pick, some, Answer, refused, accepted, numberOf, valuesOf}
 use Rattle.area.specs.Offsets.{areaSize}
 use Rattle.area.specs.Area.{clockAt}
-use Rattle.valid.specs.Valid.{areaRefusal, lastClock}
+use Rattle.valid.specs.Valid.{areaRefusal}
 use Rattle.course.specs.Run.{lateAt}
 use Rattle.course.specs.Until.{Stretched, untilEvent}
 use Rattle.text.specs.Text.{refusedLine, endLine}
@@ -20,6 +20,7 @@ use Rattle.pieces.specs.declared.Piece.{Piece}
 use Rattle.pieces.specs.declared.Piece.the-variants.{Refused, Text}
 use Rattle.pieces.specs.declared.Handed.{Handed}
 use Rattle.pieces.specs.Printed.{nextOffer, lies, made, offerText, Course, course, runOn, firstText, startArea}
+use Rattle.layout.specs.Limits.{lastClock}
 
 -- ---- the next piece
 

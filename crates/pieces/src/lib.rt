@@ -10,6 +10,7 @@ ghost use Rattle.octets.specs.NumberLaws.{Octets};
 ghost use Rattle.course.specs.Run.{lateAt};
 ghost use Rattle.pieces.specs.Printed.{lies};
 ghost use Rattle.pieces.specs.Pieces.{isDue, spanOf, pieceAnswer, offerShort, moveRefusal};
+ghost use Rattle.area.specs.Offsets.{areaSize};
 
 // The octets that `out` must have: no piece is longer.
 pub const ROOM: usize = 2048;
@@ -78,7 +79,7 @@ fn offer_short(input: &[u8], g: Progress) -> bool
 
 // Refusals 2, 13, 15 and 16, by their number; 0 where there is none.
 pub fn refusal(input: &[u8], area: &[u8], room: usize, g: Progress) -> u32
-    requires { ⌜ 57344 ≤ length (now area) ⌝ }
+    requires { ⌜ areaSize ≤ length (now area) ⌝ }
     ensures value { λ r. ⌜ r ≡ moveRefusal (now (input .entry)) (now (area .entry)) room g ⌝ }
     ensures octets { λ r. ⌜ Octets (now (area .entry)) ⌝ }
 {
@@ -86,7 +87,7 @@ pub fn refusal(input: &[u8], area: &[u8], room: usize, g: Progress) -> u32
     if number != 0 {
         return number;
     }
-    if 16777216 - area::read_clock(area) < g.times {
+    if layout::LAST_CLOCK - area::read_clock(area) < g.times {
         return 13;
     }
     if room < ROOM {
@@ -100,7 +101,7 @@ pub fn refusal(input: &[u8], area: &[u8], room: usize, g: Progress) -> u32
 
 // Whether the next offer's time is the clock.
 pub fn is_due(input: &[u8], area: &[u8], g: Progress) -> bool
-    requires { ⌜ (57344 ≤ length (now area)) × (offerShort (now input) g ≡ false) ⌝ }
+    requires { ⌜ (areaSize ≤ length (now area)) × (offerShort (now input) g ≡ false) ⌝ }
     ensures { λ r. ⌜ r ≡ isDue (now (input .entry)) g (now (area .entry)) ⌝ }
 {
     if g.offers == 0 {
@@ -111,7 +112,7 @@ pub fn is_due(input: &[u8], area: &[u8], g: Progress) -> bool
 
 // The steps that may be made before the next offer.
 pub fn span(input: &[u8], area: &[u8], g: Progress) -> u32
-    requires { ⌜ (57344 ≤ length (now area)) × (offerShort (now input) g ≡ false) ⌝ }
+    requires { ⌜ (areaSize ≤ length (now area)) × (offerShort (now input) g ≡ false) ⌝ }
     ensures { λ r. ⌜ r ≡ spanOf (now (input .entry)) g (now (area .entry)) ⌝ }
 {
     if g.offers == 0 {

@@ -14,10 +14,11 @@ ghost use Rattle.course.specs.RunLaws.{Runnable};
 ghost use Rattle.text.specs.Text.{written, puts};
 ghost use Rattle.pieces.specs.Printed.{lies, made, offerLine};
 ghost use Rattle.pieces.specs.Pieces.{lastPiece, offerPiece, stepPiece, handing, given, offerShort, advancedOn, advanced};
+ghost use Rattle.area.specs.Offsets.{areaSize};
 
 // The last line.
 fn end_piece(area: &[u8], out: &mut [u8], g: Progress) -> Handed
-    requires { ⌜ (57344 ≤ length (now area)) × (2048 ≤ length (now out)) ⌝ }
+    requires { ⌜ (areaSize ≤ length (now area)) × (2048 ≤ length (now out)) ⌝ }
     ensures { λ r. ⌜ handing r (now (area .entry)) (now (out .exit)) ≡ given (now (out .entry)) (lastPiece g (now (area .entry))) ⌝ }
 {
     let end = text::put_counted(out, 0, b"end", area::read_clock(area), b'\n');
@@ -89,7 +90,7 @@ fn offer_piece(input: &[u8], area: &mut [u8], out: &mut [u8], g: Progress) -> Ha
 
 // Steps are made until one has an event or an offer is due, and the last one's lines handed out.
 fn step_piece(input: &[u8], area: &mut [u8], out: &mut [u8], g: Progress) -> Handed
-    requires { ⌜ (57344 ≤ length (now area)) × Runnable (g .times) (now area) × (0 < g .times) ⌝ }
+    requires { ⌜ (areaSize ≤ length (now area)) × Runnable (g .times) (now area) × (0 < g .times) ⌝ }
     requires { ⌜ (offerShort (now input) g ≡ false) × (2048 ≤ length (now out)) ⌝ }
     ensures { λ r. ⌜ handing r (now (area .exit)) (now (out .exit)) ≡ given (now (out .entry)) (stepPiece (now (input .entry)) g (now (area .entry))) ⌝ }
 {
@@ -111,7 +112,7 @@ fn step_piece(input: &[u8], area: &mut [u8], out: &mut [u8], g: Progress) -> Han
 
 // The next piece, on an area of just the octets that one must have.
 fn advance_on(input: &[u8], area: &mut [u8], out: &mut [u8], g: Progress) -> Handed
-    requires { ⌜ 57344 ≤ length (now area) ⌝ }
+    requires { ⌜ areaSize ≤ length (now area) ⌝ }
     ensures { λ r. ⌜ handing r (now (area .exit)) (now (out .exit)) ≡ advancedOn (now (input .entry)) (now (area .entry)) (now (out .entry)) g ⌝ }
 {
     let number = pieces::refusal(input, area, out.len(), g);
@@ -140,5 +141,5 @@ pub fn advance(input: &[u8], area: &mut [u8], out: &mut [u8], g: Progress) -> Ha
     if area.len() < area::AREA {
         return pieces::withhold(1, g);
     }
-    advance_on(input, &mut area[0..57344], out, g)
+    advance_on(input, &mut area[0..area::AREA], out, g)
 }

@@ -20,6 +20,7 @@ use Rattle.pair.specs.declared.Events.{Events}
 use Rattle.pair.specs.BitTime.{actIn, turnIn, eventsOf, noEvents}
 use Rattle.pair.specs.Ready.{Able}
 use Rattle.quick.specs.Quick.{Plain, Taken, restsIn, gapsIn, backsIn, calmIn, countedDown, both-true, rest-taken, gap-taken, back-taken, taken-area, taken-events, left-area}
+use Rattle.area.specs.Offsets.{areaSize}
 
 -- ---- what the code tests
 
@@ -172,7 +173,7 @@ bare-rests w h =
     let v = sum-zero (bareSum w) _ _ _ _ _ _ _ _ refl (omega arith) in
     bare-zero w (v .0) (v .1) (v .2) (v .3) (v .4) (v .5) (v .6) (v .7) (le-leb (getD w 12 0) 1 (omega arith)) (r .1) (r .0) (le-leb (getD w 5 0) 3 (omega (arith, leb-true (getD w 5 0) 1 (r .0))))
 
-module _ (f : Figures) (d n t i : ℕ) (x : List ℕ) (hi : i < 16) (room : 57344 ≤ length x) (s : symbolAt x i t ≡ 0) where
+module _ (f : Figures) (d n t i : ℕ) (x : List ℕ) (hi : i < 16) (room : areaSize ≤ length x) (s : symbolAt x i t ≡ 0) where
   rest-now : (b : Bool) → b ≡ bareIn (recordAt x i) → b ≡ true → Octets x → Taken f d n t i x x true
   rest-now b e h o =
       let p = bare-rests (recordAt x i) (sym e ∙ h) in
@@ -206,7 +207,7 @@ nothing-here x i t c e z = sym e ∙ z
 
 -- ---- a station that rests leaves the area as it is
 
-module _ (f : Figures) (d n t i : ℕ) (x : List ℕ) (hi : i < 16) (room : 57344 ≤ length x) (b : Bool) (c : ℕ) where
+module _ (f : Figures) (d n t i : ℕ) (x : List ℕ) (hi : i < 16) (room : areaSize ≤ length x) (b : Bool) (c : ℕ) where
   pub rests-area : b ≡ bareIn (recordAt x i) → b ≡ true → Octets x → c ≡ 0 → c ≡ symbolAt x i t → x ≡ turnIn f d n t i x
   rests-area e h o z s = rest-turn f d n t i x hi room (sym s ∙ z) b e h o
 

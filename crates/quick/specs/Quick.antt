@@ -48,6 +48,7 @@ use Rattle.area.specs.OneWord.{station-back}
 use Rattle.pair.specs.BitTime.{outcomeIn, actIn, withStored, happened, withCounted, placed, settled, turnIn, eventsOf, noEvents}
 use Rattle.medium.specs.Medium.{pushed}
 use Rattle.pair.specs.Ready.{CanAct, Able}
+use Rattle.area.specs.Offsets.{areaSize}
 
 -- ---- what the code tests, and what it then does
 
@@ -370,14 +371,14 @@ pub record-arrival : (i t : ℕ) (x : List ℕ) → i < 16 → recordAt (withArr
 record-arrival i t x hi = record-by (withArrival x i t Nothing) x i (arrival-keeps (station i) x i t Nothing (λ a b. omega arith))
 
 -- a step of backoff leaves the receiver's number
-pub count-number : (t i : ℕ) (x : List ℕ) → i < 16 → 57344 ≤ length x → Octets x → (u : ℕ) (v x₀ : List ℕ) → v ≡ countedDown i u (getD (recordAt x₀ i) 4 0) x₀ → x₀ ≡ withArrival x i t Nothing
+pub count-number : (t i : ℕ) (x : List ℕ) → i < 16 → areaSize ≤ length x → Octets x → (u : ℕ) (v x₀ : List ℕ) → v ≡ countedDown i u (getD (recordAt x₀ i) 4 0) x₀ → x₀ ≡ withArrival x i t Nothing
     → getD (recordAt v i) 6 0 ≡ getD (recordAt x i) 6 0
 unfolding countedDown
 count-number t i x hi room o u v x₀ ev ex =
     let w = recordAt x i in
     let m = getD w 4 0 in
     let y : List ℕ = withArrival x i t Nothing in
-    let long : 57344 ≤ length y = omega (arith, length-arrival x i t Nothing) in
+    let long : areaSize ≤ length y = omega (arith, length-arrival x i t Nothing) in
     let none : Wrote i y y w = wrote-none i y hi long w (octets-arrival x i t Nothing hi o) (record-arrival i t x hi) in
     let one : Wrote i y (withWord y i 4 (m - 1)) (set w 4 (m - 1)) = wrote-word i y hi long y w 4 (m - 1) none (omega arith) (omega (arith, word-small x i 4 o (omega arith))) in
     let ev′ : v ≡ pick (eqb u 2) (withWord y i 4 (m - 1)) y = ev ∙ rw (ex, record-arrival i t x hi) in
@@ -404,7 +405,7 @@ module _ (f : Figures) (d n t i : ℕ) (x : List ℕ) where
   unfolding Taken
   not-taken = refl
 
-module _ (f : Figures) (d n t i : ℕ) (x : List ℕ) (hi : i < 16) (room : 57344 ≤ length x) (o : Octets x) (plain : Plain x i) where
+module _ (f : Figures) (d n t i : ℕ) (x : List ℕ) (hi : i < 16) (room : areaSize ≤ length x) (o : Octets x) (plain : Plain x i) where
   -- the record is that of the state, also where the state is written out
   plain-as : (s : Station) → stationAt x i ≡ s → encoded s ≡ recordAt x i
   unfolding Plain
@@ -434,7 +435,7 @@ module _ (f : Figures) (d n t i : ℕ) (x : List ℕ) (hi : i < 16) (room : 5734
   back-four dp r j = refl
 
   -- the words of a step of backoff, in an area z with this record
-  count-writes : (z : List ℕ) → 57344 ≤ length z → Octets z → recordAt z i ≡ recordAt x i → (dp : Deference) (r : Receiver) → calmIn (recordAt x i) ≡ true → stationAt x i ≡ such dp now r
+  count-writes : (z : List ℕ) → areaSize ≤ length z → Octets z → recordAt z i ≡ recordAt x i → (dp : Deference) (r : Receiver) → calmIn (recordAt x i) ≡ true → stationAt x i ≡ such dp now r
       → Wrote i z (countedDown i (getD (recordAt x i) 3 0) (getD (recordAt x i) 4 0) z) (encoded (such dp (later now) r))
   unfolding countedDown now
   count-writes z zr zo ze dp r calm es =
@@ -510,7 +511,7 @@ module _ (f : Figures) (d n t i : ℕ) (x : List ℕ) (hi : i < 16) (room : 5734
   cleared : List ℕ
   cleared = withArrival x i t Nothing
 
-  cleared-room : 57344 ≤ length cleared
+  cleared-room : areaSize ≤ length cleared
   unfolding cleared
   cleared-room = omega (arith, length-arrival x i t Nothing)
 
@@ -691,7 +692,7 @@ module _ (i c : ℕ) (x : List ℕ) where
 
 module _ (i k : ℕ) (b : Bool) (a : List ℕ) where
   -- m is k, capped far above the buffer
-  pub one-kept : (m l : ℕ) (y : List ℕ) → m < 12144 → m ≡ min k l → 57344 ≤ l → y ≡ withBit a i m b → y ≡ withStored i (storedBit k b) a
+  pub one-kept : (m l : ℕ) (y : List ℕ) → m < 12144 → m ≡ min k l → areaSize ≤ l → y ≡ withBit a i m b → y ≡ withStored i (storedBit k b) a
   unfolding storedBit
   one-kept m l y h q g e =
       let z : m ≡ k = omega arith in

@@ -11,6 +11,7 @@ ghost use Rattle.pair.specs.Ready.{Able};
 ghost use Rattle.quick.specs.Quick.{Plain, Taken, gapsIn, backsIn};
 ghost use Rattle.quick.specs.Easy.{deferenceIn, transmitterIn, receiverIn, plainIn, bareSum, bareIn};
 ghost use Rattle.octets.specs.NumberLaws.{Octets};
+ghost use Rattle.area.specs.Offsets.{areaSize};
 
 // Whether the words of deference are those of a state. Here and below a number that a state does not use is compared
 // with a bound that is 0 for it. A word that is compared with 0 itself would be read octet by octet.
@@ -37,7 +38,7 @@ fn receiver_in(code: u32, number: u32, spoiled: u32, own: u32) -> bool
 
 // Whether the record of station i is the one that its state is written as.
 fn is_plain(area: &[u8], i: usize) -> bool
-    requires { ⌜ (i < 16) × (57344 ≤ length (now area)) ⌝ }
+    requires { ⌜ (i < 16) × (areaSize ≤ length (now area)) ⌝ }
     ensures { λ r. ⌜ r ≡ plainIn (recordAt (now (area .entry)) i) ⌝ }
 {
     let d = deference_in(
@@ -61,7 +62,7 @@ fn is_plain(area: &[u8], i: usize) -> bool
 
 // The sum of the words that are 0 where station i is quiet, with no frame, in no reception, and emitted nothing.
 fn bare_sum(area: &[u8], i: usize) -> u64
-    requires { ⌜ (i < 16) × (57344 ≤ length (now area)) ⌝ }
+    requires { ⌜ (i < 16) × (areaSize ≤ length (now area)) ⌝ }
     ensures value { λ r. ⌜ r ≡ bareSum (recordAt (now (area .entry)) i) ⌝ }
     ensures small { λ r. ⌜ r < 34359738368 ⌝ }
 {
@@ -78,7 +79,7 @@ fn bare_sum(area: &[u8], i: usize) -> u64
 // Whether station i rests, and its record is the one that its state is written as: a receiver that listens has the
 // number 0. That the area holds octets is said here.
 pub fn rests(area: &[u8], i: usize) -> bool
-    requires { ⌜ (i < 16) × (57344 ≤ length (now area)) ⌝ }
+    requires { ⌜ (i < 16) × (areaSize ≤ length (now area)) ⌝ }
     ensures value { λ r. ⌜ r ≡ bareIn (recordAt (now (area .entry)) i) ⌝ }
     ensures octets { λ r. ⌜ Octets (now (area .entry)) ⌝ }
 {
@@ -92,7 +93,7 @@ pub fn rests(area: &[u8], i: usize) -> bool
 
 // The turn of station i, which is in a gap.
 fn gap_on(area: &mut [u8], n: usize, depth: u32, t: usize, f: Figures, i: usize) -> bool
-    requires { ⌜ (i < 16) × (57344 ≤ length (now area)) × (symbolAt (now area) i t ≡ 0) × (f .gap1 + f .gap2 < 65536) × Octets (now area) × Plain (now area) i × (gapsIn (recordAt (now area) i) ≡ true) ⌝ }
+    requires { ⌜ (i < 16) × (areaSize ≤ length (now area)) × (symbolAt (now area) i t ≡ 0) × (f .gap1 + f .gap2 < 65536) × Octets (now area) × Plain (now area) i × (gapsIn (recordAt (now area) i) ≡ true) ⌝ }
     ensures { λ r. ⌜ Taken f depth n t i (now (area .entry)) (now (area .exit)) r ⌝ }
 {
     let count = area::read_word(area, i, 2);
@@ -109,7 +110,7 @@ fn gap_on(area: &mut [u8], n: usize, depth: u32, t: usize, f: Figures, i: usize)
 
 // The turn of station i, which is quiet and in backoff.
 fn back_on(area: &mut [u8], n: usize, depth: u32, t: usize, f: Figures, i: usize) -> bool
-    requires { ⌜ (i < 16) × (57344 ≤ length (now area)) × (symbolAt (now area) i t ≡ 0) × Octets (now area) × Plain (now area) i × (backsIn (recordAt (now area) i) ≡ true) ⌝ }
+    requires { ⌜ (i < 16) × (areaSize ≤ length (now area)) × (symbolAt (now area) i t ≡ 0) × Octets (now area) × Plain (now area) i × (backsIn (recordAt (now area) i) ≡ true) ⌝ }
     ensures { λ r. ⌜ Taken f depth n t i (now (area .entry)) (now (area .exit)) r ⌝ }
 {
     let left = area::read_word(area, i, 4);
@@ -122,7 +123,7 @@ fn back_on(area: &mut [u8], n: usize, depth: u32, t: usize, f: Figures, i: usize
 
 // Takes the turn of station i, which nothing reaches, where its gap or its backoff goes on; says whether it did.
 pub fn waits(area: &mut [u8], n: usize, depth: u32, t: usize, f: Figures, i: usize) -> bool
-    requires { ⌜ (i < 16) × (57344 ≤ length (now area)) × (symbolAt (now area) i t ≡ 0) × (f .gap1 + f .gap2 < 65536) ⌝ }
+    requires { ⌜ (i < 16) × (areaSize ≤ length (now area)) × (symbolAt (now area) i t ≡ 0) × (f .gap1 + f .gap2 < 65536) ⌝ }
     ensures { λ r. ⌜ Taken f depth n t i (now (area .entry)) (now (area .exit)) r ⌝ }
 {
     if is_plain(area, i) {
@@ -139,7 +140,7 @@ pub fn waits(area: &mut [u8], n: usize, depth: u32, t: usize, f: Figures, i: usi
 // Takes the turn of station i where it hears a symbol, its reception goes on, and nothing happens; says whether it
 // did.
 pub fn hearing(area: &mut [u8], n: usize, depth: u32, t: usize, f: Figures, i: usize) -> bool
-    requires { ⌜ (i < 16) × (n ≤ 16) × (t < 4294967296) × (57344 ≤ length (now area)) × Able f (now area) i ⌝ }
+    requires { ⌜ (i < 16) × (n ≤ 16) × (t < 4294967296) × (areaSize ≤ length (now area)) × Able f (now area) i ⌝ }
     ensures { λ r. ⌜ Taken f depth n t i (now (area .entry)) (now (area .exit)) r ⌝ }
 {
     if is_plain(area, i) {

@@ -11,10 +11,11 @@ ghost use Rattle.area.specs.Area.{recordAt, symbolAt};
 ghost use Rattle.pair.specs.BitTime.{withStored};
 ghost use Rattle.pair.specs.Ready.{Able};
 ghost use Rattle.quick.specs.Quick.{Plain, Taken, countedDown, spoiledOn, collectedOn, rowOn, soughtOn, receivedOn};
+ghost use Rattle.area.specs.Offsets.{areaSize};
 
 // A step of backoff, where c is its code.
 pub fn count_down(area: &mut [u8], i: usize, c: u32)
-    requires { ⌜ (i < 16) × (57344 ≤ length (now area)) × (c ≡ 2 → 1 ≤ getD (recordAt (now area) i) 4 0) ⌝ }
+    requires { ⌜ (i < 16) × (areaSize ≤ length (now area)) × (c ≡ 2 → 1 ≤ getD (recordAt (now area) i) 4 0) ⌝ }
     ensures { λ r. ⌜ now (area .exit) ≡ countedDown i c (getD (recordAt (now (area .entry)) i) 4 0) (now (area .entry)) ⌝ }
 {
     if c == 2 {
@@ -26,7 +27,7 @@ pub fn count_down(area: &mut [u8], i: usize, c: u32)
 // Collected bit k is kept where the buffer has a place for it. The cap changes nothing: by it k is read as one word, though its low octet is
 // also used alone.
 fn keep_one(area: &mut [u8], i: usize, k: u32, one: bool)
-    requires { ⌜ (i < 16) × (57344 ≤ length (now area)) ⌝ }
+    requires { ⌜ (i < 16) × (areaSize ≤ length (now area)) ⌝ }
     ensures { λ r. ⌜ now (area .exit) ≡ withStored i (storedBit k one) (now (area .entry)) ⌝ }
 {
     let m = crate::capped(k as usize, area.len());
@@ -37,7 +38,7 @@ fn keep_one(area: &mut [u8], i: usize, k: u32, one: bool)
 
 // A symbol with this code spoils the reception, unless it is a clean bit.
 fn spoil(area: &mut [u8], i: usize, code: u8)
-    requires { ⌜ (i < 16) × (57344 ≤ length (now area)) ⌝ }
+    requires { ⌜ (i < 16) × (areaSize ≤ length (now area)) ⌝ }
     ensures { λ r. ⌜ now (area .exit) ≡ spoiledOn i code (now (area .entry)) ⌝ }
 {
     if code <= 2 {
@@ -48,7 +49,7 @@ fn spoil(area: &mut [u8], i: usize, code: u8)
 
 // A symbol after the bits collected so far.
 fn collect_on(area: &mut [u8], i: usize, code: u8)
-    requires { ⌜ (i < 16) × (57344 ≤ length (now area)) × (getD (recordAt (now area) i) 6 0 < 4294967295) ⌝ }
+    requires { ⌜ (i < 16) × (areaSize ≤ length (now area)) × (getD (recordAt (now area) i) 6 0 < 4294967295) ⌝ }
     ensures { λ r. ⌜ now (area .exit) ≡ collectedOn i (getD (recordAt (now (area .entry)) i) 6 0) code (now (area .entry)) ⌝ }
 {
     let k = area::read_word(area, i, 6);
@@ -59,7 +60,7 @@ fn collect_on(area: &mut [u8], i: usize, code: u8)
 
 // A clean bit after the row of them.
 fn seek_bit(area: &mut [u8], i: usize, one: bool)
-    requires { ⌜ (i < 16) × (57344 ≤ length (now area)) × (getD (recordAt (now area) i) 6 0 < 65536) ⌝ }
+    requires { ⌜ (i < 16) × (areaSize ≤ length (now area)) × (getD (recordAt (now area) i) 6 0 < 65536) ⌝ }
     ensures { λ r. ⌜ now (area .exit) ≡ rowOn i (nextRow (getD (recordAt (now (area .entry)) i) 6 0) one) (now (area .entry)) ⌝ }
 {
     let next = receiver::next_row(area::read_word(area, i, 6), one);
@@ -73,7 +74,7 @@ fn seek_bit(area: &mut [u8], i: usize, one: bool)
 
 // A symbol before the delimiter.
 fn seek_on(area: &mut [u8], i: usize, code: u8)
-    requires { ⌜ (i < 16) × (57344 ≤ length (now area)) × (getD (recordAt (now area) i) 6 0 < 65536) ⌝ }
+    requires { ⌜ (i < 16) × (areaSize ≤ length (now area)) × (getD (recordAt (now area) i) 6 0 < 65536) ⌝ }
     ensures { λ r. ⌜ now (area .exit) ≡ soughtOn i (getD (recordAt (now (area .entry)) i) 6 0) code (now (area .entry)) ⌝ }
 {
     if code <= 2 {
@@ -86,7 +87,7 @@ fn seek_on(area: &mut [u8], i: usize, code: u8)
 
 // A symbol of a reception, where r is the receiver's code.
 fn receive_on(area: &mut [u8], i: usize, r: u32, code: u8)
-    requires { ⌜ (i < 16) × (57344 ≤ length (now area)) × (getD (recordAt (now area) i) 6 0 < 4294967295) × (r ≡ 2 → getD (recordAt (now area) i) 6 0 < 65536) ⌝ }
+    requires { ⌜ (i < 16) × (areaSize ≤ length (now area)) × (getD (recordAt (now area) i) 6 0 < 4294967295) × (r ≡ 2 → getD (recordAt (now area) i) 6 0 < 65536) ⌝ }
     ensures { λ r′. ⌜ now (area .exit) ≡ receivedOn i r (getD (recordAt (now (area .entry)) i) 6 0) code (now (area .entry)) ⌝ }
 {
     if r == 2 {
@@ -106,7 +107,7 @@ fn quick_heard(
     i: usize,
     code: u8,
 ) -> bool
-    requires { ⌜ (i < 16) × (n ≤ 16) × (t < 4294967296) × (57344 ≤ length (now area)) × Able f (now area) i × Plain (now area) i ⌝ }
+    requires { ⌜ (i < 16) × (n ≤ 16) × (t < 4294967296) × (areaSize ≤ length (now area)) × Able f (now area) i × Plain (now area) i ⌝ }
     requires { ⌜ (code ≡ symbolAt (now area) i t) × (code ≡ 0 → ⊥) ⌝ }
     ensures { λ r. ⌜ Taken f depth n t i (now (area .entry)) (now (area .exit)) r ⌝ }
 {
@@ -125,7 +126,7 @@ fn quick_heard(
 
 // Takes the turn of station i where it hears a symbol, its reception goes on, and nothing happens; says whether it did.
 pub fn turn(area: &mut [u8], n: usize, depth: u32, t: usize, f: Figures, i: usize) -> bool
-    requires { ⌜ (i < 16) × (n ≤ 16) × (t < 4294967296) × (57344 ≤ length (now area)) × Able f (now area) i × Plain (now area) i ⌝ }
+    requires { ⌜ (i < 16) × (n ≤ 16) × (t < 4294967296) × (areaSize ≤ length (now area)) × Able f (now area) i × Plain (now area) i ⌝ }
     ensures { λ r. ⌜ Taken f depth n t i (now (area .entry)) (now (area .exit)) r ⌝ }
 {
     let code = delay::read_symbol(area, i, t);

@@ -11,11 +11,12 @@ ghost use lib.ListN.{length, getD};
 ghost use Rattle.octets.specs.NumberLaws.{Octets};
 ghost use Rattle.area.specs.Area.{recordAt};
 ghost use Rattle.quick.specs.Quick.{Plain, hearsIn, gapsIn, backsIn, calmIn};
+ghost use Rattle.area.specs.Offsets.{areaSize};
 
 // Whether station i is busy and in a reception, with nothing of its own on the pair. Here and in the tests after it
 // two words are tested by one sum, so that each is read as one word; and it is said that the area holds octets.
 pub fn hears(area: &[u8], i: usize) -> bool
-    requires { ⌜ (i < 16) × (57344 ≤ length (now area)) × Plain (now area) i ⌝ }
+    requires { ⌜ (i < 16) × (areaSize ≤ length (now area)) × Plain (now area) i ⌝ }
     ensures value { λ r. ⌜ r ≡ hearsIn (recordAt (now (area .entry)) i) ⌝ }
     ensures octets { λ r. ⌜ Octets (now (area .entry)) ⌝ }
 {
@@ -27,7 +28,7 @@ pub fn hears(area: &[u8], i: usize) -> bool
 
 // Whether station i is in a gap, and receives nothing.
 pub fn gaps(area: &[u8], i: usize) -> bool
-    requires { ⌜ (i < 16) × (57344 ≤ length (now area)) × Plain (now area) i ⌝ }
+    requires { ⌜ (i < 16) × (areaSize ≤ length (now area)) × Plain (now area) i ⌝ }
     ensures value { λ r. ⌜ r ≡ gapsIn (recordAt (now (area .entry)) i) ⌝ }
     ensures octets { λ r. ⌜ Octets (now (area .entry)) ⌝ }
 {
@@ -39,7 +40,7 @@ pub fn gaps(area: &[u8], i: usize) -> bool
 
 // Whether station i is quiet and in backoff, and receives nothing.
 pub fn backs(area: &[u8], i: usize) -> bool
-    requires { ⌜ (i < 16) × (57344 ≤ length (now area)) × Plain (now area) i ⌝ }
+    requires { ⌜ (i < 16) × (areaSize ≤ length (now area)) × Plain (now area) i ⌝ }
     ensures value { λ r. ⌜ r ≡ backsIn (recordAt (now (area .entry)) i) ⌝ }
     ensures octets { λ r. ⌜ Octets (now (area .entry)) ⌝ }
 {
@@ -52,7 +53,7 @@ pub fn backs(area: &[u8], i: usize) -> bool
 
 // Whether the transmitter of station i, with this code, goes on as it is, but for a step of backoff.
 pub fn calm(area: &[u8], i: usize, c: u32) -> bool
-    requires { ⌜ (i < 16) × (57344 ≤ length (now area)) × (c ≡ getD (recordAt (now area) i) 3 0) ⌝ }
+    requires { ⌜ (i < 16) × (areaSize ≤ length (now area)) × (c ≡ getD (recordAt (now area) i) 3 0) ⌝ }
     ensures { λ r. ⌜ r ≡ calmIn (recordAt (now (area .entry)) i) ⌝ }
 {
     if c == 0 {

@@ -19,11 +19,12 @@ use Rattle.valid.specs.Valid.{areaRefusal}
 use Rattle.pair.specs.Range.{ReceiverIn}
 use Rattle.ready.specs.Passes.{passes-ready}
 use Rattle.reading.specs.Read.{isReadable, frameRead}
+use Rattle.area.specs.Offsets.{areaSize}
 
 pub copied-is : (a out x b : List ℕ) (i n : ℕ) → x ≡ sets out 0 (take (n - 0) b) → b ≡ bufferAt a i → x ≡ sets out 0 (take n (bufferAt a i))
 copied-is a out x b i n p q = let z : n - 0 ≡ n = omega arith in p ∙ rw (z, q)
 
-pub buffer-room : (a b : List ℕ) (i n : ℕ) → b ≡ bufferAt a i → i < 16 → 57344 ≤ length a → n ≤ 1518 → n ≤ length b
+pub buffer-room : (a b : List ℕ) (i n : ℕ) → b ≡ bufferAt a i → i < 16 → areaSize ≤ length a → n ≤ 1518 → n ≤ length b
 unfolding bufferAt
 buffer-room a b i n p h g l = let e : length b ≡ 1518 = ap length p ∙ length-part a (32768 + 1536 * i) 1518 (omega arith) in omega arith
 

@@ -33,6 +33,7 @@ use Rattle.medium.specs.Medium.{sendTo, isSilence, pushed}
 use Rattle.pair.specs.BitTime.{withStored, isTransmit, isReceive, happened, withCounted, placed, settled}
 use Rattle.pair.specs.InPlace.{Kept, Spread, Foreign, settle-keeps, stored-keeps, counted-keeps, length-placed, length-settled, length-counted, length-stored, ahead-all, Ahead}
 use Rattle.medium.specs.MediumLaws.{push-keeps, length-sends}
+use Rattle.area.specs.Offsets.{areaSize}
 
 -- ---- counters stay sixteen words
 
@@ -112,7 +113,7 @@ abbrev pub storedIn : List ℕ → Stored → List ℕ
 storedIn b NoStore = b
 storedIn b (Store k v) = set b (k / 8) (octetWith (getD b (k / 8) 0) (k % 8) v)
 
-module _ (t i : ℕ) (o : Stepped) (x : List ℕ) (hi : i < 16) (room : 57344 ≤ length x) (kept : Kept (o .stored)) where
+module _ (t i : ℕ) (o : Stepped) (x : List ℕ) (hi : i < 16) (room : areaSize ≤ length x) (kept : Kept (o .stored)) where
   x₁ : List ℕ
   x₁ = withStation x i (o .station)
 
@@ -195,24 +196,24 @@ module _ (n : ℕ) (few : n ≤ 16) where
   codes-by : (x y : List ℕ) → ((j u : ℕ) → j < n → Keeps (place j u) x y) → Codes n y → Codes n x
   codes-by x y k c j u h = rw (symbol-by x y j u (k j u h)) (c j u h)
 
-  codes-arrival : (x : List ℕ) (i v : ℕ) (h : Heard) → i < 16 → 57344 ≤ length x → Codes n x → Codes n (withArrival x i v h)
+  codes-arrival : (x : List ℕ) (i v : ℕ) (h : Heard) → i < 16 → areaSize ≤ length x → Codes n x → Codes n (withArrival x i v h)
   codes-arrival x i v h hi room c j u hj = symbol-same x room i v j u h 4 hi (omega arith) (code-small h) (c j u hj)
 
-  codes-send : (t i : ℕ) (s : Symbol) (j : ℕ) (x : List ℕ) → j < 16 → 57344 ≤ length x → Codes n x → Codes n (sendTo t i s j x)
+  codes-send : (t i : ℕ) (s : Symbol) (j : ℕ) (x : List ℕ) → j < 16 → areaSize ≤ length x → Codes n x → Codes n (sendTo t i s j x)
   unfolding sendTo
   codes-send t i s j x hj room c = by-test (eqb j i) (λ e. rw e c) (λ e. rw e (codes-arrival x j _ _ hj room c))
 
-  codes-sends : (t i : ℕ) (s : Symbol) (k : ℕ) (x : List ℕ) → k ≤ 16 → 57344 ≤ length x → Codes n x → Codes n (turns (sendTo t i s) k x)
+  codes-sends : (t i : ℕ) (s : Symbol) (k : ℕ) (x : List ℕ) → k ≤ 16 → areaSize ≤ length x → Codes n x → Codes n (turns (sendTo t i s) k x)
   unfolding turns
   codes-sends t i s zero x hk room c = c
   codes-sends t i s (suc k) x hk room c =
       codes-send t i s k (turns (sendTo t i s) k x) hk (omega (arith, length-sends t i s k x)) (codes-sends t i s k x (omega arith) room c)
 
-  codes-pushed : (t i : ℕ) (s : Symbol) (x : List ℕ) → 57344 ≤ length x → Codes n x → Codes n (pushed n t i s x)
+  codes-pushed : (t i : ℕ) (s : Symbol) (x : List ℕ) → areaSize ≤ length x → Codes n x → Codes n (pushed n t i s x)
   unfolding pushed
   codes-pushed t i s x room c = by-test (isSilence s) (λ e. rw e c) (λ e. rw e (codes-sends t i s n x few room c))
 
-  codes-placed : (t i : ℕ) (o : Stepped) (x : List ℕ) → i < 16 → 57344 ≤ length x → Kept (o .stored) → Codes n x → Codes n (placed t i o x)
+  codes-placed : (t i : ℕ) (o : Stepped) (x : List ℕ) → i < 16 → areaSize ≤ length x → Kept (o .stored) → Codes n x → Codes n (placed t i o x)
   unfolding placed
   codes-placed t i o x hi room kept c =
       let y₁ = withStation x i (o .station) in
@@ -223,21 +224,21 @@ module _ (n : ℕ) (few : n ≤ 16) where
       (codes-by y₂ y₁ (λ j u h. counted-keeps (place j u) i o y₁ (λ p q. omega arith))
       (codes-by y₁ x (λ j u h. station-keeps (place j u) x i (o .station) (λ p q. omega arith)) c)))
 
-  codes-settled : (t i : ℕ) (r : Act) (x : List ℕ) → i < 16 → 57344 ≤ length x → Kept (r .outcome .stored) → Codes n x → Codes n (settled n t i r x)
+  codes-settled : (t i : ℕ) (r : Act) (x : List ℕ) → i < 16 → areaSize ≤ length x → Kept (r .outcome .stored) → Codes n x → Codes n (settled n t i r x)
   unfolding settled
   codes-settled t i r x hi room kept c =
       codes-pushed t i (r .symbol) (placed t i (r .outcome) x) (omega (arith, length-placed t i (r .outcome) x)) (codes-placed t i (r .outcome) x hi room kept c)
 
 -- ---- the turns of all stations
 
-module _ (n t : ℕ) (r : ℕ → Act) (a : List ℕ) (sp : Spread n a) (kept : (i : ℕ) → i < n → Kept (r i .outcome .stored)) (room : 57344 ≤ length a) where
+module _ (n t : ℕ) (r : ℕ → Act) (a : List ℕ) (sp : Spread n a) (kept : (i : ℕ) → i < n → Kept (r i .outcome .stored)) (room : areaSize ≤ length a) where
   after : ℕ → List ℕ
   after k = turns (λ i x. settled n t i (r i) x) k a
 
   pub length-after : (k : ℕ) → length (turns (λ i x. settled n t i (r i) x) k a) ≡ length a
   length-after k = length-turns (λ i x. settled n t i (r i) x) k a (λ i x. length-settled n t i (r i) x)
 
-  long : (k : ℕ) → 57344 ≤ length (after k)
+  long : (k : ℕ) → areaSize ≤ length (after k)
   unfolding after
   long k = omega (arith, length-after k)
 

@@ -36,6 +36,8 @@ use Rattle.area.specs.AreaLaws.{symbol-turn}
 use Rattle.valid.specs.AreaCheckLaws.{passes-right}
 use Rattle.pair.specs.InPlace.{Spread}
 use Rattle.pair.specs.Ready.{Readiness, Ready}
+use Rattle.layout.specs.Limits.{lastClock}
+use Rattle.area.specs.Offsets.{areaSize}
 
 -- a test that must fail, and what is left then
 fails : (b r : Bool) → pick b true r ≡ false → (b ≡ false) × (r ≡ false)
@@ -250,7 +252,7 @@ pub record Passing (a : List ℕ) : Type 0 where
 record Right (a : List ℕ) : Type 0 where
   layout : refusalOf (layoutAt a) ≡ 0
   depth : outside (depthAt a) 1 16 ≡ false
-  clock : ltb 16777216 (clockAt a) ≡ false
+  clock : ltb lastClock (clockAt a) ≡ false
   stations : some (stationWrong a) (countAt a) ≡ false
 
 right : (a : List ℕ) → areaWrong a ≡ false → Right a
@@ -258,10 +260,10 @@ unfolding areaWrong
 right a = go (eqb (refusalOf (layoutAt a)) 0) refl
   where
     go : (s : Bool) → eqb (refusalOf (layoutAt a)) 0 ≡ s
-        → pick s (pick (outside (depthAt a) 1 16) true (pick (ltb 16777216 (clockAt a)) true (some (stationWrong a) (countAt a)))) true ≡ false → Right a
+        → pick s (pick (outside (depthAt a) 1 16) true (pick (ltb lastClock (clockAt a)) true (some (stationWrong a) (countAt a)))) true ≡ false → Right a
     go true p h =
         let u = fails (outside (depthAt a) 1 16) _ h in
-        let v = fails (ltb 16777216 (clockAt a)) _ (u .1) in
+        let v = fails (ltb lastClock (clockAt a)) _ (u .1) in
         record { layout = eqb-true (refusalOf (layoutAt a)) 0 p; depth = u .0; clock = v .0; stations = v .1 }
     go false p h = absurd (true≢false h)
 
@@ -294,7 +296,7 @@ passes-ready a o h =
         figures = layout-figures a (r .layout);
         spread = layout-spread a (r .layout);
         depth = within (depthAt a) 1 16 (r .depth);
-        clock = ltb-false 16777216 (clockAt a) (r .clock);
+        clock = ltb-false lastClock (clockAt a) (r .clock);
         fine = λ i hi. record-passes (figuresAt a) (depthAt a) (clockAt a) (recordAt a i) (addressAt a i) (one i hi .0) (words-small 14 a (2048 + 64 * i) o 9);
         codes = λ i u hi. rw (symbol-turn a i u (u % 256) (omega arith)) (ltb-false 4 (symbolAt a i (u % 256)) (none-below (symbolWrong a i) 256 (u % 256) (one i hi .1) (omega arith)));
         counts = λ i hi. small-by (countersAt a i) (words-small 16 a (1024 + 64 * i) o);
@@ -309,9 +311,9 @@ ready-passes a v =
     let each : (i : ℕ) → i < countAt a → stationWrong a i ≡ false =
     λ i hi. rw (v .records i hi) (below-none (symbolWrong a i) 256 (λ u hu. le-ltb 4 (symbolAt a i u) (r .codes i u hi))) in
     rw (
-      le-ltb (length a) 57344 (r .long),
+      le-ltb (length a) areaSize (r .long),
       eq-eqb (refusalOf (layoutAt a)) 0 (r .sound),
       outside-not (depthAt a) 1 16 (r .depth .0) (r .depth .1),
-      le-ltb 16777216 (clockAt a) (r .clock),
+      le-ltb lastClock (clockAt a) (r .clock),
       below-none (stationWrong a) (countAt a) each,
     )

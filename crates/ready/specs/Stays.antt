@@ -30,10 +30,12 @@ use Rattle.pair.specs.InPlace.{Kept, Spread, Ahead}
 use Rattle.pair.specs.Ready.{Readiness, Ready, kept}
 use Rattle.ready.specs.After.{length-after, ahead, codes-all, record-all, buffer-all, storedIn, counters-all, counted-words}
 use Rattle.ready.specs.Passes.{Passing, record-right}
+use Rattle.layout.specs.Limits.{lastClock}
+use Rattle.area.specs.Offsets.{areaSize}
 
 -- ---- the layout goes by its part
 
-pub layout-by : (l m : List ℕ) → 57344 ≤ length l → 57344 ≤ length m → Keeps layout l m → layoutAt l ≡ layoutAt m
+pub layout-by : (l m : List ℕ) → areaSize ≤ length l → areaSize ≤ length m → Keeps layout l m → layoutAt l ≡ layoutAt m
 unfolding layoutAt
 layout-by l m p q k =
     let n = count-by l m k in
@@ -72,7 +74,7 @@ module _ (a : List ℕ) (r : Readiness a) where
   unfolding turned
   turned-length = length-after (countAt a) (clockAt a) (actAt a) a (r .spread) (bits a) (r .long) (countAt a)
 
-  long : 57344 ≤ length turned
+  long : areaSize ≤ length turned
   long = omega (arith, turned-length, r .long)
 
   turned-ahead : Ahead (clockAt a) (countAt a) a turned
@@ -153,12 +155,12 @@ module _ (a : List ℕ) (r : Readiness a) where
   step-counts i h =
       subst Small (sym (step-counters i h)) (counted-words (countersAt a i) (actAt a i .outcome) (length-words 16 a (1024 + 64 * i), r .counts i h) .1)
 
-  pub step-ready : clockAt a < 16777216 → Readiness (stepArea a)
+  pub step-ready : clockAt a < lastClock → Readiness (stepArea a)
   step-ready early =
       let n = count-by (stepArea a) a step-layout in
       let f = figures-by (stepArea a) a step-layout in
       let d = depth-by (stepArea a) a step-depth in
-      let big : 57344 ≤ length (stepArea a) = omega (arith, step-length, r .long) in
+      let big : areaSize ≤ length (stepArea a) = omega (arith, step-length, r .long) in
       let t : clockAt (stepArea a) ≡ suc (clockAt a) = step-clock ∙ add-one (clockAt a) in
       record {
         long = big;
@@ -173,7 +175,7 @@ module _ (a : List ℕ) (r : Readiness a) where
       }
 
 -- "none of them is refused under 1 or 2": the step
-pub step-passing : (a : List ℕ) → Passing a → clockAt a < 16777216 → Passing (stepArea a)
+pub step-passing : (a : List ℕ) → Passing a → clockAt a < lastClock → Passing (stepArea a)
 step-passing a v early =
     let r = v .ready in
     let n = count-by (stepArea a) a (step-layout a r) in

@@ -12,6 +12,7 @@ use Rattle.pieces.specs.Pieces.{Moved, moved, move, firstPiece}
 use Rattle.told.specs.Whole.{pieces, first-pieces}
 use Rattle.told.specs.Along.{Along, end-place}
 use Rattle.whole.specs.PartLaws.{part-size, begun-along, along-more, along-less}
+use Rattle.area.specs.Offsets.{areaSize}
 
 -- 16,777,282 pieces of 2,048 octets
 abbrev pub most : ℕ
@@ -19,7 +20,7 @@ most = 34359873536
 
 -- ---- the first piece, of k octets in buffer x, ends at v
 
-module _ (l a c x : List ℕ) (k v : ℕ) (h : Progress) (z : k ≤ length x) (q : length a ≡ 57344) (e : moved (take k x) h c ≡ firstPiece l a) where
+module _ (l a c x : List ℕ) (k v : ℕ) (h : Progress) (z : k ≤ length x) (q : length a ≡ areaSize) (e : moved (take k x) h c ≡ firstPiece l a) where
   pub first-end : v ≡ 0 + length (take (k - 0) x) → Along l v h c
   first-end t = let m : v ≡ k = omega (arith, part-size x k z) in subst (λ (i : ℕ). Along l i h c) (sym m) (begun-along l a c x k h z q e)
 

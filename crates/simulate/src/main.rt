@@ -13,6 +13,7 @@ ghost use Rattle.pieces.specs.Printed.{printed};
 ghost use Rattle.told.specs.Whole.{pieces};
 ghost use Rattle.told.specs.Along.{Along};
 ghost use Rattle.simulate.specs.Written.{most};
+ghost use Rattle.area.specs.Offsets.{areaSize};
 
 // How many octets of the text were handed to the write calls, and whether every call answered that it wrote them.
 struct Written {
@@ -56,7 +57,7 @@ fn write_rest(input: &[u8], area: &mut [u8], at: usize, g: Progress) -> Written
 
 // Writes all that is printed for the input: where every write call answered true, what was handed to them is the whole text.
 fn write_run(input: &[u8], area: &mut [u8]) -> Written
-    requires { ⌜ length (now area) ≡ 57344 ⌝ }
+    requires { ⌜ length (now area) ≡ areaSize ⌝ }
     ensures { λ r. ⌜ (r .done ≡ true → r .at ≡ length (printed (now (input .entry)))) ⌝ }
 {
     let mut buf = [0u8; 2048];
@@ -73,7 +74,7 @@ fn write_run(input: &[u8], area: &mut [u8]) -> Written
 // One octet more than an input may have is read: a longer one is refused without keeping it.
 fn main() {
     let mut input = [0u8; 16385];
-    let mut area = [0u8; 57344];
+    let mut area = [0u8; area::AREA];
     let n = io::read_full(STDIN_FILENO, &mut input);
     write_run(&input[0..n], &mut area);
 }

@@ -23,6 +23,7 @@ use Rattle.packet.specs.declared.Heard.the-variants.{Nothing}
 use Rattle.area.specs.AreaLaws.{symbol-zero}
 use Rattle.area.specs.Area.{clockAt, depthAt, drawAt, figuresAt, countAt, positionAt, addressAt, recordAt, countersAt, symbolAt, arrivalAt, heardOf}
 use Rattle.start.specs.Fresh.{withFigures, withTap, tapIn, withTaps, withDepth, withDraw, withRow, withDraws, withPlan, fresh}
+use Rattle.area.specs.Offsets.{areaSize}
 
 -- ---- the code
 
@@ -81,7 +82,7 @@ module _ (a b : List ℕ) where
   unfolding withPlan
   plan-written y d n ds x₁ x₂ x₃ p q e f en = p ∙ rw (q, e, f, en)
 
-  pub fresh-written : (y : Layout) (d : ℕ) (ds : List (List ℕ)) (x : List ℕ) → b ≡ withPlan y d ds x → x ≡ blanked 57344 a → b ≡ fresh y d ds a
+  pub fresh-written : (y : Layout) (d : ℕ) (ds : List (List ℕ)) (x : List ℕ) → b ≡ withPlan y d ds x → x ≡ blanked areaSize a → b ≡ fresh y d ds a
   unfolding fresh
   fresh-written y d ds x p q = p ∙ rw q
 
@@ -205,9 +206,9 @@ words-zero (suc n) l at h =
     ap₂ (λ (ws : List ℕ) (w : ℕ). ws ++ (w ∷ [])) (words-zero n l at (λ k p q. h k p (omega arith)))
     (get-zero 4 l (at + 4 * n) (λ k p q. h k (omega arith) (omega arith)) ∙ sym (get-zero 4 [] (at + 4 * n) (λ k p q. refl)))
 
-module _ (y : Layout) (d : ℕ) (ds : List (List ℕ)) (a : List ℕ) (big : 57344 ≤ length a) (few : y .count ≤ 16) (shallow : d ≤ 16) (formed : Formed (y .stations) (y .count)) where
+module _ (y : Layout) (d : ℕ) (ds : List (List ℕ)) (a : List ℕ) (big : areaSize ≤ length a) (few : y .count ≤ 16) (shallow : d ≤ 16) (formed : Formed (y .stations) (y .count)) where
   z₀ : List ℕ
-  z₀ = blanked 57344 a
+  z₀ = blanked areaSize a
 
   z₁ : List ℕ
   z₁ = withFigures (y .figures) (y .count) z₀
@@ -227,7 +228,7 @@ module _ (y : Layout) (d : ℕ) (ds : List (List ℕ)) (a : List ℕ) (big : 573
 
   long₀ : length z₀ ≡ length a
   unfolding z₀
-  long₀ = length-blanked 57344 a
+  long₀ = length-blanked areaSize a
 
   long₁ : length z₁ ≡ length a
   unfolding z₁
@@ -254,9 +255,9 @@ module _ (y : Layout) (d : ℕ) (ds : List (List ℕ)) (a : List ℕ) (big : 573
       (same-trans b n z₂ z₁ z₀ (taps-leave b n (y .stations) (y .count) z₁ formed (λ u v. o (omega arith) (omega arith)))
       (figures-leave b n (y .figures) (y .count) z₀ (λ u v. o (omega arith) (omega arith)))))
 
-  zero-at : (k : ℕ) → k < 57344 → Apart k 1 4 828 → getD z k 0 ≡ 0
+  zero-at : (k : ℕ) → k < areaSize → Apart k 1 4 828 → getD z k 0 ≡ 0
   unfolding Same z₀
-  zero-at k h o = blank k 1 o k (omega arith) (omega arith) ∙ blanked-same 57344 k a h big
+  zero-at k h o = blank k 1 o k (omega arith) (omega arith) ∙ blanked-same areaSize k a h big
 
   pub fresh-clock : clockAt (fresh y d ds a) ≡ 0
   unfolding clockAt

@@ -12,24 +12,25 @@ use Rattle.layout.specs.Check.{refusalOf}
 use Rattle.layout.specs.CheckLaws.{sound}
 use Rattle.start.specs.Fresh.{fresh}
 use Rattle.start.specs.Start.{started}
+use Rattle.area.specs.Offsets.{areaSize}
 
 module _ (a : List ℕ) (y : Layout) (d n : ℕ) (ds : List (List ℕ)) where
-  pub start-short : length a < 57344 → outcome (refused 1) a ≡ started a y d ds
+  pub start-short : length a < areaSize → outcome (refused 1) a ≡ started a y d ds
   unfolding started
-  start-short h = rw (lt-ltb (length a) 57344 h)
+  start-short h = rw (lt-ltb (length a) areaSize h)
 
-  pub start-layout : 57344 ≤ length a → n ≡ refusalOf y → (n ≡ 0 → ⊥) → outcome (refused n) a ≡ started a y d ds
+  pub start-layout : areaSize ≤ length a → n ≡ refusalOf y → (n ≡ 0 → ⊥) → outcome (refused n) a ≡ started a y d ds
   unfolding started
-  start-layout h p q = rw (le-ltb (length a) 57344 h, ← p, ne-eqb n 0 q)
+  start-layout h p q = rw (le-ltb (length a) areaSize h, ← p, ne-eqb n 0 q)
 
-  pub start-depth : (b : Bool) → 57344 ≤ length a → n ≡ refusalOf y → n ≡ 0 → b ≡ outside d 1 16 → b ≡ true → outcome (refused 9) a ≡ started a y d ds
+  pub start-depth : (b : Bool) → areaSize ≤ length a → n ≡ refusalOf y → n ≡ 0 → b ≡ outside d 1 16 → b ≡ true → outcome (refused 9) a ≡ started a y d ds
   unfolding started
-  start-depth b h p q e t = rw (le-ltb (length a) 57344 h, ← p, eq-eqb n 0 q, ← e, t)
+  start-depth b h p q e t = rw (le-ltb (length a) areaSize h, ← p, eq-eqb n 0 q, ← e, t)
 
-  pub start-made : (b : Bool) (x : List ℕ) → x ≡ fresh y d ds a → 57344 ≤ length a → n ≡ refusalOf y → n ≡ 0 → b ≡ outside d 1 16 → b ≡ false
+  pub start-made : (b : Bool) (x : List ℕ) → x ≡ fresh y d ds a → areaSize ≤ length a → n ≡ refusalOf y → n ≡ 0 → b ≡ outside d 1 16 → b ≡ false
       → outcome (accepted []) x ≡ started a y d ds
   unfolding started
-  start-made b x ex h p q e t = rw (le-ltb (length a) 57344 h, ← p, eq-eqb n 0 q, ← e, t, ex)
+  start-made b x ex h p q e t = rw (le-ltb (length a) areaSize h, ← p, eq-eqb n 0 q, ← e, t, ex)
 
 pub start-few : (y : Layout) (n : ℕ) → n ≡ refusalOf y → n ≡ 0 → y .count ≤ 16
 start-few y n p q = sound y (sym p ∙ q) .count .1

@@ -10,10 +10,11 @@ ghost use lib.ListN.{length};
 ghost use Rattle.octets.specs.Base.{doneAnswer, outcome};
 ghost use Rattle.start.specs.Fresh.{withFigures, withTap, withTaps, withDepth, withDraw, withRow, withDraws, withPlan, fresh};
 ghost use Rattle.start.specs.Start.{started};
+ghost use Rattle.area.specs.Offsets.{areaSize};
 
 // The figures and N.
 fn write_figures(area: &mut [u8], f: Figures, count: u32)
-    requires { ⌜ 57344 ≤ length (now area) ⌝ }
+    requires { ⌜ areaSize ≤ length (now area) ⌝ }
     ensures { λ r. ⌜ now (area .exit) ≡ withFigures f count (now (area .entry)) ⌝ }
 {
     let words = [f.slot, f.gap1, f.gap2, f.jam, f.limit, f.backoff, count];
@@ -21,7 +22,7 @@ fn write_figures(area: &mut [u8], f: Figures, count: u32)
 }
 
 fn write_tap(area: &mut [u8], i: usize, position: u32, address: [u8; 6])
-    requires { ⌜ (i < 16) × (57344 ≤ length (now area)) ⌝ }
+    requires { ⌜ (i < 16) × (areaSize ≤ length (now area)) ⌝ }
     ensures { λ r. ⌜ now (area .exit) ≡ withTap position address i (now (area .entry)) ⌝ }
 {
     words::put32(area, 64 + 16 * i, position);
@@ -30,7 +31,7 @@ fn write_tap(area: &mut [u8], i: usize, position: u32, address: [u8; 6])
 
 // The first n stations.
 fn write_taps(area: &mut [u8], taps: [Tap; 16], n: usize)
-    requires { ⌜ (n ≤ 16) × (57344 ≤ length (now area)) ⌝ }
+    requires { ⌜ (n ≤ 16) × (areaSize ≤ length (now area)) ⌝ }
     ensures { λ r. ⌜ now (area .exit) ≡ withTaps taps n (now (area .entry)) ⌝ }
 {
     let mut i: usize = 0;
@@ -43,14 +44,14 @@ fn write_taps(area: &mut [u8], taps: [Tap; 16], n: usize)
 }
 
 fn write_depth(area: &mut [u8], depth: u32)
-    requires { ⌜ 57344 ≤ length (now area) ⌝ }
+    requires { ⌜ areaSize ≤ length (now area) ⌝ }
     ensures { λ r. ⌜ now (area .exit) ≡ withDepth depth (now (area .entry)) ⌝ }
 {
     words::put32(area, 4, depth);
 }
 
 fn write_draw(area: &mut [u8], i: usize, k: usize, v: u16)
-    requires { ⌜ (i < 16) × (k < 16) × (57344 ≤ length (now area)) ⌝ }
+    requires { ⌜ (i < 16) × (k < 16) × (areaSize ≤ length (now area)) ⌝ }
     ensures { λ r. ⌜ now (area .exit) ≡ withDraw i k v (now (area .entry)) ⌝ }
 {
     words::put16(area, 320 + 32 * i + 2 * k, v);
@@ -58,7 +59,7 @@ fn write_draw(area: &mut [u8], i: usize, k: usize, v: u16)
 
 // The first draws of station i, as many as there are.
 fn write_row(area: &mut [u8], i: usize, depth: usize, row: [u16; 16])
-    requires { ⌜ (i < 16) × (depth ≤ 16) × (57344 ≤ length (now area)) ⌝ }
+    requires { ⌜ (i < 16) × (depth ≤ 16) × (areaSize ≤ length (now area)) ⌝ }
     ensures { λ r. ⌜ now (area .exit) ≡ withRow row i depth (now (area .entry)) ⌝ }
 {
     let mut k: usize = 0;
@@ -69,7 +70,7 @@ fn write_row(area: &mut [u8], i: usize, depth: usize, row: [u16; 16])
 }
 
 fn write_draws(area: &mut [u8], n: usize, depth: usize, draws: [[u16; 16]; 16])
-    requires { ⌜ (n ≤ 16) × (depth ≤ 16) × (57344 ≤ length (now area)) ⌝ }
+    requires { ⌜ (n ≤ 16) × (depth ≤ 16) × (areaSize ≤ length (now area)) ⌝ }
     ensures { λ r. ⌜ now (area .exit) ≡ withDraws draws n depth (now (area .entry)) ⌝ }
 {
     let mut i: usize = 0;
@@ -81,7 +82,7 @@ fn write_draws(area: &mut [u8], n: usize, depth: usize, draws: [[u16; 16]; 16])
 }
 
 fn write_plan(area: &mut [u8], y: Layout, depth: u32, draws: [[u16; 16]; 16])
-    requires { ⌜ (y .count ≤ 16) × (depth ≤ 16) × (57344 ≤ length (now area)) ⌝ }
+    requires { ⌜ (y .count ≤ 16) × (depth ≤ 16) × (areaSize ≤ length (now area)) ⌝ }
     ensures { λ r. ⌜ now (area .exit) ≡ withPlan y depth draws (now (area .entry)) ⌝ }
 {
     let figures = y.figures;
@@ -95,7 +96,7 @@ fn write_plan(area: &mut [u8], y: Layout, depth: u32, draws: [[u16; 16]; 16])
 
 // A fresh start on this layout, with D and the draws of each station.
 pub fn write_fresh(area: &mut [u8], y: Layout, depth: u32, draws: [[u16; 16]; 16])
-    requires { ⌜ (y .count ≤ 16) × (depth ≤ 16) × (57344 ≤ length (now area)) ⌝ }
+    requires { ⌜ (y .count ≤ 16) × (depth ≤ 16) × (areaSize ≤ length (now area)) ⌝ }
     ensures { λ r. ⌜ now (area .exit) ≡ fresh y depth draws (now (area .entry)) ⌝ }
 {
     copies::blank(area, area::AREA);

@@ -66,7 +66,7 @@ fn print_number(n: usize) {
 // One line: the case's name, the octets of its input and of what was printed, and whether that is what it should be.
 fn print_case(name: &[u8]) {
     let mut input = [0u8; 16385];
-    let mut area = [0u8; 57344];
+    let mut area = [0u8; area::AREA];
     let mut text = [0u8; 65536];
     let mut expected = [0u8; 65536];
     let n = read_case(name, b".in", &mut input);

@@ -27,6 +27,8 @@ use Rattle.answers.specs.Answers.{replied, valueOf}
 use Rattle.calls.specs.Calls.{codeOf, given, left}
 use Rattle.calls.specs.Numbers.{area-low}
 use Rattle.text_calls.specs.TextCalls.{progressWords, progressIn, progressPut, lent, handLent, begunLent, advancedLent, printLeft}
+use Rattle.layout.specs.Limits.{lastClock}
+use Rattle.area.specs.Offsets.{areaSize}
 
 -- ---- where a run stands
 
@@ -67,14 +69,14 @@ Small A = (numberOf A ≤ 16) × (valueOf A ≤ 2048)
 pub begun-small : (l a o : List ℕ) → Small (begun l a o .answer)
 unfolding begun
 begun-small l a o =
-    by-test (ltb (length a) 57344) (λ p. rw p (omega arith, omega arith))
-    (λ p. by-test (ltb (length o) 2048) (λ q. rw (p, q) (omega arith, omega arith)) (λ q. rw (p, q) (omega arith, first-room l (take 57344 a))))
+    by-test (ltb (length a) areaSize) (λ p. rw p (omega arith, omega arith))
+    (λ p. by-test (ltb (length o) 2048) (λ q. rw (p, q) (omega arith, omega arith)) (λ q. rw (p, q) (omega arith, first-room l (take areaSize a))))
 
 move-low : (l a : List ℕ) (room : ℕ) (g : Progress) → moveRefusal l a room g ≤ 16
 unfolding moveRefusal
 move-low l a room g =
     by-test (eqb (areaRefusal a) 0)
-    (λ p. by-test (ltb 16777216 (clockAt a + g .times)) (λ q. rw (p, q) (omega arith))
+    (λ p. by-test (ltb lastClock (clockAt a + g .times)) (λ q. rw (p, q) (omega arith))
     (λ q. by-test (ltb room 2048) (λ r. rw (p, q, r) (omega arith))
     (λ r. by-test (offerShort l g) (λ s. rw (p, q, r, s) (omega arith)) (λ s. rw (p, q, r, s) (omega arith)))))
     (λ p. rw p (area-low a))
@@ -89,7 +91,7 @@ on-small l a o g =
 pub advanced-small : (l a o : List ℕ) (g : Progress) → Small (advanced l a o g .answer)
 unfolding advanced
 advanced-small l a o g =
-    by-test (ltb (length a) 57344) (λ p. rw p (omega arith, omega arith)) (λ p. rw p (on-small l (take 57344 a) o g))
+    by-test (ltb (length a) areaSize) (λ p. rw p (omega arith, omega arith)) (λ p. rw p (on-small l (take areaSize a) o g))
 
 module _ (h : Handed) (b x : List ℕ) (y : Hand) (e : handing h b x ≡ y) where
   number-same : numberOf (pieceAnswer (h .piece)) ≡ numberOf (y .answer)
@@ -104,13 +106,13 @@ module _ (h : Handed) (b x : List ℕ) (y : Hand) (e : handing h b x ≡ y) wher
 -- ---- the first piece
 
 module _ (l a p o : List ℕ) where
-  pub begin-short : (r : ℕ) → length p < 16 → length a < 57344 → r ≡ replied 1 0 → lent r a p o ≡ begunLent l a p o
+  pub begin-short : (r : ℕ) → length p < 16 → length a < areaSize → r ≡ replied 1 0 → lent r a p o ≡ begunLent l a p o
   unfolding begunLent
-  begin-short r h k e = rw (lt-ltb (length p) 16 h, lt-ltb (length a) 57344 k, e)
+  begin-short r h k e = rw (lt-ltb (length p) 16 h, lt-ltb (length a) areaSize k, e)
 
-  pub begin-place : (r : ℕ) → length p < 16 → 57344 ≤ length a → r ≡ replied 15 0 → lent r a p o ≡ begunLent l a p o
+  pub begin-place : (r : ℕ) → length p < 16 → areaSize ≤ length a → r ≡ replied 15 0 → lent r a p o ≡ begunLent l a p o
   unfolding begunLent
-  begin-place r h k e = rw (lt-ltb (length p) 16 h, le-ltb (length a) 57344 k, e)
+  begin-place r h k e = rw (lt-ltb (length p) 16 h, le-ltb (length a) areaSize k, e)
 
   module _ (h : Handed) (b x : List ℕ) (e : handing h b x ≡ begun l a o) where
     pub begin-low : numberOf (pieceAnswer (h .piece)) ≤ 16
@@ -175,7 +177,7 @@ Fits room A = (numberOf A ≤ 16) × (valueOf A ≤ room)
 into-fits : (l a o : List ℕ) → Fits (length o) (printedInto l a o .answer)
 unfolding printedInto
 into-fits l a o =
-    by-test (ltb (length a) 57344) (λ p. rw p (omega arith, omega arith))
+    by-test (ltb (length a) areaSize) (λ p. rw p (omega arith, omega arith))
     (λ p. by-test (ltb (length o) (length (printed l))) (λ q. rw (p, q) (omega arith, omega arith))
     (λ q. rw (p, q) (omega arith, ltb-false (length o) (length (printed l)) q)))
 

@@ -18,6 +18,7 @@ use Rattle.answers.specs.Answers.{refusalBit, replied, valueOf}
 use Rattle.calls.specs.CallTheorems.{BothKept}
 use Rattle.text_calls.specs.TextCalls.{progressWords, progressIn, progressPut, Lent, handLent, begunLent, advancedLent, printFront, printLeft}
 use Rattle.text_calls.specs.TextCallLaws.{Small, begun-small, advanced-small}
+use Rattle.area.specs.Offsets.{areaSize}
 
 -- a call that was lent an area, a place and an output: where its reply has bit 31, all are as they were
 abbrev pub AllKept : (area progress out : List ℕ) → Lent → Type 0
@@ -38,7 +39,7 @@ hand-kept a p o y s k h =
 begun-same : (l a o : List ℕ) → Same a o (begun l a o)
 unfolding begun
 begun-same l a o =
-    by-test (ltb (length a) 57344) (λ p. rw p (λ h. (refl, refl)))
+    by-test (ltb (length a) areaSize) (λ p. rw p (λ h. (refl, refl)))
     (λ p. by-test (ltb (length o) 2048) (λ q. rw (p, q) (λ h. (refl, refl))) (λ q. rw (p, q) (λ h. absurd (h refl))))
 
 on-same : (l a o : List ℕ) (g : Progress) → Same a o (advancedOn l a o g)
@@ -48,9 +49,9 @@ on-same l a o g = by-test (eqb (moveRefusal l a (length o) g) 0) (λ p. rw p (λ
 advanced-same : (l a o : List ℕ) (g : Progress) → Same a o (advanced l a o g)
 unfolding advanced
 advanced-same l a o g =
-    by-test (ltb (length a) 57344) (λ p. rw p (λ h. (refl, refl)))
-    (λ p. rw p (λ h. let w = on-same l (take 57344 a) o g h in
-    (ap (λ (x : List ℕ). x ++ drop 57344 a) (w .0) ∙ take-append-drop 57344 a, w .1)))
+    by-test (ltb (length a) areaSize) (λ p. rw p (λ h. (refl, refl)))
+    (λ p. rw p (λ h. let w = on-same l (take areaSize a) o g h in
+    (ap (λ (x : List ℕ). x ++ drop areaSize a) (w .0) ∙ take-append-drop areaSize a, w .1)))
 
 pub begin-keeps : (l a p o : List ℕ) → AllKept a p o (begunLent l a p o)
 unfolding begunLent
@@ -67,7 +68,7 @@ advance-keeps l a p o =
 front-keeps : (l a x o : List ℕ) → length x ≤ 2147483647 → x ++ drop 2147483647 o ≡ o → BothKept a o (printFront o (printedInto l a x))
 unfolding printedInto replied
 front-keeps l a x o m e =
-    by-test (ltb (length a) 57344) (λ p. rw p (λ h. (refl, e)))
+    by-test (ltb (length a) areaSize) (λ p. rw p (λ h. (refl, e)))
     (λ p. by-test (ltb (length x) (length (printed l))) (λ q. rw (p, q) (λ h. (refl, e)))
     (λ q. rw (p, q) (λ h. let z = ltb-false (length x) (length (printed l)) q in absurd (omega arith))))
 

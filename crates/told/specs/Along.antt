@@ -17,6 +17,7 @@ use Rattle.pieces.specs.declared.Handed.{Handed}
 use Rattle.pieces.specs.Printed.{Course, course, before, inputCourse, printed}
 use Rattle.pieces.specs.Pieces.{Moved, moved, move, Hand, pieceAnswer, handing, given, onFront, advanced, noProgress, firstPiece, begun, remaining}
 use Rattle.told.specs.Whole.{Going, next, pieces, remaining-off, course-same, refused-course, started-first, refused-first, start-on, start-going, advance-on, begin-on}
+use Rattle.area.specs.Offsets.{areaSize}
 
 -- n octets of what is printed for l are handed out, and the run stands at g on area b
 pub record Along (l : List ℕ) (n : ℕ) (g : Progress) (b : List ℕ) : Type 0 where
@@ -48,7 +49,7 @@ pass l n m w h e =
 
 -- ---- the first piece
 
-first-onward : (l a : List ℕ) → length a ≡ 57344 → inputCourse l a ≡ shown l (firstPiece l a)
+first-onward : (l a : List ℕ) → length a ≡ areaSize → inputCourse l a ≡ shown l (firstPiece l a)
 first-onward l a h =
     by-eq (numberOf (planRead l .answer)) 0
     (λ e. start-on l a h e ∙ ap (shown l) (sym (started-first l a e)))
@@ -57,14 +58,14 @@ first-onward l a h =
     ∙ ap (before (refusedLine (numberOf (planRead l .answer)))) (sym (remaining-off l noProgress a refl))
     ∙ ap (shown l) (sym (refused-first l a e)))
 
-first-going : (l a : List ℕ) → length a ≡ 57344 → firstPiece l a .progress .ended ≡ false
+first-going : (l a : List ℕ) → length a ≡ areaSize → firstPiece l a .progress .ended ≡ false
     → Going l (firstPiece l a .progress) (firstPiece l a .octets)
 first-going l a h q =
     by-eq (numberOf (planRead l .answer)) 0
     (λ e. subst (λ (m : Moved). Going l (m .progress) (m .octets)) (sym (started-first l a e)) (start-going l a h e))
     (λ e. absurd (true≢false (sym (ap (λ (m : Moved). m .progress .ended) (refused-first l a e)) ∙ q)))
 
-module _ (l a : List ℕ) (h : length a ≡ 57344) (m : Moved) (e : m ≡ firstPiece l a) where
+module _ (l a : List ℕ) (h : length a ≡ areaSize) (m : Moved) (e : m ≡ firstPiece l a) where
   pub first-passed : Passed l 0 m
   first-passed =
       subst (Passed l 0) (sym e)
@@ -104,16 +105,16 @@ module _ (l : List ℕ) (n : ℕ) (g : Progress) (b : List ℕ) (h : g .ended �
 -- ---- what the calls hand out, on an area of just the octets that one must have
 
 module _ (l b o : List ℕ) (k : 2048 ≤ length o) where
-  pub begin-hand : length b ≡ 57344 → begun l b o ≡ given o (firstPiece l b)
+  pub begin-hand : length b ≡ areaSize → begun l b o ≡ given o (firstPiece l b)
   begin-hand h =
-      let t : take 57344 b ≡ b = take-all 57344 b (omega arith) in
+      let t : take areaSize b ≡ b = take-all areaSize b (omega arith) in
       begin-on 0 l b o (omega arith) k ∙ ap (λ (x : List ℕ). onFront b (given o (firstPiece l x))) t ∙ rest-none (given o (firstPiece l b))
     where
       rest-none : (x : Hand) → onFront b x ≡ x
       rest-none x = ap (λ (y : List ℕ). record { answer = x .answer; progress = x .progress; octets = y; out = x .out }) (ap (λ (y : List ℕ). x .octets ++ y) none ∙ append-nil (x .octets))
         where
-          none : drop 57344 b ≡ []
-          none = ap (drop 57344) (sym (append-nil b)) ∙ drop-at b [] 57344 h
+          none : drop areaSize b ≡ []
+          none = ap (drop areaSize) (sym (append-nil b)) ∙ drop-at b [] areaSize h
 
   pub advance-hand : (g : Progress) → Going l g b → advanced l b o g ≡ given o (move l g b)
   advance-hand g w =

@@ -41,6 +41,8 @@ use Rattle.pieces.specs.declared.Progress.{Progress}
 use Rattle.pieces.specs.Printed.{nextOffer, lies, made, offerLine, offerText, none, after, dueOffers, Course, course, before, atEnd, stepThen, runOn, firstText, startArea, planCourse, inputCourse, zeros, printed}
 use Rattle.pieces.specs.Pieces.{Moved, moved, standing, isDue, spanOf, lastPiece, offerPiece, timesLeft, stretchPiece, stepPiece, move, given, offerShort, moveRefusal, advancedOn, onFront, advanced, noProgress, startPiece, firstPiece, begun, remaining, told}
 use Rattle.pieces.specs.PieceLaws.{move-last, move-offer, move-step, due-offers, span-most, span-some, lies-room, short-none, short-is}
+use Rattle.layout.specs.Limits.{lastClock}
+use Rattle.area.specs.Offsets.{areaSize}
 
 -- ---- a step without an event has no lines, and no late collision
 
@@ -161,7 +163,7 @@ module _ (l : List ℕ) (n m p : ℕ) (a : List ℕ) (h : dueAt l m p (clockAt a
 abbrev Far : (l : List ℕ) (m p t k : ℕ) → Type 0
 Far l m p t k = (i : ℕ) → i < k → dueAt l m p (t + i) ≡ false
 
-stretch-text : (l : List ℕ) (k n m p : ℕ) (a : List ℕ) → Passing a → clockAt a + k ≤ 16777216 → k ≤ n → Far l m p (clockAt a) k → Stretches l n m p a (untilEvent k a)
+stretch-text : (l : List ℕ) (k n m p : ℕ) (a : List ℕ) → Passing a → clockAt a + k ≤ lastClock → k ≤ n → Far l m p (clockAt a) k → Stretches l n m p a (untilEvent k a)
 unfolding untilEvent
 stretch-text l zero n m p a v c q f = first-calm l n m p a
 stretch-text l (suc k) zero m p a v c q f = absurd (omega arith)
@@ -181,8 +183,8 @@ stretch-text l (suc k) (suc n) m p a v c q f =
 -- an area that passes, bit times that it can make, and offers that lie within the input
 pub record Going (l : List ℕ) (g : Progress) (a : List ℕ) : Type 0 where
   pub passing : Passing a
-  pub long : length a ≡ 57344
-  pub clock : clockAt a + g .times ≤ 16777216
+  pub long : length a ≡ areaSize
+  pub clock : clockAt a + g .times ≤ lastClock
   pub offers : (k : ℕ) → k < g .offers → lies l (offerPlace l (g .at) k) ≡ true
 
 place-on : (l : List ℕ) (p k : ℕ) → offerPlace l (nextOffer l p) k ≡ offerPlace l p (suc k)
@@ -289,7 +291,7 @@ far l g a d i h =
         let f : eqb (offerTime l (g .at)) (clockAt a) ≡ false = rw e at d in
         eqb-false (offerTime l (g .at)) (clockAt a) f (omega arith))
 
-stretch-going : (k : ℕ) (a : List ℕ) → Passing a → clockAt a + k ≤ 16777216
+stretch-going : (k : ℕ) (a : List ℕ) → Passing a → clockAt a + k ≤ lastClock
     → (Passing (untilEvent k a .octets)) × ((clockAt (untilEvent k a .octets) ≡ clockAt a + untilEvent k a .steps) × (length (untilEvent k a .octets) ≡ length a))
 unfolding untilEvent
 stretch-going zero a v c = (v, (omega arith, refl))
@@ -301,7 +303,7 @@ stretch-going (suc k) a v c =
     (λ b. rw b (r .0, (omega (arith, r .1 .0), r .1 .1 ∙ step-length a (v .ready))))
 
 module _ (l : List ℕ) (g : Progress) (a : List ℕ) (w : Going l g a) where
-  few : clockAt a + spanOf l g a ≤ 16777216
+  few : clockAt a + spanOf l g a ≤ lastClock
   few = let c = w .clock in omega (arith, span-most l g a)
 
   step-on : g .ended ≡ false → isDue l g a ≡ false → Onward l g a (stepPiece l g a)
@@ -400,7 +402,7 @@ pub not-refused : (l : List ℕ) (g : Progress) (a : List ℕ) (room : ℕ) → 
 unfolding moveRefusal
 not-refused l g a room w h =
     let c = w .clock in
-    rw (eq-eqb (areaRefusal a) 0 (ready-passes a (w .passing)), le-ltb 16777216 (clockAt a + g .times) c, le-ltb room 2048 h, whole)
+    rw (eq-eqb (areaRefusal a) 0 (ready-passes a (w .passing)), le-ltb lastClock (clockAt a + g .times) c, le-ltb room 2048 h, whole)
   where
     whole : offerShort l g ≡ false
     whole =
@@ -458,13 +460,13 @@ zeros-same n l h =
     (λ i g. let k : i < n = omega (arith, length-blanked n l) in blanked-same n i l k (omega arith) ∙ sym (getD-replicate n i 0 0 k))
 
 -- a fresh start is the same over any area of that length
-start-same : (l : List ℕ) (r : Planned) (a b : List ℕ) → length a ≡ 57344 → length b ≡ 57344 → startArea l r a ≡ startArea l r b
+start-same : (l : List ℕ) (r : Planned) (a b : List ℕ) → length a ≡ areaSize → length b ≡ areaSize → startArea l r a ≡ startArea l r b
 unfolding startArea fresh
 start-same l r a b h k =
-    ap (withPlan (r .layout) (r .depth) (drawsIn l (r .drawn) (r .layout .count) (r .depth))) (zeros-same 57344 a h ∙ sym (zeros-same 57344 b k))
+    ap (withPlan (r .layout) (r .depth) (drawsIn l (r .drawn) (r .layout .count) (r .depth))) (zeros-same areaSize a h ∙ sym (zeros-same areaSize b k))
 
-zeros-long : length zeros ≡ 57344
-zeros-long = length-replicate {A = ℕ} 57344 0
+zeros-long : length zeros ≡ areaSize
+zeros-long = length-replicate {A = ℕ} areaSize 0
 
 pub read-course : (l a : List ℕ) → numberOf (planRead l .answer) ≡ 0 → inputCourse l a ≡ planCourse l (planRead l) a
 unfolding inputCourse
@@ -478,14 +480,14 @@ pub refused-print : (l : List ℕ) → (numberOf (planRead l .answer) ≡ 0 → 
 unfolding printed
 refused-print l e = ap (λ (c : Course). c .text) (refused-course l zeros e)
 
-plan-same : (l a : List ℕ) → length a ≡ 57344 → planCourse l (planRead l) a .text ≡ planCourse l (planRead l) zeros .text
+plan-same : (l a : List ℕ) → length a ≡ areaSize → planCourse l (planRead l) a .text ≡ planCourse l (planRead l) zeros .text
 unfolding planCourse
 plan-same l a h =
     ap (λ (x : List ℕ). firstText (planRead l .layout) ++ runOn l (planRead l .times) (planRead l .offers) (planRead l .first) x .text)
     (start-same l (planRead l) a zeros h zeros-long)
 
 -- so the text is too
-pub course-same : (l a : List ℕ) → length a ≡ 57344 → inputCourse l a .text ≡ printed l
+pub course-same : (l a : List ℕ) → length a ≡ areaSize → inputCourse l a .text ≡ printed l
 unfolding printed
 course-same l a h =
     by-eq (numberOf (planRead l .answer)) 0
@@ -496,7 +498,7 @@ inside-lies : (l : List ℕ) (p : ℕ) → p + 15 + offerSize l p ≤ length l �
 unfolding lies
 inside-lies l p h = rw (le-leb (p + 15) (length l) (omega arith), le-leb (p + 15 + offerSize l p) (length l) h)
 
-module _ (l a : List ℕ) (h : length a ≡ 57344) (n : numberOf (planRead l .answer) ≡ 0) where
+module _ (l a : List ℕ) (h : length a ≡ areaSize) (n : numberOf (planRead l .answer) ≡ 0) where
   y : Right l (planRead l)
   y = read-right l n
 
@@ -510,7 +512,7 @@ module _ (l a : List ℕ) (h : length a ≡ 57344) (n : numberOf (planRead l .an
   pub start-going : Going l (startPiece l (planRead l) a .progress) (startPiece l (planRead l) a .octets)
   unfolding startPiece startArea
   start-going =
-      let big : 57344 ≤ length a = omega arith in
+      let big : areaSize ≤ length a = omega arith in
       let few = y .sound .count .1 in
       let d = y .depth in
       let formed = read-formed l n in
@@ -529,11 +531,11 @@ module _ (l a : List ℕ) (h : length a ≡ 57344) (n : numberOf (planRead l .an
 -- ---- what a caller gets
 
 module _ (l b z o : List ℕ) (g : Progress) (w : Going l g b) (h : 2048 ≤ length o) where
-  front : take 57344 (b ++ z) ≡ b
-  front = take-at b z 57344 (w .long)
+  front : take areaSize (b ++ z) ≡ b
+  front = take-at b z areaSize (w .long)
 
-  back : drop 57344 (b ++ z) ≡ z
-  back = drop-at b z 57344 (w .long)
+  back : drop areaSize (b ++ z) ≡ z
+  back = drop-at b z areaSize (w .long)
 
   given-on : advancedOn l b o g ≡ given o (move l g b)
   unfolding advancedOn
@@ -542,8 +544,8 @@ module _ (l b z o : List ℕ) (g : Progress) (w : Going l g b) (h : 2048 ≤ len
   pub advance-on : advanced l (b ++ z) o g ≡ record { answer = accepted (length (move l g b .text) ∷ []); progress = move l g b .progress; octets = move l g b .octets ++ z; out = sets o 0 (move l g b .text) }
   unfolding advanced
   advance-on =
-      let k : 57344 ≤ length (b ++ z) = omega (arith, length-append b z, w .long) in
-      rw (le-ltb (length (b ++ z)) 57344 k, front, back, given-on)
+      let k : areaSize ≤ length (b ++ z) = omega (arith, length-append b z, w .long) in
+      rw (le-ltb (length (b ++ z)) areaSize k, front, back, given-on)
 
 told-on : (n : ℕ) (l b z o : List ℕ) (g : Progress) → Going l g b → g .ended ≡ false → 2048 ≤ length o → pieces g ≤ n → told n l (advanced l (b ++ z) o g) ≡ remaining l g b .text
 unfolding told
@@ -567,25 +569,25 @@ unfolding firstPiece
 refused-first l a e = rw (ne-eqb (numberOf (planRead l .answer)) 0 e)
 
 -- After the first piece there are no more than 16,777,281.
-pub first-pieces : (l a : List ℕ) → length a ≡ 57344 → pieces (firstPiece l a .progress) ≤ 16777281
+pub first-pieces : (l a : List ℕ) → length a ≡ areaSize → pieces (firstPiece l a .progress) ≤ 16777281
 first-pieces l a h =
     by-eq (numberOf (planRead l .answer)) 0
     (λ e. subst (λ (m : Moved). pieces (m .progress) ≤ 16777281) (sym (started-first l a e)) (start-pieces l a h e))
     (λ e. subst (λ (m : Moved). pieces (m .progress) ≤ 16777281) (sym (refused-first l a e)) (omega (arith, pieces-off noProgress refl)))
 
-module _ (n : ℕ) (l a o : List ℕ) (h : 57344 ≤ length a) (k : 2048 ≤ length o) where
-  cut : length (take 57344 a) ≡ 57344
-  cut = length-take-le 57344 a h
+module _ (n : ℕ) (l a o : List ℕ) (h : areaSize ≤ length a) (k : 2048 ≤ length o) where
+  cut : length (take areaSize a) ≡ areaSize
+  cut = length-take-le areaSize a h
 
-  pub begin-on : begun l a o ≡ onFront a (given o (firstPiece l (take 57344 a)))
+  pub begin-on : begun l a o ≡ onFront a (given o (firstPiece l (take areaSize a)))
   unfolding begun
-  begin-on = rw (le-ltb (length a) 57344 h, le-ltb (length o) 2048 k)
+  begin-on = rw (le-ltb (length a) areaSize h, le-ltb (length o) 2048 k)
 
   -- an input that is refused has one piece
   told-refused : (numberOf (planRead l .answer) ≡ 0 → ⊥) → told (suc n) l (begun l a o) ≡ printed l
   unfolding told
   told-refused e =
-      let f : firstPiece l (take 57344 a) ≡ moved (refusedLine (numberOf (planRead l .answer))) noProgress (take 57344 a) = refused-first l (take 57344 a) e in
+      let f : firstPiece l (take areaSize a) ≡ moved (refusedLine (numberOf (planRead l .answer))) noProgress (take areaSize a) = refused-first l (take areaSize a) e in
       rw (begin-on, f)
       (append-nil _
       ∙ take-sets (refusedLine (numberOf (planRead l .answer))) o (length (refusedLine (numberOf (planRead l .answer)))) refl (omega (arith, refused-size (numberOf (planRead l .answer))))
@@ -594,19 +596,19 @@ module _ (n : ℕ) (l a o : List ℕ) (h : 57344 ≤ length a) (k : 2048 ≤ len
   told-whole : 16777281 ≤ n → numberOf (planRead l .answer) ≡ 0 → told (suc n) l (begun l a o) ≡ printed l
   unfolding told startPiece
   told-whole q e =
-      let f : firstPiece l (take 57344 a) ≡ startPiece l (planRead l) (take 57344 a) = started-first l (take 57344 a) e in
+      let f : firstPiece l (take areaSize a) ≡ startPiece l (planRead l) (take areaSize a) = started-first l (take areaSize a) e in
       let t = firstText (planRead l .layout) in
       let g = standing (planRead l .first) (planRead l .offers) (planRead l .times) false in
       rw (begin-on, f)
-      (ap₂ (λ (x y : List ℕ). x ++ y) (take-sets (firstText (planRead l .layout)) o (length (firstText (planRead l .layout))) refl (omega (arith, start-size l (planRead l) (take 57344 a))))
-      (told-on n l (startArea l (planRead l) (take 57344 a)) (drop 57344 a) (sets o 0 (firstText (planRead l .layout)))
+      (ap₂ (λ (x y : List ℕ). x ++ y) (take-sets (firstText (planRead l .layout)) o (length (firstText (planRead l .layout))) refl (omega (arith, start-size l (planRead l) (take areaSize a))))
+      (told-on n l (startArea l (planRead l) (take areaSize a)) (drop areaSize a) (sets o 0 (firstText (planRead l .layout)))
       (standing (planRead l .first) (planRead l .offers) (planRead l .times) false)
-      (start-going l (take 57344 a) cut e) refl (omega (arith, length-sets o 0 (firstText (planRead l .layout)))) (omega (arith, start-pieces l (take 57344 a) cut e)))
-      ∙ ap (λ (c : Course). c .text) (sym (start-on l (take 57344 a) cut e))
-      ∙ course-same l (take 57344 a) cut)
+      (start-going l (take areaSize a) cut e) refl (omega (arith, length-sets o 0 (firstText (planRead l .layout)))) (omega (arith, start-pieces l (take areaSize a) cut e)))
+      ∙ ap (λ (c : Course). c .text) (sym (start-on l (take areaSize a) cut e))
+      ∙ course-same l (take areaSize a) cut)
 
 -- From `begin` on, over any work area and any output that are long enough, the pieces are just what is printed. Of the calls none is
 -- refused, and there are no more than 16,777,282.
-pub told-printed : (l a o : List ℕ) → 57344 ≤ length a → 2048 ≤ length o → told 16777282 l (begun l a o) ≡ printed l
+pub told-printed : (l a o : List ℕ) → areaSize ≤ length a → 2048 ≤ length o → told 16777282 l (begun l a o) ≡ printed l
 told-printed l a o h k =
     by-eq (numberOf (planRead l .answer)) 0 (λ e. told-whole 16777281 l a o h k (omega arith) e) (λ e. told-refused 16777281 l a o h k e)

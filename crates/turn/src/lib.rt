@@ -21,10 +21,11 @@ ghost use Rattle.area.specs.Area.{stationAt, withStation};
 ghost use Rattle.pair.specs.BitTime.{happened, withStored, withCounted, placed, settled, isTransmit, isReceive, actIn, turnIn, eventsOf, noEvents};
 ghost use Rattle.pair.specs.InPlace.{Kept};
 ghost use Rattle.pair.specs.Ready.{Able};
+ghost use Rattle.area.specs.Offsets.{areaSize};
 
 // A collected bit is kept.
 pub fn keep_bit(area: &mut [u8], i: usize, stored: Stored)
-    requires { ⌜ (i < 16) × (57344 ≤ length (now area)) × Kept stored ⌝ }
+    requires { ⌜ (i < 16) × (areaSize ≤ length (now area)) × Kept stored ⌝ }
     ensures { λ r. ⌜ now (area .exit) ≡ withStored i stored (now (area .entry)) ⌝ }
 {
     match stored {
@@ -70,7 +71,7 @@ fn has_happened(o: Stepped) -> bool
 }
 
 pub fn count_step(area: &mut [u8], i: usize, o: Stepped)
-    requires { ⌜ (i < 16) × (57344 ≤ length (now area)) ⌝ }
+    requires { ⌜ (i < 16) × (areaSize ≤ length (now area)) ⌝ }
     ensures { λ r. ⌜ now (area .exit) ≡ withCounted i o (now (area .entry)) ⌝ }
 {
     if has_happened(o) {
@@ -81,7 +82,7 @@ pub fn count_step(area: &mut [u8], i: usize, o: Stepped)
 }
 
 fn load_deference(area: &[u8], i: usize) -> Deference
-    requires { ⌜ (i < 16) × (57344 ≤ length (now area)) ⌝ }
+    requires { ⌜ (i < 16) × (areaSize ≤ length (now area)) ⌝ }
     ensures { λ r. ⌜ r ≡ stationAt (now (area .entry)) i .deference ⌝ }
 {
     let code = area::read_word(area, i, 0);
@@ -91,7 +92,7 @@ fn load_deference(area: &[u8], i: usize) -> Deference
 }
 
 fn load_transmitter(area: &[u8], i: usize) -> Transmitter
-    requires { ⌜ (i < 16) × (57344 ≤ length (now area)) ⌝ }
+    requires { ⌜ (i < 16) × (areaSize ≤ length (now area)) ⌝ }
     ensures { λ r. ⌜ r ≡ stationAt (now (area .entry)) i .transmitter ⌝ }
 {
     let code = area::read_word(area, i, 3);
@@ -100,7 +101,7 @@ fn load_transmitter(area: &[u8], i: usize) -> Transmitter
 }
 
 fn load_receiver(area: &[u8], i: usize) -> Receiver
-    requires { ⌜ (i < 16) × (57344 ≤ length (now area)) ⌝ }
+    requires { ⌜ (i < 16) × (areaSize ≤ length (now area)) ⌝ }
     ensures { λ r. ⌜ r ≡ stationAt (now (area .entry)) i .receiver ⌝ }
 {
     let code = area::read_word(area, i, 5);
@@ -113,7 +114,7 @@ fn load_receiver(area: &[u8], i: usize) -> Receiver
 // Station i. It is `area::read_station`, here once more: called from one place it is put in there, and no word goes
 // through memory.
 fn load(area: &[u8], i: usize) -> Station
-    requires { ⌜ (i < 16) × (57344 ≤ length (now area)) ⌝ }
+    requires { ⌜ (i < 16) × (areaSize ≤ length (now area)) ⌝ }
     ensures { λ r. ⌜ r ≡ stationAt (now (area .entry)) i ⌝ }
 {
     let deference = load_deference(area, i);
@@ -135,7 +136,7 @@ fn load(area: &[u8], i: usize) -> Station
 
 // Writes station i, as `area::write_station` does.
 fn store(area: &mut [u8], i: usize, s: Station)
-    requires { ⌜ (i < 16) × (57344 ≤ length (now area)) ⌝ }
+    requires { ⌜ (i < 16) × (areaSize ≤ length (now area)) ⌝ }
     ensures { λ r. ⌜ now (area .exit) ≡ withStation (now (area .entry)) i s ⌝ }
 {
     let w = record::encode(s);
@@ -144,7 +145,7 @@ fn store(area: &mut [u8], i: usize, s: Station)
 
 // Station i is what its step t made of it: its record, its counters, the bit it collected; what reached it is taken from its line.
 fn place(area: &mut [u8], t: usize, i: usize, o: Stepped)
-    requires { ⌜ (i < 16) × (57344 ≤ length (now area)) × Kept (o .stored) ⌝ }
+    requires { ⌜ (i < 16) × (areaSize ≤ length (now area)) × Kept (o .stored) ⌝ }
     ensures { λ r. ⌜ now (area .exit) ≡ placed t i o (now (area .entry)) ⌝ }
 {
     let next = o.station;
@@ -156,7 +157,7 @@ fn place(area: &mut [u8], t: usize, i: usize, o: Stepped)
 }
 
 fn settle(area: &mut [u8], n: usize, t: usize, i: usize, a: Act)
-    requires { ⌜ (i < 16) × (n ≤ 16) × (t < 4294967296) × (57344 ≤ length (now area)) × Kept (a .outcome .stored) ⌝ }
+    requires { ⌜ (i < 16) × (n ≤ 16) × (t < 4294967296) × (areaSize ≤ length (now area)) × Kept (a .outcome .stored) ⌝ }
     ensures { λ r. ⌜ now (area .exit) ≡ settled n t i a (now (area .entry)) ⌝ }
 {
     let o = a.outcome;
@@ -167,7 +168,7 @@ fn settle(area: &mut [u8], n: usize, t: usize, i: usize, a: Act)
 
 // What station i does in step t, from the area as it stands.
 fn acts(area: &[u8], depth: u32, t: usize, f: Figures, i: usize) -> Act
-    requires { ⌜ (i < 16) × (57344 ≤ length (now area)) × Able f (now area) i ⌝ }
+    requires { ⌜ (i < 16) × (areaSize ≤ length (now area)) × Able f (now area) i ⌝ }
     ensures { λ r. ⌜ r ≡ actIn f depth t (now (area .entry)) i ⌝ }
 {
     let s = load(area, i);
@@ -183,7 +184,7 @@ fn acts(area: &[u8], depth: u32, t: usize, f: Figures, i: usize) -> Act
 
 // Any turn of station i in step t.
 fn general(area: &mut [u8], n: usize, depth: u32, t: usize, f: Figures, i: usize) -> Events
-    requires { ⌜ (i < 16) × (n ≤ 16) × (t < 4294967296) × (57344 ≤ length (now area)) × Able f (now area) i ⌝ }
+    requires { ⌜ (i < 16) × (n ≤ 16) × (t < 4294967296) × (areaSize ≤ length (now area)) × Able f (now area) i ⌝ }
     ensures area { λ r. ⌜ now (area .exit) ≡ turnIn f depth n t i (now (area .entry)) ⌝ }
     ensures events { λ r. ⌜ r ≡ eventsOf (actIn f depth t (now (area .entry)) i) ⌝ }
 {
@@ -208,7 +209,7 @@ fn no_events() -> Events
 // places, and so is this one: each is then a function of its own. Put together, the octets that one reads would take
 // apart the words that another reads.
 fn work(area: &mut [u8], n: usize, depth: u32, t: usize, f: Figures, i: usize) -> Events
-    requires { ⌜ (i < 16) × (n ≤ 16) × (t < 4294967296) × (57344 ≤ length (now area)) × Able f (now area) i ⌝ }
+    requires { ⌜ (i < 16) × (n ≤ 16) × (t < 4294967296) × (areaSize ≤ length (now area)) × Able f (now area) i ⌝ }
     ensures area { λ r. ⌜ now (area .exit) ≡ turnIn f depth n t i (now (area .entry)) ⌝ }
     ensures events { λ r. ⌜ r ≡ eventsOf (actIn f depth t (now (area .entry)) i) ⌝ }
 {
@@ -224,7 +225,7 @@ fn work(area: &mut [u8], n: usize, depth: u32, t: usize, f: Figures, i: usize) -
 // Station i's turn in step t: it acts from the area as the stations before it have left it. One that rests, and that
 // nothing reaches, leaves all as it is; of one whose reception goes on few words change.
 pub fn turn(area: &mut [u8], n: usize, depth: u32, t: usize, f: Figures, i: usize) -> Events
-    requires { ⌜ (i < 16) × (n ≤ 16) × (t < 4294967296) × (57344 ≤ length (now area)) × Able f (now area) i ⌝ }
+    requires { ⌜ (i < 16) × (n ≤ 16) × (t < 4294967296) × (areaSize ≤ length (now area)) × Able f (now area) i ⌝ }
     ensures area { λ r. ⌜ now (area .exit) ≡ turnIn f depth n t i (now (area .entry)) ⌝ }
     ensures events { λ r. ⌜ r ≡ eventsOf (actIn f depth t (now (area .entry)) i) ⌝ }
 {

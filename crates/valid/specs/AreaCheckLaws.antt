@@ -16,6 +16,8 @@ use Rattle.layout.specs.Check.{refusalOf}
 use Rattle.layout.specs.CheckLaws.{Sound, sound}
 use Rattle.area.specs.Area.{clockAt, depthAt, figuresAt, countAt, layoutAt, recordAt, symbolAt}
 use Rattle.valid.specs.Valid.{recordWrong, symbolWrong, stationWrong, areaWrong, areaRefusal}
+use Rattle.layout.specs.Limits.{lastClock}
+use Rattle.area.specs.Offsets.{areaSize}
 
 -- ---- a line, by the largest of its codes
 
@@ -64,17 +66,17 @@ module _ (a : List ℕ) (y : Layout) (k d t : ℕ) where
       let e : refusalOf (layoutAt a) ≡ 0 = ap refusalOf (sym q) ∙ sym p ∙ h in rw (e, ← ed, ← eb, et)
 
   pub wrong-clock : (b : Bool) → k ≡ refusalOf y → y ≡ layoutAt a → k ≡ 0 → d ≡ depthAt a → b ≡ outside d 1 16 → b ≡ false
-      → t ≡ clockAt a → 16777216 < t → true ≡ areaWrong a
+      → t ≡ clockAt a → lastClock < t → true ≡ areaWrong a
   unfolding areaWrong
   wrong-clock b p q h ed eb ef et g =
-      let e : refusalOf (layoutAt a) ≡ 0 = ap refusalOf (sym q) ∙ sym p ∙ h in rw (e, ← ed, ← eb, ef, ← et, lt-ltb 16777216 t g)
+      let e : refusalOf (layoutAt a) ≡ 0 = ap refusalOf (sym q) ∙ sym p ∙ h in rw (e, ← ed, ← eb, ef, ← et, lt-ltb lastClock t g)
 
   pub wrong-station : (b r : Bool) (n : ℕ) → r ≡ some (stationWrong a) n → n ≡ countAt a → k ≡ refusalOf y → y ≡ layoutAt a → k ≡ 0 → d ≡ depthAt a
-      → b ≡ outside d 1 16 → b ≡ false → t ≡ clockAt a → t ≤ 16777216 → r ≡ areaWrong a
+      → b ≡ outside d 1 16 → b ≡ false → t ≡ clockAt a → t ≤ lastClock → r ≡ areaWrong a
   unfolding areaWrong
   wrong-station b r n er en p q h ed eb ef et g =
       let e : refusalOf (layoutAt a) ≡ 0 = ap refusalOf (sym q) ∙ sym p ∙ h in
-      er ∙ rw (e, ← ed, ← eb, ef, ← et, le-ltb 16777216 t g, en)
+      er ∙ rw (e, ← ed, ← eb, ef, ← et, le-ltb lastClock t g, en)
 
 -- what the checks of a record need of a layout that passed
 module _ (a : List ℕ) (y : Layout) (k : ℕ) (p : k ≡ refusalOf y) (h : k ≡ 0) (q : y ≡ layoutAt a) where
@@ -99,40 +101,40 @@ gap-of a f p h = rw p h
 pub slot-of : (a : List ℕ) (f : Figures) → f ≡ figuresAt a → figuresAt a .slot < 65536 → f .slot < 65536
 slot-of a f p h = rw p h
 
-pub refusal-short : (a : List ℕ) → length a < 57344 → 1 ≡ areaRefusal a
+pub refusal-short : (a : List ℕ) → length a < areaSize → 1 ≡ areaRefusal a
 unfolding areaRefusal
-refusal-short a h = rw (lt-ltb (length a) 57344 h)
+refusal-short a h = rw (lt-ltb (length a) areaSize h)
 
-pub refusal-wrong : (a : List ℕ) (b : Bool) → 57344 ≤ length a → b ≡ areaWrong a → b ≡ true → 2 ≡ areaRefusal a
+pub refusal-wrong : (a : List ℕ) (b : Bool) → areaSize ≤ length a → b ≡ areaWrong a → b ≡ true → 2 ≡ areaRefusal a
 unfolding areaRefusal
-refusal-wrong a b h p q = rw (le-ltb (length a) 57344 h, ← p, q)
+refusal-wrong a b h p q = rw (le-ltb (length a) areaSize h, ← p, q)
 
-pub refusal-none : (a : List ℕ) (b : Bool) → 57344 ≤ length a → b ≡ areaWrong a → b ≡ false → 0 ≡ areaRefusal a
+pub refusal-none : (a : List ℕ) (b : Bool) → areaSize ≤ length a → b ≡ areaWrong a → b ≡ false → 0 ≡ areaRefusal a
 unfolding areaRefusal
-refusal-none a b h p q = rw (le-ltb (length a) 57344 h, ← p, q)
+refusal-none a b h p q = rw (le-ltb (length a) areaSize h, ← p, q)
 
 -- ---- what an area that passes is known to be
 
-pub passes-right : (a : List ℕ) → areaRefusal a ≡ 0 → (57344 ≤ length a) × (areaWrong a ≡ false)
+pub passes-right : (a : List ℕ) → areaRefusal a ≡ 0 → (areaSize ≤ length a) × (areaWrong a ≡ false)
 unfolding areaRefusal
-passes-right a = go (ltb (length a) 57344) (areaWrong a) refl refl
+passes-right a = go (ltb (length a) areaSize) (areaWrong a) refl refl
   where
-    go : (s t : Bool) → ltb (length a) 57344 ≡ s → areaWrong a ≡ t → _≡_ {A = ℕ} (pick s 1 (pick t 2 0)) 0 → (57344 ≤ length a) × (areaWrong a ≡ false)
+    go : (s t : Bool) → ltb (length a) areaSize ≡ s → areaWrong a ≡ t → _≡_ {A = ℕ} (pick s 1 (pick t 2 0)) 0 → (areaSize ≤ length a) × (areaWrong a ≡ false)
     go true t p q h = absurd (omega arith)
     go false true p q h = absurd (omega arith)
-    go false false p q h = (ltb-false (length a) 57344 p, q)
+    go false false p q h = (ltb-false (length a) areaSize p, q)
 
 layout-passes : (a : List ℕ) → areaWrong a ≡ false → refusalOf (layoutAt a) ≡ 0
 unfolding areaWrong
 layout-passes a = go (eqb (refusalOf (layoutAt a)) 0) refl
   where
     go : (s : Bool) → eqb (refusalOf (layoutAt a)) 0 ≡ s
-        → pick s (pick (outside (depthAt a) 1 16) true (pick (ltb 16777216 (clockAt a)) true (some (stationWrong a) (countAt a)))) true ≡ false
+        → pick s (pick (outside (depthAt a) 1 16) true (pick (ltb lastClock (clockAt a)) true (some (stationWrong a) (countAt a)))) true ≡ false
         → refusalOf (layoutAt a) ≡ 0
     go true p h = eqb-true (refusalOf (layoutAt a)) 0 p
     go false p h = absurd (true≢false h)
 
-pub passes-long : (a : List ℕ) (n : ℕ) → n ≡ areaRefusal a → n ≡ 0 → 57344 ≤ length a
+pub passes-long : (a : List ℕ) (n : ℕ) → n ≡ areaRefusal a → n ≡ 0 → areaSize ≤ length a
 passes-long a n p q = passes-right a (sym p ∙ q) .0
 
 pub passes-layout : (a : List ℕ) → areaRefusal a ≡ 0 → Sound (layoutAt a)

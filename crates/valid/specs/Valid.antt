@@ -11,6 +11,7 @@ use Rattle.layout.specs.Layout.{gapOf}
 use Rattle.layout.specs.Check.{refusalOf}
 use Rattle.area.specs.Offsets.{areaSize}
 use Rattle.area.specs.Area.{clockAt, depthAt, figuresAt, countAt, layoutAt, recordAt, symbolAt}
+use Rattle.layout.specs.Limits.{lastClock}
 
 -- ---- a record's words w, in use where the state that carries them stands; a flag over 1, a code past the last, stands for nothing
 
@@ -73,10 +74,6 @@ symbolWrong a i u = ltb 4 (symbolAt a i u)
 
 unfoldable pub stationWrong : List ℕ → ℕ → Bool
 stationWrong a i = recordWrong (figuresAt a) (depthAt a) (clockAt a) (recordAt a i) || some (symbolWrong a i) 256
-
--- "clock 0..16,777,216"
-abbrev pub lastClock : ℕ
-lastClock = 16777216
 
 -- 2: "The work area holds layout values that 5 to 8 would refuse, D outside 1..16, or a record field in use out of range: .., clock
 -- 0..16,777,216, ..; or a state or symbol code that stands for nothing." Records of stations N and up are not in use.

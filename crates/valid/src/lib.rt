@@ -8,9 +8,10 @@ ghost use lib.Dec.{ltb};
 ghost use Rattle.octets.specs.Base.{pick, some};
 ghost use Rattle.area.specs.Area.{figuresAt, recordAt};
 ghost use Rattle.valid.specs.Valid.{deferenceWrong, attemptsWrong, numberWrong, transmitterWrong, receiverWrong, recordWrong, symbolWrong, stationWrong, areaWrong, areaRefusal};
+ghost use Rattle.area.specs.Offsets.{areaSize};
 
 fn deference_wrong(area: &[u8], i: usize, f: Figures) -> bool
-    requires { ⌜ (i < 16) × (57344 ≤ length (now area)) × (f .gap1 + f .gap2 < 65536) ⌝ }
+    requires { ⌜ (i < 16) × (areaSize ≤ length (now area)) × (f .gap1 + f .gap2 < 65536) ⌝ }
     ensures { λ r. ⌜ r ≡ deferenceWrong f (recordAt (now (area .entry)) i) ⌝ }
 {
     let code = area::read_word(area, i, 0);
@@ -58,7 +59,7 @@ fn number_wrong(f: Figures, code: u32, n: u32, frame: u32) -> bool
 }
 
 fn transmitter_wrong(area: &[u8], i: usize, f: Figures) -> bool
-    requires { ⌜ (i < 16) × (57344 ≤ length (now area)) × (f .slot < 65536) ⌝ }
+    requires { ⌜ (i < 16) × (areaSize ≤ length (now area)) × (f .slot < 65536) ⌝ }
     ensures { λ r. ⌜ r ≡ transmitterWrong f (recordAt (now (area .entry)) i) ⌝ }
 {
     let code = area::read_word(area, i, 3);
@@ -82,7 +83,7 @@ fn transmitter_wrong(area: &[u8], i: usize, f: Figures) -> bool
 }
 
 fn receiver_wrong(area: &[u8], i: usize, clock: u32) -> bool
-    requires { ⌜ (i < 16) × (57344 ≤ length (now area)) ⌝ }
+    requires { ⌜ (i < 16) × (areaSize ≤ length (now area)) ⌝ }
     ensures { λ r. ⌜ r ≡ receiverWrong clock (recordAt (now (area .entry)) i) ⌝ }
 {
     let code = area::read_word(area, i, 5);
@@ -110,7 +111,7 @@ fn receiver_wrong(area: &[u8], i: usize, clock: u32) -> bool
 // Whether the record of station i holds what no call would leave, on a layout with these figures, so many draws and
 // this clock. A word is read where it is looked at.
 fn record_wrong(area: &[u8], i: usize, f: Figures, depth: u32, clock: u32) -> bool
-    requires { ⌜ (i < 16) × (57344 ≤ length (now area)) × (f .gap1 + f .gap2 < 65536) × (f .slot < 65536) ⌝ }
+    requires { ⌜ (i < 16) × (areaSize ≤ length (now area)) × (f .gap1 + f .gap2 < 65536) × (f .slot < 65536) ⌝ }
     ensures { λ r. ⌜ r ≡ recordWrong f depth clock (recordAt (now (area .entry)) i) ⌝ }
 {
     if deference_wrong(area, i, f) {
@@ -136,7 +137,7 @@ fn larger(x: u8, y: u8) -> u8
 
 // Whether a code in the delay line of station i stands for nothing: the largest one tells, found without a branch.
 fn line_wrong(area: &[u8], i: usize) -> bool
-    requires { ⌜ (i < 16) × (57344 ≤ length (now area)) ⌝ }
+    requires { ⌜ (i < 16) × (areaSize ≤ length (now area)) ⌝ }
     ensures { λ r. ⌜ r ≡ some (symbolWrong (now (area .entry)) i) 256 ⌝ }
 {
     let mut top: u8 = 0;
@@ -149,7 +150,7 @@ fn line_wrong(area: &[u8], i: usize) -> bool
 }
 
 fn station_wrong(area: &[u8], i: usize) -> bool
-    requires { ⌜ (i < 16) × (57344 ≤ length (now area)) ⌝ }
+    requires { ⌜ (i < 16) × (areaSize ≤ length (now area)) ⌝ }
     requires { ⌜ (figuresAt (now area) .gap1 + figuresAt (now area) .gap2 < 65536) × (figuresAt (now area) .slot < 65536) ⌝ }
     ensures { λ r. ⌜ r ≡ stationWrong (now (area .entry)) i ⌝ }
 {
@@ -160,7 +161,7 @@ fn station_wrong(area: &[u8], i: usize) -> bool
 }
 
 fn stations_wrong(area: &[u8], n: usize) -> bool
-    requires { ⌜ (n ≤ 16) × (57344 ≤ length (now area)) ⌝ }
+    requires { ⌜ (n ≤ 16) × (areaSize ≤ length (now area)) ⌝ }
     requires { ⌜ (figuresAt (now area) .gap1 + figuresAt (now area) .gap2 < 65536) × (figuresAt (now area) .slot < 65536) ⌝ }
     ensures { λ r. ⌜ r ≡ some (stationWrong (now (area .entry))) n ⌝ }
 {
@@ -175,7 +176,7 @@ fn stations_wrong(area: &[u8], n: usize) -> bool
 }
 
 fn area_wrong(area: &[u8]) -> bool
-    requires { ⌜ 57344 ≤ length (now area) ⌝ }
+    requires { ⌜ areaSize ≤ length (now area) ⌝ }
     ensures { λ r. ⌜ r ≡ areaWrong (now (area .entry)) ⌝ }
 {
     let y = area::read_layout(area);
@@ -186,7 +187,7 @@ fn area_wrong(area: &[u8]) -> bool
     if octets::out_of(depth, 1, 16) {
         return true;
     }
-    if 16777216 < area::read_clock(area) {
+    if layout::LAST_CLOCK < area::read_clock(area) {
         return true;
     }
     let n = area::read_count(area) as usize;

@@ -100,7 +100,7 @@ fn start(area: &mut [u8], a: &[u8]) -> u32 {
 
 fn poke(area: &mut [u8], at: usize, v: u32) {
     if at <= 57340 {
-        if 57344 <= area.len() {
+        if area::AREA <= area.len() {
             words::put32(area, at, v);
         }
     }

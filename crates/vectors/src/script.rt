@@ -79,7 +79,7 @@ fn run_one(area: &mut [u8], line: &[u8]) {
 }
 
 fn run_lines(text: &[u8]) {
-    let mut area = [0x55u8; 57344];
+    let mut area = [0x55u8; area::AREA];
     let mut at: usize = 0;
     while at < text.len() {
         let end = find(text, at, b'\n');

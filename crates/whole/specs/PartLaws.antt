@@ -15,12 +15,13 @@ use Rattle.pieces.specs.Printed.{printed}
 use Rattle.pieces.specs.Pieces.{moved, move, pieceAnswer, handing, advanced, firstPiece, begun}
 use Rattle.told.specs.Whole.{Going, pieces, move-size, first-room}
 use Rattle.told.specs.Along.{Along, Passed, first-passed, next-passed, next-fewer, begin-hand, advance-hand, hand-moved, hand-within}
+use Rattle.area.specs.Offsets.{areaSize}
 
 module _ (l b o x c : List ℕ) (r : Handed) (k : ℕ) (e : k ≡ getD (valuesOf (pieceAnswer (r .piece))) 0 0) (f : 2048 ≤ length o) where
-  pub first-is : length b ≡ 57344 → handing r c x ≡ begun l b o → moved (take k x) (r .progress) c ≡ firstPiece l b
+  pub first-is : length b ≡ areaSize → handing r c x ≡ begun l b o → moved (take k x) (r .progress) c ≡ firstPiece l b
   first-is h p = hand-moved o x c (firstPiece l b) r k e (p ∙ begin-hand l b o f h) (first-room l b) f
 
-  pub first-within : length b ≡ 57344 → handing r c x ≡ begun l b o → k ≤ length x
+  pub first-within : length b ≡ areaSize → handing r c x ≡ begun l b o → k ≤ length x
   first-within h p = hand-within o x c (firstPiece l b) r k e (p ∙ begin-hand l b o f h) (first-room l b) f
 
   pub next-is : (g : Progress) → Going l g b → handing r c x ≡ advanced l b o g → moved (take k x) (r .progress) c ≡ move l g b
@@ -42,7 +43,7 @@ module _ (l c x : List ℕ) (n k : ℕ) (h : Progress) (z : k ≤ length x) (p :
   part-on = let m : k - 0 ≡ k = omega arith in subst (λ (i : ℕ). part (printed l) n (length (take i x)) ≡ take i x) (sym m) (p .here)
 
 -- the first piece
-module _ (l a c x : List ℕ) (k : ℕ) (h : Progress) (z : k ≤ length x) (q : length a ≡ 57344) (e : moved (take k x) h c ≡ firstPiece l a) where
+module _ (l a c x : List ℕ) (k : ℕ) (h : Progress) (z : k ≤ length x) (q : length a ≡ areaSize) (e : moved (take k x) h c ≡ firstPiece l a) where
   pub begun-along : Along l k h c
   begun-along =
       let t : 0 + k ≡ k = omega arith in

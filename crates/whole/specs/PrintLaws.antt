@@ -17,6 +17,7 @@ use Rattle.pieces.specs.Pieces.{moved, move, firstPiece, remaining}
 use Rattle.told.specs.Along.{Along, first-area, next-area, end-place, end-area}
 use Rattle.whole.specs.PartLaws.{part-size, begun-along, begun-part, along-more, along-part}
 use Rattle.whole.specs.Print.{print, printedInto}
+use Rattle.area.specs.Offsets.{areaSize}
 
 -- ---- a piece, of k octets in buffer x, is stored
 
@@ -30,7 +31,7 @@ text-on l x y n k z p =
     ∙ ap (sets y n)
     (ap₂ (λ (u v : List ℕ). u ++ v) (sym t) (sym (drop-drop k n (printed l))) ∙ take-append-drop k (drop n (printed l)))
 
-module _ (l a c x : List ℕ) (k : ℕ) (h : Progress) (z : k ≤ length x) (q : length a ≡ 57344) (e : moved (take k x) h c ≡ firstPiece l a) where
+module _ (l a c x : List ℕ) (k : ℕ) (h : Progress) (z : k ≤ length x) (q : length a ≡ areaSize) (e : moved (take k x) h c ≡ firstPiece l a) where
   pub begun-store : (y : List ℕ) → length (printed l) ≤ length y → 0 + length (take (k - 0) x) ≤ length y
   begun-store y t = omega (arith, begun-along l a c x k h z q e .within, part-size x k z)
 
@@ -85,18 +86,18 @@ pub print-room : (l : List ℕ) (room : ℕ) (b : Bool) → b ≡ leb (length (p
 print-room l room b q t = leb-true (length (printed l)) room (sym q ∙ not-false b t)
 
 module _ (l a o : List ℕ) where
-  pub print-short : length a < 57344 → print (refused 1) a o ≡ printedInto l a o
+  pub print-short : length a < areaSize → print (refused 1) a o ≡ printedInto l a o
   unfolding printedInto
-  print-short h = rw (lt-ltb (length a) 57344 h)
+  print-short h = rw (lt-ltb (length a) areaSize h)
 
-  module _ (h : 57344 ≤ length a) (b : Bool) (q : b ≡ leb (length (printed l)) (length o)) where
+  module _ (h : areaSize ≤ length a) (b : Bool) (q : b ≡ leb (length (printed l)) (length o)) where
     pub print-over : not b ≡ true → print (refused 15) a o ≡ printedInto l a o
     unfolding printedInto
-    print-over t = let m = leb-false (length (printed l)) (length o) (sym q ∙ not-true b t) in rw (le-ltb (length a) 57344 h, lt-ltb (length o) (length (printed l)) m)
+    print-over t = let m = leb-false (length (printed l)) (length o) (sym q ∙ not-true b t) in rw (le-ltb (length a) areaSize h, lt-ltb (length o) (length (printed l)) m)
 
     pub print-whole : (n : ℕ) (m x : List ℕ) → not b ≡ false → n ≡ length (printed l) → x ≡ sets o 0 (printed l)
-        → m ≡ inputCourse l (take (57344 - 0) a) .octets
-        → print (accepted (n ∷ [])) (putMid 0 (57344 - 0) a m) x ≡ printedInto l a o
+        → m ≡ inputCourse l (take (areaSize - 0) a) .octets
+        → print (accepted (n ∷ [])) (putMid 0 (areaSize - 0) a m) x ≡ printedInto l a o
     unfolding printedInto
     print-whole n m x t p u v =
-        rw (le-ltb (length a) 57344 h, le-ltb (length o) (length (printed l)) (print-room l (length o) b q t)) (λ i. print (accepted (p i ∷ [])) (v i ++ drop 57344 a) (u i))
+        rw (le-ltb (length a) areaSize h, le-ltb (length o) (length (printed l)) (print-room l (length o) b q t)) (λ i. print (accepted (p i ∷ [])) (v i ++ drop areaSize a) (u i))

@@ -14,6 +14,7 @@ ghost use Rattle.pieces.specs.Printed.{inputCourse, printed};
 ghost use Rattle.pieces.specs.Pieces.{pieceAnswer, remaining};
 ghost use Rattle.told.specs.Along.{Along};
 ghost use Rattle.whole.specs.Print.{print, printedInto};
+ghost use Rattle.area.specs.Offsets.{areaSize};
 
 // Whether what is printed for the input has at most `room` octets, where `at` of them are handed out.
 fn rest_fits(input: &[u8], area: &mut [u8], room: usize, at: usize, g: Progress) -> bool
@@ -38,7 +39,7 @@ fn rest_fits(input: &[u8], area: &mut [u8], room: usize, at: usize, g: Progress)
 fn fits(input: &[u8], room: usize) -> bool
     ensures { λ r. ⌜ r ≡ leb (length (printed (now (input .entry)))) room ⌝ }
 {
-    let mut area = [0u8; 57344];
+    let mut area = [0u8; area::AREA];
     let mut buf = [0u8; 2048];
     let p = crate::parts::first(input, &mut area, &mut buf);
     if room < p.size {
@@ -70,7 +71,7 @@ fn store_rest(input: &[u8], area: &mut [u8], out: &mut [u8], at: usize, g: Progr
 
 // Stores all that is printed for the input into `out`, and answers where it ends.
 fn store_run(input: &[u8], area: &mut [u8], out: &mut [u8]) -> usize
-    requires { ⌜ (length (now area) ≡ 57344) × (length (printed (now input)) ≤ length (now out)) ⌝ }
+    requires { ⌜ (length (now area) ≡ areaSize) × (length (printed (now input)) ≤ length (now out)) ⌝ }
     ensures end { λ r. ⌜ r ≡ length (printed (now (input .entry))) ⌝ }
     ensures text { λ r. ⌜ now (out .exit) ≡ sets (now (out .entry)) 0 (printed (now (input .entry))) ⌝ }
     ensures area { λ r. ⌜ now (area .exit) ≡ inputCourse (now (input .entry)) (now (area .entry)) .octets ⌝ }
@@ -93,5 +94,5 @@ pub fn print(input: &[u8], area: &mut [u8], out: &mut [u8]) -> Piece
     if !fits(input, out.len()) {
         return Piece::Refused(15);
     }
-    Piece::Text(store_run(input, &mut area[0..57344], out))
+    Piece::Text(store_run(input, &mut area[0..area::AREA], out))
 }

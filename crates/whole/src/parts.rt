@@ -8,6 +8,7 @@ ghost use lib.ListN.{length, getD, take};
 ghost use Rattle.octets.specs.Base.{valuesOf};
 ghost use Rattle.pieces.specs.Pieces.{pieceAnswer, moved, move, firstPiece};
 ghost use Rattle.told.specs.Whole.{Going};
+ghost use Rattle.area.specs.Offsets.{areaSize};
 
 // A piece: its octets, which stand at the front of the lent buffer, and where the run stands after it.
 pub struct Part {
@@ -27,7 +28,7 @@ fn size_of(piece: Piece) -> usize
 
 // The first piece.
 pub fn first(input: &[u8], area: &mut [u8], buf: &mut [u8]) -> Part
-    requires { ⌜ (length (now area) ≡ 57344) × (2048 ≤ length (now buf)) ⌝ }
+    requires { ⌜ (length (now area) ≡ areaSize) × (2048 ≤ length (now buf)) ⌝ }
     ensures piece { λ r. ⌜ moved (take (r .size) (now (buf .exit))) (r .progress) (now (area .exit)) ≡ firstPiece (now (input .entry)) (now (area .entry)) ⌝ }
     ensures size { λ r. ⌜ r .size ≤ length (now (buf .exit)) ⌝ }
 {

@@ -5,9 +5,10 @@ use mathlib.Core.Path.{_≡_}
 use lib.ListN.{length}
 use Rattle.vectors.proofs.script.run_lines.Statement.{statement}
 use Rattle.vectors.proofs.script.run_lines.Tie as tie
+use Rattle.area.specs.Offsets.{areaSize}
 
 abbrev Inv-loop : tie.InvT-loop
-Inv-loop text area₀ at₀ area at = (at ≤ length text + 1) × (length area ≡ 57344)
+Inv-loop text area₀ at₀ area at = (at ≤ length text + 1) × (length area ≡ areaSize)
 
 abbrev μ-loop : tie.MeasureT-loop
 μ-loop text area₀ at₀ area at = length text + 1 - at
