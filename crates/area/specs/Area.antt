@@ -10,7 +10,7 @@ use Rattle.octets.specs.Bits.{digit}
 use Rattle.octets.specs.Number.{get, put}
 use Rattle.octets.specs.Store.{part}
 use Rattle.octets.specs.Words.{wordsAt, putWords}
-use Rattle.frame.specs.Limits.{refusesData}
+use Rattle.frame.specs.Limits.{refusesData, bufferOctets}
 use Rattle.frame.specs.Build.{frameOf}
 use Rattle.layout.specs.declared.Figures.{Figures}
 use Rattle.layout.specs.declared.Tap.{Tap}
@@ -98,7 +98,7 @@ withFrame a i f = sets a (8192 + 1536 * i) f
 
 -- what it collected, as much as is kept
 unfoldable pub bufferAt : List ℕ → ℕ → List ℕ
-bufferAt a i = part a (32768 + 1536 * i) 1518
+bufferAt a i = part a (32768 + 1536 * i) bufferOctets
 
 -- an octet with bit p stored: the bits below it stay, those above it are 0
 unfoldable pub octetWith : ℕ → ℕ → Bool → ℕ

@@ -23,6 +23,7 @@ use Rattle.record.specs.CodecLaws.{Fit, decoded-encoded, encoded-small, length-
 use Rattle.area.specs.Offsets.{theLine, from, width, areaSize}
 use Rattle.area.specs.Places.{Part, piece, clock, depth, layout, draws, counters, station, frame, buffer, place, Off, Keeps}
 use Rattle.area.specs.Area.{clockAt, withClock, depthAt, drawAt, figuresAt, countAt, positionAt, addressAt, distance, spaceAt, countersAt, withCounters, recordAt, stationAt, withStation, frameAt, withFrame, bufferAt, octetWith, withBit, heardOf, heardCode, symbolAt, arrivalAt, withArrival}
+use Rattle.frame.specs.Limits.{bufferOctets, bufferBits}
 
 -- ---- parts
 
@@ -121,8 +122,8 @@ module _ (l m : List ℕ) where
   pub buffer-by : (i : ℕ) → i < 16 → areaSize ≤ length l → areaSize ≤ length m → Keeps (buffer i) l m → bufferAt l i ≡ bufferAt m i
   unfolding bufferAt Keeps
   buffer-by i h p q k =
-      part-goes-by 1518 (32768 + 1536 * i) l m (omega arith) (omega arith)
-      (same-part (32768 + 1536 * i) 1536 (32768 + 1536 * i) 1518 l m (omega arith) (omega arith) k)
+      part-goes-by bufferOctets (32768 + 1536 * i) l m (omega arith) (omega arith)
+      (same-part (32768 + 1536 * i) 1536 (32768 + 1536 * i) bufferOctets l m (omega arith) (omega arith) k)
 
 -- ---- writers
 
@@ -164,7 +165,7 @@ frame-keeps (place j u) a i f h o =
     at-place j u (sets a (8192 + 1536 * i) f) a
     (sets-leaves (4096 + 256 * j) 256 (8192 + 1536 * i) f a (λ x y. o (omega arith) y))
 
-pub bit-keeps : (p : Part) (a : List ℕ) (i k : ℕ) (b : Bool) → k < 12144 → Off p (buffer i) → Keeps p (withBit a i k b) a
+pub bit-keeps : (p : Part) (a : List ℕ) (i k : ℕ) (b : Bool) → k < bufferBits → Off p (buffer i) → Keeps p (withBit a i k b) a
 unfolding withBit Keeps
 bit-keeps (piece p) a i k b h o =
     set-leaves (from p) (width p) (32768 + 1536 * i + k / 8) (octetWith (getD a (32768 + 1536 * i + k / 8) 0) (k % 8) b) a
@@ -233,12 +234,12 @@ part-set l b n m v h g =
 
 module _ (a : List ℕ) (big : areaSize ≤ length a) where
   -- a collected bit, in the octets that are kept
-  pub bit-same : (i k : ℕ) (b : Bool) → i < 16 → k < 12144
+  pub bit-same : (i k : ℕ) (b : Bool) → i < 16 → k < bufferBits
       → bufferAt (withBit a i k b) i ≡ set (bufferAt a i) (k / 8) (octetWith (getD (bufferAt a i) (k / 8) 0) (k % 8) b)
   unfolding bufferAt withBit
   bit-same i k b hi hk =
-      part-set a (32768 + 1536 * i) 1518 (k / 8) _ (omega arith) (omega arith)
-      ∙ ap (λ (x : ℕ). set (part a (32768 + 1536 * i) 1518) (k / 8) (octetWith x (k % 8) b)) (sym (part-at a (32768 + 1536 * i) 1518 (k / 8) (omega arith)))
+      part-set a (32768 + 1536 * i) bufferOctets (k / 8) _ (omega arith) (omega arith)
+      ∙ ap (λ (x : ℕ). set (part a (32768 + 1536 * i) bufferOctets) (k / 8) (octetWith x (k % 8) b)) (sym (part-at a (32768 + 1536 * i) bufferOctets (k / 8) (omega arith)))
 
   pub clock-same : (t : ℕ) → t < 256 ^ 4 → clockAt (withClock a t) ≡ t
   unfolding clockAt withClock

@@ -20,7 +20,7 @@ use Rattle.octets.specs.Store.{part, length-part}
 use Rattle.octets.specs.Words.{wordsAt, putWords}
 use Rattle.octets.specs.WordsLaws.{word-at}
 use borrow.Rule.Slice.PartMut.{midOf, putMid, put-same}
-use Rattle.frame.specs.Limits.{refusesData}
+use Rattle.frame.specs.Limits.{refusesData, bufferOctets}
 use Rattle.frame.specs.Build.{frameOf, built}
 use Rattle.frame.specs.BuildLaws.{frame-size, data-within}
 use Rattle.layout.specs.declared.Figures.{Figures}
@@ -244,24 +244,24 @@ after : ℕ → ℕ → List ℕ → Outcome → Outcome
 after b k a o = outcome (o .answer) (putMid b k a (o .octets))
 
 module _ (a d s : List ℕ) (v : ℕ) (x : List ℕ) (b : ℕ) where
-  lent-refused : refusesData v (length x) ≡ true → after b 1518 a (built (midOf b 1518 a) d s v x) ≡ outcome (refused 11) a
+  lent-refused : refusesData v (length x) ≡ true → after b bufferOctets a (built (midOf b bufferOctets a) d s v x) ≡ outcome (refused 11) a
   unfolding after built
-  lent-refused h = rw h (ap (outcome (refused 11)) (put-same b 1518 a))
+  lent-refused h = rw h (ap (outcome (refused 11)) (put-same b bufferOctets a))
 
-  lent-built : refusesData v (length x) ≡ false → length d ≡ 6 → length s ≡ 6 → b + 1518 ≤ length a
-      → after b 1518 a (built (midOf b 1518 a) d s v x) ≡ outcome (accepted (length (frameOf d s v x) ∷ [])) (sets a b (frameOf d s v x))
+  lent-built : refusesData v (length x) ≡ false → length d ≡ 6 → length s ≡ 6 → b + bufferOctets ≤ length a
+      → after b bufferOctets a (built (midOf b bufferOctets a) d s v x) ≡ outcome (accepted (length (frameOf d s v x) ∷ [])) (sets a b (frameOf d s v x))
   unfolding after built
   lent-built h hd hs g =
-      let n : length (frameOf d s v x) ≤ 1518 = omega (arith, frame-size d s v x hd hs, data-within v (length x) h) in
-      rw (h, le-ltb (length (midOf b 1518 a)) (length (frameOf d s v x)) (omega (arith, length-part a b 1518 g)), lent-store (frameOf d s v x) b 1518 a n)
+      let n : length (frameOf d s v x) ≤ bufferOctets = omega (arith, frame-size d s v x hd hs, data-within v (length x) h) in
+      rw (h, le-ltb (length (midOf b bufferOctets a)) (length (frameOf d s v x)) (omega (arith, length-part a b bufferOctets g)), lent-store (frameOf d s v x) b bufferOctets a n)
 
 lent-frame : (a d s : List ℕ) (v : ℕ) (x : List ℕ) (i : ℕ) → s ≡ addressAt a i → length d ≡ 6 → length s ≡ 6 → i < 16 → areaSize ≤ length a
-    → after (8192 + 1536 * i) 1518 a (built (midOf (8192 + 1536 * i) 1518 a) d s v x) ≡ frameBuilt a i d v x
+    → after (8192 + 1536 * i) bufferOctets a (built (midOf (8192 + 1536 * i) bufferOctets a) d s v x) ≡ frameBuilt a i d v x
 unfolding frameBuilt withFrame
 lent-frame a d s v x i es hd hs hi hl = go (refusesData v (length x)) refl
   where
     go : (t : Bool) → refusesData v (length x) ≡ t
-        → after (8192 + 1536 * i) 1518 a (built (midOf (8192 + 1536 * i) 1518 a) d s v x)
+        → after (8192 + 1536 * i) bufferOctets a (built (midOf (8192 + 1536 * i) bufferOctets a) d s v x)
         ≡ pick t (outcome (refused 11) a) (outcome (accepted (length (frameOf d (addressAt a i) v x) ∷ [])) (sets a (8192 + 1536 * i) (frameOf d (addressAt a i) v x)))
     go true p = lent-refused a d s v x (8192 + 1536 * i) p
     go false p =
@@ -269,20 +269,20 @@ lent-frame a d s v x i es hd hs hi hl = go (refusesData v (length x)) refl
         ∙ ap (λ (q : List ℕ). outcome (accepted (length (frameOf d q v x) ∷ [])) (sets a (8192 + 1536 * i) (frameOf d q v x))) es
 
 pub built-is : (a d s : List ℕ) (v : ℕ) (x : List ℕ) (i : ℕ) (r : Answer) (m : List ℕ)
-    → outcome r m ≡ built (midOf (8192 + 1536 * i) (8192 + 1536 * i + 1518 - (8192 + 1536 * i)) a) d s v x → s ≡ addressAt a i
+    → outcome r m ≡ built (midOf (8192 + 1536 * i) (8192 + 1536 * i + bufferOctets - (8192 + 1536 * i)) a) d s v x → s ≡ addressAt a i
     → length d ≡ 6 → length s ≡ 6 → i < 16 → areaSize ≤ length a
-    → outcome r (putMid (8192 + 1536 * i) (8192 + 1536 * i + 1518 - (8192 + 1536 * i)) a m) ≡ frameBuilt a i d v x
+    → outcome r (putMid (8192 + 1536 * i) (8192 + 1536 * i + bufferOctets - (8192 + 1536 * i)) a m) ≡ frameBuilt a i d v x
 unfolding after
 built-is a d s v x i r m p es hd hs hi hl =
-    let k : 8192 + 1536 * i + 1518 - (8192 + 1536 * i) ≡ 1518 = omega arith in
-    let q : outcome r m ≡ built (midOf (8192 + 1536 * i) 1518 a) d s v x = rw k at p in
-    rw k (ap (after (8192 + 1536 * i) 1518 a) q ∙ lent-frame a d s v x i es hd hs hi hl)
+    let k : 8192 + 1536 * i + bufferOctets - (8192 + 1536 * i) ≡ bufferOctets = omega arith in
+    let q : outcome r m ≡ built (midOf (8192 + 1536 * i) bufferOctets a) d s v x = rw k at p in
+    rw k (ap (after (8192 + 1536 * i) bufferOctets a) q ∙ lent-frame a d s v x i es hd hs hi hl)
 
 -- ---- parts
 
-pub buffer-is : (a : List ℕ) (i : ℕ) → take ((32768 + 1536 * i + 1518) - (32768 + 1536 * i)) (drop (32768 + 1536 * i) a) ≡ bufferAt a i
+pub buffer-is : (a : List ℕ) (i : ℕ) → take ((32768 + 1536 * i + bufferOctets) - (32768 + 1536 * i)) (drop (32768 + 1536 * i) a) ≡ bufferAt a i
 unfolding bufferAt
-buffer-is a i = let z : (32768 + 1536 * i + 1518) - (32768 + 1536 * i) ≡ 1518 = omega arith in rw z
+buffer-is a i = let z : (32768 + 1536 * i + bufferOctets) - (32768 + 1536 * i) ≡ bufferOctets = omega arith in rw z
 
 pub frame-is : (a : List ℕ) (i n : ℕ) → take ((8192 + 1536 * i + n) - (8192 + 1536 * i)) (drop (8192 + 1536 * i) a) ≡ frameAt a i n
 unfolding frameAt

@@ -21,6 +21,7 @@ use Rattle.area.specs.Offsets.{theClock, theCounters, theStation, theLin
 use Rattle.area.specs.Places.{clock, counters, station, buffer, place, Keeps}
 use Rattle.area.specs.Written.{words-over}
 use Rattle.area.specs.Area.{withClock, withCounters, withStation, octetWith, withBit, heardCode, symbolAt, withArrival}
+use Rattle.frame.specs.Limits.{bufferBits}
 
 -- an octet that is neither the clock's nor any station's, of n stations; frames are only written by offers
 pub record Still (n k : ℕ) : Type 0 where
@@ -47,7 +48,7 @@ module _ (n k : ℕ) (still : Still n k) (x : List ℕ) where
       words-leave k 1 16 (1024 + 64 * i) x cs (λ p q. still .counters i hi (omega arith) (omega arith)) k (omega arith)
       (omega arith)
 
-  pub bit-still : (i m : ℕ) (b : Bool) → i < n → m < 12144 → getD (withBit x i m b) k 0 ≡ getD x k 0
+  pub bit-still : (i m : ℕ) (b : Bool) → i < n → m < bufferBits → getD (withBit x i m b) k 0 ≡ getD x k 0
   unfolding withBit
   bit-still i m b hi h =
       getD-set-other x (32768 + 1536 * i + m / 8) k _ 0 (λ z. still .buffer i hi (omega arith) (omega arith))
@@ -80,7 +81,7 @@ module _ (i : ℕ) (hi : i < 16) (x y : List ℕ) (lx : areaSize ≤ length x) (
   unfolding withCounters Keeps Same
   counters-on cs e k lo up = words-over 16 x y (1024 + 64 * i) cs k (omega arith) (omega arith) (λ a. e k lo up)
 
-  pub bit-on : (m : ℕ) (b : Bool) → m < 12144 → Keeps (buffer i) x y
+  pub bit-on : (m : ℕ) (b : Bool) → m < bufferBits → Keeps (buffer i) x y
       → Keeps (buffer i) (withBit x i m b) (withBit y i m b)
   unfolding Keeps Same withBit
   bit-on m b h e k lo up =

@@ -12,6 +12,7 @@ ghost use Rattle.octets.specs.Bits.{digit};
 ghost use Rattle.packet.specs.Packet.{symbolOf};
 ghost use Rattle.frame.specs.Build.{builtAnswer};
 ghost use Rattle.area.specs.Offsets.{areaSize};
+ghost use Rattle.frame.specs.Limits.{bufferOctets, bufferBits};
 
 pub fn power(p: usize) -> u32
     requires { ⌜ p < 8 ⌝ }
@@ -60,7 +61,7 @@ fn octet_with(x: u8, p: usize, one: bool) -> u8
 
 // Stores collected bit k of station i.
 pub fn store_bit(area: &mut [u8], i: usize, k: usize, one: bool)
-    requires { ⌜ (i < 16) × (k < 12144) × (areaSize ≤ length (now area)) ⌝ }
+    requires { ⌜ (i < 16) × (k < bufferBits) × (areaSize ≤ length (now area)) ⌝ }
     ensures { λ r. ⌜ now (area .exit) ≡ withBit (now (area .entry)) i k one ⌝ }
 {
     let at = 32768 + 1536 * i + k / 8;
@@ -69,7 +70,7 @@ pub fn store_bit(area: &mut [u8], i: usize, k: usize, one: bool)
 
 // Writes octet k of what station i collected.
 pub fn write_octet(area: &mut [u8], i: usize, k: usize, v: u8)
-    requires { ⌜ (i < 16) × (k < 1518) × (areaSize ≤ length (now area)) ⌝ }
+    requires { ⌜ (i < 16) × (k < bufferOctets) × (areaSize ≤ length (now area)) ⌝ }
     ensures { λ r. ⌜ now (area .exit) ≡ withOctet (now (area .entry)) i k v ⌝ }
 {
     area[32768 + 1536 * i + k] = v;
@@ -81,7 +82,7 @@ pub fn buffer(area: &[u8], i: usize) -> &[u8]
     ensures { λ r. ⌜ now r ≡ bufferAt (now (area .entry)) i ⌝ }
 {
     let at = 32768 + 1536 * i;
-    let end = at + 1518;
+    let end = at + frame::limits::BUFFER;
     &area[at..end]
 }
 
@@ -118,6 +119,6 @@ pub fn build_frame(
 {
     let source = area::read_address(area, i);
     let at = 8192 + 1536 * i;
-    let end = at + 1518;
+    let end = at + frame::limits::BUFFER;
     frame::builder::build(&mut area[at..end], destination, source, value, payload)
 }

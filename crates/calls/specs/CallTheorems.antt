@@ -17,7 +17,7 @@ use Rattle.layout.specs.declared.Layout.{Layout}
 use Rattle.layout.specs.Check.{refusalOf}
 use Rattle.sheet.specs.Sheet.{readSheet}
 use Rattle.draws.specs.Draws.{drawsIn}
-use Rattle.frame.specs.Limits.{maxFrame, refusesData}
+use Rattle.frame.specs.Limits.{maxFrame, refusesData, bufferOctets}
 use Rattle.frame.specs.Build.{frameOf, built}
 use Rattle.opener.specs.Open.{valueOf as lengthType, dataField, checkWrong, checkError, lengthWrong, unpadded, opened}
 use Rattle.station.specs.Count.{octetsIn}
@@ -188,7 +188,7 @@ frame-told a i out o =
     (λ r. rw (p, q, r) (omega arith, λ h. refl))))
     (λ p. rw p (omega arith, λ h. refl))
   where
-    size : eqb (areaRefusal a) 0 ≡ true → leb (countAt a) i ≡ false → octetsIn (stationAt a i .receiver) ≤ 1518
+    size : eqb (areaRefusal a) 0 ≡ true → leb (countAt a) i ≡ false → octetsIn (stationAt a i .receiver) ≤ bufferOctets
     size p q = read-room a (areaRefusal a) (countAt a) i (octetsIn (stationAt a i .receiver)) (stationAt a i) refl (eqb-true (areaRefusal a) 0 p) o refl (leb-false (countAt a) i q) refl refl
 
 -- the area holds octets, as every lent slice of them does

@@ -18,7 +18,7 @@ use Rattle.layout.specs.CheckLaws.{sound}
 use Rattle.layout.specs.Fit.{fitOf}
 use Rattle.sheet.specs.declared.Sheet.{Sheet}
 use Rattle.sheet.specs.Sheet.{mapOf, stands, width, fieldAt, countIn, layoutIn, sheetSize, Reading, readSheet, sheetAnswer, sheetReading}
-use Rattle.frame.specs.Limits.{maxFrame, refusesData}
+use Rattle.frame.specs.Limits.{maxFrame, refusesData, bufferOctets}
 use Rattle.frame.specs.Build.{frameOf, built}
 use Rattle.opener.specs.Open.{valueOf as lengthType, dataField, checkWrong, checkError, lengthWrong, clientSize, unpadded, opened}
 use Rattle.frame.specs.BuildLaws.{frame-size, data-within}
@@ -128,21 +128,21 @@ check-small : (e : ℕ) → getD (valuesOf (checkError e)) 1 0 < 4294967296
 unfolding checkError
 check-small e = by-test (eqb e 0) (λ p. rw p (omega arith)) (λ p. rw p (omega arith))
 
-client-small : (v n : ℕ) → n ≤ 1518 → clientSize v n < 4294967296
+client-small : (v n : ℕ) → n ≤ bufferOctets → clientSize v n < 4294967296
 unfolding clientSize
 client-small v n h = by-test (leb v 1500) (λ p. rw p (omega (arith, leb-true v 1500 p))) (λ p. rw p (omega arith))
 
-rules-small : (v : ℕ) (l : List ℕ) → length l ≤ 1518 → getD (valuesOf (unpadded v l .status)) 1 0 < 4294967296
+rules-small : (v : ℕ) (l : List ℕ) → length l ≤ bufferOctets → getD (valuesOf (unpadded v l .status)) 1 0 < 4294967296
 unfolding unpadded
 rules-small v l h = by-test (lengthWrong v (length l)) (λ p. rw p (omega arith)) (λ p. rw p (client-small v (length l) h))
 
-field-small : (f : List ℕ) → length f ≤ 1518 → length (dataField f) ≤ 1518
+field-small : (f : List ℕ) → length f ≤ bufferOctets → length (dataField f) ≤ bufferOctets
 unfolding dataField
 field-small f h = omega (arith, length-take (length f - 18) (drop 14 f), length-drop 14 f)
 
-frame-small : (v n : ℕ) → ltb (maxFrame v) n ≡ false → n ≤ 1518
+frame-small : (v n : ℕ) → ltb (maxFrame v) n ≡ false → n ≤ bufferOctets
 unfolding maxFrame
-frame-small v n p = ltb-false 1518 n p
+frame-small v n p = ltb-false bufferOctets n p
 
 pub open-small : (s : Bool) (f : List ℕ) (e : ℕ) → getD (valuesOf (opened s f e .status)) 1 0 < 4294967296
 unfolding opened
@@ -160,7 +160,7 @@ build-low l d s v x =
     (λ p. by-test (ltb (length l) (length (frameOf d s v x))) (λ q. rw (p, q) (omega arith))
     (λ q. rw (p, q) (omega arith)))
 
-pub build-size : (l d s : List ℕ) (v : ℕ) (x : List ℕ) → length d ≡ 6 → length s ≡ 6 → valueOf (built l d s v x .answer) ≤ 1518
+pub build-size : (l d s : List ℕ) (v : ℕ) (x : List ℕ) → length d ≡ 6 → length s ≡ 6 → valueOf (built l d s v x .answer) ≤ bufferOctets
 unfolding built
 build-size l d s v x hd hs =
     by-test (refusesData v (length x)) (λ p. rw p (omega arith))

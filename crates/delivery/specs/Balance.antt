@@ -14,7 +14,7 @@ use Rattle.octets.specs.Bits.{digit}
 use Rattle.octets.specs.Number.{get}
 use Rattle.octets.specs.Words.{wordsAt}
 use Rattle.octets.specs.WordsLaws.{length-words, word-at}
-use Rattle.frame.specs.Limits.{refusesData}
+use Rattle.frame.specs.Limits.{refusesData, bufferOctets}
 use Rattle.frame.specs.Build.{frameOf}
 use Rattle.layout.specs.declared.Figures.{Figures}
 use Rattle.layout.specs.declared.Layout.{Layout}
@@ -252,7 +252,7 @@ waits : (s : Station) (n : ℕ) → offers.offeredStation s n .transmitter ≡ W
 unfolding offers.offeredStation
 waits s n = refl
 
-module _ (a f : List ℕ) (i : ℕ) (p : Passing a) (hi : i < countAt a) (low : 64 ≤ length f) (high : length f ≤ 1518) (free : offers.holds (stationAt a i .transmitter) ≡ false) where
+module _ (a f : List ℕ) (i : ℕ) (p : Passing a) (hi : i < countAt a) (low : 64 ≤ length f) (high : length f ≤ bufferOctets) (free : offers.holds (stationAt a i .transmitter) ≡ false) where
   own-balanced : Balanced a i → Balanced (holding a f i) i
   own-balanced v =
       let cs = countersAt a i in

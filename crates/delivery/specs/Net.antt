@@ -33,6 +33,7 @@ use Rattle.trace.specs.Run as run
 use Rattle.delivery.specs.Passing.{freshStation, start-station, start-passing}
 use Rattle.delivery.specs.Encode.{Plan, Encodes}
 use Rattle.area.specs.Offsets.{areaSize}
+use Rattle.frame.specs.Limits.{bufferOctets}
 
 abbrev pub netOf : List ℕ → Net
 netOf b =
@@ -97,7 +98,7 @@ module _ (b : List ℕ) (v : Passing b) where
         depth = r .depth .0;
         address = λ i h. address-six b i (omega arith) (r .long);
         wide = o;
-        room = λ i h. omega (arith, length-part b (32768 + 1536 * i) 1518 (omega (arith, r .long)));
+        room = λ i h. omega (arith, length-part b (32768 + 1536 * i) bufferOctets (omega (arith, r .long)));
         metric = record {
           symm = dist-symm b;
           tri = dist-tri b;

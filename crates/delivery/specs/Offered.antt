@@ -21,6 +21,7 @@ use Rattle.delivery.specs.Passing.{holding, elsewhere, offer-layout, off
 use Rattle.meeting.specs.Meet.{Ends}
 use Rattle.delivery.specs.Encode.{Plan, Encodes, plan-by, frame-room}
 use Rattle.area.specs.Offsets.{areaSize}
+use Rattle.frame.specs.Limits.{bufferOctets}
 
 holding-length : (a f : List ℕ) (i : ℕ) → length (holding a f i) ≡ length a
 unfolding withOffered withHeld
@@ -41,7 +42,7 @@ unfolding offeredStation
 sized s n = refl
 
 module _ (P : Net) (a : List ℕ) (w : World) (e : Encodes P a w) (v : Passing a) (o : Offer P) (hi : o .to < P .n) (free : holds (w .station (o .to) .transmitter) ≡ false)
-    (f : List ℕ) (ef : f ≡ frameFor P o) (low : 64 ≤ length f) (high : length f ≤ 1518) where
+    (f : List ℕ) (ef : f ≡ frameFor P o) (low : 64 ≤ length f) (high : length f ≤ bufferOctets) where
   there : o .to < countAt a
   there = omega (arith, e .plan .count)
 

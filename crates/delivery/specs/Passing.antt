@@ -13,7 +13,7 @@ use Rattle.octets.specs.BaseLaws.{by-test, by-eq, refused-none, within}
 use Rattle.octets.specs.Number.{get}
 use Rattle.octets.specs.Words.{wordsAt}
 use Rattle.octets.specs.WordsLaws.{Small, length-words}
-use Rattle.frame.specs.Limits.{refusesData}
+use Rattle.frame.specs.Limits.{refusesData, bufferOctets}
 use Rattle.frame.specs.Build.{frameOf}
 use Rattle.frame.specs.BuildLaws.{frame-size, data-within}
 use Rattle.layout.specs.declared.Figures.{Figures}
@@ -159,7 +159,7 @@ started-passes a y d ds w h = by-start a y d ds Passing h (λ big ok low high. s
 
 -- ---- an offer
 
-offered-fine : (f : Figures) → Figured f → (d t : ℕ) (s : Station) (n : ℕ) → 64 ≤ n → n ≤ 1518 → Fine f d t s → Fine f d t (offeredStation s n)
+offered-fine : (f : Figures) → Figured f → (d t : ℕ) (s : Station) (n : ℕ) → 64 ≤ n → n ≤ bufferOctets → Fine f d t s → Fine f d t (offeredStation s n)
 unfolding offeredStation
 offered-fine f g d t s n p q v =
     record { gap = v .gap; number = tt; attempts = g .limit .0; frame = (p, q); receiver = v .receiver; draw = v .draw; wide = omega arith }
@@ -173,7 +173,7 @@ abbrev pub holding : (a f : List ℕ) (i : ℕ) → List ℕ
 holding a f i = withOffered (withHeld (withFrame a i f) i (length f)) i
 
 -- what an accepted offer leaves, whatever frame is written, of 64..1518 octets
-module _ (a f : List ℕ) (i : ℕ) (v : Passing a) (hi : i < countAt a) (low : 64 ≤ length f) (high : length f ≤ 1518) where
+module _ (a f : List ℕ) (i : ℕ) (v : Passing a) (hi : i < countAt a) (low : 64 ≤ length f) (high : length f ≤ bufferOctets) where
   r : Readiness a
   r = v .ready
 
@@ -311,7 +311,7 @@ module _ (a f : List ℕ) (i : ℕ) (v : Passing a) (hi : i < countAt a) (low : 
 
 -- the frame of an accepted offer is one
 pub frame-range : (d s : List ℕ) (v : ℕ) (x : List ℕ) → length d ≡ 6 → length s ≡ 6 → refusesData v (length x) ≡ false
-    → (64 ≤ length (frameOf d s v x)) × (length (frameOf d s v x) ≤ 1518)
+    → (64 ≤ length (frameOf d s v x)) × (length (frameOf d s v x) ≤ bufferOctets)
 frame-range d s v x hd hs h = let n = frame-size d s v x hd hs in let w = data-within v (length x) h in (omega arith, omega arith)
 
 pub offered-passes : (a : List ℕ) (i : ℕ) (d : List ℕ) (v : ℕ) (x : List ℕ) → length d ≡ 6 → Passing a → Passing (offered a i d v x .octets)

@@ -15,7 +15,7 @@ use Rattle.octets.specs.Base.{pick, numberOf}
 use Rattle.octets.specs.BaseLaws.{by-test, by-eq}
 use Rattle.octets.specs.Filled.{filled-at}
 use Rattle.octets.specs.NumberLaws.{Octets}
-use Rattle.frame.specs.Limits.{refusesData}
+use Rattle.frame.specs.Limits.{refusesData, bufferOctets}
 use Rattle.frame.specs.Build.{frameOf}
 use Rattle.packet.specs.declared.Heard.{Heard}
 use Rattle.transmitter.specs.declared.TransmitEvent.{TransmitEvent}
@@ -331,7 +331,7 @@ module _ (P : Net) (m : Moment) (w : World) (r : Row P m w) (i : ℕ) (d : List 
   still-free : holds (w .station i .transmitter) ≡ false
   still-free = ap (λ (s : Station). holds (s .transmitter)) (sym (r .coded .state i inside)) ∙ k .free
 
-  sizes : (64 ≤ length built) × (length built ≤ 1518)
+  sizes : (64 ≤ length built) × (length built ≤ bufferOctets)
   unfolding built
   sizes =
       let few = r .passing .ready .spread .few in

@@ -48,6 +48,7 @@ use Rattle.fast_heard.specs.Hearing.{planOf, emits, emitsAt, heldAt, goesOn}
 use Rattle.fast_heard.specs.NearLaws.{silent-off}
 use Rattle.layout.specs.Limits.{lastClock}
 use Rattle.area.specs.Offsets.{areaSize}
+use Rattle.frame.specs.Limits.{bufferOctets}
 
 calm-bits : (m : ℕ) (r : Receiver) → 0 < m → bitsIn (calmed m r) ≡ 0
 unfolding calmed
@@ -180,7 +181,7 @@ module _ (a : List ℕ) (r : Readiness a) (j : ℕ) (hj : j < countAt a) where
       now = stationAt (after s) j
 
       range : rowIn (stationAt (after s) j .receiver) < 512
-      range = fine-room (figuresAt a) (r .figures) (depthAt a) (clockAt a + s) (stationAt (after s) j) (r .depth .1) (omega arith) (moves s (omega arith) .fine) 1518 (omega arith) .row
+      range = fine-room (figuresAt a) (r .figures) (depthAt a) (clockAt a + s) (stationAt (after s) j) (r .depth .1) (omega arith) (moves s (omega arith) .fine) bufferOctets (omega arith) .row
 
       small : receiverNumber (stationAt (after s) j .receiver) < 256 ^ 4
       small = fine-fit (figuresAt a) (r .figures) (depthAt a) (clockAt a + s) (stationAt (after s) j) (r .depth .1) (omega arith) (moves s (omega arith) .fine) .received
@@ -281,7 +282,7 @@ module _ (a : List ℕ) (r : Readiness a) (j : ℕ) (hj : j < countAt a) where
 
   module _ (m : ℕ) (pos : 0 < m) (early : clockAt a + m ≤ lastClock) (busy : stationAt a j .deference ≡ Busy true)
       (on : stationAt a j .emitted ≡ true)
-      (lasts : m ≤ emitsFor (stationAt a j .frame) (stationAt a j .transmitter)) (octets : stationAt a j .frame ≤ 1518) where
+      (lasts : m ≤ emitsFor (stationAt a j .frame) (stationAt a j .transmitter)) (octets : stationAt a j .frame ≤ bufferOctets) where
     as-planned : (k : ℕ) → symbolOf (frameAt a j (stationAt a j .frame)) (emittedAt k (stationAt a j .transmitter)) ≡ planOf a j k
     unfolding planOf heldAt
     as-planned k =
@@ -311,7 +312,7 @@ module _ (a : List ℕ) (r : Readiness a) (j : ℕ) (hj : j < countAt a) where
     unfolding AllHeard
     emits-heard all none =
         let u = stationAt a j in
-        let room = fine-room (figuresAt a) (r .figures) (depthAt a) (clockAt a) u (r .depth .1) (omega arith) (r .fine j hj) 1518 (omega arith) in
+        let room = fine-room (figuresAt a) (r .figures) (depthAt a) (clockAt a) u (r .depth .1) (omega arith) (r .fine j hj) bufferOctets (omega arith) in
         calm-by (keptBy true (hears a (planOf a) j) (u .receiver)) (emitOn (figuresAt a) m (receivedBy true (hears a (planOf a) j) m (u .receiver)) u)
         (emit-segment (figuresAt a) (depthAt a) j (clockAt a) a starts-moving m pos (omega arith) (hears a (planOf a) j) true
         (λ k. receivedBy true (hears a (planOf a) j) k (u .receiver)) (keptBy true (hears a (planOf a) j) (u .receiver))

@@ -44,6 +44,7 @@ use Rattle.fast_bound.specs.declared.Ahead.{Ahead}
 use Rattle.fast_bound.specs.Foresee.{Foreseen, bits-clock, foreseen-start, foreseen-heard, foreseen-rest, emits-unheard, emits-heard}
 use Rattle.fast_bound.specs.Bound.{restSteps, hearSteps, restedTo, heardTo, restAhead, hearAhead, ahead, aheadOf, ownBusy, sends, unhurt, emitsWith, emitSteps, isLike, Alike, CalmFor, CalmIf, CalmAmong, AllLast, ReadFrom, NearTo, Underway}
 use Rattle.layout.specs.Limits.{lastClock}
+use Rattle.frame.specs.Limits.{bufferOctets}
 
 -- ---- in a run of any kind but silence others are heard
 
@@ -190,7 +191,7 @@ not-sending : (x : Transmitter) → not (sends x) ≡ true → (i : ℕ) → x �
 unfolding sends
 not-sending x h i e = true≢false (ap sends (sym e) ∙ not-true (sends x) h)
 
-frame-held : (x : Transmitter) (z : ℕ) → emits x ≡ true → FrameIn x z → z ≤ 1518
+frame-held : (x : Transmitter) (z : ℕ) → emits x ≡ true → FrameIn x z → z ≤ bufferOctets
 frame-held NoFrame z e h = absurd (true≢false (sym e))
 frame-held Waiting z e h = h .1
 frame-held (BackingOff w) z e h = h .1
@@ -198,7 +199,7 @@ frame-held (Sending k) z e h = h .1
 frame-held (Heading k) z e h = h .1
 frame-held (Jamming k) z e h = h .1
 
-frame-most : (a : List ℕ) (r : Readiness a) (j : ℕ) → j < countAt a → emitsAt a j ≡ true → stationAt a j .frame ≤ 1518
+frame-most : (a : List ℕ) (r : Readiness a) (j : ℕ) → j < countAt a → emitsAt a j ≡ true → stationAt a j .frame ≤ bufferOctets
 unfolding emitsAt
 frame-most a r j hj on = frame-held (stationAt a j .transmitter) (stationAt a j .frame) on (r .fine j hj .frame)
 

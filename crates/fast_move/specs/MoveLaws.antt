@@ -43,6 +43,7 @@ use Rattle.fast_segment.specs.Segments.{Segment, heard-segment, emit-segment, r
 use Rattle.fast_stretch.specs.Stretch.{heardStretch, quietStretch, movedOn, quietOn}
 use Rattle.fast_move.specs.Move.{heardIn, isHeard, emitting, isBusyOwn, sending, restsAll, hearsAll, emitsAll, canMove, stretched, Moving}
 use Rattle.layout.specs.Limits.{lastClock}
+use Rattle.frame.specs.Limits.{bufferOctets}
 
 -- ---- the tests
 
@@ -88,7 +89,7 @@ is-idle (Collecting n sp own) e = absurd (true≢false (sym e))
 not-sending : (x : Transmitter) (k : ℕ) → not (sending x) ≡ true → x ≡ Sending k → ⊥
 not-sending x k e p = true≢false (sym (ap sending p) ∙ not-yes (sending x) e)
 
-pub frame-small : (x : Transmitter) (z : ℕ) → emitting x ≡ true → FrameIn x z → z ≤ 1518
+pub frame-small : (x : Transmitter) (z : ℕ) → emitting x ≡ true → FrameIn x z → z ≤ bufferOctets
 frame-small NoFrame z e h = absurd (true≢false (sym e))
 frame-small Waiting z e h = h .1
 frame-small (BackingOff w) z e h = h .1
@@ -126,7 +127,7 @@ module _ (f : Figures) (D j u : ℕ) (x : List ℕ) (v : Moves f D j u x) (m : �
   r = stationAt x j .receiver
 
   row : rowIn (stationAt x j .receiver) < 512
-  row = fine-room f (v .figured) D u (stationAt x j) (v .depth .1) (omega arith) (v .fine) 1518 (omega arith) .row
+  row = fine-room f (v .figured) D u (stationAt x j) (v .depth .1) (omega arith) (v .fine) bufferOctets (omega arith) .row
 
   number : receiverNumber (stationAt x j .receiver) < 256 ^ 4
   number = fine-fit f (v .figured) D u (stationAt x j) (v .depth .1) (omega arith) (v .fine) .received

@@ -30,12 +30,13 @@ use Rattle.fast_receive.specs.ReceivedLaws.{hear-range, heard-split, hea
 use Rattle.fast_receive.specs.Copy.{octets-copied}
 use Rattle.fast_receive.specs.Zeros.{lowKept, blanks, zeroed, zeroedUpTo, zeros-stored, spoiled-seeking, spoiled-listening, spoiled-readable, spoiled-collecting}
 use Rattle.area.specs.Offsets.{areaSize}
+use Rattle.frame.specs.Limits.{bufferOctets, bufferBits}
 
 -- ---- one step
 
 stored-kept : (n : ℕ) (b : Bool) → Kept (storedBit n b)
 unfolding storedBit
-stored-kept n b = by-test (ltb n 12144) (λ c. rw c (ltb-true n 12144 c)) (λ c. rw c tt)
+stored-kept n b = by-test (ltb n bufferBits) (λ c. rw c (ltb-true n bufferBits c)) (λ c. rw c tt)
 
 hear-kept : (r : Receiver) (clean b e : Bool) → Kept (hear r clean b e .stored)
 unfolding hear seek seekBit collect collectBit
@@ -136,7 +137,7 @@ stay-bits t bits s sp own p = omega (arith, ap bitsIn p)
 
 pub octets-heard : (j : ℕ) (e : Bool) (F : List ℕ) (a bits m n : ℕ) (sp own o : Bool) (x y : List ℕ) → j < 16
     → areaSize ≤ length x → ((k : ℕ) → getD F k 0 < 256) → 65 ≤ a
-    → (a - 65) % 8 ≡ 0 → bits % 8 ≡ 0 → (8 * n ≤ m) × (n ≤ length F - (a - 65) / 8) × (n ≤ 1518 - bits / 8)
+    → (a - 65) % 8 ≡ 0 → bits % 8 ≡ 0 → (8 * n ≤ m) × (n ≤ length F - (a - 65) / 8) × (n ≤ bufferOctets - bits / 8)
     → (n ≡ 0 → ⊥) → o ≡ (own || e) → y ≡ copied j (bits / 8) ((a - 65) / 8) n F x
     → taken (Collecting (bits + 8 * n) sp o) y ≡ heardAll j e (bitsFrom F a) (8 * n) (taken (Collecting bits sp own) x)
 octets-heard j e F a bits m n sp own o x y hj room small ha u v b ne w g =
@@ -168,16 +169,16 @@ module _ (j : ℕ) (e : Bool) (F : List ℕ) (r : Receiver) (x : List ℕ) where
 
 -- ---- spoiled symbols
 
-pub buffer-long : (x b : List ℕ) (j : ℕ) → b ≡ bufferAt x j → j < 16 → areaSize ≤ length x → length b ≡ 1518
+pub buffer-long : (x b : List ℕ) (j : ℕ) → b ≡ bufferAt x j → j < 16 → areaSize ≤ length x → length b ≡ bufferOctets
 unfolding bufferAt
-buffer-long x b j e hj room = ap length e ∙ length-part x (32768 + 1536 * j) 1518 (omega arith)
+buffer-long x b j e hj room = ap length e ∙ length-part x (32768 + 1536 * j) bufferOctets (omega arith)
 
-pub low-kept : (j q p old unit low : ℕ) (x y b : List ℕ) → q < 1518 → y ≡ withOctet x j q low → low ≡ old % unit
+pub low-kept : (j q p old unit low : ℕ) (x y b : List ℕ) → q < bufferOctets → y ≡ withOctet x j q low → low ≡ old % unit
     → unit ≡ 2 ^ p → old ≡ getD b q 0 → b ≡ bufferAt x j → y ≡ lowKept j q p x
 unfolding lowKept bufferAt
 low-kept j q p old unit low x y b h e l u o w =
     let at = 32768 + 1536 * j in
-    let g : getD (part x at 1518) q 0 ≡ getD x (at + q) 0 = getD-take 1518 (drop at x) q 0 h ∙ getD-drop at x q 0 in
+    let g : getD (part x at bufferOctets) q 0 ≡ getD x (at + q) 0 = getD-take bufferOctets (drop at x) q 0 h ∙ getD-drop at x q 0 in
     e ∙ ap (withOctet x j q) (l ∙ ap (λ (k : ℕ). old % k) u ∙ ap (λ (k : ℕ). k % 2 ^ p) (o ∙ ap (λ (k : List ℕ). getD k q 0) w ∙ g))
 
 module _ (j q : ℕ) (x : List ℕ) where
@@ -195,14 +196,14 @@ module _ (j q : ℕ) (x : List ℕ) where
   blanks-end n k y h g e = turns-end _ n k x y h g e
 
 module _ (j c m : ℕ) (x : List ℕ) where
-  pub zeros-past : 12144 ≤ c → x ≡ zeroedUpTo j c m x
+  pub zeros-past : bufferBits ≤ c → x ≡ zeroedUpTo j c m x
   unfolding zeroedUpTo
-  zeros-past h = rw (le-ltb c 12144 h)
+  zeros-past h = rw (le-ltb c bufferBits h)
 
-  pub zeros-in : (n : ℕ) (y z : List ℕ) → c < 12144 → 0 < m → n ≡ min m (12144 - c) → y ≡ lowKept j (c / 8) (c % 8) x
+  pub zeros-in : (n : ℕ) (y z : List ℕ) → c < bufferBits → 0 < m → n ≡ min m (bufferBits - c) → y ≡ lowKept j (c / 8) (c % 8) x
       → z ≡ blanks j (c / 8) ((c + n - 1) / 8 - c / 8) y → z ≡ zeroedUpTo j c m x
   unfolding zeroedUpTo zeroed
-  zeros-in n y z h g e p q = rw (lt-ltb c 12144 h, lt-ltb 0 m g) (q ∙ ap (blanks j (c / 8) ((c + n - 1) / 8 - c / 8)) p ∙ ap (λ (k : ℕ). blanks j (c / 8) ((c + k - 1) / 8 - c / 8) (lowKept j (c / 8) (c % 8) x)) e)
+  zeros-in n y z h g e p q = rw (lt-ltb c bufferBits h, lt-ltb 0 m g) (q ∙ ap (blanks j (c / 8) ((c + n - 1) / 8 - c / 8)) p ∙ ap (λ (k : ℕ). blanks j (c / 8) ((c + k - 1) / 8 - c / 8) (lowKept j (c / 8) (c % 8) x)) e)
 
 module _ (j : ℕ) (e : Bool) (m : ℕ) (r : Receiver) (x : List ℕ) where
   pub spoiled-none : m ≡ 0 → taken r x ≡ heardAll j e spoils m (taken r x)

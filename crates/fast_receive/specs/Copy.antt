@@ -22,6 +22,7 @@ use Rattle.fast_plan.specs.Goes.{storedAll}
 use Rattle.fast_receive.specs.Received.{Taken, taken, stepTaken, heardAll, bitsFrom, copied}
 use Rattle.fast_receive.specs.ReceivedLaws.{turns-add}
 use Rattle.area.specs.Offsets.{areaSize}
+use Rattle.frame.specs.Limits.{bufferOctets, bufferBits}
 
 -- ---- one octet
 
@@ -45,7 +46,7 @@ grown (suc (suc (suc (suc (suc (suc (suc (suc m)))))))) v h = absurd (omega arit
 first-bit : (o v : ℕ) → o % 2 ^ 0 + (v / 2 ^ 0 % 2) * 2 ^ 0 ≡ v % 2 ^ 1
 first-bit o v = omega arith
 
-module _ (i q : ℕ) (x : List ℕ) (hi : i < 16) (hq : q < 1518) (room : areaSize ≤ length x) (v : ℕ) (small : v < 256) (bit : ℕ → Bool) (is : (s : ℕ) → s < 8 → bit s ≡ eqb (v / 2 ^ s % 2) 1) where
+module _ (i q : ℕ) (x : List ℕ) (hi : i < 16) (hq : q < bufferOctets) (room : areaSize ≤ length x) (v : ℕ) (small : v < 256) (bit : ℕ → Bool) (is : (s : ℕ) → s < 8 → bit s ≡ eqb (v / 2 ^ s % 2) 1) where
   abbrev pub st : ℕ → Stored
   st s = storedBit (8 * q + s) (bit s)
 
@@ -55,7 +56,7 @@ module _ (i q : ℕ) (x : List ℕ) (hi : i < 16) (hq : q < 1518) (room : areaSi
   one-bit s y h =
       let e : (8 * q + s) / 8 ≡ q = omega arith in
       let m : (8 * q + s) % 8 ≡ s = omega arith in
-      rw (lt-ltb (8 * q + s) 12144 (omega arith), e, m, is s h)
+      rw (lt-ltb (8 * q + s) bufferBits (omega arith), e, m, is s h)
 
   low-bits : (m : ℕ) → suc m ≤ 8 → storedAll i st (suc m) x ≡ withOctet x i q (v % 2 ^ (suc m))
   unfolding storedAll turns withOctet octetWith
@@ -93,7 +94,7 @@ length-copied : (j q p m : ℕ) (F x : List ℕ) → length (copied j q p m F x)
 unfolding copied withOctet
 length-copied j q p m F x = length-turns _ m x (λ u y. length-set y _ _)
 
-pub copied-bits : (j q p m : ℕ) (F x : List ℕ) → j < 16 → areaSize ≤ length x → q + m ≤ 1518 → p + m ≤ length F
+pub copied-bits : (j q p m : ℕ) (F x : List ℕ) → j < 16 → areaSize ≤ length x → q + m ≤ bufferOctets → p + m ≤ length F
     → ((k : ℕ) → getD F k 0 < 256)
     → storedAll j (λ s. storedBit (8 * q + s) (packetBit F (65 + (8 * p + s)))) (8 * m) x ≡ copied j q p m F x
 unfolding storedAll turns copied
@@ -146,7 +147,7 @@ module _ (j : ℕ) (e : Bool) (bit : ℕ → Bool) (c : ℕ) (sp own : Bool) (x 
 
 -- whole octets of a packet: collected bit c and packet bit a both begin one
 pub octets-copied : (j : ℕ) (e : Bool) (F : List ℕ) (c a q p n : ℕ) (sp own : Bool) (x : List ℕ) → j < 16
-    → areaSize ≤ length x → ((k : ℕ) → getD F k 0 < 256) → c ≡ 8 * q → a ≡ 65 + 8 * p → 0 < n → q + n ≤ 1518
+    → areaSize ≤ length x → ((k : ℕ) → getD F k 0 < 256) → c ≡ 8 * q → a ≡ 65 + 8 * p → 0 < n → q + n ≤ bufferOctets
     → p + n ≤ length F
     → heardAll j e (bitsFrom F a) (8 * n) (taken (Collecting c sp own) x) ≡ taken (Collecting (c + 8 * n) sp (own || e)) (copied j q p n F x)
 unfolding bitsFrom

@@ -30,6 +30,7 @@ use Rattle.fast_station.specs.Forms.{calmed}
 use Rattle.fast_receive.specs.Received.{receivedBy, keptBy, AllHeard, mayReport}
 use Rattle.fast_receive.specs.ReceivedLaws.{received-range}
 use Rattle.area.specs.Offsets.{areaSize}
+use Rattle.frame.specs.Limits.{bufferOctets, bufferBits}
 
 -- ---- a law for each way through the code
 
@@ -80,7 +81,7 @@ Past (Store k b) = 48 ≤ k
 
 stored-past : (n : ℕ) (b : Bool) → 48 ≤ n → Past (storedBit n b)
 unfolding storedBit
-stored-past n b h = by-test (ltb n 12144) (λ c. rw c h) (λ c. rw c tt)
+stored-past n b h = by-test (ltb n bufferBits) (λ c. rw c h) (λ c. rw c tt)
 
 far-step : (q : Receiver) (h : Heard) (e : Bool) → hearsAny h ≡ true → Far q
     → Far (receive [] [] q h e .receiver) × Past (receive [] [] q h e .stored)
@@ -120,12 +121,12 @@ module _ (e : Bool) (H : ℕ → Heard) (r : Receiver) (v : Far r) where
       let y = storedAll j (keptBy e H r) m x in
       let ly : length y ≡ length x = length-all j (keptBy e H r) m x in
       let at = 32768 + 1536 * j in
-      let lb : length (part y at 1518) ≡ 1518 = length-part y at 1518 (omega arith) in
-      let lc : length (part x at 1518) ≡ 1518 = length-part x at 1518 (omega arith) in
+      let lb : length (part y at bufferOctets) ≡ bufferOctets = length-part y at bufferOctets (omega arith) in
+      let lc : length (part x at bufferOctets) ≡ bufferOctets = length-part x at bufferOctets (omega arith) in
       ap (λ (d : List ℕ). equal d address || equal d (replicate 6 255))
-      (part-goes-by 6 0 (part y at 1518) (part x at 1518) (omega arith) (omega arith)
-      (λ k lo up. getD-take 1518 (drop at y) k 0 (omega arith) ∙ getD-drop at y k 0 ∙ first-six j k m x a (omega arith)
-      ∙ sym (getD-take 1518 (drop at x) k 0 (omega arith) ∙ getD-drop at x k 0)))
+      (part-goes-by 6 0 (part y at bufferOctets) (part x at bufferOctets) (omega arith) (omega arith)
+      (λ k lo up. getD-take bufferOctets (drop at y) k 0 (omega arith) ∙ getD-drop at y k 0 ∙ first-six j k m x a (omega arith)
+      ∙ sym (getD-take bufferOctets (drop at x) k 0 (omega arith) ∙ getD-drop at x k 0)))
 
 -- ---- the station's own emission stays known
 
@@ -272,7 +273,7 @@ module _ (address : List ℕ) (j : ℕ) (e : Bool) (H : ℕ → Heard) (m more :
 
 pub six-long : (x b : List ℕ) (j : ℕ) → b ≡ bufferAt x j → j < 16 → areaSize ≤ length x → 6 ≤ length b
 unfolding bufferAt
-six-long x b j e hj room = omega (arith, ap length e, length-part x (32768 + 1536 * j) 1518 (omega arith))
+six-long x b j e hj room = omega (arith, ap length e, length-part x (32768 + 1536 * j) bufferOctets (omega arith))
 
 pub destination-is : (x address b : List ℕ) (j : ℕ) (r : Bool) → r ≡ addressed address b → address ≡ addressAt x j
     → b ≡ bufferAt x j → r ≡ addressed (addressAt x j) (bufferAt x j)

@@ -25,6 +25,7 @@ use Rattle.fast_receive.specs.Received.{Taken, taken, stepTaken, heardAl
 use Rattle.fast_receive.specs.ReceivedLaws.{turns-add}
 use Rattle.fast_receive.specs.Copy.{or-twice}
 use Rattle.area.specs.Offsets.{areaSize}
+use Rattle.frame.specs.Limits.{bufferOctets, bufferBits}
 
 -- octets q + 1 .. q + n of the buffer of station i are 0
 unfoldable pub blanks : (i q n : ℕ) → List ℕ → List ℕ
@@ -47,13 +48,13 @@ unfolding blanks withOctet
 length-blanks i q n x = length-turns _ n x (λ u y. length-set y _ _)
 
 -- one zero
-one-zero : (i k : ℕ) (y : List ℕ) → k < 12144
+one-zero : (i k : ℕ) (y : List ℕ) → k < bufferBits
     → withStored i (storedBit k false) y ≡ withOctet y i (k / 8) (getD y (32768 + 1536 * i + k / 8) 0 % 2 ^ (k % 8))
 unfolding storedBit withBit withOctet octetWith
 one-zero i k y h =
     let o = getD y (32768 + 1536 * i + k / 8) 0 % 2 ^ (k % 8) in
     let z : o + 0 * 2 ^ (k % 8) ≡ o = omega arith in
-    rw (lt-ltb k 12144 h) (ap (set y (32768 + 1536 * i + k / 8)) z)
+    rw (lt-ltb k bufferBits h) (ap (set y (32768 + 1536 * i + k / 8)) z)
 
 -- a zero on an octet that has fewer bits already changes nothing
 no-change : (i q p : ℕ) (y : List ℕ) → getD y (32768 + 1536 * i + q) 0 < 2 ^ p
@@ -62,7 +63,7 @@ unfolding withOctet
 no-change i q p y h = ap (set y (32768 + 1536 * i + q)) (mod-eq-of-lt h) ∙ set-getD y (32768 + 1536 * i + q) 0
 
 -- the last octet written
-last-low : (i q p s n : ℕ) (x : List ℕ) → i < 16 → q + n < 1518 → areaSize ≤ length x → (n ≡ 0 → p ≤ s)
+last-low : (i q p s n : ℕ) (x : List ℕ) → i < 16 → q + n < bufferOctets → areaSize ≤ length x → (n ≡ 0 → p ≤ s)
     → getD (blanks i q n (lowKept i q p x)) (32768 + 1536 * i + (q + n)) 0 < 2 ^ s
 unfolding blanks lowKept withOctet turns
 last-low i q p s zero x hi h room le =
@@ -91,7 +92,7 @@ unfolding storedAll turns
 none-stored i st x = refl
 
 -- m zeros stored one by one
-pub zeros-kept : (i c m : ℕ) (x : List ℕ) → i < 16 → areaSize ≤ length x → c + suc m ≤ 12144
+pub zeros-kept : (i c m : ℕ) (x : List ℕ) → i < 16 → areaSize ≤ length x → c + suc m ≤ bufferBits
     → storedAll i (λ s. storedBit (c + s) false) (suc m) x ≡ zeroed i c (suc m) x
 unfolding storedAll turns zeroed
 zeros-kept i c zero x hi room h =
@@ -119,27 +120,27 @@ zeros-kept i c (suc m) x hi room h =
     ∙ ap (λ (u : ℕ). blanks i q u z) (sym b))
 
 -- past the largest frame nothing is kept
-pub past-kept : (i c m : ℕ) (bit : ℕ → Bool) (x : List ℕ) → 12144 ≤ c
+pub past-kept : (i c m : ℕ) (bit : ℕ → Bool) (x : List ℕ) → bufferBits ≤ c
     → storedAll i (λ s. storedBit (c + s) (bit s)) m x ≡ x
 unfolding storedAll turns storedBit
 past-kept i c zero bit x h = refl
-past-kept i c (suc m) bit x h = rw (le-ltb (c + m) 12144 (omega arith)) (past-kept i c m bit x h)
+past-kept i c (suc m) bit x h = rw (le-ltb (c + m) bufferBits (omega arith)) (past-kept i c m bit x h)
 
 -- m zeros, wherever they begin and end
 unfoldable pub zeroedUpTo : (i c m : ℕ) → List ℕ → List ℕ
-zeroedUpTo i c m x = pick (ltb c 12144) (pick (ltb 0 m) (zeroed i c (min m (12144 - c)) x) x) x
+zeroedUpTo i c m x = pick (ltb c bufferBits) (pick (ltb 0 m) (zeroed i c (min m (bufferBits - c)) x) x) x
 
-none-past : (i c a b : ℕ) (y : List ℕ) → (0 < b → 12144 ≤ c + a)
+none-past : (i c a b : ℕ) (y : List ℕ) → (0 < b → bufferBits ≤ c + a)
     → turns (λ s z. withStored i (storedBit (c + (a + s)) false) z) b y ≡ y
 unfolding turns storedBit
 none-past i c a zero y h = refl
-none-past i c a (suc b) y h = let g : 12144 ≤ c + a = h (omega arith) in rw (le-ltb (c + (a + b)) 12144 (omega arith)) (none-past i c a b y (λ k. g))
+none-past i c a (suc b) y h = let g : bufferBits ≤ c + a = h (omega arith) in rw (le-ltb (c + (a + b)) bufferBits (omega arith)) (none-past i c a b y (λ k. g))
 
-all-kept : (i c m : ℕ) (x : List ℕ) → i < 16 → areaSize ≤ length x → c < 12144 → 0 < m
-    → storedAll i (λ s. storedBit (c + s) false) m x ≡ zeroed i c (min m (12144 - c)) x
+all-kept : (i c m : ℕ) (x : List ℕ) → i < 16 → areaSize ≤ length x → c < bufferBits → 0 < m
+    → storedAll i (λ s. storedBit (c + s) false) m x ≡ zeroed i c (min m (bufferBits - c)) x
 unfolding storedAll
 all-kept i c m x hi room h pos =
-    let a = min m (12144 - c) in
+    let a = min m (bufferBits - c) in
     let b = m - a in
     let W : ℕ → List ℕ → List ℕ = λ s y. withStored i (storedBit (c + s) false) y in
     let e : m ≡ a + b = omega arith in
@@ -153,11 +154,11 @@ pub zeros-stored : (i c m : ℕ) (x : List ℕ) → i < 16 → areaSize ≤ leng
     → storedAll i (λ s. storedBit (c + s) false) m x ≡ zeroedUpTo i c m x
 unfolding zeroedUpTo
 zeros-stored i c m x hi room =
-    by-test (ltb c 12144)
+    by-test (ltb c bufferBits)
     (λ p. by-test (ltb 0 m)
-    (λ q. rw (p, q) (all-kept i c m x hi room (ltb-true c 12144 p) (ltb-true 0 m q)))
+    (λ q. rw (p, q) (all-kept i c m x hi room (ltb-true c bufferBits p) (ltb-true 0 m q)))
     (λ q. let z : m ≡ 0 = omega (arith, ltb-false 0 m q) in rw (p, q) (ap (λ (k : ℕ). storedAll i (λ s. storedBit (c + s) false) k x) z ∙ none-stored i (λ s. storedBit (c + s) false) x)))
-    (λ p. rw p (past-kept i c m (λ s. false) x (ltb-false c 12144 p)))
+    (λ p. rw p (past-kept i c m (λ s. false) x (ltb-false c bufferBits p)))
 
 -- ---- the fold
 

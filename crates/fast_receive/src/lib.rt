@@ -10,6 +10,7 @@ ghost use Rattle.state.specs.declared.Receiver.the-variants.{Collecting};
 ghost use Rattle.fast_receive.specs.Received.{taken, stepTaken, heardAll, spoils, lineFrom, bitsFrom, AllHeard, copied, mayReport};
 ghost use Rattle.fast_receive.specs.Zeros.{lowKept, blanks, zeroedUpTo};
 ghost use Rattle.area.specs.Offsets.{areaSize};
+ghost use Rattle.frame.specs.Limits.{bufferOctets};
 
 // A receiver after so many steps.
 struct Part {
@@ -127,7 +128,7 @@ fn hear_to_octet(
 
 // Octets q, q + 1, .. of what station j collected are n octets of the frame, from octet p on.
 fn copy_octets(area: &mut [u8], j: usize, frame: &[u8], q: usize, p: usize, n: usize)
-    requires { ⌜ (j < 16) × (areaSize ≤ length (now area)) × (q + n ≤ 1518) × (p + n ≤ length (now frame)) ⌝ }
+    requires { ⌜ (j < 16) × (areaSize ≤ length (now area)) × (q + n ≤ bufferOctets) × (p + n ≤ length (now frame)) ⌝ }
     ensures { λ r. ⌜ now (area .exit) ≡ copied j q p n (now (frame .entry)) (now (area .entry)) ⌝ }
 {
     let mut k: usize = 0;
@@ -139,7 +140,7 @@ fn copy_octets(area: &mut [u8], j: usize, frame: &[u8], q: usize, p: usize, n: u
 
 // The least of the octets that m bits have, that the frame has from octet p on, and that the buffer has from octet q on.
 fn octets_left(size: usize, q: usize, p: usize, m: u32) -> usize
-    ensures { λ r. ⌜ (8 * r ≤ m) × (r ≤ size - p) × (r ≤ 1518 - q) ⌝ }
+    ensures { λ r. ⌜ (8 * r ≤ m) × (r ≤ size - p) × (r ≤ bufferOctets - q) ⌝ }
 {
     if size <= p {
         return 0;
@@ -253,7 +254,7 @@ pub fn hear_packet(
 
 // The low p bits of octet q of what station j collected stay, the others are 0.
 fn keep_low(area: &mut [u8], j: usize, q: usize, p: usize)
-    requires { ⌜ (j < 16) × (areaSize ≤ length (now area)) × (q < 1518) × (p < 8) ⌝ }
+    requires { ⌜ (j < 16) × (areaSize ≤ length (now area)) × (q < bufferOctets) × (p < 8) ⌝ }
     ensures { λ r. ⌜ now (area .exit) ≡ lowKept j q p (now (area .entry)) ⌝ }
 {
     let b = buffers::buffer(area, j);
@@ -265,7 +266,7 @@ fn keep_low(area: &mut [u8], j: usize, q: usize, p: usize)
 
 // The n octets behind octet q of what station j collected become 0.
 fn blank_octets(area: &mut [u8], j: usize, q: usize, n: usize)
-    requires { ⌜ (j < 16) × (areaSize ≤ length (now area)) × (q + n < 1518) ⌝ }
+    requires { ⌜ (j < 16) × (areaSize ≤ length (now area)) × (q + n < bufferOctets) ⌝ }
     ensures { λ r. ⌜ now (area .exit) ≡ blanks j q n (now (area .entry)) ⌝ }
 {
     let mut k: usize = 0;

@@ -21,6 +21,7 @@ use Rattle.pair.specs.Range.{Fine, fine-room, fine-fit, fine-stepped, held-smal
 use Rattle.pair.specs.Ready.{CanAct, Able}
 use Rattle.fast_plan.specs.Own.{outcomeOn, actOn, ownLeft, ownTurn, byItself, by-itself-more, by-itself-none, on-kept, length-itself, itself-stays}
 use Rattle.area.specs.Offsets.{areaSize}
+use Rattle.frame.specs.Limits.{bufferOctets}
 
 -- Station i of area x, at clock t, is in range, and so are the figures and D.
 pub record Moves (f : Figures) (D i t : ℕ) (x : List ℕ) : Type 0 where
@@ -35,7 +36,7 @@ module _ (f : Figures) (D i t : ℕ) (x : List ℕ) (v : Moves f D i t x) where
   unfolding Able
   moves-able h =
       record {
-        room = fine-room f (v .figured) D t (stationAt x i) (v .depth .1) h (v .fine) 1518 (omega arith);
+        room = fine-room f (v .figured) D t (stationAt x i) (v .depth .1) h (v .fine) bufferOctets (omega arith);
         draw = omega (arith, v .fine .draw, v .depth);
         held = held-small (stationAt x i .frame) (stationAt x i .transmitter) (v .fine .frame);
       }

@@ -44,6 +44,7 @@ use Rattle.fast_station.specs.Forms.{heardRest, hearOn, calmed, restOn, emitted
 use Rattle.fast_station.specs.FormLaws.{hear-step, hear-none, hear-address, hear-fit, rest-step, rest-none, rest-address, rest-fit, emit-step, emit-none, emit-address, emit-held, emit-fit}
 use Rattle.fast_segment.specs.Alone.{Moves, address-in}
 use Rattle.area.specs.Offsets.{areaSize}
+use Rattle.frame.specs.Limits.{bufferOctets}
 
 -- what a segment comes to: K turns by itself leave the station q, and the bits st; it emits Q and has no event
 pub record Segment (f : Figures) (D i : ℕ) (H : ℕ → Heard) (Q : ℕ → Symbol) (K : ℕ) (x : List ℕ) (st : ℕ → Stored) (q : Station) : Type 0 where
@@ -126,7 +127,7 @@ module _ (f : Figures) (D i t : ℕ) (x : List ℕ) (v : Moves f D i t x) (K : �
     -- the station emits throughout, whatever it hears; a sender hears nothing
     pub emit-segment : e ≡ true → stationAt x i .deference ≡ Busy true → stationAt x i .emitted ≡ true
         → K ≤ emitsFor (stationAt x i .frame) (stationAt x i .transmitter)
-        → ((m k : ℕ) → m < K → stationAt x i .transmitter ≡ Sending k → H m ≡ Nothing) → stationAt x i .frame ≤ 1518
+        → ((m k : ℕ) → m < K → stationAt x i .transmitter ≡ Sending k → H m ≡ Nothing) → stationAt x i .frame ≤ bufferOctets
         → Segment f D i H (λ m. symbolOf (frameAt x i (stationAt x i .frame)) (emittedAt m (stationAt x i .transmitter))) K x st (emitOn f K (rs K) (stationAt x i))
     emit-segment on busy emitted lasts alone octets =
         form-emits f D i x K pos (v .index) (v .room) (λ m. emitOn f m (rs m) (stationAt x i)) H (λ m. emittedAt m (stationAt x i .transmitter)) st

@@ -57,6 +57,7 @@ use Rattle.fast_heard.specs.SightLaws.{bit-near, bit-from, sight-at}
 use Rattle.fast_window.specs.Window.{bitAt, heardBy, heardFrom, Begins}
 use Rattle.layout.specs.Limits.{lastClock}
 use Rattle.area.specs.Offsets.{areaSize}
+use Rattle.frame.specs.Limits.{bufferOctets}
 
 -- ---- turns that hear alike
 
@@ -168,7 +169,7 @@ station-moved f D j t w k m i e h x y eh ey =
     ey ∙ ap (λ (F : List ℕ). byItself f D j (heardBy x j t w F k) m x) (ap (λ (n : ℕ). take n h) z ∙ eh)
 
 -- a frame that is sent has its place, and its bits are few
-sent-small : (f : Figures) (z : ℕ) (p : Transmitter) → NumberIn f z p → FrameIn p z → (bitOf p ≡ 0 → ⊥) → (z ≤ 1518) × (bitOf p < 65536) × (octetsHeld p z ≡ z)
+sent-small : (f : Figures) (z : ℕ) (p : Transmitter) → NumberIn f z p → FrameIn p z → (bitOf p ≡ 0 → ⊥) → (z ≤ bufferOctets) × (bitOf p < 65536) × (octetsHeld p z ≡ z)
 sent-small f z NoFrame n h ne = absurd (ne refl)
 sent-small f z Waiting n h ne = absurd (ne refl)
 sent-small f z (BackingOff w) n h ne = absurd (ne refl)
@@ -196,7 +197,7 @@ module _ (a : List ℕ) (f : Figures) (d n t : ℕ) (v : Begins a f d n t) where
     unfolding bit near nearBit
     bit-is ne = rw (lt-ltb (nearestOf a n j .d1) 256 (bit-near a n j near bit refl refl ne))
 
-    small : (bit ≡ 0 → ⊥) → (stationAt a (near .from) .frame ≤ 1518) × (bit < 65536) × (octetsHeld (stationAt a (near .from) .transmitter) (stationAt a (near .from) .frame) ≡ stationAt a (near .from) .frame)
+    small : (bit ≡ 0 → ⊥) → (stationAt a (near .from) .frame ≤ bufferOctets) × (bit < 65536) × (octetsHeld (stationAt a (near .from) .transmitter) (stationAt a (near .from) .frame) ≡ stationAt a (near .from) .frame)
     unfolding Begins near bit
     small ne =
         let i = near .from in

@@ -1,5 +1,5 @@
 -- The sizes of frames (document 01, "Frames", and refusal 11). Assumes nothing.
-use Prim.Native.Nat.{ℕ}
+use Prim.Native.Nat.{ℕ, _*_}
 use mathlib.Core.Bool.{Bool, true, false, not}
 use lib.Dec.{ltb, leb, eqb}
 use Rattle.octets.specs.Base.{pick}
@@ -20,6 +20,13 @@ maxData v = 1500
 -- "over 1518, frameTooLong"
 unfoldable pub maxFrame : ℕ → ℕ
 maxFrame v = 1518
+
+-- The largest frame of all values, which the receive buffer holds, in octets and in bits.
+abbrev pub bufferOctets : ℕ
+bufferOctets = 1518
+
+abbrev pub bufferBits : ℕ
+bufferBits = 8 * bufferOctets
 
 -- "a value up to 1500" is a length; the Type limit is 1536; "a value 1501..1535" is neither
 abbrev pub maxLength : ℕ

@@ -10,6 +10,10 @@ pub const MIN_FRAME: usize = 64;
 
 pub const MAX_LENGTH: usize = 1500;
 
+pub const BUFFER: usize = 1518;
+
+pub const BUFFER_BITS: usize = 12144;
+
 pub const MIN_TYPE: usize = 1536;
 
 // The largest data under a length/type value.

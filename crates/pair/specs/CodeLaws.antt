@@ -25,8 +25,9 @@ use Rattle.pair.specs.declared.Events.{Events}
 use Rattle.pair.specs.BitTime.{outcomeIn, actIn, withStored, isTransmit, isReceive, happened, withCounted, placed, settled, turnedIn, turnIn, advancedIn, eventsOf, noEvents, eventsIn}
 use Rattle.medium.specs.Medium.{pushed}
 use Rattle.pair.specs.InPlace.{Kept}
+use Rattle.frame.specs.Limits.{bufferBits}
 
-pub bit-room : (o : Stored) (k : ℕ) (b : Bool) → o ≡ Store k b → Kept o → k < 12144
+pub bit-room : (o : Stored) (k : ℕ) (b : Bool) → o ≡ Store k b → Kept o → k < bufferBits
 bit-room o k b e h = rw e at h
 
 pub bit-none : (i : ℕ) (o : Stored) (a : List ℕ) → o ≡ NoStore → a ≡ withStored i o a

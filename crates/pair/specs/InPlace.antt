@@ -23,11 +23,12 @@ use Rattle.pair.specs.BitTime.{outcomeIn, actIn, withStored, happened, w
 use Rattle.medium.specs.Medium.{pushed}
 use Rattle.medium.specs.MediumLaws.{length-pushed, push-keeps}
 use Rattle.area.specs.Offsets.{areaSize}
+use Rattle.frame.specs.Limits.{bufferBits}
 
 -- a bit that the receive buffer holds
 abbrev pub Kept : Stored → Type 0
 Kept NoStore = Unit {0}
-Kept (Store k b) = k < 12144
+Kept (Store k b) = k < bufferBits
 
 -- ---- lengths
 

@@ -36,6 +36,7 @@ use Rattle.station.specs.Step.{Roomy, triesAfter, drawAfter, deferring, sending
 use Rattle.station.specs.StepLaws.{tries-more, tries-same}
 use Rattle.record.specs.Codec.{deferenceCount, receiverNumber}
 use Rattle.record.specs.CodecLaws.{Fit}
+use Rattle.frame.specs.Limits.{bufferOctets}
 
 -- ---- the ranges
 
@@ -66,16 +67,16 @@ AttemptsIn limit (Jamming m) n = (1 ≤ n) × (n ≤ limit)
 -- "frame 64..1518", while one is held
 abbrev pub FrameIn : Transmitter → ℕ → Type 0
 FrameIn NoFrame z = Unit {0}
-FrameIn Waiting z = (64 ≤ z) × (z ≤ 1518)
-FrameIn (BackingOff w) z = (64 ≤ z) × (z ≤ 1518)
-FrameIn (Sending k) z = (64 ≤ z) × (z ≤ 1518)
-FrameIn (Heading k) z = (64 ≤ z) × (z ≤ 1518)
-FrameIn (Jamming n) z = (64 ≤ z) × (z ≤ 1518)
+FrameIn Waiting z = (64 ≤ z) × (z ≤ bufferOctets)
+FrameIn (BackingOff w) z = (64 ≤ z) × (z ≤ bufferOctets)
+FrameIn (Sending k) z = (64 ≤ z) × (z ≤ bufferOctets)
+FrameIn (Heading k) z = (64 ≤ z) × (z ≤ bufferOctets)
+FrameIn (Jamming n) z = (64 ≤ z) × (z ≤ bufferOctets)
 
 -- "collected bits up to the clock"; a readable frame is a frame; a row is 1..511
 abbrev pub ReceiverIn : ℕ → Receiver → Type 0
 ReceiverIn t Listening = Unit {0}
-ReceiverIn t (Readable n) = (64 ≤ n) × (n ≤ 1518)
+ReceiverIn t (Readable n) = (64 ≤ n) × (n ≤ bufferOctets)
 ReceiverIn t (Seeking row spoiled own) = (1 ≤ row) × (row ≤ 511)
 ReceiverIn t (Collecting n spoiled own) = n ≤ t
 
@@ -159,7 +160,7 @@ record Sends (f : Figures) (z n : ℕ) (x : Transmitter) : Type 0 where
   attempts : AttemptsIn (f .limit) x n
   frame : FrameIn x z
 
-module _ (f : Figures) (g : Figured f) (z n : ℕ) (fz : (64 ≤ z) × (z ≤ 1518)) where
+module _ (f : Figures) (g : Figured f) (z n : ℕ) (fz : (64 ≤ z) × (z ≤ bufferOctets)) where
   after-sends : (k : ℕ) → 1 ≤ n → n ≤ f .limit → Sends f z n (afterBit (f .jam) k)
   unfolding afterBit
   after-sends k p q =
@@ -243,9 +244,9 @@ hear-range t (Collecting n sp own) clean b e v = omega arith
 opening-range : (t n : ℕ) (buffer : List ℕ) (sp : Bool) → 512 ≤ n → ReceiverIn t (opening buffer n sp .receiver)
 unfolding opening readableAfter openAnswer
 opening-range t n buffer sp p =
-    by-test (ltb 1518 (n / 8))
+    by-test (ltb bufferOctets (n / 8))
     (λ c. rw c tt)
-    (λ c. let h = ltb-false 1518 (n / 8) c in
+    (λ c. let h = ltb-false bufferOctets (n / 8) c in
     by-test (eqb (getD (valuesOf (opened sp (take (n / 8) buffer) (n % 8) .status)) 0 0) 5) (λ b. rw (c, b) (omega arith, omega arith)) (λ b. rw (c, b) tt))
 
 decide-range : (t n : ℕ) (address buffer : List ℕ) (sp own : Bool) → ReceiverIn t (decide address buffer n sp own .receiver)
@@ -314,7 +315,7 @@ attempts-small l n (Sending k) h v = omega (arith, v .1)
 attempts-small l n (Heading k) h v = omega (arith, v .1)
 attempts-small l n (Jamming m) h v = omega (arith, v .1)
 
-pub held-small : (z : ℕ) (x : Transmitter) → FrameIn x z → octetsHeld x z ≤ 1518
+pub held-small : (z : ℕ) (x : Transmitter) → FrameIn x z → octetsHeld x z ≤ bufferOctets
 held-small z NoFrame r = omega arith
 held-small z Waiting r = r .1
 held-small z (BackingOff w) r = r .1
@@ -346,7 +347,7 @@ count-small g (Busy own) h v = omega arith
 count-small g (Gap n own) h v = omega (arith, v .1)
 
 module _ (f : Figures) (g : Figured f) (d t : ℕ) (s : Station) (few : d ≤ 16) (early : t < 4294967295) (v : Fine f d t s) where
-  pub fine-room : (n : ℕ) → 1518 ≤ n → Roomy f s n
+  pub fine-room : (n : ℕ) → bufferOctets ≤ n → Roomy f s n
   fine-room n h =
       record {
         gap = omega (arith, g .gap1, g .gap2);

@@ -35,13 +35,14 @@ use Rattle.pair.specs.Range.{Fine, fine-room, held-small}
 use Rattle.pair.specs.InPlace.{Kept, Spread, Ahead, ahead-all, same-act, length-turned}
 use Rattle.layout.specs.Limits.{lastClock}
 use Rattle.area.specs.Offsets.{areaSize}
+use Rattle.frame.specs.Limits.{bufferOctets, bufferBits}
 
 -- ---- what each station must be
 
 pub record CanAct (f : Figures) (s : Station) : Type 0 where
-  pub room : Roomy f s 1518
+  pub room : Roomy f s bufferOctets
   pub draw : s .draw < 16
-  pub held : octetsHeld (s .transmitter) (s .frame) ≤ 1518
+  pub held : octetsHeld (s .transmitter) (s .frame) ≤ bufferOctets
 
 -- shut, so that a search does not enter them
 unfoldable pub Able : Figures → List ℕ → ℕ → Type 0
@@ -64,14 +65,14 @@ module _ (f : Figures) (a : List ℕ) (i : ℕ) (s : Station) (p : Able f a i) (
   pub able-room : (b : List ℕ) → b ≡ bufferAt a i → i < 16 → areaSize ≤ length a → Roomy f s (length b)
   unfolding bufferAt
   able-room b q h g =
-      let n : length b ≡ 1518 = ap length q ∙ length-part a (32768 + 1536 * i) 1518 (omega arith) in
+      let n : length b ≡ bufferOctets = ap length q ∙ length-part a (32768 + 1536 * i) bufferOctets (omega arith) in
       subst (Roomy f s) (sym n) (can .room)
 
 -- ---- a bit that is stored is one that the buffer holds
 
 pub stored-kept : (n : ℕ) (b : Bool) → Kept (storedBit n b)
 unfolding storedBit
-stored-kept n b = by-test (ltb n 12144) (λ c. rw c (ltb-true n 12144 c)) (λ c. rw c tt)
+stored-kept n b = by-test (ltb n bufferBits) (λ c. rw c (ltb-true n bufferBits c)) (λ c. rw c tt)
 
 seek-kept : (row : ℕ) (sp own clean b : Bool) → Kept (seek row sp own clean b .stored)
 unfolding seek seekBit
@@ -171,7 +172,7 @@ ready-can : (a : List ℕ) → Readiness a → (i : ℕ) → i < countAt a → C
 ready-can a r i h =
     let v = r .fine i h in
     record {
-      room = fine-room (figuresAt a) (r .figures) (depthAt a) (clockAt a) (stationAt a i) (r .depth .1) (omega (arith, r .clock)) v 1518 (omega arith);
+      room = fine-room (figuresAt a) (r .figures) (depthAt a) (clockAt a) (stationAt a i) (r .depth .1) (omega (arith, r .clock)) v bufferOctets (omega arith);
       draw = omega (arith, v .draw, r .depth);
       held = held-small (stationAt a i .frame) (stationAt a i .transmitter) (v .frame);
     }

@@ -49,6 +49,7 @@ use Rattle.pair.specs.BitTime.{outcomeIn, actIn, withStored, happened, withCoun
 use Rattle.medium.specs.Medium.{pushed}
 use Rattle.pair.specs.Ready.{CanAct, Able}
 use Rattle.area.specs.Offsets.{areaSize}
+use Rattle.frame.specs.Limits.{bufferBits}
 
 -- ---- what the code tests, and what it then does
 
@@ -692,15 +693,15 @@ module _ (i c : ℕ) (x : List ℕ) where
 
 module _ (i k : ℕ) (b : Bool) (a : List ℕ) where
   -- m is k, capped far above the buffer
-  pub one-kept : (m l : ℕ) (y : List ℕ) → m < 12144 → m ≡ min k l → areaSize ≤ l → y ≡ withBit a i m b → y ≡ withStored i (storedBit k b) a
+  pub one-kept : (m l : ℕ) (y : List ℕ) → m < bufferBits → m ≡ min k l → areaSize ≤ l → y ≡ withBit a i m b → y ≡ withStored i (storedBit k b) a
   unfolding storedBit
   one-kept m l y h q g e =
       let z : m ≡ k = omega arith in
-      rw (lt-ltb k 12144 (omega arith)) (rw z at e)
+      rw (lt-ltb k bufferBits (omega arith)) (rw z at e)
 
-  pub one-dropped : (m l : ℕ) → 12144 ≤ m → m ≡ min k l → a ≡ withStored i (storedBit k b) a
+  pub one-dropped : (m l : ℕ) → bufferBits ≤ m → m ≡ min k l → a ≡ withStored i (storedBit k b) a
   unfolding storedBit
-  one-dropped m l h q = rw (le-ltb k 12144 (omega arith))
+  one-dropped m l h q = rw (le-ltb k bufferBits (omega arith))
 
 module _ (i c : ℕ) (x : List ℕ) where
   pub spoiled-not : c ≤ 2 → x ≡ spoiledOn i c x

@@ -31,7 +31,7 @@ fn keep_one(area: &mut [u8], i: usize, k: u32, one: bool)
     ensures { λ r. ⌜ now (area .exit) ≡ withStored i (storedBit k one) (now (area .entry)) ⌝ }
 {
     let m = crate::capped(k as usize, area.len());
-    if m < 12144 {
+    if m < frame::limits::BUFFER_BITS {
         buffers::store_bit(area, i, m, one);
     }
 }

@@ -20,22 +20,23 @@ use Rattle.pair.specs.Range.{ReceiverIn}
 use Rattle.ready.specs.Passes.{passes-ready}
 use Rattle.reading.specs.Read.{isReadable, frameRead}
 use Rattle.area.specs.Offsets.{areaSize}
+use Rattle.frame.specs.Limits.{bufferOctets}
 
 pub copied-is : (a out x b : List ℕ) (i n : ℕ) → x ≡ sets out 0 (take (n - 0) b) → b ≡ bufferAt a i → x ≡ sets out 0 (take n (bufferAt a i))
 copied-is a out x b i n p q = let z : n - 0 ≡ n = omega arith in p ∙ rw (z, q)
 
-pub buffer-room : (a b : List ℕ) (i n : ℕ) → b ≡ bufferAt a i → i < 16 → areaSize ≤ length a → n ≤ 1518 → n ≤ length b
+pub buffer-room : (a b : List ℕ) (i n : ℕ) → b ≡ bufferAt a i → i < 16 → areaSize ≤ length a → n ≤ bufferOctets → n ≤ length b
 unfolding bufferAt
-buffer-room a b i n p h g l = let e : length b ≡ 1518 = ap length p ∙ length-part a (32768 + 1536 * i) 1518 (omega arith) in omega arith
+buffer-room a b i n p h g l = let e : length b ≡ bufferOctets = ap length p ∙ length-part a (32768 + 1536 * i) bufferOctets (omega arith) in omega arith
 
-in-range : (t : ℕ) (x : Receiver) → ReceiverIn t x → octetsIn x ≤ 1518
+in-range : (t : ℕ) (x : Receiver) → ReceiverIn t x → octetsIn x ≤ bufferOctets
 in-range t Listening v = omega arith
 in-range t (Readable n) v = v .1
 in-range t (Seeking row sp own) v = omega arith
 in-range t (Collecting n sp own) v = omega arith
 
 -- what an area that passes has to be read
-pub read-room : (a : List ℕ) (k m i n : ℕ) (s : Station) → k ≡ areaRefusal a → k ≡ 0 → Octets a → m ≡ countAt a → i < m → s ≡ stationAt a i → n ≡ octetsIn (s .receiver) → n ≤ 1518
+pub read-room : (a : List ℕ) (k m i n : ℕ) (s : Station) → k ≡ areaRefusal a → k ≡ 0 → Octets a → m ≡ countAt a → i < m → s ≡ stationAt a i → n ≡ octetsIn (s .receiver) → n ≤ bufferOctets
 read-room a k m i n s e h o em hi es en =
     let r = passes-ready a o (sym e ∙ h) .ready in
     let v = r .fine i (omega arith) .receiver in

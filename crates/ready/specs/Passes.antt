@@ -38,6 +38,7 @@ use Rattle.pair.specs.InPlace.{Spread}
 use Rattle.pair.specs.Ready.{Readiness, Ready}
 use Rattle.layout.specs.Limits.{lastClock}
 use Rattle.area.specs.Offsets.{areaSize}
+use Rattle.frame.specs.Limits.{bufferOctets}
 
 -- a test that must fail, and what is left then
 fails : (b r : Bool) → pick b true r ≡ false → (b ≡ false) × (r ≡ false)
@@ -66,7 +67,7 @@ module _ (f : Figures) (code m z n : ℕ) where
   unfolding attemptsWrong
   sender-none e p = record { number = tt; attempts = ltb-false (f .limit) n (rw (eq-eqb code 0 e) at p); frame = tt }
 
-  module _ (ne : code ≡ 0 → ⊥) (pa : attemptsWrong (f .limit) code n ≡ false) (fz : (64 ≤ z) × (z ≤ 1518)) (pn : numberWrong f code m z ≡ false) where
+  module _ (ne : code ≡ 0 → ⊥) (pa : attemptsWrong (f .limit) code n ≡ false) (fz : (64 ≤ z) × (z ≤ bufferOctets)) (pn : numberWrong f code m z ≡ false) where
     waits-low : code ≤ 2 → n < f .limit
     unfolding attemptsWrong
     waits-low h = leb-false (f .limit) n (rw (ne-eqb code 0 ne, le-leb code 2 h) at pa)
@@ -101,9 +102,9 @@ sender-passes f w h =
     let q = fails (attemptsWrong (f .limit) (getD w 3 0) (getD w 10 0)) _ (p .1) in
     by-test (eqb (getD w 3 0) 0)
     (λ c. none (eqb-true (getD w 3 0) 0 c) (q .0))
-    (λ c. let u = fails (outside (getD w 9 0) 64 1518) _ (rw c at (q .1)) in
+    (λ c. let u = fails (outside (getD w 9 0) 64 bufferOctets) _ (rw c at (q .1)) in
     let v = fails (ltb 1 (getD w 12 0)) _ (u .1) in
-    sender-some f (getD w 3 0) (getD w 4 0) (getD w 9 0) (getD w 10 0) (eqb-false (getD w 3 0) 0 c) (q .0) (within (getD w 9 0) 64 1518 (u .0)) (v .1))
+    sender-some f (getD w 3 0) (getD w 4 0) (getD w 9 0) (getD w 10 0) (eqb-false (getD w 3 0) 0 c) (q .0) (within (getD w 9 0) 64 bufferOctets (u .0)) (v .1))
   where
     none : getD w 3 0 ≡ 0 → attemptsWrong (f .limit) (getD w 3 0) (getD w 10 0) ≡ false → Sender f (getD w 9 0) (getD w 10 0) (transmitterOf (getD w 3 0) (getD w 4 0))
     none e g = subst (Sender f (getD w 9 0) (getD w 10 0)) (code-none (getD w 3 0) (getD w 4 0) e) (sender-none f (getD w 3 0) (getD w 4 0) (getD w 9 0) (getD w 10 0) e g)
@@ -115,7 +116,7 @@ receiver-passes t w h =
     by-test (eqb (getD w 5 0) 0)
     (λ c. rw c tt)
     (λ c. by-test (eqb (getD w 5 0) 1)
-    (λ d. rw (c, d) (within (getD w 6 0) 64 1518 (rw (c, d) at (p .1))))
+    (λ d. rw (c, d) (within (getD w 6 0) 64 bufferOctets (rw (c, d) at (p .1))))
     (λ d. let q = fails (ltb 1 (getD w 7 0)) _ (rw (c, d) at (p .1)) in
     let u = fails (ltb 1 (getD w 8 0)) _ (q .1) in
     by-test (eqb (getD w 5 0) 2)
@@ -157,21 +158,21 @@ sender-right : (f : Figures) (w : List ℕ) (x : Transmitter) (d : Bool) → get
     → NumberIn f (getD w 9 0) x → AttemptsIn (f .limit) x (getD w 10 0) → FrameIn x (getD w 9 0) → transmitterWrong f w ≡ false
 unfolding transmitterWrong attemptsWrong numberWrong
 sender-right f w NoFrame d p q r m n z = rw (p, le-ltb (f .limit) (getD w 10 0) n)
-sender-right f w Waiting d p q r m n z = rw (p, lt-leb (f .limit) (getD w 10 0) n, outside-not (getD w 9 0) 64 1518 (z .0) (z .1), r, flag-right d)
+sender-right f w Waiting d p q r m n z = rw (p, lt-leb (f .limit) (getD w 10 0) n, outside-not (getD w 9 0) 64 bufferOctets (z .0) (z .1), r, flag-right d)
 sender-right f w (BackingOff k) d p q r m n z =
-    rw (p, lt-leb (f .limit) (getD w 10 0) n, outside-not (getD w 9 0) 64 1518 (z .0) (z .1), r, flag-right d, q) (outside-not k 1 (f .slot * 1023) (m .0) (m .1))
+    rw (p, lt-leb (f .limit) (getD w 10 0) n, outside-not (getD w 9 0) 64 bufferOctets (z .0) (z .1), r, flag-right d, q) (outside-not k 1 (f .slot * 1023) (m .0) (m .1))
 sender-right f w (Sending k) d p q r m n z =
-    rw (p, outside-not (getD w 10 0) 1 (f .limit) (n .0) (n .1), outside-not (getD w 9 0) 64 1518 (z .0) (z .1), r, flag-right d, q) (outside-not k 1 (64 + 8 * getD w 9 0) (m .0) (m .1))
+    rw (p, outside-not (getD w 10 0) 1 (f .limit) (n .0) (n .1), outside-not (getD w 9 0) 64 bufferOctets (z .0) (z .1), r, flag-right d, q) (outside-not k 1 (64 + 8 * getD w 9 0) (m .0) (m .1))
 sender-right f w (Heading k) d p q r m n z =
-    rw (p, outside-not (getD w 10 0) 1 (f .limit) (n .0) (n .1), outside-not (getD w 9 0) 64 1518 (z .0) (z .1), r, flag-right d, q) (outside-not k 1 (64 + 8 * getD w 9 0) (m .0) (m .1))
+    rw (p, outside-not (getD w 10 0) 1 (f .limit) (n .0) (n .1), outside-not (getD w 9 0) 64 bufferOctets (z .0) (z .1), r, flag-right d, q) (outside-not k 1 (64 + 8 * getD w 9 0) (m .0) (m .1))
 sender-right f w (Jamming k) d p q r m n z =
-    rw (p, outside-not (getD w 10 0) 1 (f .limit) (n .0) (n .1), outside-not (getD w 9 0) 64 1518 (z .0) (z .1), r, flag-right d, q) (outside-not k 1 (f .jam) (m .0) (m .1))
+    rw (p, outside-not (getD w 10 0) 1 (f .limit) (n .0) (n .1), outside-not (getD w 9 0) 64 bufferOctets (z .0) (z .1), r, flag-right d, q) (outside-not k 1 (f .jam) (m .0) (m .1))
 
 receiver-right : (t : ℕ) (w : List ℕ) (x : Receiver) → getD w 5 0 ≡ receiverCode x → getD w 6 0 ≡ receiverNumber x → getD w 7 0 ≡ flag (receiverSpoiled x)
     → getD w 8 0 ≡ flag (receiverOwn x) → ReceiverIn t x → receiverWrong t w ≡ false
 unfolding receiverWrong
 receiver-right t w Listening p q r u v = rw p
-receiver-right t w (Readable n) p q r u v = rw (p, q) (outside-not n 64 1518 (v .0) (v .1))
+receiver-right t w (Readable n) p q r u v = rw (p, q) (outside-not n 64 bufferOctets (v .0) (v .1))
 receiver-right t w (Seeking row sp own) p q r u v = rw (p, q, r, u, flag-right sp, flag-right own) (outside-not row 1 511 (v .0) (v .1))
 receiver-right t w (Collecting n sp own) p q r u v = rw (p, q, r, u, flag-right sp, flag-right own) (le-ltb t n v)
 

@@ -18,6 +18,7 @@ use Rattle.state.specs.declared.Receiver.the-variants.{Listening, Readable, See
 use Rattle.receiver.specs.declared.Stored.{Stored}
 use Rattle.receiver.specs.declared.Stored.the-variants.{NoStore, Store}
 use Rattle.receiver.specs.declared.Received.{Received}
+use Rattle.frame.specs.Limits.{bufferOctets, bufferBits}
 
 -- ---- the delimiter
 
@@ -34,12 +35,9 @@ delimiterRow = 427
 
 -- ---- collecting
 
--- the octets that a station keeps of a reception: the largest frame. "Bits past what the receive buffer holds are counted, not kept."
-abbrev pub bufferOctets : ℕ
-bufferOctets = 1518
-
+-- "Bits past what the receive buffer holds are counted, not kept."
 unfoldable pub storedBit : ℕ → Bool → Stored
-storedBit n b = pick (ltb n (8 * bufferOctets)) (Store n b) NoStore
+storedBit n b = pick (ltb n bufferBits) (Store n b) NoStore
 
 -- a step in which nothing is decided
 abbrev pub hearing : Receiver → Stored → Received

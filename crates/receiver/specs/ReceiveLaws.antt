@@ -25,6 +25,7 @@ use Rattle.receiver.specs.declared.Stored.{Stored}
 use Rattle.receiver.specs.declared.Stored.the-variants.{NoStore, Store}
 use Rattle.receiver.specs.declared.Received.{Received}
 use Rattle.receiver.specs.Receive.{nextRow, storedBit, hearing, seekBit, collectBit, seek, collect, hear, addressed, openAnswer, gotEvent, readableAfter, deciding, opening, decide, ended, receive, rowIn, bitsIn}
+use Rattle.frame.specs.Limits.{bufferOctets, bufferBits}
 
 -- ---- seeking
 
@@ -56,13 +57,13 @@ module _ (row : ℕ) (spoiled own clean b : Bool) where
 
 -- ---- collecting
 
-pub stored-kept : (n : ℕ) (b : Bool) → n < 12144 → Store n b ≡ storedBit n b
+pub stored-kept : (n : ℕ) (b : Bool) → n < bufferBits → Store n b ≡ storedBit n b
 unfolding storedBit
-stored-kept n b h = rw (lt-ltb n 12144 h)
+stored-kept n b h = rw (lt-ltb n bufferBits h)
 
-pub stored-past : (n : ℕ) (b : Bool) → 12144 ≤ n → NoStore ≡ storedBit n b
+pub stored-past : (n : ℕ) (b : Bool) → bufferBits ≤ n → NoStore ≡ storedBit n b
 unfolding storedBit
-stored-past n b h = rw (le-ltb n 12144 h)
+stored-past n b h = rw (le-ltb n bufferBits h)
 
 pub collect-is : (n : ℕ) (spoiled own clean b c : Bool) (s : Stored) → s ≡ storedBit n b → c ≡ (spoiled || not clean)
     → hearing (Collecting (n + 1) c own) s ≡ collect n spoiled own clean b
@@ -125,13 +126,13 @@ unfolding addressed destinationOf
 address-is address buffer a b r p q e = p ∙ rw (e, q)
 
 module _ (buffer : List ℕ) (n : ℕ) (sp : Bool) where
-  pub open-long : 1518 < n / 8 → frameTooLong ≡ openAnswer buffer n sp
+  pub open-long : bufferOctets < n / 8 → frameTooLong ≡ openAnswer buffer n sp
   unfolding openAnswer
-  open-long h = rw (lt-ltb 1518 (n / 8) h)
+  open-long h = rw (lt-ltb bufferOctets (n / 8) h)
 
-  pub open-rules : (r : Answer) → n / 8 ≤ 1518 → r ≡ opened sp (take (n / 8 - 0) buffer) (n % 8) .status → r ≡ openAnswer buffer n sp
+  pub open-rules : (r : Answer) → n / 8 ≤ bufferOctets → r ≡ opened sp (take (n / 8 - 0) buffer) (n % 8) .status → r ≡ openAnswer buffer n sp
   unfolding openAnswer
-  open-rules r h p = let z : n / 8 - 0 ≡ n / 8 = omega arith in p ∙ rw (z, le-ltb 1518 (n / 8) h)
+  open-rules r h p = let z : n / 8 - 0 ≡ n / 8 = omega arith in p ∙ rw (z, le-ltb bufferOctets (n / 8) h)
 
   -- a receiveOK, and its client data fit in what was collected
   pub opening-ok : (s : ReceiveStatus) (k : ℕ) → statusAnswer s ≡ openAnswer buffer n sp → s ≡ ReceiveOk k
@@ -155,19 +156,19 @@ module _ (buffer : List ℕ) (n : ℕ) (sp : Bool) where
   unfolding opening
   opening-error s v p q h = ap (deciding Listening) q ∙ error-event s h ∙ rw p
 
-ok-within : (buffer : List ℕ) (n k : ℕ) (sp : Bool) → 1518 ≤ length buffer → openAnswer buffer n sp ≡ receiveOK k → k ≤ 1518
+ok-within : (buffer : List ℕ) (n k : ℕ) (sp : Bool) → bufferOctets ≤ length buffer → openAnswer buffer n sp ≡ receiveOK k → k ≤ bufferOctets
 unfolding openAnswer
-ok-within buffer n k sp h = go (ltb 1518 (n / 8)) refl
+ok-within buffer n k sp h = go (ltb bufferOctets (n / 8)) refl
   where
-    go : (t : Bool) → ltb 1518 (n / 8) ≡ t → pick t frameTooLong (opened sp (take (n / 8) buffer) (n % 8) .status) ≡ receiveOK k → k ≤ 1518
+    go : (t : Bool) → ltb bufferOctets (n / 8) ≡ t → pick t frameTooLong (opened sp (take (n / 8) buffer) (n % 8) .status) ≡ receiveOK k → k ≤ bufferOctets
     go true p q = let z : _≡_ {A = ℕ} 1 5 = ap (λ (r : Answer). getD (valuesOf r) 0 0) q in omega arith
     go false p q =
         let w = fair sp (take (n / 8) buffer) (n % 8) .handed k q .room in
-        omega (arith, length-take-le (n / 8) buffer (omega (arith, ltb-false 1518 (n / 8) p)), ltb-false 1518 (n / 8) p)
+        omega (arith, length-take-le (n / 8) buffer (omega (arith, ltb-false bufferOctets (n / 8) p)), ltb-false bufferOctets (n / 8) p)
 
-pub ok-small : (buffer : List ℕ) (n k : ℕ) (sp : Bool) (s : ReceiveStatus) → statusAnswer s ≡ openAnswer buffer n sp → s ≡ ReceiveOk k → 1518 ≤ length buffer
+pub ok-small : (buffer : List ℕ) (n k : ℕ) (sp : Bool) (s : ReceiveStatus) → statusAnswer s ≡ openAnswer buffer n sp → s ≡ ReceiveOk k → bufferOctets ≤ length buffer
     → k < 4294967296
-ok-small buffer n k sp s p q h = let w : k ≤ 1518 = ok-within buffer n k sp h (sym p ∙ ap statusAnswer q) in omega arith
+ok-small buffer n k sp s p q h = let w : k ≤ bufferOctets = ok-within buffer n k sp h (sym p ∙ ap statusAnswer q) in omega arith
 
 module _ (address buffer : List ℕ) (n : ℕ) (sp own : Bool) (r : Received) where
   pub decide-few : n < 512 → r ≡ deciding Listening NoReceive → r ≡ decide address buffer n sp own

@@ -30,9 +30,6 @@ pub struct Received {
     pub stored: Stored,
 }
 
-// The octets that a station keeps of a reception.
-pub const BUFFER: usize = 1518;
-
 fn digit_of(b: bool) -> u32
     ensures value { λ r. ⌜ r ≡ digit b ⌝ }
     ensures small { λ r. ⌜ r < 2 ⌝ }

@@ -13,6 +13,7 @@ ghost use Rattle.opener.specs.Open.{statusAnswer};
 ghost use Rattle.receiver.specs.declared.ReceiveEvent.the-variants.{NoReceive};
 ghost use Rattle.receiver.specs.ReceiveLaws.{gotError};
 ghost use Rattle.receiver.specs.Receive.{rowIn, bitsIn, hear, addressed, openAnswer, opening, deciding, decide, ended, receive};
+ghost use Rattle.frame.specs.Limits.{bufferOctets};
 
 // Whether the destination that stands in the buffer is the station's own address or broadcast.
 pub fn is_addressed(address: [u8; 6], buffer: &[u8]) -> bool
@@ -28,11 +29,11 @@ pub fn is_addressed(address: [u8; 6], buffer: &[u8]) -> bool
 
 // The status of n collected bits.
 fn open_buffer(buffer: &[u8], n: u32, spoiled: bool) -> ReceiveStatus
-    requires { ⌜ 1518 ≤ length (now buffer) ⌝ }
+    requires { ⌜ bufferOctets ≤ length (now buffer) ⌝ }
     ensures { λ r. ⌜ statusAnswer r ≡ openAnswer (now (buffer .entry)) n spoiled ⌝ }
 {
     let octets = (n / 8) as usize;
-    if receiver::BUFFER < octets {
+    if frame::limits::BUFFER < octets {
         return ReceiveStatus::FrameTooLong;
     }
     opener::reception_status(&buffer[0..octets], n % 8, spoiled)
@@ -55,7 +56,7 @@ fn got_error(status: ReceiveStatus, octets: u32) -> ReceiveEvent
 
 // The opening rules on n collected bits: it leaves on a fragment or an error.
 fn open_reception(buffer: &[u8], n: u32, spoiled: bool) -> Received
-    requires { ⌜ 1518 ≤ length (now buffer) ⌝ }
+    requires { ⌜ bufferOctets ≤ length (now buffer) ⌝ }
     ensures { λ r. ⌜ r ≡ opening (now (buffer .entry)) n spoiled ⌝ }
 {
     let status = open_buffer(buffer, n, spoiled);
@@ -85,7 +86,7 @@ fn nothing_got(receiver: Receiver) -> Received
 
 // The step after a reception of n collected bits.
 fn decide(address: [u8; 6], buffer: &[u8], n: u32, spoiled: bool, own: bool) -> Received
-    requires { ⌜ 1518 ≤ length (now buffer) ⌝ }
+    requires { ⌜ bufferOctets ≤ length (now buffer) ⌝ }
     ensures { λ r. ⌜ r ≡ decide address (now (buffer .entry)) n spoiled own ⌝ }
 {
     if n < 512 {
@@ -102,7 +103,7 @@ fn decide(address: [u8; 6], buffer: &[u8], n: u32, spoiled: bool, own: bool) -> 
 
 // A step in which nothing is heard.
 fn end(address: [u8; 6], buffer: &[u8], r: Receiver) -> Received
-    requires { ⌜ 1518 ≤ length (now buffer) ⌝ }
+    requires { ⌜ bufferOctets ≤ length (now buffer) ⌝ }
     ensures { λ q. ⌜ q ≡ ended address (now (buffer .entry)) r ⌝ }
 {
     match r {
@@ -119,7 +120,7 @@ fn end(address: [u8; 6], buffer: &[u8], r: Receiver) -> Received
 
 // One step of the receiver: the octets that it collected so far, what it hears, and whether its station emits in this step.
 pub fn receive(address: [u8; 6], buffer: &[u8], r: Receiver, h: Heard, emits: bool) -> Received
-    requires { ⌜ (1518 ≤ length (now buffer)) × (rowIn r < 512) × (bitsIn r < 4294967295) ⌝ }
+    requires { ⌜ (bufferOctets ≤ length (now buffer)) × (rowIn r < 512) × (bitsIn r < 4294967295) ⌝ }
     ensures { λ q. ⌜ q ≡ receive address (now (buffer .entry)) r h emits ⌝ }
 {
     match h {

@@ -18,6 +18,7 @@ use Rattle.deference.specs.Defer.{defer}
 use Rattle.transmitter.specs.Transmit.{waits, octetsHeld, transmit}
 use Rattle.state.specs.State.{numberIn}
 use Rattle.receiver.specs.Receive.{rowIn, bitsIn, receive}
+use Rattle.frame.specs.Limits.{bufferOctets}
 
 -- "its attempt counts, in the first step .."
 unfoldable pub triesAfter : ℕ → (start : Bool) → ℕ
@@ -80,4 +81,4 @@ pub record Roomy (f : Figures) (s : Station) (n : ℕ) : Type 0 where
   pub draw : s .draw < 4294967295
   pub row : rowIn (s .receiver) < 512
   pub bits : bitsIn (s .receiver) < 4294967295
-  pub buffer : 1518 ≤ n
+  pub buffer : bufferOctets ≤ n

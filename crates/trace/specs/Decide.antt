@@ -13,7 +13,7 @@ use borrow.Author.Tests.{le-ltb, eqb-true}
 use Rattle.octets.specs.Base.{pick, Answer, refused, valuesOf}
 use Rattle.octets.specs.BaseLaws.{by-test}
 use Rattle.opener.specs.Open.{destinationOf, valueOf, fragment, frameTooLong, frameCheckError, alignmentError, receiveOK, Opening, checkWrong, checkError, opened}
-use Rattle.frame.specs.Limits.{maxFrame}
+use Rattle.frame.specs.Limits.{maxFrame, bufferOctets}
 use Rattle.packet.specs.declared.Heard.{Heard}
 use Rattle.packet.specs.declared.Heard.the-variants.{Nothing, Clean, Jammed, Several}
 use Rattle.receiver.specs.declared.ReceiveEvent.the-variants.{NoReceive, GotOk}
@@ -25,7 +25,7 @@ use Rattle.trace.specs.Listen.{Idle, ended-idle}
 
 -- ---- what is decided of a frame that was collected whole
 
-module _ (A B F : List ℕ) (k : ℕ) (lo : 64 ≤ length F) (hi : length F ≤ 1518) (b : take (length F) B ≡ F) where
+module _ (A B F : List ℕ) (k : ℕ) (lo : 64 ≤ length F) (hi : length F ≤ bufferOctets) (b : take (length F) B ≡ F) where
   destination-same : addressed A B ≡ addressed A F
   unfolding addressed destinationOf
   destination-same =
@@ -38,7 +38,7 @@ module _ (A B F : List ℕ) (k : ℕ) (lo : 64 ≤ length F) (hi : length F ≤ 
   unfolding openAnswer
   answer-is s =
       let r : 8 * length F % 8 ≡ 0 = omega arith in
-      rw (whole-octets, r, le-ltb 1518 (length F) hi, b) s
+      rw (whole-octets, r, le-ltb bufferOctets (length F) hi, b) s
 
   opening-is : opened false F 0 .status ≡ receiveOK k → opening B (8 * length F) false ≡ deciding (Readable (length F)) (GotOk k)
   unfolding opening gotEvent readableAfter
@@ -92,7 +92,7 @@ spoiled-not m f e =
 
 spoiled-answer : (m : ℕ) (B : List ℕ) (n : ℕ) → Not m (openAnswer B n true)
 unfolding openAnswer
-spoiled-answer m B n = by-test (ltb 1518 (n / 8)) (λ c. rw c (not-status m frameTooLong refl)) (λ c. rw c (spoiled-not m (take (n / 8) B) (n % 8)))
+spoiled-answer m B n = by-test (ltb bufferOctets (n / 8)) (λ c. rw c (not-status m frameTooLong refl)) (λ c. rw c (spoiled-not m (take (n / 8) B) (n % 8)))
 
 opening-clean : (m : ℕ) (B : List ℕ) (n : ℕ) (s : Bool) → opening B n s .event ≡ GotOk m → s ≡ false
 unfolding opening

@@ -3,7 +3,7 @@ use Prim.Native.Nat.{ℕ, _+_, _-_, _*_, _≤_}
 use mathlib.Core.Path.{_≡_, refl}
 use native.Mathlib.Omega.{arith}
 use lib.ListN.{replicate, length-replicate}
-use Rattle.frame.specs.Limits.{maxData, refusesValue, refusesData}
+use Rattle.frame.specs.Limits.{maxData, refusesValue, refusesData, bufferOctets}
 use Rattle.layout.specs.declared.Figures.{Figures}
 use Rattle.layout.specs.Layout.{gapOf}
 use Rattle.layout.specs.CheckLaws.{Figured}
@@ -25,7 +25,7 @@ two =
       draw = λ i k. i;
       address = λ i. replicate 6 i;
       d = λ i j. (10 * i - 10 * j) + (10 * j - 10 * i);
-      blank = λ i. replicate 1518 0;
+      blank = λ i. replicate bufferOctets 0;
     }
 
 figured : Figured figures
@@ -55,7 +55,7 @@ two-sound =
       depth = omega arith;
       address = λ i hi. refl;
       wide = λ i hi. octets-replicate 6 i (omega arith);
-      room = λ i hi. omega (arith, length-replicate {A = ℕ} 1518 0);
+      room = λ i hi. omega (arith, length-replicate {A = ℕ} bufferOctets 0);
       metric = metric;
     }
 

@@ -28,6 +28,7 @@ use Rattle.meeting.specs.Net.{Net}
 use Rattle.trace.specs.World.{Offer}
 use Rattle.meeting.specs.Gather.{on}
 use Rattle.trace.specs.Run.{frameIn, outAt, sig, emits, sees, Sound}
+use Rattle.frame.specs.Limits.{bufferOctets}
 
 -- station i hears another in step t, and is busy then
 abbrev pub HeardIn : (P : Net) → (ℕ → List (Offer P)) → ℕ → ℕ → Type 0
@@ -46,7 +47,7 @@ pub record Whole (P : Net) (inp : ℕ → List (Offer P)) (i a e : ℕ) : Type 0
   pub frame : List ℕ
   pub attempts : ℕ
   pub sent : outAt P inp i e .sent ≡ Sent attempts
-  pub size : (64 ≤ length frame) × (length frame ≤ 1518)
+  pub size : (64 ≤ length frame) × (length frame ≤ bufferOctets)
   pub long : a + packetLength (length frame) ≡ suc e
   pub ran : Ran P inp i a (suc e)
   pub held : (s : ℕ) → a ≤ s → s ≤ e → frameIn P inp i s ≡ frame
@@ -134,7 +135,7 @@ module _ (P : Net) (inp : ℕ → List (Offer P)) (span : ℕ) (L : Sound P span
       (λ e. let l = ltb-false k 64 e in rw e (record { begin = a; place = omega arith; past = omega arith; ran = r }))
 
   -- bit k of the packet of F, of z octets, goes out in step t
-  send-bit : (F : List ℕ) (z n k : ℕ) (hears : Bool) (a : ℕ) → z ≡ length F → 64 ≤ z → z ≤ 1518 → k ≤ packetLength z
+  send-bit : (F : List ℕ) (z n k : ℕ) (hears : Bool) (a : ℕ) → z ≡ length F → 64 ≤ z → z ≤ bufferOctets → k ≤ packetLength z
       → a + k ≡ suc t → 1 ≤ k → Ran P inp i a (suc t)
       → ((s : ℕ) → a ≤ s → s ≤ t → frameIn P inp i s ≡ F)
       → ((j : ℕ) → j < k → sig P inp i (a + j) ≡ Bit (packetBit F (suc j)))
@@ -195,7 +196,7 @@ module _ (P : Net) (inp : ℕ → List (Offer P)) (span : ℕ) (L : Sound P span
   -- The transmitter's step keeps its invariant.
   pub tx-step : (F : List ℕ) (x : Transmitter) (z n draw : ℕ) (start hears : Bool)
       → frameIn P inp i t ≡ F
-      → (holds x ≡ true → (z ≡ length F) × (64 ≤ z) × (z ≤ 1518))
+      → (holds x ≡ true → (z ≡ length F) × (64 ≤ z) × (z ≤ bufferOctets))
       → NumberIn (P .fig) z x
       → (start ≡ true → (s : ℕ) → suc s ≡ t → emits P inp i s ≡ false)
       → (hears ≡ false → sees P inp i t ≡ Nothing)

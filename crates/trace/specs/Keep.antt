@@ -31,6 +31,7 @@ use Rattle.trace.specs.Hear.{heard-yes, heard-no, unheard}
 use Rattle.trace.specs.Run.{state, frameIn, sig, emits, sees, deferAt, sendAt, Sound, Kept, ready-kept, frame-suc, out-sent, sig-is, next-deference, next-transmitter, next-size, next-emitted, on-symbol, fine}
 use Rattle.trace.specs.Inv.{HeardIn, Ran, Over, Resting, TxInv, tx-step, bit-sent, jam-sent}
 use Rattle.trace.specs.Phases.{PhInv, Flags, phase-step, start-fresh, free}
+use Rattle.frame.specs.Limits.{bufferOctets}
 
 -- What station i's state s and frame F say of the trace before step t.
 pub record Says (P : Net) (inp : ℕ → List (Offer P)) (i t : ℕ) (s : Station) (F : List ℕ) : Type 0 where
@@ -83,7 +84,7 @@ held-back f (Sending k) z n draw start hears e = refl
 held-back f (Heading k) z n draw start hears e = refl
 held-back f (Jamming k) z n draw start hears e = refl
 
-frame-range : (x : Transmitter) (z : ℕ) → holds x ≡ true → FrameIn x z → (64 ≤ z) × (z ≤ 1518)
+frame-range : (x : Transmitter) (z : ℕ) → holds x ≡ true → FrameIn x z → (64 ≤ z) × (z ≤ bufferOctets)
 frame-range NoFrame z h r = clash h refl
 frame-range Waiting z h r = r
 frame-range (BackingOff k) z h r = r
@@ -150,7 +151,7 @@ module _ (P : Net) (inp : ℕ → List (Offer P)) (span : ℕ) (L : Sound P span
 
     -- the frame that is held is of the octets that the record has
     held-size : holds (state P inp t i .transmitter) ≡ true
-        → (state P inp t i .frame ≡ length (frameIn P inp i t)) × (64 ≤ state P inp t i .frame) × (state P inp t i .frame ≤ 1518)
+        → (state P inp t i .frame ≡ length (frameIn P inp i t)) × (64 ≤ state P inp t i .frame) × (state P inp t i .frame ≤ bufferOctets)
     held-size h =
         let r = frame-range (state P inp t i .transmitter) (state P inp t i .frame) h (fine P inp span L t i hi .frame) in (v .held h, r .0, r .1)
 
@@ -222,7 +223,7 @@ module _ (P : Net) (inp : ℕ → List (Offer P)) (span : ℕ) (L : Sound P span
 
   -- The record of a station that holds a frame has the frame's octets, 64 to 1518.
   pub held-octets : (t i : ℕ) → i < P .n → holds (state P inp t i .transmitter) ≡ true
-      → (state P inp t i .frame ≡ length (frameIn P inp i t)) × (64 ≤ length (frameIn P inp i t)) × (length (frameIn P inp i t) ≤ 1518)
+      → (state P inp t i .frame ≡ length (frameIn P inp i t)) × (64 ≤ length (frameIn P inp i t)) × (length (frameIn P inp i t) ≤ bufferOctets)
   held-octets t i hi h =
       let r = held-size i t hi (says t i hi) h in (r .0, omega (arith, r .0, r .1), omega (arith, r .0, r .2))
 

@@ -28,6 +28,7 @@ use Rattle.trace.specs.Alone.{Passes, passes}
 use Rattle.trace.specs.Collect.{Filled, filled-none, filled-more, filled-all}
 use Rattle.trace.specs.Frames.{whole-octets}
 use Rattle.trace.specs.Listen.{receptionAt, receiver-next, buffer-next, buffer-length, reception-nothing, reception-clean, Idle, ended-idle}
+use Rattle.frame.specs.Limits.{bufferBits}
 
 -- ---- a reception of clean symbols
 
@@ -51,9 +52,9 @@ along-header (Readable n) v = refl
 along-header (Seeking row spoiled own) v = absurd v
 along-header (Collecting n spoiled own) v = absurd v
 
-collect-clean : (n : ℕ) (b : Bool) → n < 12144 → hear (Collecting n false false) true b false ≡ hearing (Collecting (suc n) false false) (Store n b)
+collect-clean : (n : ℕ) (b : Bool) → n < bufferBits → hear (Collecting n false false) true b false ≡ hearing (Collecting (suc n) false false) (Store n b)
 unfolding hear collect collectBit storedBit
-collect-clean n b h = let e : n + 1 ≡ suc n = omega arith in rw (e, lt-ltb n 12144 h)
+collect-clean n b h = let e : n + 1 ≡ suc n = omega arith in rw (e, lt-ltb n bufferBits h)
 
 -- the packet's bits, by place
 header-bit : (F : List ℕ) (k : ℕ) → k < 64 → packetBit F (k + 1) ≡ getD header k false

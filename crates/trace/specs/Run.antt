@@ -38,6 +38,7 @@ use Rattle.meeting.specs.Net.{Net, gathered, reaches, heard, grown}
 use Rattle.trace.specs.World.{Offer, frameFor, World, outcome, symbol, step, given, offer, offers, freshStation, fresh, before, ready}
 use Rattle.meeting.specs.Gather.{on, gathered-same}
 use Rattle.trace.specs.Hear.{Only, Both, reaches-same, heard-clean, heard-jammed, only-heard, heard-several, both-heard, heard-nothing, nothing-heard}
+use Rattle.frame.specs.Limits.{bufferOctets}
 
 -- ---- an execution's words
 
@@ -82,7 +83,7 @@ pub record Sound (P : Net) (span : ℕ) : Type 0 where
   pub depth : 1 ≤ P .depth
   pub address : (i : ℕ) → i < P .n → length (P .address i) ≡ 6
   pub wide : (i : ℕ) → i < P .n → Octets (P .address i)
-  pub room : (i : ℕ) → i < P .n → 1518 ≤ length (P .blank i)
+  pub room : (i : ℕ) → i < P .n → bufferOctets ≤ length (P .blank i)
   pub metric : Metric (P .n) span (P .d)
 
 -- ---- what offers leave
@@ -360,7 +361,7 @@ module _ (P : Net) (inp : ℕ → List (Offer P)) (j u : ℕ) where
 -- ---- ranges
 
 -- "64..1518"
-pub made-size : (P : Net) (span : ℕ) → Sound P span → (os : List (Offer P)) (i : ℕ) → i < P .n → (F : List ℕ) → Made P os i F → (64 ≤ length F) × (length F ≤ 1518)
+pub made-size : (P : Net) (span : ℕ) → Sound P span → (os : List (Offer P)) (i : ℕ) → i < P .n → (F : List ℕ) → Made P os i F → (64 ≤ length F) × (length F ≤ bufferOctets)
 unfolding frameFor
 made-size P span L os i hi F m =
     let o = m .offer in
@@ -369,7 +370,7 @@ made-size P span L os i hi F m =
     let w = data-within (o .value) (length (o .payload)) (o .allowed) in (omega arith, omega arith)
 
 module _ (P : Net) (inp : ℕ → List (Offer P)) (span : ℕ) (L : Sound P span) where
-  offered-fine : (t : ℕ) (s : Station) (n : ℕ) → 64 ≤ n → n ≤ 1518 → Fine (P .fig) (P .depth) t s → Fine (P .fig) (P .depth) t (offeredStation s n)
+  offered-fine : (t : ℕ) (s : Station) (n : ℕ) → 64 ≤ n → n ≤ bufferOctets → Fine (P .fig) (P .depth) t s → Fine (P .fig) (P .depth) t (offeredStation s n)
   unfolding offeredStation
   offered-fine t s n lo hi v =
       record {

@@ -12,6 +12,7 @@ use Rattle.octets.specs.BaseLaws.{within-high}
 use Rattle.layout.specs.declared.Figures.{Figures}
 use Rattle.layout.specs.Layout.{gapOf}
 use Rattle.valid.specs.Valid.{deferenceWrong, attemptsWrong, numberWrong, transmitterWrong, receiverWrong, recordWrong}
+use Rattle.frame.specs.Limits.{bufferOctets}
 
 pub deference-1 : (f : Figures) (w : List ℕ) (w₀ : ℕ) → w₀ ≡ getD w 0 0 → 2 < w₀ → true ≡ deferenceWrong f w
 unfolding deferenceWrong gapOf
@@ -73,15 +74,15 @@ pub transmitter-3 : (f : Figures) (w : List ℕ) (b1 : Bool) (w₃ w₁₀ : ℕ
 unfolding transmitterWrong
 transmitter-3 f w b1 w₃ w₁₀ e₁₀ e₃ h0 h1 h2 h3 = rw (← e₃, ← e₁₀, le-ltb (5) w₃ h0, ← h1, h2, eq-eqb w₃ (0) h3)
 
-pub transmitter-4 : (f : Figures) (w : List ℕ) (b1 b0 : Bool) (w₃ w₉ w₁₀ : ℕ) → w₁₀ ≡ getD w 10 0 → w₉ ≡ getD w 9 0 → w₃ ≡ getD w 3 0 → w₃ ≤ 5 → b1 ≡ attemptsWrong (f .limit) w₃ w₁₀ → b1 ≡ false → (w₃ ≡ 0 → ⊥) → b0 ≡ outside w₉ 64 1518 → b0 ≡ true → true ≡ transmitterWrong f w
+pub transmitter-4 : (f : Figures) (w : List ℕ) (b1 b0 : Bool) (w₃ w₉ w₁₀ : ℕ) → w₁₀ ≡ getD w 10 0 → w₉ ≡ getD w 9 0 → w₃ ≡ getD w 3 0 → w₃ ≤ 5 → b1 ≡ attemptsWrong (f .limit) w₃ w₁₀ → b1 ≡ false → (w₃ ≡ 0 → ⊥) → b0 ≡ outside w₉ 64 bufferOctets → b0 ≡ true → true ≡ transmitterWrong f w
 unfolding transmitterWrong
 transmitter-4 f w b1 b0 w₃ w₉ w₁₀ e₁₀ e₉ e₃ h0 h1 h2 h3 h4 h5 = rw (← e₃, ← e₉, ← e₁₀, le-ltb (5) w₃ h0, ← h1, h2, ne-eqb w₃ (0) h3, ← h4, h5)
 
-pub transmitter-5 : (f : Figures) (w : List ℕ) (b1 b0 : Bool) (w₃ w₉ w₁₀ w₁₂ : ℕ) → w₁₂ ≡ getD w 12 0 → w₁₀ ≡ getD w 10 0 → w₉ ≡ getD w 9 0 → w₃ ≡ getD w 3 0 → w₃ ≤ 5 → b1 ≡ attemptsWrong (f .limit) w₃ w₁₀ → b1 ≡ false → (w₃ ≡ 0 → ⊥) → b0 ≡ outside w₉ 64 1518 → b0 ≡ false → 1 < w₁₂ → true ≡ transmitterWrong f w
+pub transmitter-5 : (f : Figures) (w : List ℕ) (b1 b0 : Bool) (w₃ w₉ w₁₀ w₁₂ : ℕ) → w₁₂ ≡ getD w 12 0 → w₁₀ ≡ getD w 10 0 → w₉ ≡ getD w 9 0 → w₃ ≡ getD w 3 0 → w₃ ≤ 5 → b1 ≡ attemptsWrong (f .limit) w₃ w₁₀ → b1 ≡ false → (w₃ ≡ 0 → ⊥) → b0 ≡ outside w₉ 64 bufferOctets → b0 ≡ false → 1 < w₁₂ → true ≡ transmitterWrong f w
 unfolding transmitterWrong
 transmitter-5 f w b1 b0 w₃ w₉ w₁₀ w₁₂ e₁₂ e₁₀ e₉ e₃ h0 h1 h2 h3 h4 h5 h6 = rw (← e₃, ← e₉, ← e₁₀, ← e₁₂, le-ltb (5) w₃ h0, ← h1, h2, ne-eqb w₃ (0) h3, ← h4, h5, lt-ltb (1) w₁₂ h6)
 
-pub transmitter-6 : (f : Figures) (w : List ℕ) (b1 b0 r : Bool) (w₃ w₄ w₉ w₁₀ w₁₂ : ℕ) → w₁₂ ≡ getD w 12 0 → w₁₀ ≡ getD w 10 0 → w₉ ≡ getD w 9 0 → w₄ ≡ getD w 4 0 → w₃ ≡ getD w 3 0 → w₃ ≤ 5 → b1 ≡ attemptsWrong (f .limit) w₃ w₁₀ → b1 ≡ false → (w₃ ≡ 0 → ⊥) → b0 ≡ outside w₉ 64 1518 → b0 ≡ false → w₁₂ ≤ 1 → r ≡ numberWrong f w₃ w₄ w₉ → r ≡ transmitterWrong f w
+pub transmitter-6 : (f : Figures) (w : List ℕ) (b1 b0 r : Bool) (w₃ w₄ w₉ w₁₀ w₁₂ : ℕ) → w₁₂ ≡ getD w 12 0 → w₁₀ ≡ getD w 10 0 → w₉ ≡ getD w 9 0 → w₄ ≡ getD w 4 0 → w₃ ≡ getD w 3 0 → w₃ ≤ 5 → b1 ≡ attemptsWrong (f .limit) w₃ w₁₀ → b1 ≡ false → (w₃ ≡ 0 → ⊥) → b0 ≡ outside w₉ 64 bufferOctets → b0 ≡ false → w₁₂ ≤ 1 → r ≡ numberWrong f w₃ w₄ w₉ → r ≡ transmitterWrong f w
 unfolding transmitterWrong
 transmitter-6 f w b1 b0 r w₃ w₄ w₉ w₁₀ w₁₂ e₁₂ e₁₀ e₉ e₄ e₃ h0 h1 h2 h3 h4 h5 h6 h7 = h7 ∙ rw (← e₃, ← e₄, ← e₉, ← e₁₀, ← e₁₂, le-ltb (5) w₃ h0, ← h1, h2, ne-eqb w₃ (0) h3, ← h4, h5, le-ltb (1) w₁₂ h6)
 
@@ -93,7 +94,7 @@ pub receiver-2 : (t : ℕ) (w : List ℕ) (w₅ : ℕ) → w₅ ≡ getD w 5 0 �
 unfolding receiverWrong
 receiver-2 t w w₅ e₅ h0 h1 = rw (← e₅, le-ltb (3) w₅ h0, eq-eqb w₅ (0) h1)
 
-pub receiver-3 : (t : ℕ) (w : List ℕ) (r : Bool) (w₅ w₆ : ℕ) → w₆ ≡ getD w 6 0 → w₅ ≡ getD w 5 0 → w₅ ≤ 3 → (w₅ ≡ 0 → ⊥) → w₅ ≡ 1 → r ≡ outside w₆ 64 1518 → r ≡ receiverWrong t w
+pub receiver-3 : (t : ℕ) (w : List ℕ) (r : Bool) (w₅ w₆ : ℕ) → w₆ ≡ getD w 6 0 → w₅ ≡ getD w 5 0 → w₅ ≤ 3 → (w₅ ≡ 0 → ⊥) → w₅ ≡ 1 → r ≡ outside w₆ 64 bufferOctets → r ≡ receiverWrong t w
 unfolding receiverWrong
 receiver-3 t w r w₅ w₆ e₆ e₅ h0 h1 h2 h3 = h3 ∙ rw (← e₅, ← e₆, le-ltb (3) w₅ h0, ne-eqb w₅ (0) h1, eq-eqb w₅ (1) h2)
 
@@ -133,5 +134,5 @@ pub record-5 : (f : Figures) (depth t : ℕ) (w : List ℕ) (b0 b1 b2 : Bool) (w
 unfolding recordWrong
 record-5 f depth t w b0 b1 b2 w₁₁ w₁₃ e₁₃ e₁₁ h0 h1 h2 h3 h4 h5 h6 = rw (← e₁₁, ← e₁₃, ← h0, h1, ← h2, h3, ← h4, h5, lt-leb (depth) w₁₁ h6)
 
-pub frame-small : (z : ℕ) (b : Bool) → b ≡ outside z 64 1518 → b ≡ false → z < 65536
-frame-small z b p q = let h : z ≤ 1518 = within-high z 64 1518 b p q in omega arith
+pub frame-small : (z : ℕ) (b : Bool) → b ≡ outside z 64 bufferOctets → b ≡ false → z < 65536
+frame-small z b p q = let h : z ≤ bufferOctets = within-high z 64 bufferOctets b p q in omega arith

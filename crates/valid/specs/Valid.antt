@@ -12,6 +12,7 @@ use Rattle.layout.specs.Check.{refusalOf}
 use Rattle.area.specs.Offsets.{areaSize}
 use Rattle.area.specs.Area.{clockAt, depthAt, figuresAt, countAt, layoutAt, recordAt, symbolAt}
 use Rattle.layout.specs.Limits.{lastClock}
+use Rattle.frame.specs.Limits.{bufferOctets}
 
 -- ---- a record's words w, in use where the state that carries them stands; a flag over 1, a code past the last, stands for nothing
 
@@ -42,7 +43,7 @@ transmitterWrong f w =
     pick (ltb 5 (getD w 3 0)) true
     (pick (attemptsWrong (f .limit) (getD w 3 0) (getD w 10 0)) true
     (pick (eqb (getD w 3 0) 0) false
-    (pick (outside (getD w 9 0) 64 1518) true
+    (pick (outside (getD w 9 0) 64 bufferOctets) true
     (pick (ltb 1 (getD w 12 0)) true
     (numberWrong f (getD w 3 0) (getD w 4 0) (getD w 9 0))))))
 
@@ -51,7 +52,7 @@ unfoldable pub receiverWrong : (clock : ℕ) → List ℕ → Bool
 receiverWrong t w =
     pick (ltb 3 (getD w 5 0)) true
     (pick (eqb (getD w 5 0) 0) false
-    (pick (eqb (getD w 5 0) 1) (outside (getD w 6 0) 64 1518)
+    (pick (eqb (getD w 5 0) 1) (outside (getD w 6 0) 64 bufferOctets)
     (pick (ltb 1 (getD w 7 0)) true
     (pick (ltb 1 (getD w 8 0)) true
     (pick (eqb (getD w 5 0) 2) (outside (getD w 6 0) 1 511)
