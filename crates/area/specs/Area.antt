@@ -21,7 +21,8 @@ use Rattle.packet.specs.declared.Heard.the-variants.{Nothing, Clean, Jammed, Se
 use Rattle.packet.specs.declared.Symbol.{Symbol}
 use Rattle.packet.specs.declared.Symbol.the-variants.{Silence, Bit, Jam}
 use Rattle.state.specs.declared.Station.{Station}
-use Rattle.record.specs.Codec.{decoded, encoded}
+use Rattle.record.specs.Codec.{decoded, encoded, recordWords}
+use Rattle.area.specs.Offsets.{counterCount}
 
 -- ---- the clock and the draws
 
@@ -69,20 +70,20 @@ spaceAt a i j = distance (positionAt a i) (positionAt a j)
 -- ---- a station
 
 unfoldable pub countersAt : List ℕ → ℕ → List ℕ
-countersAt a i = wordsAt 16 a (1024 + 64 * i)
+countersAt a i = wordsAt counterCount a (1024 + 64 * i)
 
 unfoldable pub withCounters : List ℕ → ℕ → List ℕ → List ℕ
-withCounters a i cs = putWords 16 a (1024 + 64 * i) cs
+withCounters a i cs = putWords counterCount a (1024 + 64 * i) cs
 
 -- its record, and the state that it stands for
 unfoldable pub recordAt : List ℕ → ℕ → List ℕ
-recordAt a i = wordsAt 14 a (2048 + 64 * i)
+recordAt a i = wordsAt recordWords a (2048 + 64 * i)
 
 unfoldable pub stationAt : List ℕ → ℕ → Station
 stationAt a i = decoded (recordAt a i) (addressAt a i)
 
 unfoldable pub withStation : List ℕ → ℕ → Station → List ℕ
-withStation a i s = putWords 14 a (2048 + 64 * i) (encoded s)
+withStation a i s = putWords recordWords a (2048 + 64 * i) (encoded s)
 
 -- word k of its record written alone
 unfoldable pub withWord : List ℕ → ℕ → ℕ → ℕ → List ℕ

@@ -18,9 +18,9 @@ use Rattle.octets.specs.WordsLaws.{Small, length-put-words, words-same}
 use Rattle.packet.specs.declared.Heard.{Heard}
 use Rattle.packet.specs.declared.Heard.the-variants.{Nothing, Clean, Jammed, Several}
 use Rattle.state.specs.declared.Station.{Station}
-use Rattle.record.specs.Codec.{decoded, encoded}
+use Rattle.record.specs.Codec.{decoded, encoded, recordWords}
 use Rattle.record.specs.CodecLaws.{Fit, decoded-encoded, encoded-small, length-encoded}
-use Rattle.area.specs.Offsets.{theLine, from, width, areaSize}
+use Rattle.area.specs.Offsets.{theLine, from, width, areaSize, counterCount}
 use Rattle.area.specs.Places.{Part, piece, clock, depth, layout, draws, counters, station, frame, buffer, place, Off, Keeps}
 use Rattle.area.specs.Area.{clockAt, withClock, depthAt, drawAt, figuresAt, countAt, positionAt, addressAt, distance, spaceAt, countersAt, withCounters, recordAt, stationAt, withStation, frameAt, withFrame, bufferAt, octetWith, withBit, heardOf, heardCode, symbolAt, arrivalAt, withArrival}
 use Rattle.frame.specs.Limits.{bufferOctets, bufferBits}
@@ -92,11 +92,11 @@ module _ (l m : List ℕ) where
 
   pub counters-by : (i : ℕ) → Keeps (counters i) l m → countersAt l i ≡ countersAt m i
   unfolding countersAt Keeps
-  counters-by i k = words-go-by 16 (1024 + 64 * i) l m k
+  counters-by i k = words-go-by counterCount (1024 + 64 * i) l m k
 
   pub record-by : (i : ℕ) → Keeps (station i) l m → recordAt l i ≡ recordAt m i
   unfolding recordAt Keeps
-  record-by i s = words-go-by 14 (2048 + 64 * i) l m (same-part (2048 + 64 * i) 64 (2048 + 64 * i) 56 l m (omega arith) (omega arith) s)
+  record-by i s = words-go-by recordWords (2048 + 64 * i) l m (same-part (2048 + 64 * i) 64 (2048 + 64 * i) 56 l m (omega arith) (omega arith) s)
 
   pub station-by : (i : ℕ) → i < 16 → areaSize ≤ length l → areaSize ≤ length m → Keeps layout l m → Keeps (station i) l m → stationAt l i ≡ stationAt m i
   unfolding stationAt
@@ -139,17 +139,17 @@ clock-keeps (place i u) a t o = at-place i u (put 4 a 0 t) a (put-leaves (4096 +
 
 pub counters-keeps : (p : Part) (a : List ℕ) (i : ℕ) (cs : List ℕ) → Off p (counters i) → Keeps p (withCounters a i cs) a
 unfolding withCounters Keeps
-counters-keeps (piece p) a i cs o = words-leave (from p) (width p) 16 (1024 + 64 * i) a cs o
+counters-keeps (piece p) a i cs o = words-leave (from p) (width p) counterCount (1024 + 64 * i) a cs o
 counters-keeps (place j u) a i cs o =
-    at-place j u (putWords 16 a (1024 + 64 * i) cs) a (words-leave (4096 + 256 * j) 256 16 (1024 + 64 * i) a cs o)
+    at-place j u (putWords counterCount a (1024 + 64 * i) cs) a (words-leave (4096 + 256 * j) 256 counterCount (1024 + 64 * i) a cs o)
 
 pub station-keeps : (p : Part) (a : List ℕ) (i : ℕ) (s : Station) → Off p (station i) → Keeps p (withStation a i s) a
 unfolding withStation Keeps
 station-keeps (piece p) a i s o =
-    words-leave (from p) (width p) 14 (2048 + 64 * i) a (encoded s) (λ x y. o (omega arith) (omega arith))
+    words-leave (from p) (width p) recordWords (2048 + 64 * i) a (encoded s) (λ x y. o (omega arith) (omega arith))
 station-keeps (place j u) a i s o =
-    at-place j u (putWords 14 a (2048 + 64 * i) (encoded s)) a
-    (words-leave (4096 + 256 * j) 256 14 (2048 + 64 * i) a (encoded s) (λ x y. o (omega arith) (omega arith)))
+    at-place j u (putWords recordWords a (2048 + 64 * i) (encoded s)) a
+    (words-leave (4096 + 256 * j) 256 recordWords (2048 + 64 * i) a (encoded s) (λ x y. o (omega arith) (omega arith)))
 
 pub arrival-keeps : (p : Part) (a : List ℕ) (i u : ℕ) (h : Heard) → Off p (place i u) → Keeps p (withArrival a i u h) a
 unfolding withArrival Keeps symbolAt
@@ -182,11 +182,11 @@ module _ (a : List ℕ) where
 
   pub length-counters : (i : ℕ) (cs : List ℕ) → length (withCounters a i cs) ≡ length a
   unfolding withCounters
-  length-counters i cs = length-put-words 16 a (1024 + 64 * i) cs
+  length-counters i cs = length-put-words counterCount a (1024 + 64 * i) cs
 
   pub length-station : (i : ℕ) (s : Station) → length (withStation a i s) ≡ length a
   unfolding withStation
-  length-station i s = length-put-words 14 a (2048 + 64 * i) (encoded s)
+  length-station i s = length-put-words recordWords a (2048 + 64 * i) (encoded s)
 
   pub length-arrival : (i u : ℕ) (h : Heard) → length (withArrival a i u h) ≡ length a
   unfolding withArrival
@@ -245,13 +245,13 @@ module _ (a : List ℕ) (big : areaSize ≤ length a) where
   unfolding clockAt withClock
   clock-same t b = get-put-same 4 a 0 t (omega arith) b
 
-  pub counters-same : (i : ℕ) (cs : List ℕ) → i < 16 → length cs ≡ 16 → Small cs → countersAt (withCounters a i cs) i ≡ cs
+  pub counters-same : (i : ℕ) (cs : List ℕ) → i < 16 → length cs ≡ counterCount → Small cs → countersAt (withCounters a i cs) i ≡ cs
   unfolding countersAt withCounters
-  counters-same i cs h n s = words-same 16 a (1024 + 64 * i) cs n (omega arith) s
+  counters-same i cs h n s = words-same counterCount a (1024 + 64 * i) cs n (omega arith) s
 
   pub record-same : (i : ℕ) (s : Station) → i < 16 → Fit s → recordAt (withStation a i s) i ≡ encoded s
   unfolding withStation recordAt
-  record-same i s h f = words-same 14 a (2048 + 64 * i) (encoded s) (length-encoded s) (omega arith) (encoded-small s f)
+  record-same i s h f = words-same recordWords a (2048 + 64 * i) (encoded s) (length-encoded s) (omega arith) (encoded-small s f)
 
   -- the address stands with the layout, which the record does not touch
   pub station-same : (i : ℕ) (s : Station) → i < 16 → Fit s → s .address ≡ addressAt a i → stationAt (withStation a i s) i ≡ s

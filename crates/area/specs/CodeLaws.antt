@@ -33,9 +33,9 @@ use Rattle.packet.specs.declared.Symbol.the-variants.{Silence, Bit, Jam}
 use Rattle.packet.specs.declared.Emission.{Emission}
 use Rattle.packet.specs.Packet.{symbolOf}
 use Rattle.state.specs.declared.Station.{Station}
-use Rattle.record.specs.Codec.{decoded, encoded}
+use Rattle.record.specs.Codec.{decoded, encoded, recordWords}
 use Rattle.area.specs.Area.{clockAt, withClock, depthAt, drawAt, figuresAt, countAt, positionAt, addressAt, tapAt, layoutAt, distance, spaceAt, countersAt, withCounters, recordAt, stationAt, withStation, withWord, octetWith, withBit, withOctet, heardOf, heardCode, symbolAt, arrivalAt, withArrival, alone, overlaid, joined, withSymbol, withFrame, frameAt, bufferAt, frameBuilt}
-use Rattle.area.specs.Offsets.{areaSize}
+use Rattle.area.specs.Offsets.{areaSize, counterCount}
 
 -- ---- numbers
 
@@ -83,18 +83,18 @@ pub address-is : (a r : List ℕ) (i : ℕ) → r ≡ part a (68 + 16 * i) 6 →
 unfolding addressAt
 address-is a r i p = p
 
-pub record-is : (a w : List ℕ) (i : ℕ) → w ≡ wordsAt 14 a (2048 + 64 * i) → w ≡ recordAt a i
+pub record-is : (a w : List ℕ) (i : ℕ) → w ≡ wordsAt recordWords a (2048 + 64 * i) → w ≡ recordAt a i
 unfolding recordAt
 record-is a w i p = p
 
-pub word-is : (a : List ℕ) (i k x : ℕ) → x ≡ get 4 a (2048 + 64 * i + 4 * k) → k < 14 → x ≡ getD (recordAt a i) k 0
+pub word-is : (a : List ℕ) (i k x : ℕ) → x ≡ get 4 a (2048 + 64 * i + 4 * k) → k < recordWords → x ≡ getD (recordAt a i) k 0
 unfolding recordAt
-word-is a i k x p h = p ∙ sym (word-at 14 a (2048 + 64 * i) k h)
+word-is a i k x p h = p ∙ sym (word-at recordWords a (2048 + 64 * i) k h)
 
-pub code-is : (a : List ℕ) (i k x : ℕ) → x ≡ getD a (2048 + 64 * i + 4 * k + 3) 0 → x < 256 → k < 14 → x ≡ getD (recordAt a i) k 0 % 256
+pub code-is : (a : List ℕ) (i k x : ℕ) → x ≡ getD a (2048 + 64 * i + 4 * k + 3) 0 → x < 256 → k < recordWords → x ≡ getD (recordAt a i) k 0 % 256
 unfolding recordAt get
 code-is a i k x p h g =
-    let e : getD (wordsAt 14 a (2048 + 64 * i)) k 0 ≡ get 4 a (2048 + 64 * i + 4 * k) = word-at 14 a (2048 + 64 * i) k g in
+    let e : getD (wordsAt recordWords a (2048 + 64 * i)) k 0 ≡ get 4 a (2048 + 64 * i + 4 * k) = word-at recordWords a (2048 + 64 * i) k g in
     rw e (omega (arith, p))
 
 pub with-word-is : (a b : List ℕ) (i k v : ℕ) → b ≡ put 4 a (2048 + 64 * i + 4 * k) v → b ≡ withWord a i k v
@@ -109,11 +109,11 @@ pub with-station-is : (a b w : List ℕ) (i : ℕ) (s : Station) → b ≡ putWo
 unfolding withStation encoded
 with-station-is a b w i s p q = rw q at p
 
-pub counters-are : (a w : List ℕ) (i : ℕ) → w ≡ wordsAt 16 a (1024 + 64 * i) → w ≡ countersAt a i
+pub counters-are : (a w : List ℕ) (i : ℕ) → w ≡ wordsAt counterCount a (1024 + 64 * i) → w ≡ countersAt a i
 unfolding countersAt
 counters-are a w i p = p
 
-pub with-counters-is : (a b cs : List ℕ) (i : ℕ) → b ≡ putWords (length cs) a (1024 + 64 * i) cs → length cs ≡ 16 → b ≡ withCounters a i cs
+pub with-counters-is : (a b cs : List ℕ) (i : ℕ) → b ≡ putWords (length cs) a (1024 + 64 * i) cs → length cs ≡ counterCount → b ≡ withCounters a i cs
 unfolding withCounters
 with-counters-is a b cs i p e = rw e at p
 

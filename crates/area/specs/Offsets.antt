@@ -9,6 +9,10 @@ areaSize = 57344
 abbrev pub ring : ℕ
 ring = 256
 
+-- the counters of a station
+abbrev pub counterCount : ℕ
+counterCount = 16
+
 -- a region of octets: the clock; D; the layout; the draws; of station i its counters, its record, its delay line, its frame, what it collected
 pub data Piece : Type 0 where
   theClock theDepth theLayout theDraws : Piece

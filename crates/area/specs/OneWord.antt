@@ -16,7 +16,7 @@ use Rattle.octets.specs.Store.{octet-same, octet-other}
 use Rattle.octets.specs.Words.{putWords}
 use Rattle.octets.specs.WordsLaws.{word-at}
 use Rattle.state.specs.declared.Station.{Station}
-use Rattle.record.specs.Codec.{encoded}
+use Rattle.record.specs.Codec.{encoded, recordWords}
 use Rattle.area.specs.Area.{recordAt, withStation, withWord}
 use Rattle.area.specs.Offsets.{areaSize}
 
@@ -123,7 +123,7 @@ module _ (a : List ℕ) (i : ℕ) (s : Station) (hi : i < 16) (room : areaSize �
   pub station-back : encoded s ≡ recordAt a i → withStation a i s ≡ a
   unfolding withStation recordAt
   station-back e =
-      put-back a (2048 + 64 * i) (encoded s) o 14 (omega arith) (λ j h. ap (λ (ws : List ℕ). getD ws j 0) e ∙ word-at 14 a (2048 + 64 * i) j h)
+      put-back a (2048 + 64 * i) (encoded s) o recordWords (omega arith) (λ j h. ap (λ (ws : List ℕ). getD ws j 0) e ∙ word-at recordWords a (2048 + 64 * i) j h)
 
 pub length-word : (a : List ℕ) (i k v : ℕ) → length (withWord a i k v) ≡ length a
 unfolding withWord

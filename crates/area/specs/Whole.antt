@@ -16,8 +16,8 @@ use Rattle.octets.specs.NumberLaws.{length-spelled}
 use Rattle.octets.specs.Store.{Apart, octet-same}
 use Rattle.packet.specs.declared.Heard.{Heard}
 use Rattle.state.specs.declared.Station.{Station}
-use Rattle.record.specs.Codec.{encoded}
-use Rattle.area.specs.Offsets.{theClock, theCounters, theStation, theLine, theBuffer, from, width, areaSize}
+use Rattle.record.specs.Codec.{encoded, recordWords}
+use Rattle.area.specs.Offsets.{theClock, theCounters, theStation, theLine, theBuffer, from, width, areaSize, counterCount}
 use Rattle.area.specs.Places.{clock, counters, station, buffer, place, Keeps}
 use Rattle.area.specs.Written.{words-over}
 use Rattle.area.specs.Area.{withClock, withCounters, withStation, octetWith, withBit, heardCode, symbolAt, withArrival}
@@ -39,13 +39,13 @@ module _ (n k : ℕ) (still : Still n k) (x : List ℕ) where
   pub station-still : (i : ℕ) (s : Station) → i < n → getD (withStation x i s) k 0 ≡ getD x k 0
   unfolding withStation Same
   station-still i s hi =
-      words-leave k 1 14 (2048 + 64 * i) x (encoded s) (λ p q. still .station i hi (omega arith) (omega arith)) k
+      words-leave k 1 recordWords (2048 + 64 * i) x (encoded s) (λ p q. still .station i hi (omega arith) (omega arith)) k
       (omega arith) (omega arith)
 
   pub counters-still : (i : ℕ) (cs : List ℕ) → i < n → getD (withCounters x i cs) k 0 ≡ getD x k 0
   unfolding withCounters Same
   counters-still i cs hi =
-      words-leave k 1 16 (1024 + 64 * i) x cs (λ p q. still .counters i hi (omega arith) (omega arith)) k (omega arith)
+      words-leave k 1 counterCount (1024 + 64 * i) x cs (λ p q. still .counters i hi (omega arith) (omega arith)) k (omega arith)
       (omega arith)
 
   pub bit-still : (i m : ℕ) (b : Bool) → i < n → m < bufferBits → getD (withBit x i m b) k 0 ≡ getD x k 0
@@ -74,12 +74,12 @@ clock-on x y c lx ly k lo up =
 module _ (i : ℕ) (hi : i < 16) (x y : List ℕ) (lx : areaSize ≤ length x) (ly : areaSize ≤ length y) where
   pub station-on : (s : Station) → Keeps (station i) x y → Keeps (station i) (withStation x i s) (withStation y i s)
   unfolding Keeps Same withStation
-  station-on s e k lo up = words-over 14 x y (2048 + 64 * i) (encoded s) k (omega arith) (omega arith) (λ o. e k lo up)
+  station-on s e k lo up = words-over recordWords x y (2048 + 64 * i) (encoded s) k (omega arith) (omega arith) (λ o. e k lo up)
 
   pub counters-on : (cs : List ℕ) → Keeps (counters i) x y
       → Keeps (counters i) (withCounters x i cs) (withCounters y i cs)
   unfolding withCounters Keeps Same
-  counters-on cs e k lo up = words-over 16 x y (1024 + 64 * i) cs k (omega arith) (omega arith) (λ a. e k lo up)
+  counters-on cs e k lo up = words-over counterCount x y (1024 + 64 * i) cs k (omega arith) (omega arith) (λ a. e k lo up)
 
   pub bit-on : (m : ℕ) (b : Bool) → m < bufferBits → Keeps (buffer i) x y
       → Keeps (buffer i) (withBit x i m b) (withBit y i m b)

@@ -17,7 +17,7 @@ use Rattle.octets.specs.Words.{wordsAt, putWords}
 use Rattle.octets.specs.WordsLaws.{length-words, length-put-words, word-at}
 use Rattle.packet.specs.declared.Heard.{Heard}
 use Rattle.state.specs.declared.Station.{Station}
-use Rattle.record.specs.Codec.{encoded}
+use Rattle.record.specs.Codec.{encoded, recordWords}
 use Rattle.area.specs.Area.{recordAt, withStation, withWord, withBit, heardCode, symbolAt, withArrival}
 use Rattle.area.specs.AreaLaws.{code-small}
 use Rattle.area.specs.OneWord.{station-back, length-word}
@@ -45,7 +45,7 @@ arrival-back x i t h e = ap (set x (4096 + 256 * i + t % 256)) (sym e) ∙ set-g
 module _ (a : List ℕ) (i t : ℕ) (h : Heard) (hi : i < 16) where
   pub station-arrival : (s : Station) → withStation (withArrival a i t h) i s ≡ withArrival (withStation a i s) i t h
   unfolding withStation withArrival
-  station-arrival s = words-past 14 a (encoded s) (2048 + 64 * i) (4096 + 256 * i + t % 256) (heardCode h) (λ x y. omega arith)
+  station-arrival s = words-past recordWords a (encoded s) (2048 + 64 * i) (4096 + 256 * i + t % 256) (heardCode h) (λ x y. omega arith)
 
   pub bit-arrival : (k : ℕ) (b : Bool) → withBit (withArrival a i t h) i k b ≡ withArrival (withBit a i k b) i t h
   unfolding withBit withArrival
@@ -106,15 +106,15 @@ words-over (suc n) x y b ws k hx hy e =
     ∙ words-over n x y b ws k (omega arith) (omega arith) (λ o. e (λ p q. omega arith))
     ∙ sym (octet-other v (putWords n y b ws) (b + 4 * n) k (λ p q. omega arith))))
 
-pub word-small : (a : List ℕ) (i k : ℕ) → Octets a → k < 14 → getD (recordAt a i) k 0 < 4294967296
+pub word-small : (a : List ℕ) (i k : ℕ) → Octets a → k < recordWords → getD (recordAt a i) k 0 < 4294967296
 unfolding recordAt
-word-small a i k o h = omega (arith, word-at 14 a (2048 + 64 * i) k h, get-small 4 a (2048 + 64 * i + 4 * k) o)
+word-small a i k o h = omega (arith, word-at recordWords a (2048 + 64 * i) k h, get-small 4 a (2048 + 64 * i + 4 * k) o)
 
 module _ (i : ℕ) (x : List ℕ) (hi : i < 16) (room : areaSize ≤ length x) where
   pub wrote-none : (w : List ℕ) → Octets x → recordAt x i ≡ w → Wrote i x x w
   wrote-none w o e = record { long = refl; rest = λ k p. refl; words = e; octets = o }
 
-  pub wrote-word : (y w : List ℕ) (k v : ℕ) → Wrote i x y w → k < 14 → v < 4294967296 → Wrote i x (withWord y i k v) (set w k v)
+  pub wrote-word : (y w : List ℕ) (k v : ℕ) → Wrote i x y w → k < recordWords → v < 4294967296 → Wrote i x (withWord y i k v) (set w k v)
   unfolding withWord recordAt put Octets Same
   wrote-word y w k v r h small =
       let b = 2048 + 64 * i in
@@ -123,15 +123,15 @@ module _ (i : ℕ) (x : List ℕ) (hi : i < 16) (room : areaSize ≤ length x) w
         long = length-word y i k v ∙ r .long;
         rest = λ j p. put-leaves j 1 4 (b + 4 * k) v y (λ q s. p (omega arith) (omega arith)) j (omega arith) (omega arith) ∙ r .rest j p;
         words =
-            ext-getD 0 (wordsAt 14 (put 4 y (b + 4 * k) v) b) (set w k v)
-            (length-words 14 (put 4 y (b + 4 * k) v) b ∙ sym (length-set w k v ∙ ap length (sym (r .words)) ∙ length-words 14 y b))
-            (λ j g. let lt : j < 14 = omega (arith, length-words 14 (put 4 y (b + 4 * k) v) b) in
-            word-at 14 (put 4 y (b + 4 * k) v) b j lt
+            ext-getD 0 (wordsAt recordWords (put 4 y (b + 4 * k) v) b) (set w k v)
+            (length-words recordWords (put 4 y (b + 4 * k) v) b ∙ sym (length-set w k v ∙ ap length (sym (r .words)) ∙ length-words recordWords y b))
+            (λ j g. let lt : j < recordWords = omega (arith, length-words recordWords (put 4 y (b + 4 * k) v) b) in
+            word-at recordWords (put 4 y (b + 4 * k) v) b j lt
             ∙ by-eq j k
             (λ z. rw z (get-put-same 4 y (b + 4 * k) v (omega (arith, r .long)) (omega arith)
-            ∙ sym (getD-set-same w k v 0 (omega (arith, ap length (sym (r .words)), length-words 14 y b)))))
+            ∙ sym (getD-set-same w k v 0 (omega (arith, ap length (sym (r .words)), length-words recordWords y b)))))
             (λ z. get-put-other 4 4 y (b + 4 * k) (b + 4 * j) v (λ p q. omega (arith, z))
-            ∙ sym (word-at 14 y b j lt)
+            ∙ sym (word-at recordWords y b j lt)
             ∙ ap (λ (l : List ℕ). getD l j 0) (r .words)
             ∙ sym (getD-set-other w k j v 0 z)));
         octets = λ j.
@@ -149,9 +149,9 @@ module _ (i : ℕ) (x : List ℕ) (hi : i < 16) (room : areaSize ≤ length x) w
   unfolding withStation
   wrote-station y s r =
       let b = 2048 + 64 * i in
-      ext-getD 0 (putWords 14 x b (encoded s)) (putWords 14 y b (encoded s))
-      (length-put-words 14 x b (encoded s) ∙ sym (length-put-words 14 y b (encoded s) ∙ r .long))
-      (λ k h. words-over 14 x y b (encoded s) k (omega arith) (omega (arith, r .long)) (λ o. sym (r .rest k o)))
+      ext-getD 0 (putWords recordWords x b (encoded s)) (putWords recordWords y b (encoded s))
+      (length-put-words recordWords x b (encoded s) ∙ sym (length-put-words recordWords y b (encoded s) ∙ r .long))
+      (λ k h. words-over recordWords x y b (encoded s) k (omega arith) (omega (arith, r .long)) (λ o. sym (r .rest k o)))
       ∙ station-back y i s hi (omega (arith, r .long)) (r .octets) (sym (r .words))
 
 -- ---- a record beside other writes
@@ -161,16 +161,16 @@ module _ (a : List ℕ) (i : ℕ) (hi : i < 16) (s : Station) where
   unfolding withStation withBit Same
   station-bit k b =
       let at = 32768 + 1536 * i + k / 8 in
-      let e : getD (putWords 14 a (2048 + 64 * i) (encoded s)) at 0 ≡ getD a at 0 = words-leave at 1 14 (2048 + 64 * i) a (encoded s) (λ x y. omega arith) at (omega arith) (omega arith) in
-      rw e (words-past 14 a (encoded s) (2048 + 64 * i) at _ (λ x y. omega arith))
+      let e : getD (putWords recordWords a (2048 + 64 * i) (encoded s)) at 0 ≡ getD a at 0 = words-leave at 1 recordWords (2048 + 64 * i) a (encoded s) (λ x y. omega arith) at (omega arith) (omega arith) in
+      rw e (words-past recordWords a (encoded s) (2048 + 64 * i) at _ (λ x y. omega arith))
 
   -- what is written over another state
   pub station-over : (s′ : Station) → areaSize ≤ length a → withStation (withStation a i s′) i s ≡ withStation a i s
   unfolding withStation Same
   station-over s′ room =
       let b = 2048 + 64 * i in
-      let m : List ℕ = putWords 14 a b (encoded s′) in
-      let n : length m ≡ length a = length-put-words 14 a b (encoded s′) in
-      ext-getD 0 (putWords 14 m b (encoded s)) (putWords 14 a b (encoded s))
-      (length-put-words 14 m b (encoded s) ∙ n ∙ sym (length-put-words 14 a b (encoded s)))
-      (λ k h. words-over 14 m a b (encoded s) k (omega arith) (omega arith) (λ o. words-leave k 1 14 b a (encoded s′) o k (omega arith) (omega arith)))
+      let m : List ℕ = putWords recordWords a b (encoded s′) in
+      let n : length m ≡ length a = length-put-words recordWords a b (encoded s′) in
+      ext-getD 0 (putWords recordWords m b (encoded s)) (putWords recordWords a b (encoded s))
+      (length-put-words recordWords m b (encoded s) ∙ n ∙ sym (length-put-words recordWords a b (encoded s)))
+      (λ k h. words-over recordWords m a b (encoded s) k (omega arith) (omega arith) (λ o. words-leave k 1 recordWords b a (encoded s′) o k (omega arith) (omega arith)))

@@ -23,6 +23,7 @@ ghost use lib.ListN.{length, getD};
 ghost use Rattle.layout.specs.Layout.{placesOf};
 ghost use Rattle.area.specs.Area.{clockAt, withClock, depthAt, drawAt, figuresAt, countAt, positionAt, addressAt, tapAt, layoutAt, distance, countersAt, withCounters, recordAt, stationAt, withStation, withWord};
 ghost use Rattle.area.specs.Offsets.{areaSize};
+ghost use Rattle.record.specs.Codec.{recordWords};
 
 // The octets of a work area.
 pub const AREA: usize = 57344;
@@ -184,7 +185,7 @@ pub fn read_record(area: &[u8], i: usize) -> [u32; 14]
 
 // Word k of the record of station i.
 pub fn read_word(area: &[u8], i: usize, k: usize) -> u32
-    requires { ⌜ (i < 16) × (k < 14) × (areaSize ≤ length (now area)) ⌝ }
+    requires { ⌜ (i < 16) × (k < recordWords) × (areaSize ≤ length (now area)) ⌝ }
     ensures { λ r. ⌜ r ≡ getD (recordAt (now (area .entry)) i) k 0 ⌝ }
 {
     words::get32(area, 2048 + 64 * i + 4 * k)
@@ -192,7 +193,7 @@ pub fn read_word(area: &[u8], i: usize, k: usize) -> u32
 
 // The low octet of word k of the record of station i: all of it, where the word is a code or a flag.
 pub fn read_code(area: &[u8], i: usize, k: usize) -> u32
-    requires { ⌜ (i < 16) × (k < 14) × (areaSize ≤ length (now area)) ⌝ }
+    requires { ⌜ (i < 16) × (k < recordWords) × (areaSize ≤ length (now area)) ⌝ }
     ensures { λ r. ⌜ r ≡ getD (recordAt (now (area .entry)) i) k 0 % 256 ⌝ }
 {
     octets::wide(area[2048 + 64 * i + 4 * k + 3])
@@ -200,7 +201,7 @@ pub fn read_code(area: &[u8], i: usize, k: usize) -> u32
 
 // Writes word k of the record of station i alone.
 pub fn write_word(area: &mut [u8], i: usize, k: usize, v: u32)
-    requires { ⌜ (i < 16) × (k < 14) × (areaSize ≤ length (now area)) ⌝ }
+    requires { ⌜ (i < 16) × (k < recordWords) × (areaSize ≤ length (now area)) ⌝ }
     ensures { λ r. ⌜ now (area .exit) ≡ withWord (now (area .entry)) i k v ⌝ }
 {
     words::put32(area, 2048 + 64 * i + 4 * k, v);

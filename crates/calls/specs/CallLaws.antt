@@ -2,13 +2,13 @@
 use Prim.Native.Nat.{ℕ, zero, suc, _+_, _-_, _*_, _≤_, _<_}
 use mathlib.Core.Path.{_≡_, refl, sym, _∙_, ap, ap₂}
 use mathlib.Core.Bool.{Bool, true, false}
-use mathlib.Core.List.{List, [], _∷_}
+use mathlib.Core.List.{List, []}
 use native.Mathlib.Nat.{mul-le-mul}
 use native.Mathlib.Omega.{arith}
 use borrow.Author.Tests.{eq-eqb, ne-eqb, lt-ltb, le-ltb, eqb-true, eqb-false}
 use lib.Dec.{ltb, eqb}
 use lib.ListN.{length, getD, replicate}
-use Rattle.octets.specs.Base.{pick, some, outside, Answer, accepted, Outcome, outcome, doneAnswer, numberOf, valuesOf}
+use Rattle.octets.specs.Base.{pick, outside, Answer, accepted, Outcome, outcome, doneAnswer, numberOf, valuesOf}
 use Rattle.octets.specs.BaseLaws.{by-test, within}
 use Rattle.octets.specs.Number.{spelled}
 use Rattle.octets.specs.Words.{putWords}
@@ -32,16 +32,17 @@ use Rattle.bus.specs.declared.Counters.{Counters}
 use Rattle.start.specs.Start.{started}
 use Rattle.offer.specs.Offer.{offered}
 use Rattle.bus.specs.Step.{Bit, bitTimeOutcome, unstepped, steppedOnce}
-use Rattle.bus.specs.Counters.{Reading as Counted, countersReading, countersRead}
+use Rattle.bus.specs.Counters.{countersReading, countersRead}
 use Rattle.course.specs.declared.RunAnswer.{RunAnswer}
-use Rattle.course.specs.Run.{lateAt, tallied, Ran, runOf, runOutcome, unrun, ran}
+use Rattle.course.specs.Run.{tallied, Ran, runOf, runOutcome, unrun, ran, stops}
 use Rattle.reading.specs.Read.{frameRead}
 use Rattle.answers.specs.Answers.{replied, valueOf, layoutPut, clientWords, eventsPut}
 use Rattle.tables.specs.RunWords.{runPut}
 use Rattle.calls.specs.Calls.{codeOf, given, left, codeGiven, unless, kept, bothKept, short, sheetGiven, fitsGiven, buildGiven, statusGiven, clientGiven, drawsRefusal, drawnGiven, startGiven, offerGiven, stepLeft, runLeft, timeRefusal, frameGiven, countersGiven}
 use Rattle.calls.specs.Numbers.{sheet-low, sheet-few, fit-low, open-low, open-small, build-low, build-small, start-low, offer-low, time-low, frame-low, counters-low}
 use Rattle.layout.specs.Limits.{lastClock}
-use Rattle.area.specs.Offsets.{areaSize}
+use Rattle.area.specs.Offsets.{areaSize, counterCount}
+use Rattle.tally.specs.Tally.{wordCount}
 
 -- ---- a refusal that stands, and one that does not
 
@@ -304,7 +305,7 @@ module _ (a b : List ℕ) (t : BitTime) (n : ℕ) (q : n ≡ numberOf (doneAnswe
 run-accepted : (k m : ℕ) (ws a : List ℕ) → numberOf (runOf k m ws a .answer) ≡ 0
 unfolding runOf
 run-accepted zero m ws a = refl
-run-accepted (suc k) m ws a = go (some (lateAt (eventsAt a)) 16) _ _ refl (run-accepted k (m + 1) (tallied (eventsAt a) 16 ws) (stepArea a))
+run-accepted (suc k) m ws a = go (stops (eventsAt a)) _ _ refl (run-accepted k (m + 1) (tallied (eventsAt a) 16 ws) (stepArea a))
   where
     go : (b : Bool) (x y : Ran) → numberOf (x .answer) ≡ 0 → numberOf (y .answer) ≡ 0 → numberOf (pick b x y .answer) ≡ 0
     go true x y p h = p
@@ -314,19 +315,19 @@ run-number : (a : List ℕ) (n : ℕ) → numberOf (ran a n .answer) ≡ timeRef
 unfolding ran timeRefusal
 run-number a n = go (eqb (areaRefusal a) 0) (ltb lastClock (clockAt a + n))
   where
-    go : (b c : Bool) → numberOf (pick b (pick c (unrun 13 a) (runOf n 0 (replicate 9 0) a)) (unrun (areaRefusal a) a) .answer) ≡ pick b (pick c 13 0) (areaRefusal a)
+    go : (b c : Bool) → numberOf (pick b (pick c (unrun 13 a) (runOf n 0 (replicate wordCount 0) a)) (unrun (areaRefusal a) a) .answer) ≡ pick b (pick c 13 0) (areaRefusal a)
     go true true = refl
-    go true false = run-accepted n 0 (replicate 9 0) a
+    go true false = run-accepted n 0 (replicate wordCount 0) a
     go false c = refl
 
 run-kept : (a : List ℕ) (n : ℕ) → (numberOf (ran a n .answer) ≡ 0 → ⊥) → ran a n .octets ≡ a
 unfolding ran
 run-kept a n = go (eqb (areaRefusal a) 0) (ltb lastClock (clockAt a + n))
   where
-    go : (b c : Bool) → (numberOf (pick b (pick c (unrun 13 a) (runOf n 0 (replicate 9 0) a)) (unrun (areaRefusal a) a) .answer) ≡ 0 → ⊥)
-        → pick b (pick c (unrun 13 a) (runOf n 0 (replicate 9 0) a)) (unrun (areaRefusal a) a) .octets ≡ a
+    go : (b c : Bool) → (numberOf (pick b (pick c (unrun 13 a) (runOf n 0 (replicate wordCount 0) a)) (unrun (areaRefusal a) a) .answer) ≡ 0 → ⊥)
+        → pick b (pick c (unrun 13 a) (runOf n 0 (replicate wordCount 0) a)) (unrun (areaRefusal a) a) .octets ≡ a
     go true true h = refl
-    go true false h = absurd (h (run-accepted n 0 (replicate 9 0) a))
+    go true false h = absurd (h (run-accepted n 0 (replicate wordCount 0) a))
     go false c h = refl
 
 pub run-short : (a out : List ℕ) (n r : ℕ) → r ≡ replied (pick (eqb (timeRefusal a n) 0) 15 (timeRefusal a n)) 0 → length out < 48 → left r a out ≡ runLeft a n out
@@ -379,7 +380,7 @@ module _ (a : List ℕ) (i : ℕ) (c : Counters) (n : ℕ) (q : n ≡ numberOf (
   unfolding countersGiven
   counters-short out r p h z = refuses-short 64 r out (kept out) _ p h ∙ passes (numberOf (countersRead a i .answer)) 0 0 (kept out) _ (counted-is ∙ z)
 
-  pub counters-made : (out o : List ℕ) → o ≡ putWords 16 out 0 (c .words) → 64 ≤ length out → n ≡ 0 → given 0 o ≡ countersGiven a i out
+  pub counters-made : (out o : List ℕ) → o ≡ putWords counterCount out 0 (c .words) → 64 ≤ length out → n ≡ 0 → given 0 o ≡ countersGiven a i out
   unfolding countersGiven
   counters-made out o p h z =
       rw (p, ap (λ (y : Counted). y .words) e)

@@ -8,7 +8,7 @@ use native.Mathlib.Omega.{arith}
 use borrow.Author.Tests.{eq-eqb, ltb-false, leb-false, eqb-true}
 use lib.Dec.{ltb, leb, eqb}
 use lib.ListN.{length, replicate}
-use Rattle.octets.specs.Base.{pick, some, outside, Outcome, numberOf}
+use Rattle.octets.specs.Base.{pick, outside, Outcome, numberOf}
 use Rattle.octets.specs.BaseLaws.{by-test, by-eq}
 use Rattle.octets.specs.NumberLaws.{Octets, length-spelled}
 use Rattle.octets.specs.Number.{spelled}
@@ -19,7 +19,7 @@ use Rattle.sheet.specs.Sheet.{readSheet}
 use Rattle.draws.specs.Draws.{drawsIn}
 use Rattle.frame.specs.Limits.{maxFrame, refusesData, bufferOctets}
 use Rattle.frame.specs.Build.{frameOf, built}
-use Rattle.opener.specs.Open.{valueOf as lengthType, dataField, checkWrong, checkError, lengthWrong, unpadded, opened}
+use Rattle.opener.specs.Open.{dataField, checkWrong, checkError, lengthWrong, unpadded, opened}
 use Rattle.station.specs.Count.{octetsIn}
 use Rattle.area.specs.Area.{clockAt, countAt, stationAt}
 use Rattle.valid.specs.Valid.{areaRefusal}
@@ -28,7 +28,7 @@ use Rattle.start.specs.Start.{started}
 use Rattle.offer.specs.Offer.{holds, offered}
 use Rattle.bus.specs.Step.{steppedOnce}
 use Rattle.bus.specs.Counters.{countersRead}
-use Rattle.course.specs.Run.{lateAt, tallied, runOf, ran}
+use Rattle.course.specs.Run.{tallied, runOf, ran, stops}
 use Rattle.reading.specs.Read.{isReadable, frameRead}
 use Rattle.reading.specs.ReadLaws.{read-room}
 use Rattle.answers.specs.Answers.{refusalBit, replied, valueOf, layoutPut, clientWords, eventsPut}
@@ -36,7 +36,8 @@ use Rattle.tables.specs.RunWords.{runPut}
 use Rattle.calls.specs.Calls.{Given, given, Left, left, codeGiven, unless, kept, bothKept, short, sheetGiven, buildGiven, clientGiven, drawsRefusal, drawnGiven, startGiven, offerGiven, stepLeft, runLeft, frameGiven, countersGiven}
 use Rattle.calls.specs.Numbers.{sheet-small, build-size}
 use Rattle.layout.specs.Limits.{lastClock}
-use Rattle.area.specs.Offsets.{areaSize}
+use Rattle.area.specs.Offsets.{areaSize, counterCount}
+use Rattle.tally.specs.Tally.{wordCount}
 
 -- a call that was lent l and gives x: where its reply has bit 31, l is as it was
 abbrev pub Keeps : List ℕ → Given → Type 0
@@ -158,7 +159,7 @@ steps-most : (k m : ℕ) (ws a : List ℕ) → runOf k m ws a .steps ≤ m + k
 unfolding runOf
 steps-most zero m ws a = omega arith
 steps-most (suc k) m ws a =
-    by-test (some (lateAt (eventsAt a)) 16) (λ p. rw p (omega arith))
+    by-test (stops (eventsAt a)) (λ p. rw p (omega arith))
     (λ p. rw p (omega (arith, steps-most k (m + 1) (tallied (eventsAt a) 16 ws) (stepArea a))))
 
 run-small : (a : List ℕ) (n : ℕ) → ran a n .steps ≤ lastClock
@@ -166,7 +167,7 @@ unfolding ran
 run-small a n =
     by-test (eqb (areaRefusal a) 0)
     (λ p. by-test (ltb lastClock (clockAt a + n)) (λ q. rw (p, q) (omega arith))
-    (λ q. rw (p, q) (omega (arith, steps-most n 0 (replicate 9 0) a, ltb-false lastClock (clockAt a + n) q))))
+    (λ q. rw (p, q) (omega (arith, steps-most n 0 (replicate wordCount 0) a, ltb-false lastClock (clockAt a + n) q))))
     (λ p. rw p (omega arith))
 
 pub run-keeps : (a : List ℕ) (n : ℕ) (out : List ℕ) → BothKept a out (runLeft a n out)
@@ -200,4 +201,4 @@ pub counters-keeps : (a : List ℕ) (i : ℕ) (out : List ℕ) → Keeps out (co
 unfolding countersGiven
 counters-keeps a i out =
     checks (numberOf (countersRead a i .answer)) out _
-    (checks (short 64 out) out _ (answers 0 out (putWords 16 out 0 (countersRead a i .words)) (omega arith)))
+    (checks (short 64 out) out _ (answers 0 out (putWords counterCount out 0 (countersRead a i .words)) (omega arith)))

@@ -3,7 +3,7 @@
 -- octets, high octet first; those words, and the numbers of answers, are in `answers`. The laws are in CallLaws. Assumes nothing.
 use Prim.Native.Nat.{ℕ, _+_, _*_}
 use mathlib.Core.Bool.{false}
-use mathlib.Core.List.{List, [], _∷_}
+use mathlib.Core.List.{List}
 use lib.Dec.{ltb, eqb}
 use lib.ListN.{length}
 use Rattle.octets.specs.Base.{pick, outside, Answer, Outcome, numberOf}
@@ -15,7 +15,7 @@ use Rattle.sheet.specs.Sheet.{readSheet}
 use Rattle.draws.specs.Draws.{drawsIn}
 use Rattle.opener.specs.Open.{opened}
 use Rattle.frame.specs.Build.{built}
-use Rattle.area.specs.Offsets.{areaSize}
+use Rattle.area.specs.Offsets.{areaSize, counterCount}
 use Rattle.area.specs.Area.{clockAt}
 use Rattle.valid.specs.Valid.{areaRefusal}
 use Rattle.start.specs.Start.{started}
@@ -157,4 +157,4 @@ unfoldable pub countersGiven : (area : List ℕ) (i : ℕ) (out : List ℕ) → 
 countersGiven a i out =
     unless (numberOf (countersRead a i .answer)) (kept out)
     (unless (short 64 out) (kept out)
-    (given 0 (putWords 16 out 0 (countersRead a i .words))))
+    (given 0 (putWords counterCount out 0 (countersRead a i .words))))

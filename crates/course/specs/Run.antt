@@ -7,7 +7,7 @@ use lib.Dec.{ltb, eqb}
 use lib.ListN.{replicate}
 use Rattle.octets.specs.Base.{pick, some, Answer, refused, accepted, doneAnswer}
 use Rattle.octets.specs.Turns.{turns}
-use Rattle.tally.specs.Tally.{sentCounted, gotCounted, isLate}
+use Rattle.tally.specs.Tally.{sentCounted, gotCounted, isLate, wordCount}
 use Rattle.area.specs.Area.{clockAt}
 use Rattle.valid.specs.Valid.{areaRefusal}
 use Rattle.pair.specs.declared.Events.{Events}
@@ -29,6 +29,10 @@ tallied es n ws = turns (λ i x. gotCounted (sentCounted x (eventAt es i .sent))
 unfoldable pub lateAt : List Events → ℕ → Bool
 lateAt es i = isLate (eventAt es i .sent)
 
+-- a step with these events ends a run
+abbrev pub stops : List Events → Bool
+stops es = some (lateAt es) 16
+
 -- the first number below n that passes the test
 unfoldable pub first : (ℕ → Bool) → ℕ → ℕ
 first t zero = 0
@@ -48,7 +52,7 @@ pub record Ran : Type 0 where
 unfoldable pub runOf : ℕ → (m : ℕ) (ws : List ℕ) (a : List ℕ) → Ran
 runOf zero m ws a = record { answer = accepted []; steps = m; words = ws; ended = how.All; octets = a }
 runOf (suc k) m ws a =
-    pick (some (lateAt (eventsAt a)) 16)
+    pick (stops (eventsAt a))
     (record {
       answer = accepted [];
       steps = m + 1;
@@ -66,11 +70,11 @@ runOutcome r a =
     record { answer = doneAnswer (r .done); steps = r .steps; words = r .words; ended = r .ended; octets = a }
 
 abbrev pub unrun : ℕ → List ℕ → Ran
-unrun k a = record { answer = refused k; steps = 0; words = replicate 9 0; ended = how.All; octets = a }
+unrun k a = record { answer = refused k; steps = 0; words = replicate wordCount 0; ended = how.All; octets = a }
 
 -- "13. Clock plus the bit times asked exceeds 16,777,216."
 unfoldable pub ran : List ℕ → ℕ → Ran
 ran a n =
     pick (eqb (areaRefusal a) 0)
-    (pick (ltb lastClock (clockAt a + n)) (unrun 13 a) (runOf n 0 (replicate 9 0) a))
+    (pick (ltb lastClock (clockAt a + n)) (unrun 13 a) (runOf n 0 (replicate wordCount 0) a))
     (unrun (areaRefusal a) a)

@@ -22,8 +22,8 @@ use Rattle.ready.specs.Stays.{step-ready, step-clock}
 use Rattle.course.specs.declared.Ended.{Ended}
 use Rattle.course.specs.declared.Ended.the-variants as how
 use Rattle.course.specs.declared.RunAnswer.{RunAnswer}
-use Rattle.tally.specs.Tally.{sentCounted, gotCounted, isLate}
-use Rattle.course.specs.Run.{tallied, lateAt, first, Ran, runOf, runOutcome, ran}
+use Rattle.tally.specs.Tally.{sentCounted, gotCounted, isLate, wordCount}
+use Rattle.course.specs.Run.{tallied, lateAt, first, Ran, runOf, runOutcome, ran, stops}
 use Rattle.layout.specs.Limits.{lastClock}
 
 -- ---- the words have room
@@ -93,7 +93,7 @@ below-first t (suc n) s h =
 module _ (n t : ℕ) (ws : List ℕ) (a : List ℕ) (R : Ran) where
   -- one step more of those that are left
   pub turn : (k : ℕ) → k ≡ n - t → t < n → runOf (n - t) t ws a ≡ R
-      → pick (some (lateAt (eventsAt a)) 16)
+      → pick (stops (eventsAt a))
       (record {
         answer = accepted [];
         steps = t + 1;
@@ -112,7 +112,7 @@ module _ (n t : ℕ) (ws : List ℕ) (a : List ℕ) (R : Ran) where
       → runOf (n - t) t ws a ≡ R → runOf (n - (t + 1)) (t + 1) vs b ≡ R
   run-on es vs b i eb ee ev s lo up h p =
       let z : i ≡ 16 = omega arith in
-      let f : some (lateAt (eventsAt a)) 16 ≡ false = ap (λ (x : List Events). some (lateAt x) 16) (sym ee) ∙ ap
+      let f : stops (eventsAt a) ≡ false = ap (λ (x : List Events). stops x) (sym ee) ∙ ap
       (some (lateAt es)) (sym z) ∙ s in
       rw (eb, ev, ee) (rw f at (turn (n - t) refl h p))
 
@@ -122,7 +122,7 @@ module _ (n t : ℕ) (ws : List ℕ) (a : List ℕ) (R : Ran) where
       → record { answer = accepted []; steps = t + 1; words = vs; ended = how.Late (t + 1 - 1) i; octets = b } ≡ R
   run-late es vs b i c eb ee ev ec et s hi h p =
       let z : t + 1 - 1 ≡ t = omega arith in
-      let hit : some (lateAt (eventsAt a)) 16 ≡ true = sym
+      let hit : stops (eventsAt a) ≡ true = sym
       (some-hit (lateAt (eventsAt a)) 16 i c (ec ∙ ap (λ (x : List Events). lateAt x i) ee) et hi) in
       let at : first (lateAt es) 16 ≡ i = first-hit (lateAt es) 16 i c ec et s hi in
       rw (z, eb, ev, ← at, ee) (rw hit at (turn (n - t) refl h p))
@@ -180,14 +180,14 @@ run-clock n t a h g = omega (arith, h .1)
 -- ---- the call
 
 module _ (a : List ℕ) (k n : ℕ) where
-  pub ran-area : (r : RunAnswer) → doneAnswer (r .done) ≡ refused k → r .steps ≡ 0 → r .words ≡ replicate 9 0
+  pub ran-area : (r : RunAnswer) → doneAnswer (r .done) ≡ refused k → r .steps ≡ 0 → r .words ≡ replicate wordCount 0
       → r .ended ≡ how.All → k ≡ areaRefusal a → (k ≡ 0 → ⊥)
       → runOutcome r a ≡ ran a n
   unfolding ran
   ran-area r p q s t e h =
       (λ i. record { answer = p i; steps = q i; words = s i; ended = t i; octets = a }) ∙ rw (← e, ne-eqb k 0 h)
 
-  pub ran-over : (r : RunAnswer) (c : ℕ) → doneAnswer (r .done) ≡ refused 13 → r .steps ≡ 0 → r .words ≡ replicate 9 0
+  pub ran-over : (r : RunAnswer) (c : ℕ) → doneAnswer (r .done) ≡ refused 13 → r .steps ≡ 0 → r .words ≡ replicate wordCount 0
       → r .ended ≡ how.All → k ≡ areaRefusal a → k ≡ 0
       → c ≡ clockAt a → lastClock - c < n → runOutcome r a ≡ ran a n
   unfolding ran
@@ -195,7 +195,7 @@ module _ (a : List ℕ) (k n : ℕ) where
       (λ i. record { answer = p i; steps = q i; words = s i; ended = t i; octets = a })
       ∙ rw (← e, eq-eqb k 0 h, ← ec, lt-ltb lastClock (c + n) (omega arith))
 
-  pub ran-made : (R : Ran) (c : ℕ) → R ≡ runOf n 0 (replicate 9 0) a → k ≡ areaRefusal a → k ≡ 0 → c ≡ clockAt a
+  pub ran-made : (R : Ran) (c : ℕ) → R ≡ runOf n 0 (replicate wordCount 0) a → k ≡ areaRefusal a → k ≡ 0 → c ≡ clockAt a
       → c ≤ lastClock → n ≤ lastClock - c → R ≡ ran a n
   unfolding ran
   ran-made R c p e h ec l g = p ∙ rw (← e, eq-eqb k 0 h, ← ec, le-ltb lastClock (c + n) (omega arith))

@@ -9,6 +9,7 @@ ghost use Rattle.octets.specs.Base.{refused, doneAnswer};
 ghost use Rattle.tally.specs.TallyLaws.{Bounded};
 ghost use Rattle.course.specs.Run.{tallied};
 ghost use Rattle.course.specs.declared.Ended.the-variants.{All, Late};
+ghost use Rattle.tally.specs.Tally.{wordCount};
 
 // How a run ended: all its steps were made, or a station had a late collision in the last of them.
 pub enum Ended {
@@ -50,7 +51,7 @@ pub fn late_end(steps: u32, station: u32) -> Ended
 
 // The events of a step, counted into `words`. No word is past `top` yet.
 pub fn count_events(words: &mut [u32], events: [Events; 16], top: u32)
-    requires { ⌜ (length (now words) ≡ 9) × Bounded (now words) top × (top + 32 < 4294967295) ⌝ }
+    requires { ⌜ (length (now words) ≡ wordCount) × Bounded (now words) top × (top + 32 < 4294967295) ⌝ }
     ensures { λ r. ⌜ now (words .exit) ≡ tallied events 16 (now (words .entry)) ⌝ }
 {
     let mut i: usize = 0;
@@ -67,7 +68,7 @@ pub fn count_events(words: &mut [u32], events: [Events; 16], top: u32)
 
 // A run refused under this number.
 pub fn no_run(number: u32) -> RunAnswer
-    ensures { λ r. ⌜ (doneAnswer (r .done) ≡ refused number) × (r .steps ≡ 0) × (r .words ≡ replicate 9 0) × (r .ended ≡ All) ⌝ }
+    ensures { λ r. ⌜ (doneAnswer (r .done) ≡ refused number) × (r .steps ≡ 0) × (r .words ≡ replicate wordCount 0) × (r .ended ≡ All) ⌝ }
 {
     RunAnswer {
         done: Done::Refused(number),

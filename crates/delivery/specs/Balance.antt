@@ -8,7 +8,7 @@ use borrow.Author.Tests.{eq-eqb, leb-false}
 use lib.Dec.{ltb, leb, eqb}
 use lib.ListN.{length, getD, length-set}
 use lib.Seq.{getD-set-same, getD-set-other}
-use Rattle.octets.specs.Base.{Answer, accepted}
+use Rattle.octets.specs.Base.{accepted}
 use Rattle.octets.specs.BaseLaws.{by-test, by-eq}
 use Rattle.octets.specs.Bits.{digit}
 use Rattle.octets.specs.Number.{get}
@@ -47,7 +47,7 @@ use Rattle.start.specs.Start.{started}
 use Rattle.bus.specs.Step.{steppedOnce}
 use Rattle.delivery.specs.Passing.{by-start, freshStation, start-station, holding, offer-layout, offer-clock, offer-own, offer-other, offer-counters, offer-counters-other, frame-range}
 use Rattle.layout.specs.Limits.{lastClock}
-use Rattle.area.specs.Offsets.{areaSize}
+use Rattle.area.specs.Offsets.{areaSize, counterCount}
 
 -- a frame still held counts one
 held : Transmitter → ℕ
@@ -148,7 +148,7 @@ sent-one cs n z d h g =
     untouched-if _ d 8 4 (λ e. omega arith) ∙ untouched-if _ _ 6 4 (λ e. omega arith) ∙ untouched-if _ _ 5 4 (λ e. omega arith)
     ∙ untouched _ 7 _ 4 (λ e. omega arith) ∙ one-more cs 4 h g
 
-module _ (cs : List ℕ) (z : ℕ) (d : Bool) (n : length cs ≡ 16) where
+module _ (cs : List ℕ) (z : ℕ) (d : Bool) (n : length cs ≡ counterCount) where
   counts-offered : (e : TransmitEvent) → getD (countTransmit cs e z d) 0 0 ≡ getD cs 0 0
   unfolding countTransmit
   counts-offered NoTransmit = refl
@@ -183,11 +183,11 @@ record Counts (cs ds : List ℕ) (e : TransmitEvent) : Type 0 where
   gone : getD ds sent 0 ≡ getD cs sent 0 + sentIn e
   lost : getD ds excessive 0 ≡ getD cs excessive 0 + givenIn e
 
-step-counts : (cs : List ℕ) (o : Stepped) → length cs ≡ 16 → getD cs sent 0 < 4294967295 → getD cs excessive 0 < 4294967295 → Counts cs (counted cs o) (o .sent)
+step-counts : (cs : List ℕ) (o : Stepped) → length cs ≡ counterCount → getD cs sent 0 < 4294967295 → getD cs excessive 0 < 4294967295 → Counts cs (counted cs o) (o .sent)
 unfolding counted
 step-counts cs o n p q =
     let es = addedIf (o .start) cs 1 in
-    let m : length es ≡ 16 = if-length cs (o .start) 1 ∙ n in
+    let m : length es ≡ counterCount = if-length cs (o .start) 1 ∙ n in
     let p′ : getD es 4 0 ≡ getD cs 4 0 = untouched-if cs (o .start) 1 4 (λ e. omega arith) in
     let q′ : getD es 9 0 ≡ getD cs 9 0 = untouched-if cs (o .start) 1 9 (λ e. omega arith) in
     record {
@@ -219,9 +219,9 @@ act-ends : (a : List ℕ) (i : ℕ) → digit (offers.holds (actAt a i .outcome 
 unfolding actAt actIn outcomeIn stepped nextStation held
 act-ends a i = transmit-ends (figuresAt a) (stationAt a i .transmitter) (stationAt a i .frame) _ _ _ _
 
-counters-sixteen : (a : List ℕ) (i : ℕ) → length (countersAt a i) ≡ 16
+counters-sixteen : (a : List ℕ) (i : ℕ) → length (countersAt a i) ≡ counterCount
 unfolding countersAt
-counters-sixteen a i = length-words 16 a (1024 + 64 * i)
+counters-sixteen a i = length-words counterCount a (1024 + 64 * i)
 
 step-balanced : (a : List ℕ) (r : Readiness a) (i : ℕ) → i < countAt a → Balanced a i → Balanced (stepArea a) i
 step-balanced a r i h v =
@@ -304,7 +304,7 @@ nothing-held : (address : List ℕ) → freshStation address .transmitter ≡ No
 unfolding freshStation
 nothing-held address = refl
 
-zero-counter : (at k : ℕ) → k < 16 → getD (wordsAt 16 [] at) k 0 ≡ 0
+zero-counter : (at k : ℕ) → k < 16 → getD (wordsAt counterCount [] at) k 0 ≡ 0
 zero-counter at k h = word-at 16 [] at k h ∙ no-word (at + 4 * k)
 
 module _ (y : Layout) (d : ℕ) (ds : List (List ℕ)) (a : List ℕ) (big : areaSize ≤ length a) (ok : refusalOf y ≡ 0) (low : 1 ≤ d) (high : d ≤ 16)
@@ -314,7 +314,7 @@ module _ (y : Layout) (d : ℕ) (ds : List (List ℕ)) (a : List ℕ) (big : are
       let few = sound y ok .count .1 in
       let n : i < y .count = omega (arith, fresh-count y d ds a big few high formed (omega arith)) in
       let e = fresh-counters y d ds a big few high formed i (omega arith) in
-      let z : (k : ℕ) → k < 16 → getD (wordsAt 16 [] (1024 + 64 * i)) k 0 ≡ 0 = zero-counter (1024 + 64 * i) in
+      let z : (k : ℕ) → k < 16 → getD (wordsAt counterCount [] (1024 + 64 * i)) k 0 ≡ 0 = zero-counter (1024 + 64 * i) in
       record {
         even = rw (e, start-station y d ds a big ok low high formed i n, nothing-held (lay.addressAt y i), z 0 (omega arith), z 4 (omega arith), z 9 (omega arith)) refl;
         ended = rw (e, z 4 (omega arith), z 9 (omega arith)) (omega arith);

@@ -8,7 +8,7 @@ use mathlib.Core.List.{List, [], _∷_, _++_}
 use mathlib.Core.Logic.{_⊎_}
 use lib.Dec.{eqb}
 use lib.ListN.{length, getD}
-use Rattle.octets.specs.Base.{pick, some, numberOf}
+use Rattle.octets.specs.Base.{pick, numberOf}
 use Rattle.octets.specs.NumberLaws.{Octets}
 use Rattle.frame.specs.Build.{frameOf}
 use Rattle.packet.specs.declared.Heard.{Heard}
@@ -20,7 +20,7 @@ use Rattle.area.specs.Area.{clockAt, addressAt, arrivalAt}
 use Rattle.pair.specs.BitTime.{actAt, eventsAt, stepArea, eventAt}
 use Rattle.offer.specs.Offer.{offered}
 use Rattle.bus.specs.Step.{steppedOnce}
-use Rattle.course.specs.Run.{lateAt, ran}
+use Rattle.course.specs.Run.{ran, stops}
 
 -- offer: station, destination, length/type value, data. read: station, and what the lent output holds
 pub data Call : Type 0 where
@@ -77,7 +77,7 @@ accept i F b m =
 
 -- whether any station has a late collision in the next step
 unfoldable pub late : Moment → Bool
-late m = some (lateAt (eventsAt (m .area))) 16
+late m = stops (eventsAt (m .area))
 
 -- the steps of a run: the moments before them, and the one after; it ends early after a step with a late collision
 unfoldable pub runMade : ℕ → Moment → List Moment

@@ -24,6 +24,7 @@ use Rattle.course.specs.declared.Ended.the-variants.{All}
 use Rattle.course.specs.Run.{tallied, ran}
 use Rattle.reading.specs.Read.{frameRead}
 use Rattle.delivery.specs.Calls.{Call, offer, step, run, read, Moment, made, leaves, log, end, begin, momentAt, sentAt, gotAt, Ends, QuietSince}
+use Rattle.tally.specs.Tally.{wordCount}
 
 -- what a call leaves in the area, by its promise
 abbrev pub called : Call → List ℕ → List ℕ
@@ -84,7 +85,7 @@ pub record Demand3 (y : Layout) (T : List Moment) (m : Moment) : Type 0 where
   pub clocks : (u : ℕ) → u < length T → clockAt (momentAt T u .area) ≡ u
   pub steps : steppedOnce (m .area) .answer ≡ accepted [] → (made step m ≡ m ∷ []) × (steppedOnce (m .area) .events ≡ eventsAt (m .area))
   -- "A run stands for the steps it makes, and its answer counts their events." None ends early.
-  pub runs : (n : ℕ) → (ran (m .area) n .steps ≡ length (made (run n) m)) × (ran (m .area) n .words ≡ counted (made (run n) m) (replicate 9 0))
+  pub runs : (n : ℕ) → (ran (m .area) n .steps ≡ length (made (run n) m)) × (ran (m .area) n .words ≡ counted (made (run n) m) (replicate wordCount 0))
   pub ends : (n : ℕ) → (ran (m .area) n .ended ≡ All) × (ran (m .area) n .answer ≡ accepted [] → ran (m .area) n .steps ≡ n)
   -- "no late collision"
   pub never-late : (u i k : ℕ) → u < length T → i < y .count → sentAt T u i ≡ Late k → ⊥

@@ -2,13 +2,13 @@
 -- A fresh start leaves an area that passes checks 1 and 2; an offer and a step leave one of one. Assumes nothing.
 use Prim.Native.Nat.{ℕ, _+_, _*_, _≤_, _<_}
 use mathlib.Core.Path.{_≡_, refl, sym, _∙_, ap, ap₂, subst}
-use mathlib.Core.Bool.{Bool, false}
+use mathlib.Core.Bool.{false}
 use mathlib.Core.List.{List, []}
 use native.Mathlib.Omega.{arith}
-use borrow.Author.Tests.{eq-eqb, eqb-true, eqb-false, ltb-false, leb-false}
+use borrow.Author.Tests.{eq-eqb, eqb-true, ltb-false, leb-false}
 use lib.Dec.{ltb, leb, eqb}
 use lib.ListN.{length}
-use Rattle.octets.specs.Base.{outside, Answer, accepted, Outcome}
+use Rattle.octets.specs.Base.{outside, accepted}
 use Rattle.octets.specs.BaseLaws.{by-test, by-eq, refused-none, within}
 use Rattle.octets.specs.Number.{get}
 use Rattle.octets.specs.Words.{wordsAt}
@@ -17,18 +17,16 @@ use Rattle.frame.specs.Limits.{refusesData, bufferOctets}
 use Rattle.frame.specs.Build.{frameOf}
 use Rattle.frame.specs.BuildLaws.{frame-size, data-within}
 use Rattle.layout.specs.declared.Figures.{Figures}
-use Rattle.layout.specs.declared.Tap.{Tap}
 use Rattle.layout.specs.declared.Layout.{Layout}
 use Rattle.layout.specs.Layout as lay
 use Rattle.layout.specs.Check.{refusalOf}
 use Rattle.layout.specs.CheckLaws.{Figured, Sound, sound, refusal-same}
 use Rattle.state.specs.declared.Deference.the-variants.{Quiet}
-use Rattle.state.specs.declared.Transmitter.{Transmitter}
-use Rattle.state.specs.declared.Transmitter.the-variants.{NoFrame, Waiting}
+use Rattle.state.specs.declared.Transmitter.the-variants.{NoFrame}
 use Rattle.state.specs.declared.Receiver.the-variants.{Listening}
 use Rattle.state.specs.declared.Station.{Station}
 use Rattle.station.specs.Count.{added}
-use Rattle.record.specs.Codec.{decoded, encoded}
+use Rattle.record.specs.Codec.{decoded, encoded, recordWords}
 use Rattle.record.specs.CodecLaws.{Fit, decoded-encoded}
 use Rattle.area.specs.Places.{Part, clock, depth, layout, counters, station, frame, place, Off, Keeps}
 use Rattle.area.specs.Area.{clockAt, depthAt, figuresAt, countAt, addressAt, tapAt, layoutAt, countersAt, recordAt, stationAt, withStation, withFrame}
@@ -45,9 +43,9 @@ use Rattle.ready.specs.Stays.{layout-by, spread-by, step-passing}
 use Rattle.offer.specs.Offer.{holds, offeredStation, withHeld, withOffered, withOffer, offered}
 use Rattle.offer.specs.OfferLaws.{address-six}
 use Rattle.start.specs.Start.{started}
-use Rattle.bus.specs.Step.{Bit, steppedOnce}
+use Rattle.bus.specs.Step.{steppedOnce}
 use Rattle.layout.specs.Limits.{lastClock}
-use Rattle.area.specs.Offsets.{areaSize}
+use Rattle.area.specs.Offsets.{areaSize, counterCount}
 
 -- ---- a fresh start
 
@@ -72,7 +70,7 @@ fresh-fine f d address h =
     record { gap = tt; number = tt; attempts = omega arith; frame = tt; receiver = tt; draw = h; wide = omega arith }
 
 -- a record of zeros stands for it
-zeros-encode : (address : List ℕ) (at : ℕ) → wordsAt 14 [] at ≡ encoded (freshStation address)
+zeros-encode : (address : List ℕ) (at : ℕ) → wordsAt recordWords [] at ≡ encoded (freshStation address)
 unfolding wordsAt get encoded freshStation
 zeros-encode address at = refl
 
@@ -80,7 +78,7 @@ fresh-decoded : (address : List ℕ) → decoded (encoded (freshStation address)
 unfolding freshStation
 fresh-decoded address = decoded-encoded (freshStation address)
 
-zeros-small : (at : ℕ) → Small (wordsAt 16 [] at)
+zeros-small : (at : ℕ) → Small (wordsAt counterCount [] at)
 unfolding wordsAt get
 zeros-small at = (omega arith, (omega arith, (omega arith, (omega arith, (omega arith, (omega arith, (omega arith, (omega arith, (omega arith, (omega arith, (omega arith, (omega arith, (omega arith, (omega arith, (omega arith, (omega arith, tt))))))))))))))))
 
@@ -261,7 +259,7 @@ module _ (a f : List ℕ) (i : ℕ) (v : Passing a) (hi : i < countAt a) (low : 
   pub offer-counters : countersAt (holding a f i) i ≡ added (countersAt a i) 0 1
   unfolding withOffered countersAt b₂ b₁
   offer-counters =
-      let w = added-words (countersAt b₂ i) 0 1 (length-words 16 b₂ (1024 + 64 * i), subst Small (sym counters-there) (r .counts i hi)) in
+      let w = added-words (countersAt b₂ i) 0 1 (length-words counterCount b₂ (1024 + 64 * i), subst Small (sym counters-there) (r .counts i hi)) in
       counters-same b₂ (omega (arith, long₂, r .long)) i (added (countersAt b₂ i) 0 1) small (w .0) (w .1)
       ∙ ap (λ (cs : List ℕ). added cs 0 1) counters-there
 
@@ -272,7 +270,7 @@ module _ (a f : List ℕ) (i : ℕ) (v : Passing a) (hi : i < countAt a) (low : 
   unfolding countersAt
   counts-there j h =
       by-eq j i
-      (λ e. rw e (subst Small (sym offer-counters) (added-words (countersAt a i) 0 1 (length-words 16 a (1024 + 64 * i), r .counts i hi) .1)))
+      (λ e. rw e (subst Small (sym offer-counters) (added-words (countersAt a i) 0 1 (length-words counterCount a (1024 + 64 * i), r .counts i hi) .1)))
       (λ ne. subst Small (sym (offer-counters-other j (let few = r .spread .few in omega arith) ne)) (r .counts j h))
 
   fine-there : (j : ℕ) → j < countAt a → Fine (figuresAt a) (depthAt a) (clockAt a) (stationAt (holding a f i) j)

@@ -10,7 +10,7 @@ use borrow.Author.Tests.{eq-eqb, lt-leb, leb-true, leb-false, eqb-true, le-ltb, 
 use lib.Dec.{ltb, leb, eqb}
 use lib.ListN.{length, getD, take, replicate, length-append}
 use lib.Seq.{sets, getD-append-seam}
-use Rattle.octets.specs.Base.{pick, some, Answer, refused, accepted, Outcome, outcome, numberOf, valuesOf}
+use Rattle.octets.specs.Base.{pick, Answer, refused, accepted, outcome, numberOf, valuesOf}
 use Rattle.octets.specs.BaseLaws.{by-test, by-eq, below-none, refused-none}
 use Rattle.octets.specs.Filled.{filled-past}
 use Rattle.octets.specs.NumberLaws.{Octets}
@@ -26,25 +26,22 @@ use Rattle.transmitter.specs.declared.TransmitEvent.{TransmitEvent}
 use Rattle.transmitter.specs.declared.TransmitEvent.the-variants.{NoTransmit, Collision, Late, Sent, GivenUp}
 use Rattle.state.specs.declared.Receiver.{Receiver}
 use Rattle.state.specs.declared.Receiver.the-variants.{Listening, Readable, Seeking, Collecting}
-use Rattle.receiver.specs.declared.ReceiveEvent.{ReceiveEvent}
 use Rattle.receiver.specs.declared.ReceiveEvent.the-variants.{GotOk}
 use Rattle.receiver.specs.Receive.{addressed}
 use Rattle.state.specs.declared.Station.{Station}
 use Rattle.station.specs.declared.Stepped.{Stepped}
-use Rattle.area.specs.Area.{clockAt, figuresAt, countAt, addressAt, spaceAt, stationAt, bufferAt, arrivalAt}
+use Rattle.area.specs.Area.{clockAt, figuresAt, countAt, addressAt, stationAt, bufferAt, arrivalAt}
 use Rattle.start.specs.Fresh.{fresh}
 use Rattle.valid.specs.Valid.{areaRefusal}
-use Rattle.pair.specs.declared.Act.{Act}
 use Rattle.pair.specs.declared.Events.{Events}
 use Rattle.pair.specs.BitTime.{actAt, eventsOf, noEvents, eventsAt, stepArea, eventAt}
 use Rattle.ready.specs.Passes.{Passing, ready-passes}
 use Rattle.offer.specs.Offer.{holds, offered}
 use Rattle.start.specs.Start.{started}
 use Rattle.bus.specs.Step.{steppedOnce}
-use Rattle.tally.specs.Tally.{isLate}
-use Rattle.course.specs.declared.Ended.{Ended}
+use Rattle.tally.specs.Tally.{isLate, wordCount}
 use Rattle.course.specs.declared.Ended.the-variants as how
-use Rattle.course.specs.Run.{tallied, lateAt, Ran, runOf, ran}
+use Rattle.course.specs.Run.{tallied, lateAt, runOf, ran, stops}
 use Rattle.sheet.specs.Sheet.{readSheet}
 use Rattle.sheet.specs.SheetTheorems.{read-formed, read-octets}
 use Rattle.station.specs.Count.{octetsIn}
@@ -65,8 +62,8 @@ use Rattle.delivery.specs.Encode.{Encodes, same-outcome}
 use Rattle.delivery.specs.Net.{netOf, spanAt, Laid, Proper, net-sound, start-octets, start-span, start-laid, start-encodes}
 use Rattle.delivery.specs.Passing.{by-start, start-passing}
 use Rattle.delivery.specs.Balance.{AllBalanced, area-balanced, stepped-balanced, offered-balanced, start-balanced}
-use Rattle.delivery.specs.Traced.{Row, Traced, event-is, tries-count, end-none, end-late, end-on, run-early, run-room, run-fits, clock-is, traced-step, traced-call, traced-all, traced-begin}
-use Rattle.delivery.specs.Demand3.{called, counted, apart, Sender, frameSent, offerSent, readAs, ReadFrom, Demand3, Demand3For}
+use Rattle.delivery.specs.Traced.{Traced, event-is, tries-count, end-none, end-late, end-on, run-early, run-room, run-fits, clock-is, traced-step, traced-call, traced-all, traced-begin}
+use Rattle.delivery.specs.Demand3.{called, counted, apart, Sender, offerSent, readAs, ReadFrom, Demand3For}
 use Rattle.layout.specs.Limits.{lastClock}
 use Rattle.area.specs.Offsets.{areaSize}
 
@@ -311,7 +308,7 @@ run-steps : (k t : ℕ) (ws : List ℕ) (m : Moment) → runOf k t ws (m .area) 
 unfolding runOf runMade next late
 run-steps zero t ws m = omega arith
 run-steps (suc k) t ws m =
-    by-test (some (lateAt (eventsAt (m .area))) 16)
+    by-test (stops (eventsAt (m .area)))
     (λ e. rw e)
     (λ e. rw e (run-steps k (t + 1) (tallied (eventsAt (m .area)) 16 ws) (next m) ∙ omega arith))
 
@@ -319,7 +316,7 @@ run-words : (k t : ℕ) (ws : List ℕ) (m : Moment) → runOf k t ws (m .area) 
 unfolding runOf runMade next late
 run-words zero t ws m = refl
 run-words (suc k) t ws m =
-    by-test (some (lateAt (eventsAt (m .area))) 16)
+    by-test (stops (eventsAt (m .area)))
     (λ e. rw e)
     (λ e. rw e (run-words k (t + 1) (tallied (eventsAt (m .area)) 16 ws) (next m)))
 
@@ -327,39 +324,39 @@ run-octets : (k t : ℕ) (ws : List ℕ) (m : Moment) → runOf k t ws (m .area)
 unfolding runOf runEnd next late
 run-octets zero t ws m = refl
 run-octets (suc k) t ws m =
-    by-test (some (lateAt (eventsAt (m .area))) 16)
+    by-test (stops (eventsAt (m .area)))
     (λ e. rw e)
     (λ e. rw e (run-octets k (t + 1) (tallied (eventsAt (m .area)) 16 ws) (next m)))
 
 run-answer : (k t : ℕ) (ws : List ℕ) (a : List ℕ) → runOf k t ws a .answer ≡ accepted []
 unfolding runOf
 run-answer zero t ws a = refl
-run-answer (suc k) t ws a = by-test (some (lateAt (eventsAt a)) 16) (λ e. rw e) (λ e. rw e (run-answer k (t + 1) (tallied (eventsAt a) 16 ws) (stepArea a)))
+run-answer (suc k) t ws a = by-test (stops (eventsAt a)) (λ e. rw e) (λ e. rw e (run-answer k (t + 1) (tallied (eventsAt a) 16 ws) (stepArea a)))
 
 module _ (m : Moment) (n : ℕ) (ok : areaRefusal (m .area) ≡ 0) where
-  number-none : numberOf (runOf n 0 (replicate 9 0) (m .area) .answer) ≡ 0
-  number-none = ap numberOf (run-answer n 0 (replicate 9 0) (m .area))
+  number-none : numberOf (runOf n 0 (replicate wordCount 0) (m .area) .answer) ≡ 0
+  number-none = ap numberOf (run-answer n 0 (replicate wordCount 0) (m .area))
 
   ran-steps : ran (m .area) n .steps ≡ length (made (run n) m)
   unfolding ran made
   ran-steps =
       by-test (ltb lastClock (clockAt (m .area) + n))
       (λ c. rw (eq-eqb (areaRefusal (m .area)) 0 ok, c))
-      (λ c. rw (eq-eqb (areaRefusal (m .area)) 0 ok, c, eq-eqb (numberOf (runOf n 0 (replicate 9 0) (m .area) .answer)) 0 number-none) (run-steps n 0 (replicate 9 0) m ∙ omega arith))
+      (λ c. rw (eq-eqb (areaRefusal (m .area)) 0 ok, c, eq-eqb (numberOf (runOf n 0 (replicate wordCount 0) (m .area) .answer)) 0 number-none) (run-steps n 0 (replicate wordCount 0) m ∙ omega arith))
 
-  ran-words : ran (m .area) n .words ≡ counted (made (run n) m) (replicate 9 0)
+  ran-words : ran (m .area) n .words ≡ counted (made (run n) m) (replicate wordCount 0)
   unfolding ran made
   ran-words =
       by-test (ltb lastClock (clockAt (m .area) + n))
       (λ c. rw (eq-eqb (areaRefusal (m .area)) 0 ok, c))
-      (λ c. rw (eq-eqb (areaRefusal (m .area)) 0 ok, c, eq-eqb (numberOf (runOf n 0 (replicate 9 0) (m .area) .answer)) 0 number-none) (run-words n 0 (replicate 9 0) m))
+      (λ c. rw (eq-eqb (areaRefusal (m .area)) 0 ok, c, eq-eqb (numberOf (runOf n 0 (replicate wordCount 0) (m .area) .answer)) 0 number-none) (run-words n 0 (replicate wordCount 0) m))
 
   ran-octets : leaves (run n) m .area ≡ ran (m .area) n .octets
   unfolding ran leaves
   ran-octets =
       by-test (ltb lastClock (clockAt (m .area) + n))
       (λ c. rw (eq-eqb (areaRefusal (m .area)) 0 ok, c))
-      (λ c. rw (eq-eqb (areaRefusal (m .area)) 0 ok, c, eq-eqb (numberOf (runOf n 0 (replicate 9 0) (m .area) .answer)) 0 number-none) (sym (run-octets n 0 (replicate 9 0) m)))
+      (λ c. rw (eq-eqb (areaRefusal (m .area)) 0 ok, c, eq-eqb (numberOf (runOf n 0 (replicate wordCount 0) (m .area) .answer)) 0 number-none) (sym (run-octets n 0 (replicate wordCount 0) m)))
 
 -- ---- no run ends early
 
@@ -410,7 +407,7 @@ module _ (P : Net) (span : ℕ) (L : exec.Sound P span) (g : lay.gapOf (P .fig) 
       by-test (ltb lastClock (clockAt (m .area) + n))
       (λ o. rw (eq-eqb (areaRefusal (m .area)) 0 ok, o) (refl, λ h. refused-none 13 [] h))
       (λ o. let l = ltb-false lastClock (clockAt (m .area) + n) o in
-      let r = run-ends n 0 (replicate 9 0) m T v (omega arith) in
+      let r = run-ends n 0 (replicate wordCount 0) m T v (omega arith) in
       rw (eq-eqb (areaRefusal (m .area)) 0 ok, o) (r .0, λ h. r .1 ∙ omega arith))
 
 -- a step that is not refused answers the events of its moment

@@ -5,7 +5,7 @@ use mathlib.Core.Bool.{Bool, false}
 use mathlib.Core.List.{List}
 use native.Mathlib.Omega.{arith}
 use lib.ListN.{getD}
-use Rattle.octets.specs.Base.{pick, some}
+use Rattle.octets.specs.Base.{pick}
 use Rattle.octets.specs.BaseLaws.{by-test, below-none}
 use borrow.Author.Tests.{ltb-true, ltb-false}
 use lib.Dec.{ltb}
@@ -17,7 +17,7 @@ use Rattle.area.specs.AreaLaws.{count-by}
 use Rattle.pair.specs.declared.Events.{Events}
 use Rattle.pair.specs.BitTime.{actAt, eventsOf, noEvents, eventsAt, stepArea}
 use Rattle.pair.specs.Ready.{Readiness}
-use Rattle.course.specs.Run.{tallied, lateAt, runOf}
+use Rattle.course.specs.Run.{tallied, lateAt, runOf, stops}
 use Rattle.course.specs.Until.{eventful, Stretched, oneMore, untilEvent}
 use Rattle.course.specs.UntilLaws.{plus, stretch-first}
 use Rattle.fast_plan.specs.Plan.{Plan, actAfter, Holds, steps, Planned}
@@ -39,7 +39,7 @@ plan-events a P K s r early h hs =
     (λ i hi. ap eventsOf (plan-acts a P K s i r early h hs (omega arith)))
     ∙ ap (filled noEvents (λ i. eventsOf (actAfter a P i s))) n
 
-none-late : (a : List ℕ) (P : Plan) (K s : ℕ) → Unhurt a P K → s < K → some (lateAt (eventsBy a P s)) 16 ≡ false
+none-late : (a : List ℕ) (P : Plan) (K s : ℕ) → Unhurt a P K → s < K → stops (eventsBy a P s) ≡ false
 unfolding Unhurt lateAt eventsBy
 none-late a P K s u hs =
     below-none (lateAt (eventsBy a P s)) 16
@@ -58,7 +58,7 @@ none-late a P K s u hs =
 unfoldable pub talliedBy : List ℕ → Plan → ℕ → List ℕ → List ℕ
 talliedBy a P K ws = turns (λ s w. tallied (eventsBy a P s) 16 w) K ws
 
-run-one : (k m : ℕ) (ws a : List ℕ) → some (lateAt (eventsAt a)) 16 ≡ false
+run-one : (k m : ℕ) (ws a : List ℕ) → stops (eventsAt a) ≡ false
     → runOf (suc k) m ws a ≡ runOf k (m + 1) (tallied (eventsAt a) 16 ws) (stepArea a)
 unfolding runOf
 run-one k m ws a e = rw e
@@ -79,7 +79,7 @@ run-steps a P (suc K) r m ws ready early h u =
     ap (λ (k : ℕ). runOf k m ws a) e
     ∙ run-steps a P K (suc r) m ws ready (omega arith) (holds-less a P (suc K) K (omega arith) h) (unhurt-less K u)
     ∙ run-one r (m + K) vs x
-    (ap (λ (es : List Events). some (lateAt es) 16) q ∙ none-late a P (suc K) K u (omega arith))
+    (ap (λ (es : List Events). stops es) q ∙ none-late a P (suc K) K u (omega arith))
     ∙ ap₂ (λ (l : ℕ) (es : List Events). runOf r l (tallied es 16 vs) (stepArea x)) z q
   where
     unhurt-less : (K : ℕ) → Unhurt a P (suc K) → Unhurt a P K

@@ -12,11 +12,12 @@ ghost use Rattle.course.specs.RunLaws.{Runnable};
 ghost use Rattle.tally.specs.TallyLaws.{Bounded};
 ghost use Rattle.layout.specs.Limits.{lastClock};
 ghost use Rattle.area.specs.Offsets.{areaSize};
+ghost use Rattle.tally.specs.Tally.{wordCount};
 
 // At most n steps, on an area that is ready for them, counted into `words`.
 fn run_steps(area: &mut [u8], words: &mut [u32], n: u32) -> Course
     requires { ⌜ Runnable n (now area) × (areaSize ≤ length (now area)) × (n ≤ lastClock) ⌝ }
-    requires { ⌜ (length (now words) ≡ 9) × Bounded (now words) 0 ⌝ }
+    requires { ⌜ (length (now words) ≡ wordCount) × Bounded (now words) 0 ⌝ }
     ensures { λ r. ⌜ courseOf r (now (words .exit)) (now (area .exit)) ≡ runOf n 0 (now (words .entry)) (now (area .entry)) ⌝ }
 {
     let mut ended = Ended::All;

@@ -24,7 +24,7 @@ use Rattle.octets.specs.declared.Done.{Done}
 use Rattle.offer.specs.Offer.{offered}
 use Rattle.tally.specs.Tally.{isLate}
 use Rattle.course.specs.declared.Stretch.{Stretch}
-use Rattle.course.specs.Run.{lateAt}
+use Rattle.course.specs.Run.{lateAt, stops}
 use Rattle.course.specs.RunLaws.{Runnable, clock-within, run-allowed}
 use Rattle.course.specs.Until.{Stretched, stretchOf, untilEvent}
 use Rattle.course.specs.UntilLaws.{stretch-steps, stretch-clock, stretch-some}
@@ -241,17 +241,17 @@ module _ (es : List Events) (i : ℕ) (e : Events) (b : Bool) (p : b ≡ isLate 
   unfolding lateAt
   late-is = p ∙ ap (λ (x : Events). isLate (x .sent)) q
 
-  pub late-hit : b ≡ true → i < 16 → true ≡ some (lateAt es) 16
+  pub late-hit : b ≡ true → i < 16 → true ≡ stops es
   late-hit r h = some-hit (lateAt es) 16 i b late-is r h
 
   pub late-more : b ≡ false → some (lateAt es) i ≡ false → some (lateAt es) (i + 1) ≡ false
   late-more r h = some-more (lateAt es) i b late-is r h
 
-module _ (es : List Events) (n m : ℕ) (b : Bool) (e : b ≡ some (lateAt es) 16) where
-  pub left-late : b ≡ true → 0 ≡ pick (some (lateAt es) 16) 0 (m - n)
+module _ (es : List Events) (n m : ℕ) (b : Bool) (e : b ≡ stops es) where
+  pub left-late : b ≡ true → 0 ≡ pick (stops es) 0 (m - n)
   left-late h = rw (← e, h)
 
-  pub left-rest : b ≡ false → m - n ≡ pick (some (lateAt es) 16) 0 (m - n)
+  pub left-rest : b ≡ false → m - n ≡ pick (stops es) 0 (m - n)
   left-rest h = rw (← e, h)
 
 -- ---- the steps
@@ -261,7 +261,7 @@ unfolding Runnable
 fewer n m a h p = (h .0, omega (arith, h .1))
 
 piece-is : (g : Progress) (y : Stretched) (o x : List ℕ) (d t : ℕ) → written d x ≡ puts o 0 (stepLines (clockAt (y .octets) - 1) (y .events) 16)
-    → t ≡ pick (some (lateAt (y .events)) 16) 0 (g .times - y .steps)
+    → t ≡ pick (stops (y .events)) 0 (g .times - y .steps)
     → record { answer = accepted (d ∷ []); progress = standing (g .at) (g .offers) t false; octets = y .octets; out = x } ≡ given o (stretchPiece g y)
 unfolding stretchPiece timesLeft
 piece-is g y o x d t w r =
@@ -279,7 +279,7 @@ module _ (l a : List ℕ) (g : Progress) (n : ℕ) (e : n ≡ spanOf l g a) wher
     clock-some c q h p =
         omega (arith, q, ap (λ (x : Stretched). clockAt (x .octets)) f, stretch-clock n a (span-runs h), stretch-some n a (omega (arith, span-some l g a p)))
 
-    pub step-is : (o x : List ℕ) (c d t : ℕ) → c ≡ clockAt b → written d x ≡ puts o 0 (stepLines (c - 1) (s .events) 16) → t ≡ pick (some (lateAt (s .events)) 16) 0 (g .times - s .steps)
+    pub step-is : (o x : List ℕ) (c d t : ℕ) → c ≡ clockAt b → written d x ≡ puts o 0 (stepLines (c - 1) (s .events) 16) → t ≡ pick (stops (s .events)) 0 (g .times - s .steps)
         → record { answer = accepted (d ∷ []); progress = standing (g .at) (g .offers) t false; octets = b; out = x } ≡ given o (stepPiece l g a)
     step-is o x c d t q w r =
         let z : stretchOf s b ≡ untilEvent (spanOf l g a) a = f ∙ ap (λ (k : ℕ). untilEvent k a) e in

@@ -6,11 +6,11 @@ use mathlib.Core.List.{List, [], _∷_, _++_}
 use lib.Dec.{eqb, ltb}
 use lib.ListN.{length, getD, take, drop}
 use lib.Seq.{sets}
-use Rattle.octets.specs.Base.{pick, some, Answer, refused, accepted, numberOf, valuesOf}
+use Rattle.octets.specs.Base.{pick, Answer, refused, accepted, numberOf, valuesOf}
 use Rattle.area.specs.Offsets.{areaSize}
 use Rattle.area.specs.Area.{clockAt}
 use Rattle.valid.specs.Valid.{areaRefusal}
-use Rattle.course.specs.Run.{lateAt}
+use Rattle.course.specs.Run.{stops}
 use Rattle.course.specs.Until.{Stretched, untilEvent}
 use Rattle.text.specs.Text.{refusedLine, endLine}
 use Rattle.lines.specs.Events.{stepLines}
@@ -55,7 +55,7 @@ offerPiece l g a = moved (offerText l (g .at) a) (standing (nextOffer l (g .at))
 
 -- the bit times left of n: none after a late collision
 unfoldable pub timesLeft : (n : ℕ) → Stretched → ℕ
-timesLeft n s = pick (some (lateAt (s .events)) 16) 0 (n - s .steps)
+timesLeft n s = pick (stops (s .events)) 0 (n - s .steps)
 
 -- steps are made, and the last one's lines handed out
 unfoldable pub stretchPiece : Progress → Stretched → Moved

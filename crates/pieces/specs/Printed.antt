@@ -6,7 +6,7 @@ use mathlib.Core.Bool.{Bool, _&&_}
 use mathlib.Core.List.{List, [], _++_}
 use lib.Dec.{eqb, leb}
 use lib.ListN.{length, replicate}
-use Rattle.octets.specs.Base.{pick, some, Outcome, numberOf}
+use Rattle.octets.specs.Base.{pick, Outcome, numberOf}
 use Rattle.layout.specs.declared.Layout.{Layout}
 use Rattle.layout.specs.Layout.{fitsWell}
 use Rattle.area.specs.Offsets.{areaSize}
@@ -14,7 +14,7 @@ use Rattle.area.specs.Area.{clockAt}
 use Rattle.start.specs.Fresh.{fresh}
 use Rattle.pair.specs.BitTime.{eventsAt, stepArea}
 use Rattle.offer.specs.Offer.{offered}
-use Rattle.course.specs.Run.{lateAt}
+use Rattle.course.specs.Run.{stops}
 use Rattle.text.specs.Text.{firstLine, fitYes, fitNo, refusedLine, refusedOffer, endLine}
 use Rattle.lines.specs.Events.{stepLines}
 use Rattle.draws.specs.Draws.{drawsIn}
@@ -81,7 +81,7 @@ atEnd a = course (endLine (clockAt a)) a
 -- the step that area a makes: its lines, "ahead" of which the offers' lines stand; then the rest, or where a station has a late
 -- collision the end
 abbrev pub stepThen : List ℕ → Course → Course
-stepThen a rest = before (stepLines (clockAt a) (eventsAt a) 16) (pick (some (lateAt (eventsAt a)) 16) (atEnd (stepArea a)) rest)
+stepThen a rest = before (stepLines (clockAt a) (eventsAt a) 16) (pick (stops (eventsAt a)) (atEnd (stepArea a)) rest)
 
 -- n bit times on area a, with m offers from octet p on. "An offer whose step never runs is not made."
 unfoldable pub runOn : List ℕ → (n m p : ℕ) → List ℕ → Course

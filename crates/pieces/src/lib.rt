@@ -7,7 +7,7 @@ ghost use Prim.Native.Nat.{_-_, _≤_};
 ghost use lib.ListN.{length};
 ghost use Rattle.octets.specs.Base.{pick, some, refused};
 ghost use Rattle.octets.specs.NumberLaws.{Octets};
-ghost use Rattle.course.specs.Run.{lateAt};
+ghost use Rattle.course.specs.Run.{lateAt, stops};
 ghost use Rattle.pieces.specs.Printed.{lies};
 ghost use Rattle.pieces.specs.Pieces.{isDue, spanOf, pieceAnswer, offerShort, moveRefusal};
 ghost use Rattle.area.specs.Offsets.{areaSize};
@@ -38,7 +38,7 @@ pub struct Handed {
 
 // Whether some station has a late collision.
 fn is_late(events: [Events; 16]) -> bool
-    ensures { λ r. ⌜ r ≡ some (lateAt events) 16 ⌝ }
+    ensures { λ r. ⌜ r ≡ stops events ⌝ }
 {
     let mut i: usize = 0;
     while i < 16 {
@@ -142,7 +142,7 @@ pub fn withhold(number: u32, g: Progress) -> Handed
 // The bit times left of n after some steps: none after a late collision.
 pub fn times_left(events: [Events; 16], steps: u32, n: u32) -> u32
     requires { ⌜ steps ≤ n ⌝ }
-    ensures { λ r. ⌜ r ≡ pick (some (lateAt events) 16) 0 (n - steps) ⌝ }
+    ensures { λ r. ⌜ r ≡ pick (stops events) 0 (n - steps) ⌝ }
 {
     if is_late(events) { 0 } else { n - steps }
 }

@@ -10,7 +10,6 @@ use Rattle.octets.specs.Base.{pick}
 use Rattle.octets.specs.BaseLaws.{by-test, by-eq, neither}
 use Rattle.octets.specs.Turns.{turns, length-turns}
 use Rattle.octets.specs.WordsLaws.{Small, length-words}
-use Rattle.layout.specs.declared.Figures.{Figures}
 use Rattle.packet.specs.declared.Heard.{Heard}
 use Rattle.packet.specs.declared.Heard.the-variants.{Nothing}
 use Rattle.packet.specs.declared.Symbol.{Symbol}
@@ -20,7 +19,6 @@ use Rattle.receiver.specs.declared.Stored.{Stored}
 use Rattle.receiver.specs.declared.Stored.the-variants.{NoStore, Store}
 use Rattle.transmitter.specs.declared.TransmitEvent.{TransmitEvent}
 use Rattle.transmitter.specs.declared.TransmitEvent.the-variants.{NoTransmit, Collision, Late, Sent, GivenUp}
-use Rattle.state.specs.declared.Station.{Station}
 use Rattle.station.specs.declared.Stepped.{Stepped}
 use Rattle.station.specs.Count.{added, addedIf, countSent, countTransmit, countReceive, counted}
 use Rattle.record.specs.Codec.{encoded}
@@ -33,7 +31,7 @@ use Rattle.medium.specs.Medium.{sendTo, isSilence, pushed}
 use Rattle.pair.specs.BitTime.{withStored, isTransmit, isReceive, happened, withCounted, placed, settled}
 use Rattle.pair.specs.InPlace.{Kept, Spread, Foreign, settle-keeps, stored-keeps, counted-keeps, length-placed, length-settled, length-counted, length-stored, ahead-all, Ahead}
 use Rattle.medium.specs.MediumLaws.{push-keeps, length-sends}
-use Rattle.area.specs.Offsets.{areaSize}
+use Rattle.area.specs.Offsets.{areaSize, counterCount}
 
 -- ---- counters stay sixteen words
 
@@ -44,7 +42,7 @@ set-small (c ∷ cs) (suc k) x s h = (s .0, set-small cs k x (s .1) h)
 
 -- what every way of counting keeps: so many words, all of them small
 abbrev pub Words : List ℕ → Type 0
-Words cs = (length cs ≡ 16) × Small cs
+Words cs = (length cs ≡ counterCount) × Small cs
 
 module _ (cs : List ℕ) where
   pub added-words : (k n : ℕ) → Words cs → Words (added cs k n)
@@ -172,7 +170,7 @@ module _ (t i : ℕ) (o : Stepped) (x : List ℕ) (hi : i < 16) (room : areaSize
   counted-there : Small (countersAt x₁ i) → countersAt x₂ i ≡ counted (countersAt x₁ i) o
   unfolding x₂ withCounted countersAt x₁
   counted-there s =
-      let w = counted-words (countersAt x₁ i) o (length-words 16 x₁ (1024 + 64 * i), s) in
+      let w = counted-words (countersAt x₁ i) o (length-words counterCount x₁ (1024 + 64 * i), s) in
       by-test (happened o)
       (λ e. rw e (counters-same x₁ (omega (arith, length-station x i (o .station))) i (counted (countersAt x₁ i) o) hi (w .0) (w .1)))
       (λ e. rw e (sym (nothing-counted (countersAt x₁ i) o e)))

@@ -15,7 +15,6 @@ use Rattle.octets.specs.Words.{wordsAt}
 use Rattle.octets.specs.WordsLaws.{Small, word-at, length-words}
 use Rattle.layout.specs.declared.Figures.{Figures}
 use Rattle.layout.specs.declared.Tap.{Tap}
-use Rattle.layout.specs.declared.Layout.{Layout}
 use Rattle.layout.specs.Layout as lay
 use Rattle.layout.specs.Check.{refusalOf}
 use Rattle.layout.specs.CheckLaws.{Figured, Sound, sound}
@@ -27,17 +26,17 @@ use Rattle.state.specs.State.{numberIn}
 use Rattle.state.specs.declared.Receiver.{Receiver}
 use Rattle.state.specs.declared.Receiver.the-variants.{Listening, Readable, Seeking, Collecting}
 use Rattle.state.specs.declared.Station.{Station}
-use Rattle.record.specs.Codec.{flag, deferenceOf, deferenceCode, deferenceOwn, deferenceCount, transmitterOf, transmitterCode, receiverOf, receiverCode, receiverNumber, receiverSpoiled, receiverOwn, decoded, encoded}
-use Rattle.record.specs.CodecLaws.{Fit, code-none}
+use Rattle.record.specs.Codec.{flag, deferenceOf, deferenceCode, deferenceOwn, deferenceCount, transmitterOf, transmitterCode, receiverOf, receiverCode, receiverNumber, receiverSpoiled, receiverOwn, decoded, encoded, recordWords}
+use Rattle.record.specs.CodecLaws.{code-none}
 use Rattle.area.specs.Area.{clockAt, depthAt, figuresAt, countAt, positionAt, addressAt, tapAt, layoutAt, distance, spaceAt, countersAt, recordAt, stationAt, symbolAt}
 use Rattle.valid.specs.Valid.{deferenceWrong, attemptsWrong, numberWrong, transmitterWrong, receiverWrong, recordWrong, symbolWrong, stationWrong, areaWrong, areaRefusal}
 use Rattle.pair.specs.Range.{GapIn, NumberIn, AttemptsIn, FrameIn, ReceiverIn, Fine}
 use Rattle.area.specs.AreaLaws.{symbol-turn}
 use Rattle.valid.specs.AreaCheckLaws.{passes-right}
 use Rattle.pair.specs.InPlace.{Spread}
-use Rattle.pair.specs.Ready.{Readiness, Ready}
+use Rattle.pair.specs.Ready.{Readiness}
 use Rattle.layout.specs.Limits.{lastClock}
-use Rattle.area.specs.Offsets.{areaSize}
+use Rattle.area.specs.Offsets.{areaSize, counterCount}
 use Rattle.frame.specs.Limits.{bufferOctets}
 
 -- a test that must fail, and what is left then
@@ -298,9 +297,9 @@ passes-ready a o h =
         spread = layout-spread a (r .layout);
         depth = within (depthAt a) 1 16 (r .depth);
         clock = ltb-false lastClock (clockAt a) (r .clock);
-        fine = λ i hi. record-passes (figuresAt a) (depthAt a) (clockAt a) (recordAt a i) (addressAt a i) (one i hi .0) (words-small 14 a (2048 + 64 * i) o 9);
+        fine = λ i hi. record-passes (figuresAt a) (depthAt a) (clockAt a) (recordAt a i) (addressAt a i) (one i hi .0) (words-small recordWords a (2048 + 64 * i) o 9);
         codes = λ i u hi. rw (symbol-turn a i u (u % 256) (omega arith)) (ltb-false 4 (symbolAt a i (u % 256)) (none-below (symbolWrong a i) 256 (u % 256) (one i hi .1) (omega arith)));
-        counts = λ i hi. small-by (countersAt a i) (words-small 16 a (1024 + 64 * i) o);
+        counts = λ i hi. small-by (countersAt a i) (words-small counterCount a (1024 + 64 * i) o);
       };
       records = λ i hi. one i hi .0;
     }

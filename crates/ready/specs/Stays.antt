@@ -9,13 +9,9 @@ use lib.ListN.{length}
 use Rattle.octets.specs.Filled.{filled, filled-same}
 use Rattle.octets.specs.Turns.{turns}
 use Rattle.octets.specs.WordsLaws.{Small, length-words}
-use Rattle.layout.specs.declared.Figures.{Figures}
-use Rattle.layout.specs.declared.Tap.{Tap}
-use Rattle.layout.specs.declared.Layout.{Layout}
 use Rattle.layout.specs.Layout.{blankTap}
 use Rattle.layout.specs.Check.{refusalOf}
 use Rattle.layout.specs.CheckLaws.{Figured}
-use Rattle.state.specs.declared.Station.{Station}
 use Rattle.station.specs.Step.{stepped, nextStation}
 use Rattle.station.specs.Count.{counted}
 use Rattle.record.specs.Codec.{decoded, encoded}
@@ -23,15 +19,14 @@ use Rattle.record.specs.CodecLaws.{Fit, decoded-encoded}
 use Rattle.area.specs.Places.{Part, clock, depth, layout, draws, counters, station, frame, buffer, place, Off, Keeps}
 use Rattle.area.specs.Area.{clockAt, depthAt, figuresAt, countAt, addressAt, tapAt, layoutAt, spaceAt, countersAt, recordAt, stationAt, bufferAt, symbolAt}
 use Rattle.area.specs.AreaLaws.{keeps-trans, depth-by, figures-by, count-by, position-by, address-by, space-by, counters-by, record-by, symbol-by, buffer-by, clock-keeps, clock-same, length-clock}
-use Rattle.pair.specs.declared.Act.{Act}
 use Rattle.pair.specs.BitTime.{outcomeIn, actIn, actAt, settled, stepArea}
 use Rattle.pair.specs.Range.{Fine, fine-stepped, fine-fit}
 use Rattle.pair.specs.InPlace.{Kept, Spread, Ahead}
-use Rattle.pair.specs.Ready.{Readiness, Ready, kept}
+use Rattle.pair.specs.Ready.{Readiness, kept}
 use Rattle.ready.specs.After.{length-after, ahead, codes-all, record-all, buffer-all, storedIn, counters-all, counted-words}
 use Rattle.ready.specs.Passes.{Passing, record-right}
 use Rattle.layout.specs.Limits.{lastClock}
-use Rattle.area.specs.Offsets.{areaSize}
+use Rattle.area.specs.Offsets.{areaSize, counterCount}
 
 -- ---- the layout goes by its part
 
@@ -153,7 +148,7 @@ module _ (a : List ℕ) (r : Readiness a) where
   step-counts : (i : ℕ) → i < countAt a → Small (countersAt (stepArea a) i)
   unfolding countersAt
   step-counts i h =
-      subst Small (sym (step-counters i h)) (counted-words (countersAt a i) (actAt a i .outcome) (length-words 16 a (1024 + 64 * i), r .counts i h) .1)
+      subst Small (sym (step-counters i h)) (counted-words (countersAt a i) (actAt a i .outcome) (length-words counterCount a (1024 + 64 * i), r .counts i h) .1)
 
   pub step-ready : clockAt a < lastClock → Readiness (stepArea a)
   step-ready early =

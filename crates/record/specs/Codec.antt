@@ -14,6 +14,10 @@ use Rattle.state.specs.declared.Receiver.{Receiver}
 use Rattle.state.specs.declared.Receiver.the-variants.{Listening, Readable, Seeking, Collecting}
 use Rattle.state.specs.declared.Station.{Station}
 
+-- the words of a record
+abbrev pub recordWords : ℕ
+recordWords = 14
+
 abbrev pub flag : Bool → ℕ
 flag true = 1
 flag false = 0

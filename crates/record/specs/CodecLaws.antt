@@ -16,7 +16,7 @@ use Rattle.state.specs.State.{numberIn}
 use Rattle.state.specs.declared.Receiver.{Receiver}
 use Rattle.state.specs.declared.Receiver.the-variants.{Listening, Readable, Seeking, Collecting}
 use Rattle.state.specs.declared.Station.{Station}
-use Rattle.record.specs.Codec.{flag, deferenceOf, deferenceCode, deferenceOwn, deferenceCount, transmitterOf, transmitterCode, receiverOf, receiverCode, receiverNumber, receiverSpoiled, receiverOwn, decoded, encoded}
+use Rattle.record.specs.Codec.{flag, deferenceOf, deferenceCode, deferenceOwn, deferenceCount, transmitterOf, transmitterCode, receiverOf, receiverCode, receiverNumber, receiverSpoiled, receiverOwn, decoded, encoded, recordWords}
 
 -- ---- what is encoded reads back
 
@@ -61,7 +61,7 @@ decoded-encoded s =
       emitted = flag-back (s .emitted) i;
     }
 
-pub length-encoded : (s : Station) → length (encoded s) ≡ 14
+pub length-encoded : (s : Station) → length (encoded s) ≡ recordWords
 unfolding encoded
 length-encoded s = refl
 

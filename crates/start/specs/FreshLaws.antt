@@ -23,7 +23,8 @@ use Rattle.packet.specs.declared.Heard.the-variants.{Nothing}
 use Rattle.area.specs.AreaLaws.{symbol-zero}
 use Rattle.area.specs.Area.{clockAt, depthAt, drawAt, figuresAt, countAt, positionAt, addressAt, recordAt, countersAt, symbolAt, arrivalAt, heardOf}
 use Rattle.start.specs.Fresh.{withFigures, withTap, tapIn, withTaps, withDepth, withDraw, withRow, withDraws, withPlan, fresh}
-use Rattle.area.specs.Offsets.{areaSize}
+use Rattle.area.specs.Offsets.{areaSize, counterCount}
+use Rattle.record.specs.Codec.{recordWords}
 
 -- ---- the code
 
@@ -263,13 +264,13 @@ module _ (y : Layout) (d : ℕ) (ds : List (List ℕ)) (a : List ℕ) (big : are
   unfolding clockAt
   fresh-clock = ap (λ (x : List ℕ). get 4 x 0) is-fresh ∙ get-zero 4 z 0 (λ k p q. zero-at k (omega arith) (λ u v. omega arith))
 
-  pub fresh-record : (i : ℕ) → i < 16 → recordAt (fresh y d ds a) i ≡ wordsAt 14 [] (2048 + 64 * i)
+  pub fresh-record : (i : ℕ) → i < 16 → recordAt (fresh y d ds a) i ≡ wordsAt recordWords [] (2048 + 64 * i)
   unfolding recordAt
-  fresh-record i h = ap (λ (x : List ℕ). wordsAt 14 x (2048 + 64 * i)) is-fresh ∙ words-zero 14 z (2048 + 64 * i) (λ k p q. zero-at k (omega arith) (λ u v. omega arith))
+  fresh-record i h = ap (λ (x : List ℕ). wordsAt recordWords x (2048 + 64 * i)) is-fresh ∙ words-zero recordWords z (2048 + 64 * i) (λ k p q. zero-at k (omega arith) (λ u v. omega arith))
 
-  pub fresh-counters : (i : ℕ) → i < 16 → countersAt (fresh y d ds a) i ≡ wordsAt 16 [] (1024 + 64 * i)
+  pub fresh-counters : (i : ℕ) → i < 16 → countersAt (fresh y d ds a) i ≡ wordsAt counterCount [] (1024 + 64 * i)
   unfolding countersAt
-  fresh-counters i h = ap (λ (x : List ℕ). wordsAt 16 x (1024 + 64 * i)) is-fresh ∙ words-zero 16 z (1024 + 64 * i) (λ k p q. zero-at k (omega arith) (λ u v. omega arith))
+  fresh-counters i h = ap (λ (x : List ℕ). wordsAt counterCount x (1024 + 64 * i)) is-fresh ∙ words-zero 16 z (1024 + 64 * i) (λ k p q. zero-at k (omega arith) (λ u v. omega arith))
 
   pub fresh-symbol : (i u : ℕ) → i < 16 → symbolAt (fresh y d ds a) i u ≡ 0
   fresh-symbol i u h =

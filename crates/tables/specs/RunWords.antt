@@ -6,6 +6,7 @@ use lib.ListN.{length}
 use Rattle.octets.specs.Words.{putWords}
 use Rattle.course.specs.declared.Ended.{Ended}
 use Rattle.course.specs.declared.Ended.the-variants as how
+use Rattle.tally.specs.Tally.{wordCount}
 
 -- 0 where all steps were made; where the run ended early 1, the step and the station of the late collision
 abbrev pub endedWords : Ended → List ℕ
@@ -14,7 +15,7 @@ endedWords (how.Late t i) = 1 ∷ t ∷ i ∷ []
 
 -- the nine words of a run, and how it ended
 unfoldable pub runPut : List ℕ → Ended → List ℕ → List ℕ
-runPut ws e out = putWords 3 (putWords 9 out 0 ws) 36 (endedWords e)
+runPut ws e out = putWords 3 (putWords wordCount out 0 ws) 36 (endedWords e)
 
 -- ---- the code
 

@@ -9,6 +9,10 @@ use Rattle.receiver.specs.declared.ReceiveEvent.the-variants.{NoReceive, GotOk,
 use Rattle.transmitter.specs.declared.TransmitEvent.{TransmitEvent}
 use Rattle.transmitter.specs.declared.TransmitEvent.the-variants.{NoTransmit, Collision, Late, Sent, GivenUp}
 
+-- the event words
+abbrev pub wordCount : ℕ
+wordCount = 9
+
 -- one more of word k: collision, late, sent, given-up, got ok, got too-long, got alignment, got check, got length
 unfoldable pub bumped : List ℕ → ℕ → List ℕ
 bumped ws k = set ws k (getD ws k 0 + 1)

@@ -8,7 +8,7 @@ use Rattle.receiver.specs.declared.ReceiveEvent.{ReceiveEvent}
 use Rattle.receiver.specs.declared.ReceiveEvent.the-variants.{NoReceive, GotOk, GotTooLong, GotAlignment, GotCheck, GotLength}
 use Rattle.transmitter.specs.declared.TransmitEvent.{TransmitEvent}
 use Rattle.transmitter.specs.declared.TransmitEvent.the-variants.{NoTransmit, Collision, Late, Sent, GivenUp}
-use Rattle.tally.specs.Tally.{bumped, sentCounted, gotCounted}
+use Rattle.tally.specs.Tally.{bumped, sentCounted, gotCounted, wordCount}
 
 -- ---- the words have room
 
@@ -119,9 +119,9 @@ module _ (ws : List ℕ) (e : ReceiveEvent) where
 pub zero-bounded : (ws : List ℕ) → Bounded ws 0 → Bounded ws (32 * 0)
 zero-bounded ws h = h
 
-pub zeros-bounded : Bounded (replicate 9 0) 0
+pub zeros-bounded : Bounded (replicate wordCount 0) 0
 unfolding Bounded
-zeros-bounded k = all-zero 9 k
+zeros-bounded k = all-zero wordCount k
   where
     all-zero : (n k : ℕ) → getD (replicate n 0) k 0 ≤ 0
     all-zero zero k = omega arith

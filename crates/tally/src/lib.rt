@@ -5,7 +5,7 @@ use transmitter::TransmitEvent;
 ghost use mathlib.Core.Path.{_≡_};
 ghost use Prim.Native.Nat.{_<_};
 ghost use lib.ListN.{length, getD};
-ghost use Rattle.tally.specs.Tally.{bumped, sentCounted, gotCounted, isLate};
+ghost use Rattle.tally.specs.Tally.{bumped, sentCounted, gotCounted, isLate, wordCount};
 ghost use Rattle.tally.specs.TallyLaws.{Bounded};
 
 // One more event of word k.
@@ -18,7 +18,7 @@ fn bump(words: &mut [u32], k: usize)
 
 // A transmit event, counted as its word. No word is past `top` yet.
 pub fn count_sent(words: &mut [u32], e: TransmitEvent, top: u32)
-    requires { ⌜ (length (now words) ≡ 9) × Bounded (now words) top × (top < 4294967295) ⌝ }
+    requires { ⌜ (length (now words) ≡ wordCount) × Bounded (now words) top × (top < 4294967295) ⌝ }
     ensures { λ r. ⌜ now (words .exit) ≡ sentCounted (now (words .entry)) e ⌝ }
 {
     match e {
@@ -31,7 +31,7 @@ pub fn count_sent(words: &mut [u32], e: TransmitEvent, top: u32)
 }
 
 pub fn count_got(words: &mut [u32], e: ReceiveEvent, top: u32)
-    requires { ⌜ (length (now words) ≡ 9) × Bounded (now words) top × (top < 4294967295) ⌝ }
+    requires { ⌜ (length (now words) ≡ wordCount) × Bounded (now words) top × (top < 4294967295) ⌝ }
     ensures { λ r. ⌜ now (words .exit) ≡ gotCounted (now (words .entry)) e ⌝ }
 {
     match e {

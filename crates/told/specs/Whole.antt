@@ -9,7 +9,7 @@ use borrow.Author.Tests.{eq-eqb, ne-eqb, le-ltb, le-leb, eqb-false, ltb-false}
 use lib.Dec.{eqb, ltb}
 use lib.ListN.{length, getD, replicate, take, drop, length-append, length-replicate, getD-replicate}
 use lib.Seq.{sets, length-sets, ext-getD, take-at, drop-at, length-take-le}
-use Rattle.octets.specs.Base.{pick, some, accepted, numberOf}
+use Rattle.octets.specs.Base.{pick, accepted, numberOf}
 use Rattle.octets.specs.Store.{length-part, take-sets}
 use Rattle.octets.specs.Turns.{blanked, length-blanked, blanked-same}
 use Rattle.layout.specs.Layout.{fitsWell}
@@ -27,7 +27,7 @@ use Rattle.pair.specs.BitTime.{isTransmit, isReceive, noEvents, eventsAt, stepA
 use Rattle.ready.specs.Passes.{Passing, ready-passes}
 use Rattle.ready.specs.Stays.{step-clock, step-length, step-passing}
 use Rattle.delivery.specs.Passing.{start-passing, offered-passes, offered-keeps}
-use Rattle.course.specs.Run.{lateAt}
+use Rattle.course.specs.Run.{lateAt, stops}
 use Rattle.course.specs.Until.{hasEvent, eventful, Stretched, oneMore, untilEvent}
 use Rattle.course.specs.UntilLaws.{none-eventful, stretch-steps, stretch-some}
 use Rattle.tally.specs.Tally.{isLate}
@@ -94,7 +94,7 @@ module _ (es : List Events) (h : eventful es ≡ false) where
   no-lines : (t : ℕ) → stepLines t es 16 ≡ []
   no-lines t = lines-silent t es 16 each
 
-  no-late : some (lateAt es) 16 ≡ false
+  no-late : stops es ≡ false
   no-late = below-none (lateAt es) 16 (λ i g. calm-late es i (each i g))
 
 -- ---- the offers before a step
@@ -148,7 +148,7 @@ module _ (l : List ℕ) (n m p : ℕ) (a : List ℕ) (h : dueAt l m p (clockAt a
       let k : suc n - 1 ≡ n = omega arith in
       run-step l n m p a h
       ∙ rw (c, k)
-      (by-test (some (lateAt (eventsAt a)) 16)
+      (by-test (stops (eventsAt a))
       (λ b. rw b (ap (before (stepLines (clockAt a) (eventsAt a) 16)) (sym (run-none l m p (stepArea a)))))
       (λ b. rw b))
 
@@ -317,7 +317,7 @@ module _ (l : List ℕ) (g : Progress) (a : List ℕ) (w : Going l g a) where
 
   left-most : (s : Stretched) → timesLeft (g .times) s ≤ g .times - s .steps
   unfolding timesLeft
-  left-most s = by-test (some (lateAt (s .events)) 16) (λ b. rw b (omega arith)) (λ b. rw b (omega arith))
+  left-most s = by-test (stops (s .events)) (λ b. rw b (omega arith)) (λ b. rw b (omega arith))
 
   step-going : Going l (stepPiece l g a .progress) (stepPiece l g a .octets)
   unfolding stretchPiece
