@@ -22,7 +22,7 @@ ghost use Rattle.layout.specs.Limits.{lastClock};
 ghost use Rattle.area.specs.Offsets.{areaSize};
 
 // Fewer steps than these are not worth a window.
-pub const LEAST: u32 = 4;
+pub const LEAST: u32 = 2;
 
 // Of a station that emits nothing: `len` steps of one kind, and what it comes to in them. It has collected at most
 // `bits` bits; `harmless`: its reception may not report, however long it goes on.

@@ -346,6 +346,28 @@ module _ (t j : ℕ) (x : List ℕ) where
   unfolding cleared
   cleared-end m s y p q r = turns-end _ m s x y p q r
 
+-- a place of a row
+pub cleared-row : (u j : ℕ) (x : List ℕ) (s n p : ℕ) (y : List ℕ) → p ≡ 4096 + 256 * j + u % 256 → u % 256 + n ≤ 256 → s < n → y ≡ cleared u j s x
+    → set y (p + s) 0 ≡ cleared u j (s + 1) x
+unfolding withArrival
+cleared-row u j x s n p y ep h hs ey =
+    let e : p + s ≡ 4096 + 256 * j + (u + s) % 256 = omega arith in
+    cleared-more u j x s y (set y (p + s) 0) (ap (λ (k : ℕ). set y k 0) e) ey
+
+-- one row after the other
+cleared-after : (t j s n : ℕ) (x : List ℕ) → cleared (t + s) j n (cleared t j s x) ≡ cleared t j (s + n) x
+unfolding cleared turns
+cleared-after t j s zero x = let e : s ≡ s + 0 = omega arith in ap (λ (k : ℕ). cleared t j k x) e
+cleared-after t j s (suc n) x =
+    let e : t + s + n ≡ t + (s + n) = omega arith in
+    let g : s + n + 1 ≡ s + suc n = omega arith in
+    ap₂ (λ (k : ℕ) (y : List ℕ). withArrival y j k Nothing) e (cleared-after t j s n x)
+    ∙ cleared-more t j x (s + n) (cleared t j (s + n) x) _ refl refl
+    ∙ ap (λ (k : ℕ). cleared t j k x) g
+
+pub cleared-rows : (t j : ℕ) (x : List ℕ) (s n : ℕ) (y z : List ℕ) → z ≡ cleared (t + s) j n y → y ≡ cleared t j s x → z ≡ cleared t j (s + n) x
+cleared-rows t j x s n y z ez ey = ez ∙ ap (cleared (t + s) j n) ey ∙ cleared-after t j s n x
+
 -- ---- the code of a packet's bit
 
 digit-code : (v : ℕ) (b : Bool) → v < 2 → eqb v 1 ≡ b → v + 1 ≡ heardCode (alone (Bit b))

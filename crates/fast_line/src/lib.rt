@@ -4,7 +4,7 @@
 use packet::Heard;
 ghost use mathlib.Core.Path.{_≡_};
 ghost use mathlib.Core.Bool.{true};
-ghost use Prim.Native.Nat.{_+_, _*_, _<_, _≤_, min};
+ghost use Prim.Native.Nat.{_+_, _*_, _%_, _<_, _≤_, min};
 ghost use lib.ListN.{length};
 ghost use Rattle.packet.specs.declared.Symbol.the-variants.{Bit};
 ghost use Rattle.packet.specs.Packet.{packetBit};
@@ -130,6 +130,19 @@ pub fn line_run(area: &[u8], j: usize, u: usize, m: usize) -> LineRun
     LineRun { kind, len }
 }
 
+// The n places of station j from step u on, which lie in a row, become nothing.
+fn clear_row(area: &mut [u8], j: usize, u: usize, n: usize)
+    requires { ⌜ (j < 16) × (areaSize ≤ length (now area)) × (u % 256 + n ≤ 256) ⌝ }
+    ensures { λ r. ⌜ now (area .exit) ≡ cleared u j n (now (area .entry)) ⌝ }
+{
+    let first = 4096 + 256 * j + u % 256;
+    let mut s: usize = 0;
+    while s < n {
+        area[first + s] = 0;
+        s += 1;
+    }
+}
+
 // The m places of station j from step t on become nothing.
 pub fn clear(area: &mut [u8], j: usize, t: usize, m: usize)
     requires { ⌜ (j < 16) × (areaSize ≤ length (now area)) × (t + m < 4294967296) ⌝ }
@@ -137,8 +150,10 @@ pub fn clear(area: &mut [u8], j: usize, t: usize, m: usize)
 {
     let mut s: usize = 0;
     while s < m {
-        delay::put_arrival(area, j, t + s, Heard::Nothing);
-        s += 1;
+        let u = t + s;
+        let n = quick::capped(256 - u % 256, m - s);
+        clear_row(area, j, u, n);
+        s += n;
     }
 }
 

@@ -136,7 +136,7 @@ fn can_move(area: &[u8], f: Figures, m: u32, kind: Kind, j: usize, s: Station) -
     rests_all(f, m, report, s)
 }
 
-// Station j goes over m steps of a kind at once; e: whether it emits in them.
+// Station j, which is s, goes over m steps of a kind at once; e: whether it emits in them.
 fn move_at_once(
     area: &mut [u8],
     f: Figures,
@@ -147,15 +147,16 @@ fn move_at_once(
     frame: &[u8],
     b: u32,
     m: u32,
+    s: Station,
 )
-    requires { ⌜ (j < 16) × (areaSize ≤ length (now area)) × Movable f m (now area) j × (u + m < 4294967296) × (b + m < 4294967296) × Audible kind (now area) j u m ⌝ }
+    requires { ⌜ (j < 16) × (areaSize ≤ length (now area)) × Movable f m (now area) j × (s ≡ stationAt (now area) j) × (u + m < 4294967296) × (b + m < 4294967296) × Audible kind (now area) j u m ⌝ }
     ensures { λ r. ⌜ now (area .exit) ≡ stretched f e kind m j (now (area .entry)) u (now (frame .entry)) b ⌝ }
 {
     match kind {
-        Kind::Silent => fast_stretch::hear_nothing(area, j, f, e, m),
-        Kind::Line => fast_stretch::hear_line(area, j, f, e, u as usize, m),
-        Kind::From => fast_stretch::hear_packet(area, j, f, e, frame, b, m),
-        Kind::Spoiled => fast_stretch::hear_spoiled(area, j, f, e, m),
+        Kind::Silent => fast_stretch::hear_nothing(area, j, f, e, m, s),
+        Kind::Line => fast_stretch::hear_line(area, j, f, e, u as usize, m, s),
+        Kind::From => fast_stretch::hear_packet(area, j, f, e, frame, b, m, s),
+        Kind::Spoiled => fast_stretch::hear_spoiled(area, j, f, e, m, s),
     }
 }
 
@@ -196,7 +197,7 @@ pub fn advance(
     let x = s.transmitter;
     let e = is_emitting(x);
     if can_move(area, f, m, kind, j, s) {
-        move_at_once(area, f, e, kind, j, u, frame, b, m);
+        move_at_once(area, f, e, kind, j, u, frame, b, m, s);
         return m;
     }
     let h = heard_first(area, kind, j, u as usize, frame, b);

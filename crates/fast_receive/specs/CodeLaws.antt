@@ -148,7 +148,7 @@ octets-heard j e F a bits m n sp own o x y hj room small ha u v b ne w g =
 -- ---- in parts
 
 module _ (j : ℕ) (e : Bool) (F : List ℕ) (r : Receiver) (x : List ℕ) where
-  join : (a k n : ℕ) (q t : Receiver) (y z : List ℕ) → taken q y ≡ heardAll j e (bitsFrom F a) k (taken r x)
+  pub join : (a k n : ℕ) (q t : Receiver) (y z : List ℕ) → taken q y ≡ heardAll j e (bitsFrom F a) k (taken r x)
       → taken t z ≡ heardAll j e (bitsFrom F (a + k)) n (taken q y)
       → taken t z ≡ heardAll j e (bitsFrom F a) (k + n) (taken r x)
   unfolding bitsFrom

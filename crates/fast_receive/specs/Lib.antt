@@ -3,4 +3,5 @@ pub mod ReceivedLaws
 pub mod Copy
 pub mod Zeros
 pub mod CodeLaws
+pub mod Strides
 pub mod EndLaws

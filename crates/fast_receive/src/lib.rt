@@ -5,9 +5,10 @@ ghost use mathlib.Core.Path.{_≡_};
 ghost use Prim.Native.Nat.{_+_, _-_, _*_, _/_, _%_, _<_, _≤_};
 ghost use lib.ListN.{length};
 ghost use Rattle.receiver.specs.Receive.{rowIn, bitsIn, hear, addressed};
-ghost use Rattle.area.specs.Area.{addressAt, bufferAt};
-ghost use Rattle.state.specs.declared.Receiver.the-variants.{Collecting};
+ghost use Rattle.area.specs.Area.{addressAt, bufferAt, symbolAt};
+ghost use Rattle.state.specs.declared.Receiver.the-variants.{Seeking, Collecting};
 ghost use Rattle.fast_receive.specs.Received.{taken, stepTaken, heardAll, spoils, lineFrom, bitsFrom, AllHeard, copied, mayReport};
+ghost use Rattle.fast_receive.specs.Strides.{Passes, CleanBits};
 ghost use Rattle.fast_receive.specs.Zeros.{lowKept, blanks, zeroedUpTo};
 ghost use Rattle.area.specs.Offsets.{areaSize};
 ghost use Rattle.frame.specs.Limits.{bufferOctets};
@@ -33,6 +34,122 @@ fn hear_one(area: &mut [u8], j: usize, r: Receiver, clean: bool, one: bool, e: b
     next
 }
 
+// ---- the symbols of a line, eight at a time where that can be
+
+// The code of what reaches station j in step u, as a wider number.
+fn code_at(area: &[u8], j: usize, u: usize) -> u32
+    requires { ⌜ (j < 16) × (areaSize ≤ length (now area)) ⌝ }
+    ensures value { λ c. ⌜ c ≡ symbolAt (now (area .entry)) j u ⌝ }
+    ensures small { λ c. ⌜ c < 256 ⌝ }
+{
+    octets::wide(delay::read_symbol(area, j, u))
+}
+
+// Four clean bits of the line of station j from step u on, the first lowest; 16 or more where one of the symbols is
+// spoiled.
+fn four_bits(area: &[u8], j: usize, u: usize) -> u32
+    requires { ⌜ (j < 16) × (areaSize ≤ length (now area)) × (u + 4 ≤ 4294967296) × AllHeard (lineFrom (now area) j u) 4 ⌝ }
+    ensures { λ v. ⌜ (v < 16 → CleanBits (now (area .entry)) j u 4 v) ⌝ }
+    ensures small { λ v. ⌜ v < 65536 ⌝ }
+{
+    let a = code_at(area, j, u);
+    let b = code_at(area, j, u + 1);
+    let c = code_at(area, j, u + 2);
+    let d = code_at(area, j, u + 3);
+    let spoiled = (a + 1) / 4 + (b + 1) / 4 + (c + 1) / 4 + (d + 1) / 4;
+    a / 2 + b / 2 * 2 + c / 2 * 4 + d / 2 * 8 + spoiled * 16
+}
+
+// Eight clean bits of it as an octet; 256 where one of the symbols is spoiled.
+fn line_octet(area: &[u8], j: usize, u: usize) -> u32
+    requires { ⌜ (j < 16) × (areaSize ≤ length (now area)) × (u + 8 ≤ 4294967296) × AllHeard (lineFrom (now area) j u) 8 ⌝ }
+    ensures { λ v. ⌜ (v < 256 → CleanBits (now (area .entry)) j u 8 v) ⌝ }
+{
+    let low = four_bits(area, j, u);
+    if 15 < low {
+        return 256;
+    }
+    let high = four_bits(area, j, u + 4);
+    if 15 < high {
+        return 256;
+    }
+    low + 16 * high
+}
+
+// Station j, which collects, hears eight clean bits of its line from step u on, where an octet begins; else no step, and at
+// most m.
+fn collect_eight(
+    area: &mut [u8],
+    j: usize,
+    u: usize,
+    e: bool,
+    bits: u32,
+    spoiled: bool,
+    own: bool,
+    m: u32,
+) -> Part
+    requires { ⌜ (j < 16) × (areaSize ≤ length (now area)) × (u + m < 4294967296) × (bits + m < 4294967296) × AllHeard (lineFrom (now area) j u) m ⌝ }
+    ensures heard { λ t. ⌜ taken (t .receiver) (now (area .exit)) ≡ heardAll j e (lineFrom (now (area .entry)) j u) (t .steps) (taken (Collecting bits spoiled own) (now (area .entry))) ⌝ }
+    ensures range { λ t. ⌜ (t .steps ≤ m) × (rowIn (t .receiver) < 512) × (bitsIn (t .receiver) ≤ bits + t .steps) ⌝ }
+{
+    if m < 8 {
+        return stay(bits, spoiled, own);
+    }
+    if bits % 8 != 0 {
+        return stay(bits, spoiled, own);
+    }
+    if 12136 < bits {
+        return stay(bits, spoiled, own);
+    }
+    let v = line_octet(area, j, u);
+    if 255 < v {
+        return stay(bits, spoiled, own);
+    }
+    buffers::write_octet(area, j, (bits / 8) as usize, v as u8);
+    Part {
+        receiver: Receiver::Collecting {
+            bits: bits + 8,
+            spoiled,
+            own: octets::either(own, e),
+        },
+        steps: 8,
+    }
+}
+
+// The same for any receiver.
+fn hear_eight(area: &mut [u8], j: usize, u: usize, e: bool, r: Receiver, m: u32) -> Part
+    requires { ⌜ (j < 16) × (areaSize ≤ length (now area)) × (u + m < 4294967296) × (rowIn r < 512) × (bitsIn r + m < 4294967296) × AllHeard (lineFrom (now area) j u) m ⌝ }
+    ensures heard { λ t. ⌜ taken (t .receiver) (now (area .exit)) ≡ heardAll j e (lineFrom (now (area .entry)) j u) (t .steps) (taken r (now (area .entry))) ⌝ }
+    ensures range { λ t. ⌜ (t .steps ≤ m) × (rowIn (t .receiver) < 512) × (bitsIn (t .receiver) ≤ bitsIn r + t .steps) ⌝ }
+{
+    let Receiver::Collecting { bits, spoiled, own } = r else {
+        return Part {
+            receiver: r,
+            steps: 0,
+        };
+    };
+    collect_eight(area, j, u, e, bits, spoiled, own, m)
+}
+
+// Station j hears some of m steps, of which there are some: eight, or one.
+fn hear_some(area: &mut [u8], j: usize, u: usize, e: bool, r: Receiver, m: u32) -> Part
+    requires { ⌜ (j < 16) × (areaSize ≤ length (now area)) × (u + m < 4294967296) × (rowIn r < 512) × (bitsIn r + m < 4294967296) × AllHeard (lineFrom (now area) j u) m × (0 < m) ⌝ }
+    ensures heard { λ t. ⌜ taken (t .receiver) (now (area .exit)) ≡ heardAll j e (lineFrom (now (area .entry)) j u) (t .steps) (taken r (now (area .entry))) ⌝ }
+    ensures range { λ t. ⌜ (0 < t .steps) × (t .steps ≤ m) × (rowIn (t .receiver) < 512) × (bitsIn (t .receiver) ≤ bitsIn r + t .steps) ⌝ }
+{
+    let o = hear_eight(area, j, u, e, r, m);
+    if o.steps != 0 {
+        return o;
+    }
+    let q = o.receiver;
+    let code = delay::read_symbol(area, j, u);
+    let next = hear_one(area, j, q, code <= 2, code == 2, e);
+    Part {
+        receiver: next,
+        steps: 1,
+    }
+}
+
 // Station j hears for m steps what its line holds from step u on; e: whether it emits in them.
 pub fn hear_line(area: &mut [u8], j: usize, u: usize, e: bool, r: Receiver, m: u32) -> Receiver
     requires { ⌜ (j < 16) × (areaSize ≤ length (now area)) × (u + m < 4294967296) × (rowIn r < 512) × (bitsIn r + m < 4294967296) × AllHeard (lineFrom (now area) j u) m ⌝ }
@@ -42,9 +159,9 @@ pub fn hear_line(area: &mut [u8], j: usize, u: usize, e: bool, r: Receiver, m: u
     let mut q = r;
     let mut s: u32 = 0;
     while s < m {
-        let code = delay::read_symbol(area, j, u + s as usize);
-        q = hear_one(area, j, q, code <= 2, code == 2, e);
-        s += 1;
+        let t = hear_some(area, j, u + s as usize, e, q, m - s);
+        q = t.receiver;
+        s += t.steps;
     }
     q
 }
@@ -74,6 +191,75 @@ fn hear_bits(
 }
 
 // ---- whole octets of a packet
+
+// The bits of a preamble from packet bit a on, at most m, where this is the row of the eight bits before it; else none.
+fn preamble_left(row: u32, a: u32, m: u32) -> u32
+    ensures { λ n. ⌜ (n ≤ m) × (0 < n → (row ≡ 341 + 85 * (a % 2)) × (a + n ≤ 63)) ⌝ }
+{
+    if row != 341 + 85 * (a % 2) {
+        return 0;
+    }
+    if 62 < a {
+        return 0;
+    }
+    if m < 63 - a { m } else { 63 - a }
+}
+
+// A receiver that seeks passes bits of a preamble at once: only the last eight matter.
+fn pass_row(row: u32, spoiled: bool, own: bool, a: u32, e: bool, m: u32) -> Part
+    requires { ⌜ (a + m < 4294967296) × (row < 512) ⌝ }
+    ensures passed { λ t. ⌜ Passes a e (Seeking row spoiled own) (t .receiver) (t .steps) ⌝ }
+    ensures range { λ t. ⌜ (t .steps ≤ m) × (rowIn (t .receiver) < 512) × (bitsIn (t .receiver) ≤ 0) ⌝ }
+{
+    let n = preamble_left(row, a, m);
+    if n == 0 {
+        return Part {
+            receiver: Receiver::Seeking { row, spoiled, own },
+            steps: 0,
+        };
+    }
+    Part {
+        receiver: Receiver::Seeking {
+            row: 341 + 85 * ((a + n) % 2),
+            spoiled,
+            own: octets::either(own, e),
+        },
+        steps: n,
+    }
+}
+
+// The same for any receiver.
+fn pass_preamble(r: Receiver, a: u32, e: bool, m: u32) -> Part
+    requires { ⌜ (a + m < 4294967296) × (rowIn r < 512) ⌝ }
+    ensures passed { λ t. ⌜ Passes a e r (t .receiver) (t .steps) ⌝ }
+    ensures range { λ t. ⌜ (t .steps ≤ m) × (rowIn (t .receiver) < 512) × (bitsIn (t .receiver) ≤ bitsIn r) ⌝ }
+{
+    let Receiver::Seeking { row, spoiled, own } = r else {
+        return Part {
+            receiver: r,
+            steps: 0,
+        };
+    };
+    pass_row(row, spoiled, own, a, e, m)
+}
+
+// Station j hears some of m bits of a packet from its bit a on: those of the preamble, or one.
+fn hear_next(area: &mut [u8], j: usize, frame: &[u8], a: u32, e: bool, r: Receiver, m: u32) -> Part
+    requires { ⌜ (j < 16) × (areaSize ≤ length (now area)) × (a + m < 4294967296) × (rowIn r < 512) × (bitsIn r + m < 4294967296) × (0 < m) ⌝ }
+    ensures heard { λ t. ⌜ taken (t .receiver) (now (area .exit)) ≡ heardAll j e (bitsFrom (now (frame .entry)) a) (t .steps) (taken r (now (area .entry))) ⌝ }
+    ensures range { λ t. ⌜ (0 < t .steps) × (t .steps ≤ m) × (rowIn (t .receiver) < 512) × (bitsIn (t .receiver) ≤ bitsIn r + t .steps) ⌝ }
+{
+    let p = pass_preamble(r, a, e, m);
+    if p.steps != 0 {
+        return p;
+    }
+    let one = packet::packet_bit(frame, a);
+    let next = hear_one(area, j, r, true, one, e);
+    Part {
+        receiver: next,
+        steps: 1,
+    }
+}
 
 // Whether collected bit n and packet bit a each begin an octet.
 fn begins_octet(r: Receiver, a: u32) -> bool {
@@ -116,9 +302,9 @@ fn hear_to_octet(
                 steps: s,
             };
         }
-        let one = packet::packet_bit(frame, a + s);
-        q = hear_one(area, j, q, true, one, e);
-        s += 1;
+        let t = hear_next(area, j, frame, a + s, e, q, m - s);
+        q = t.receiver;
+        s += t.steps;
     }
     Part {
         receiver: q,

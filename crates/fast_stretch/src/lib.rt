@@ -7,6 +7,7 @@ ghost use mathlib.Core.Path.{_≡_};
 ghost use Prim.Native.Nat.{_+_, _<_, _≤_};
 ghost use lib.ListN.{length};
 ghost use Rattle.state.specs.State.{numberIn};
+ghost use Rattle.area.specs.Area.{stationAt};
 ghost use Rattle.fast_receive.specs.Received.{spoils, lineFrom, bitsFrom, AllHeard};
 ghost use Rattle.fast_stretch.specs.Stretch.{Movable, movedOn, heardStretch, quietOn, quietStretch};
 ghost use Rattle.area.specs.Offsets.{areaSize};
@@ -22,36 +23,42 @@ fn move_on(f: Figures, e: bool, m: u32, r: Receiver, s: Station) -> Station
     fast_station::hear_on(f, m, r, s)
 }
 
-// Station j hears spoiled symbols for m steps.
-pub fn hear_spoiled(area: &mut [u8], j: usize, f: Figures, e: bool, m: u32)
-    requires { ⌜ (j < 16) × (areaSize ≤ length (now area)) × Movable f m (now area) j ⌝ }
+// Station j, which is s, hears spoiled symbols for m steps.
+pub fn hear_spoiled(area: &mut [u8], j: usize, f: Figures, e: bool, m: u32, s: Station)
+    requires { ⌜ (j < 16) × (areaSize ≤ length (now area)) × Movable f m (now area) j × (s ≡ stationAt (now area) j) ⌝ }
     ensures { λ r. ⌜ now (area .exit) ≡ heardStretch f e spoils m j (now (area .entry)) ⌝ }
 {
-    let s = area::read_station(area, j);
     let r = s.receiver;
     let q = fast_receive::hear_spoiled(area, j, e, r, m);
     let next = move_on(f, e, m, q, s);
     area::write_station(area, j, next);
 }
 
-// Station j hears for m steps what its line holds from step u on.
-pub fn hear_line(area: &mut [u8], j: usize, f: Figures, e: bool, u: usize, m: u32)
-    requires { ⌜ (j < 16) × (areaSize ≤ length (now area)) × Movable f m (now area) j × (u + m < 4294967296) × AllHeard (lineFrom (now area) j u) m ⌝ }
+// Station j, which is s, hears for m steps what its line holds from step u on.
+pub fn hear_line(area: &mut [u8], j: usize, f: Figures, e: bool, u: usize, m: u32, s: Station)
+    requires { ⌜ (j < 16) × (areaSize ≤ length (now area)) × Movable f m (now area) j × (s ≡ stationAt (now area) j) × (u + m < 4294967296) × AllHeard (lineFrom (now area) j u) m ⌝ }
     ensures { λ r. ⌜ now (area .exit) ≡ heardStretch f e (lineFrom (now (area .entry)) j u) m j (now (area .entry)) ⌝ }
 {
-    let s = area::read_station(area, j);
     let r = s.receiver;
     let q = fast_receive::hear_line(area, j, u, e, r, m);
     let next = move_on(f, e, m, q, s);
     area::write_station(area, j, next);
 }
 
-// Station j hears for m steps the packet that carries a frame, from its bit a on.
-pub fn hear_packet(area: &mut [u8], j: usize, f: Figures, e: bool, frame: &[u8], a: u32, m: u32)
-    requires { ⌜ (j < 16) × (areaSize ≤ length (now area)) × Movable f m (now area) j × (a + m < 4294967296) ⌝ }
+// Station j, which is s, hears for m steps the packet that carries a frame, from its bit a on.
+pub fn hear_packet(
+    area: &mut [u8],
+    j: usize,
+    f: Figures,
+    e: bool,
+    frame: &[u8],
+    a: u32,
+    m: u32,
+    s: Station,
+)
+    requires { ⌜ (j < 16) × (areaSize ≤ length (now area)) × Movable f m (now area) j × (s ≡ stationAt (now area) j) × (a + m < 4294967296) ⌝ }
     ensures { λ r. ⌜ now (area .exit) ≡ heardStretch f e (bitsFrom (now (frame .entry)) a) m j (now (area .entry)) ⌝ }
 {
-    let s = area::read_station(area, j);
     let r = s.receiver;
     let q = fast_receive::hear_packet(area, j, frame, a, e, r, m);
     let next = move_on(f, e, m, q, s);
@@ -70,12 +77,11 @@ fn keep_on(f: Figures, e: bool, m: u32, s: Station) -> Station
     fast_station::rest_on(f, m, s)
 }
 
-// Station j hears nothing for m steps.
-pub fn hear_nothing(area: &mut [u8], j: usize, f: Figures, e: bool, m: u32)
-    requires { ⌜ (j < 16) × (areaSize ≤ length (now area)) × Movable f m (now area) j ⌝ }
+// Station j, which is s, hears nothing for m steps.
+pub fn hear_nothing(area: &mut [u8], j: usize, f: Figures, e: bool, m: u32, s: Station)
+    requires { ⌜ (j < 16) × (areaSize ≤ length (now area)) × Movable f m (now area) j × (s ≡ stationAt (now area) j) ⌝ }
     ensures { λ r. ⌜ now (area .exit) ≡ quietStretch f e m j (now (area .entry)) ⌝ }
 {
-    let s = area::read_station(area, j);
     let next = keep_on(f, e, m, s);
     area::write_station(area, j, next);
 }

@@ -5,10 +5,12 @@ use mathlib.Core.Bool.{Bool, true}
 use mathlib.Core.List.{List}
 use native.Mathlib.Omega.{arith}
 use lib.ListN.{length}
-use Rattle.octets.specs.Turns.{turns}
+use Rattle.octets.specs.Turns.{turns, turns-none, turns-more, turns-end}
 use Rattle.layout.specs.declared.Figures.{Figures}
 use Rattle.area.specs.Area.{clockAt, withClock, depthAt, figuresAt, countAt, stationAt}
+use Rattle.pair.specs.BitTime.{stepArea}
 use Rattle.pair.specs.Ready.{Readiness, Ready}
+use Rattle.course.specs.RunLaws.{Runnable}
 use Rattle.fast_plan.specs.Plan.{steps}
 use Rattle.fast_plan.specs.Calm.{AllCalm, calm-holds}
 use Rattle.fast_plan.specs.Exact.{ownAll}
@@ -59,11 +61,11 @@ unfolding settledOf turnedOf
 window-made a f d n t r z b v ez eb = let et = begins-clock a f d n t v in eb ∙ rw (ez, et)
 
 module _ (a : List ℕ) (m r : ℕ) where
-  pub lasting : AllLast a r → 4 ≤ r → Lasting a r
+  pub lasting : AllLast a r → 12 ≤ r → Lasting a r
   unfolding Lasting
   lasting l h = record { some = omega arith; lasts = l }
 
-  pub pass-some : (f : Figures) (d n t : ℕ) (b : List ℕ) → Begins a f d n t → t + m ≤ lastClock → AllCalm a (planOf a) r → r ≤ m → 4 ≤ r → b ≡ turnedOf a (planOf a) r → Passed m r a b
+  pub pass-some : (f : Figures) (d n t : ℕ) (b : List ℕ) → Begins a f d n t → t + m ≤ lastClock → AllCalm a (planOf a) r → r ≤ m → 12 ≤ r → b ≡ turnedOf a (planOf a) r → Passed m r a b
   unfolding Passed Begins
   pass-some f d n t b v early calm h pos eb =
       record {
@@ -71,6 +73,27 @@ module _ (a : List ℕ) (m r : ℕ) where
         calm = calm;
         made = eb ∙ sym (steps-turned a (planOf a) r (omega arith) (v .ready) (omega (arith, v .clock)) (calm-holds a (planOf a) r calm));
       }
+
+  pub pass-singly : (b : List ℕ) → AllCalm a (planOf a) r → r ≤ m → b ≡ steps r a → Passed m r a b
+  unfolding Passed
+  pass-singly b calm h eb = record { within = h; calm = calm; made = eb }
+
+pub single-runs : (a : List ℕ) (f : Figures) (d n t m r : ℕ) → Begins a f d n t → t + m ≤ lastClock → r ≤ m → Runnable r a
+unfolding Begins Runnable
+single-runs a f d n t m r v early h = (v .ready, omega (arith, v .clock))
+
+module _ (a : List ℕ) where
+  pub single-none : a ≡ steps 0 a
+  unfolding steps
+  single-none = turns-none _ a
+
+  pub single-more : (s : ℕ) (x y : List ℕ) → y ≡ stepArea x → x ≡ steps s a → y ≡ steps (s + 1) a
+  unfolding steps
+  single-more s x y e h = turns-more _ s a x y e h
+
+  pub single-end : (r s : ℕ) (x : List ℕ) → s ≤ r → r ≤ s → x ≡ steps s a → x ≡ steps r a
+  unfolding steps
+  single-end r s x p q h = turns-end _ r s a x p q h
 
 pub pass-none : (a : List ℕ) (m : ℕ) → Passed m 0 a a
 unfolding Passed steps turns

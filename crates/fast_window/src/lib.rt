@@ -9,6 +9,8 @@ ghost use Prim.Native.Nat.{_+_, _-_, _<_, _≤_};
 ghost use lib.ListN.{length, take};
 ghost use Rattle.area.specs.Area.{clockAt, frameAt};
 ghost use Rattle.pair.specs.Ready.{Ready};
+ghost use Rattle.course.specs.RunLaws.{Runnable};
+ghost use Rattle.fast_plan.specs.Plan.{steps};
 ghost use Rattle.fast_plan.specs.Own.{byItself};
 ghost use Rattle.fast_plan.specs.Exact.{ownAll};
 ghost use Rattle.fast_plan.specs.Turned.{turnedOf};
@@ -18,6 +20,9 @@ ghost use Rattle.fast_move.specs.Move.{Moving};
 ghost use Rattle.fast_window.specs.Window.{bitAt, heardBy, heardFrom, Begins, settledOf, Lasting, Passed};
 ghost use Rattle.layout.specs.Limits.{lastClock};
 ghost use Rattle.area.specs.Offsets.{areaSize};
+
+// A window of fewer steps is made by single steps: they cost less.
+const SHORT: u32 = 12;
 
 // ---- one station
 
@@ -133,15 +138,95 @@ fn make(area: &mut [u8], f: Figures, depth: u32, n: usize, t: u32, seen: [Sight;
     area::write_clock(area, t + r);
 }
 
+// ---- whether a window is worth a try: any answer is right
+
+// Whether a station that emits nothing, by its record, emitted nothing before and does not start now.
+fn is_still(area: &[u8], f: Figures, i: usize, phase: u32) -> bool
+    requires { ⌜ (i < 16) × (areaSize ≤ length (now area)) × (f .gap1 + f .gap2 < 65536) ⌝ }
+{
+    if area::read_word(area, i, 13) != 0 {
+        return false;
+    }
+    if phase != 1 {
+        return true;
+    }
+    let deference = area::read_word(area, i, 0);
+    if deference == 0 {
+        return false;
+    }
+    area::read_word(area, i, 2) < f.gap1 + f.gap2
+}
+
+// Whether a station that emits did so before, and is not hit now while it sends.
+fn goes_on(area: &[u8], i: usize, phase: u32, t: u32) -> bool
+    requires { ⌜ (i < 16) × (areaSize ≤ length (now area)) ⌝ }
+{
+    if phase == 3 {
+        if delay::read_symbol(area, i, t as usize) != 0 {
+            return false;
+        }
+    }
+    if area::read_word(area, i, 13) == 0 {
+        return false;
+    }
+    area::read_word(area, i, 0) == 1
+}
+
+// Whether station i may allow a window at clock t.
+fn may_last(area: &[u8], f: Figures, i: usize, t: u32) -> bool
+    requires { ⌜ (i < 16) × (areaSize ≤ length (now area)) × (f .gap1 + f .gap2 < 65536) ⌝ }
+{
+    let phase = area::read_word(area, i, 3);
+    if phase < 3 {
+        return is_still(area, f, i, phase);
+    }
+    goes_on(area, i, phase, t)
+}
+
+// Whether each of n stations may.
+fn is_worth(area: &[u8], f: Figures, n: usize, t: u32) -> bool
+    requires { ⌜ (n ≤ 16) × (areaSize ≤ length (now area)) × (f .gap1 + f .gap2 < 65536) ⌝ }
+{
+    let mut i: usize = 0;
+    while i < n {
+        if !may_last(area, f, i, t) {
+            return false;
+        }
+        i += 1;
+    }
+    true
+}
+
+// ---- a window
+
+// r steps, one after the other.
+fn make_singly(area: &mut [u8], r: u32)
+    requires { ⌜ (areaSize ≤ length (now area)) × Runnable r (now area) ⌝ }
+    ensures { λ q. ⌜ now (area .exit) ≡ steps r (now (area .entry)) ⌝ }
+{
+    let mut s: u32 = 0;
+    while s < r {
+        turn::step::step(area);
+        s += 1;
+    }
+}
+
 // Of the next m steps, from clock t on, those that are a window.
 fn pass_from(area: &mut [u8], f: Figures, depth: u32, n: usize, t: u32, m: u32) -> u32
     requires { ⌜ (n ≤ 16) × (areaSize ≤ length (now area)) × (t + m ≤ lastClock) × Begins (now area) f depth n t ⌝ }
     ensures { λ r. ⌜ Passed m r (now (area .entry)) (now (area .exit)) ⌝ }
 {
+    if !is_worth(area, f, n, t) {
+        return 0;
+    }
     let seen = fast_heard::sights(area, n);
     let r = fast_bound::bound(area, f, n, t, seen, m);
     if r < fast_bound::LEAST {
         return 0;
+    }
+    if r < SHORT {
+        make_singly(area, r);
+        return r;
     }
     make(area, f, depth, n, t, seen, r);
     r

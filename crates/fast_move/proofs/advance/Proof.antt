@@ -1,3 +1,4 @@
+use mathlib.Core.Path.{refl}
 use native.Mathlib.Omega.{arith}
 use Rattle.fast_move.specs.AdvanceLaws.{moving-able, moving-movable, moving-held, advance-all, advance-one}
 use borrow.Author.Needs.{needs}
@@ -26,7 +27,7 @@ can-move-requires c κs = (omega arith, omega arith, omega arith, search moving-
 
 -- src/lib.rt:197:9
 move-at-once-requires : tie.Need-move-at-once-requires
-move-at-once-requires c κs = (omega arith, omega arith, search moving-movable, omega arith, omega arith, search needs)
+move-at-once-requires c κs = (omega arith, omega arith, search moving-movable, search needs, omega arith, omega arith, search needs)
 
 -- src/lib.rt:198:9
 same-length : tie.Need-same-length
@@ -34,7 +35,7 @@ same-length c = search needs
 
 -- src/lib.rt:198:9
 returns : tie.Need-returns
-returns c = (search advance-all, (omega arith, omega arith))
+returns c = (advance-all _ _ _ _ _ (c .before .before .before .before .before .before .before .before .before .before .before .before .pre .6) _ _ _ _ _ _ _ _ _ (c .before .before .before .before .before .before .before .before .before .before .before .before .pre .2) (c .before .before .before .before .before .before .before .before .before .before .before .before .pre .3) (c .before .before .before .before .before .before .before .before .before .before .before .before .pre .7) (c .before .before .before .before .before .before .before .before .read-station .ensures) refl (c .before .before .before .before .before .before .before .is-emitting .ensures) (c .before .before .before .before .before .can-move .ensures) (c .before .before .before .before .if1 .taken) (c .before .before .move-at-once .ensures), (omega arith, omega arith))
 
 -- src/lib.rt:200:9
 heard-first-requires : tie.Need-heard-first-requires

@@ -24,7 +24,7 @@ enum-told-2 c = search needs
 
 -- src/lib.rt:154:23
 hear-line-requires : tie.Need-hear-line-requires
-hear-line-requires c κs = (omega arith, omega arith, search needs, omega arith, search line-audible)
+hear-line-requires c κs = (omega arith, omega arith, search needs, search needs, omega arith, search line-audible)
 
 -- src/lib.rt:155:49
 enum-told-3 : tie.Need-enum-told-3

@@ -1,14 +1,17 @@
--- `fast_receive::hear_line` meets its contract. Assumes nothing.
-use Prim.Native.Nat.{_≤_, _<_, _-_, _+_}
-use mathlib.Core.Path.{_≡_, refl}
-use lib.ListN.{length}
+use Rattle.fast_receive.specs.Strides.{line-on, line-left}
+use Rattle.fast_receive.specs.CodeLaws.{all-none, all-end}
+use Rattle.fast_receive.specs.Received.{taken, heardAll, lineFrom}
 use Rattle.receiver.specs.Receive.{rowIn, bitsIn}
+use lib.ListN.{length}
+use mathlib.Core.Path.{_≡_, refl}
+use Prim.Native.Nat.{_≤_, _<_, _-_, _+_}
 use borrow.Author.Needs.{needs}
 use native.Mathlib.Omega.{arith}
-use Rattle.fast_receive.specs.Received.{taken, heardAll, lineFrom}
-use Rattle.fast_receive.specs.CodeLaws.{all-none, all-end, line-more}
 use Rattle.fast_receive.proofs.hear_line.Statement.{statement}
 use Rattle.fast_receive.proofs.hear_line.Tie as tie
+use Rattle.fast_receive.proofs.hear_line.Reads as reads
+use Rattle.fast_receive.proofs.hear_line.Lts as lts
+use Rattle.fast_receive.proofs.hear_some.Reads as hear-some-reads
 
 abbrev Inv-loop : tie.InvT-loop
 Inv-loop area₀ j u e m q₀ s₀ area q s = (s ≤ m) × (length area ≡ length area₀) × (taken q area ≡ heardAll j e (lineFrom area₀ j u) s (taken q₀ area₀)) × (rowIn q < 512) × (bitsIn q ≤ bitsIn q₀ + s)
@@ -16,33 +19,43 @@ Inv-loop area₀ j u e m q₀ s₀ area q s = (s ≤ m) × (length area ≡ leng
 abbrev μ-loop : tie.MeasureT-loop
 μ-loop area₀ j u e m q₀ s₀ area q s = m - s
 
+-- src/lib.rt:159:5
 loop-holds : tie.Need-loop-holds Inv-loop μ-loop
 loop-holds c = (omega arith, refl, search all-none, omega arith, omega arith)
 
-cast-read-symbol : tie.Need-cast-read-symbol Inv-loop μ-loop
-cast-read-symbol c = omega arith
+-- src/lib.rt:160:40
+cast-hear-some : tie.Need-cast-hear-some Inv-loop μ-loop
+cast-hear-some c = omega arith
 
-add-read-symbol : tie.Need-add-read-symbol Inv-loop μ-loop
-add-read-symbol c = omega arith
+-- src/lib.rt:160:36
+add-hear-some : tie.Need-add-hear-some Inv-loop μ-loop
+add-hear-some c = omega arith
 
-read-symbol-requires : tie.Need-read-symbol-requires Inv-loop μ-loop
-read-symbol-requires c κs = (omega arith, omega arith)
+-- src/lib.rt:160:58
+sub-hear-some : tie.Need-sub-hear-some Inv-loop μ-loop
+sub-hear-some c = omega arith
 
-hear-one-requires : tie.Need-hear-one-requires Inv-loop μ-loop
-hear-one-requires c κs = (omega arith, omega arith, omega arith, omega arith)
+-- src/lib.rt:160:13
+hear-some-requires : tie.Need-hear-some-requires Inv-loop μ-loop
+hear-some-requires c κs = (omega arith, omega arith, omega arith, omega arith, omega arith, search line-left, omega arith)
 
+-- src/lib.rt:162:9
 add-s : tie.Need-add-s Inv-loop μ-loop
 add-s c = omega arith
 
+-- src/lib.rt:159:5
 loop-less : tie.Need-loop-less Inv-loop μ-loop
 loop-less c = omega arith
 
+-- src/lib.rt:159:5
 loop-again : tie.Need-loop-again Inv-loop μ-loop
-loop-again c = (omega arith, omega arith, search line-more, omega arith, omega arith)
+loop-again c = (omega arith, omega arith, search line-on, omega arith, omega arith)
 
+-- src/lib.rt:152:1
 same-length : tie.Need-same-length Inv-loop μ-loop
 same-length c = search needs
 
+-- src/lib.rt:152:1
 returns : tie.Need-returns Inv-loop μ-loop
 returns c = (search all-end, (omega arith, omega arith))
 
@@ -53,10 +66,10 @@ hear-line-spec =
     Inv-loop
     μ-loop
     loop-holds
-    cast-read-symbol
-    add-read-symbol
-    read-symbol-requires
-    hear-one-requires
+    cast-hear-some
+    add-hear-some
+    sub-hear-some
+    hear-some-requires
     add-s
     loop-less
     loop-again

@@ -4,9 +4,6 @@ use borrow.Author.Needs.{needs}
 use Rattle.fast_stretch.proofs.hear_line.Statement.{statement}
 use Rattle.fast_stretch.proofs.hear_line.Tie as tie
 
-read-station-requires : tie.Need-read-station-requires
-read-station-requires c κs = search needs
-
 hear-line-requires : tie.Need-hear-line-requires
 hear-line-requires c κs = (search needs, search needs, search needs, search row-room, search bits-room, search needs)
 
@@ -26,7 +23,6 @@ pub hear-line-spec : {M : Type 1} → statement M
 hear-line-spec =
     tie.close
     (tie.spec
-    read-station-requires
     hear-line-requires
     move-on-requires
     write-station-requires

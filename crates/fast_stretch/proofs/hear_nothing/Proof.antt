@@ -4,9 +4,6 @@ use borrow.Author.Needs.{needs}
 use Rattle.fast_stretch.proofs.hear_nothing.Statement.{statement}
 use Rattle.fast_stretch.proofs.hear_nothing.Tie as tie
 
-read-station-requires : tie.Need-read-station-requires
-read-station-requires c κs = search needs
-
 keep-on-requires : tie.Need-keep-on-requires
 keep-on-requires c κs = (search gap-room, search number-room)
 
@@ -22,4 +19,4 @@ returns c = search stretch-quiet
 pub hear-nothing-spec : {M : Type 1} → statement M
 hear-nothing-spec =
     tie.close
-    (tie.spec read-station-requires keep-on-requires write-station-requires same-length returns)
+    (tie.spec keep-on-requires write-station-requires same-length returns)

@@ -4,9 +4,6 @@ use borrow.Author.Needs.{needs}
 use Rattle.fast_stretch.proofs.hear_packet.Statement.{statement}
 use Rattle.fast_stretch.proofs.hear_packet.Tie as tie
 
-read-station-requires : tie.Need-read-station-requires
-read-station-requires c κs = search needs
-
 hear-packet-requires : tie.Need-hear-packet-requires
 hear-packet-requires c κs = (search needs, search needs, search needs, search row-room, search bits-room)
 
@@ -26,7 +23,6 @@ pub hear-packet-spec : {M : Type 1} → statement M
 hear-packet-spec =
     tie.close
     (tie.spec
-    read-station-requires
     hear-packet-requires
     move-on-requires
     write-station-requires

@@ -4,9 +4,6 @@ use borrow.Author.Needs.{needs}
 use Rattle.fast_stretch.proofs.hear_spoiled.Statement.{statement}
 use Rattle.fast_stretch.proofs.hear_spoiled.Tie as tie
 
-read-station-requires : tie.Need-read-station-requires
-read-station-requires c κs = search needs
-
 hear-spoiled-requires : tie.Need-hear-spoiled-requires
 hear-spoiled-requires c κs = (search needs, search needs, search row-room, search bits-room)
 
@@ -26,7 +23,6 @@ pub hear-spoiled-spec : {M : Type 1} → statement M
 hear-spoiled-spec =
     tie.close
     (tie.spec
-    read-station-requires
     hear-spoiled-requires
     move-on-requires
     write-station-requires
