@@ -1,5 +1,7 @@
 // A run goes on: silence at once, a window at once, or one step.
 
+pub mod until;
+
 use course::Stretch;
 use pair::Events;
 use receiver::ReceiveEvent;

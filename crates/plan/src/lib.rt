@@ -95,7 +95,7 @@ fn step_piece(input: &[u8], area: &mut [u8], out: &mut [u8], g: Progress) -> Han
     ensures { λ r. ⌜ handing r (now (area .exit)) (now (out .exit)) ≡ given (now (out .entry)) (stepPiece (now (input .entry)) g (now (area .entry))) ⌝ }
 {
     let n = pieces::span(input, area, g);
-    let s = fast_until::until_event(area, n);
+    let s = fast_advance::until::until_event(area, n);
     let events = s.events;
     let end = lines::put_step(out, area::read_clock(area) - 1, events);
     let times = pieces::times_left(events, s.steps, g.times);

@@ -1,8 +1,8 @@
--- `fast_until::has_event` meets its contract. Assumes nothing.
+-- `fast_advance::until::has_event` meets its contract. Assumes nothing.
 use Rattle.course.specs.UntilLaws.{event-is}
 use borrow.Author.Needs.{needs}
-use Rattle.fast_until.proofs.has_event.Statement.{statement}
-use Rattle.fast_until.proofs.has_event.Tie as tie
+use Rattle.fast_advance.proofs.until.has_event.Statement.{statement}
+use Rattle.fast_advance.proofs.until.has_event.Tie as tie
 
 is-transmit-requires : tie.Need-is-transmit-requires
 is-transmit-requires c κs = search needs

@@ -1,4 +1,4 @@
--- `fast_until::until_event` meets its contract. Assumes nothing.
+-- `fast_advance::until::until_event` meets its contract. Assumes nothing.
 use native.Mathlib.Omega.{arith}
 use borrow.Author.Needs.{needs}
 use Prim.Native.Nat.{_≤_, _-_}
@@ -7,10 +7,10 @@ use lib.ListN.{length}
 use Rattle.course.specs.RunLaws.{Runnable, run-first}
 use Rattle.course.specs.Until.{untilEvent}
 use Rattle.course.specs.UntilLaws.{plus, stretch-first}
 use Rattle.fast_advance.specs.AdvanceLaws.{advance-runs, until-hit, until-on}
-use Rattle.fast_until.specs.OnwardLaws.{onward-end}
-use Rattle.fast_until.proofs.until_event.Statement.{statement}
-use Rattle.fast_until.proofs.until_event.Tie as tie
+use Rattle.fast_advance.specs.OnwardLaws.{onward-end}
+use Rattle.fast_advance.proofs.until.until_event.Statement.{statement}
+use Rattle.fast_advance.proofs.until.until_event.Tie as tie
 
 abbrev Inv-loop : tie.InvT-loop
 Inv-loop area₀ n t₀ area t = (t ≤ n) × (length area ≡ length area₀) × Runnable (n - t) area × (plus t (untilEvent (n - t) area) ≡ untilEvent n area₀)

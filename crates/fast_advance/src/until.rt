@@ -39,12 +39,12 @@ pub fn until_event(area: &mut [u8], n: u32) -> Stretch
 {
     let mut t: u32 = 0;
     while t < n {
-        let s = fast_advance::advance(area, n - t);
+        let s = crate::advance(area, n - t);
         let events = s.events;
         t += s.steps;
         if is_eventful(events) {
             return Stretch { steps: t, events };
         }
     }
-    fast_advance::eventless(t)
+    crate::eventless(t)
 }

@@ -1,9 +1,9 @@
--- `fast_until::is_eventful` meets its contract. Assumes nothing.
+-- `fast_advance::until::is_eventful` meets its contract. Assumes nothing.
 use native.Mathlib.Omega.{arith}
 use Prim.Native.Nat.{_≤_, _-_}
 use Rattle.course.specs.UntilLaws.{Calm, calm-none, calm-more, calm-hit, calm-end}
-use Rattle.fast_until.proofs.is_eventful.Statement.{statement}
-use Rattle.fast_until.proofs.is_eventful.Tie as tie
+use Rattle.fast_advance.proofs.until.is_eventful.Statement.{statement}
+use Rattle.fast_advance.proofs.until.is_eventful.Tie as tie
 
 abbrev Inv-loop : tie.InvT-loop
 Inv-loop events i₀ i = (i ≤ 16) × Calm events i
