@@ -32,7 +32,7 @@ use Rattle.bus.specs.declared.Counters.{Counters}
 use Rattle.start.specs.Start.{started}
 use Rattle.offer.specs.Offer.{offered}
 use Rattle.bus.specs.Step.{Bit, bitTimeOutcome, unstepped, steppedOnce}
-use Rattle.bus.specs.Counters.{countersReading, countersRead}
+use Rattle.bus.specs.Counters.{Reading as Counted, countersReading, countersRead}
 use Rattle.course.specs.declared.RunAnswer.{RunAnswer}
 use Rattle.course.specs.Run.{tallied, Ran, runOf, runOutcome, unrun, ran, stops}
 use Rattle.reading.specs.Read.{frameRead}

@@ -19,7 +19,7 @@ use Rattle.sheet.specs.Sheet.{readSheet}
 use Rattle.draws.specs.Draws.{drawsIn}
 use Rattle.frame.specs.Limits.{maxFrame, refusesData, bufferOctets}
 use Rattle.frame.specs.Build.{frameOf, built}
-use Rattle.opener.specs.Open.{dataField, checkWrong, checkError, lengthWrong, unpadded, opened}
+use Rattle.opener.specs.Open.{valueOf as lengthType, dataField, checkWrong, checkError, lengthWrong, unpadded, opened}
 use Rattle.station.specs.Count.{octetsIn}
 use Rattle.area.specs.Area.{clockAt, countAt, stationAt}
 use Rattle.valid.specs.Valid.{areaRefusal}
