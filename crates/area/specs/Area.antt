@@ -10,18 +10,18 @@ use Rattle.octets.specs.Bits.{digit}
 use Rattle.octets.specs.Number.{get, put}
 use Rattle.octets.specs.Store.{part}
 use Rattle.octets.specs.Words.{wordsAt, putWords}
-use Rattle.frame.specs.Limits.{refusesData, bufferOctets}
-use Rattle.frame.specs.Build.{frameOf}
-use Rattle.layout.specs.declared.Figures.{Figures}
-use Rattle.layout.specs.declared.Tap.{Tap}
-use Rattle.layout.specs.declared.Layout.{Layout}
-use Rattle.layout.specs.Layout.{places, placesOf}
-use Rattle.packet.specs.declared.Heard.{Heard}
-use Rattle.packet.specs.declared.Heard.the-variants.{Nothing, Clean, Jammed, Several}
-use Rattle.packet.specs.declared.Symbol.{Symbol}
-use Rattle.packet.specs.declared.Symbol.the-variants.{Silence, Bit, Jam}
-use Rattle.state.specs.declared.Station.{Station}
-use Rattle.record.specs.Codec.{decoded, encoded, recordWords}
+use Rattle.frame_build.specs.Limits.{refusesData, bufferOctets}
+use Rattle.frame_build.specs.Build.{frameOf}
+use Rattle.sheet_layout.specs.declared.Figures.{Figures}
+use Rattle.sheet_layout.specs.declared.Tap.{Tap}
+use Rattle.sheet_layout.specs.declared.Layout.{Layout}
+use Rattle.sheet_layout.specs.Layout.{places, placesOf}
+use Rattle.station_symbols.specs.declared.Heard.{Heard}
+use Rattle.station_symbols.specs.declared.Heard.the-variants.{Nothing, Clean, Jammed, Several}
+use Rattle.station_symbols.specs.declared.Symbol.{Symbol}
+use Rattle.station_symbols.specs.declared.Symbol.the-variants.{Silence, Bit, Jam}
+use Rattle.station_state.specs.declared.Station.{Station}
+use Rattle.area_record.specs.Codec.{decoded, encoded, recordWords}
 use Rattle.area.specs.Offsets.{counterCount}
 
 -- ---- the clock and the draws

@@ -15,15 +15,15 @@ use Rattle.octets.specs.Store.{part, part-same, length-part}
 use Rattle.octets.specs.Region.{Same, same-refl, same-part, same-trans, set-leaves, sets-leaves, put-leaves, words-leave, get-goes-by, words-go-by, part-goes-by}
 use Rattle.octets.specs.Words.{putWords}
 use Rattle.octets.specs.WordsLaws.{Small, length-put-words, words-same}
-use Rattle.packet.specs.declared.Heard.{Heard}
-use Rattle.packet.specs.declared.Heard.the-variants.{Nothing, Clean, Jammed, Several}
-use Rattle.state.specs.declared.Station.{Station}
-use Rattle.record.specs.Codec.{decoded, encoded, recordWords}
-use Rattle.record.specs.CodecLaws.{Fit, decoded-encoded, encoded-small, length-encoded}
+use Rattle.station_symbols.specs.declared.Heard.{Heard}
+use Rattle.station_symbols.specs.declared.Heard.the-variants.{Nothing, Clean, Jammed, Several}
+use Rattle.station_state.specs.declared.Station.{Station}
+use Rattle.area_record.specs.Codec.{decoded, encoded, recordWords}
+use Rattle.area_record.specs.CodecLaws.{Fit, decoded-encoded, encoded-small, length-encoded}
 use Rattle.area.specs.Offsets.{theLine, from, width, areaSize, counterCount}
 use Rattle.area.specs.Places.{Part, piece, clock, depth, layout, draws, counters, station, frame, buffer, place, Off, Keeps}
 use Rattle.area.specs.Area.{clockAt, withClock, depthAt, drawAt, figuresAt, countAt, positionAt, addressAt, distance, spaceAt, countersAt, withCounters, recordAt, stationAt, withStation, frameAt, withFrame, bufferAt, octetWith, withBit, heardOf, heardCode, symbolAt, arrivalAt, withArrival}
-use Rattle.frame.specs.Limits.{bufferOctets, bufferBits}
+use Rattle.frame_build.specs.Limits.{bufferOctets, bufferBits}
 
 -- ---- parts
 

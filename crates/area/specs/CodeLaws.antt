@@ -20,20 +20,20 @@ use Rattle.octets.specs.Store.{part, length-part}
 use Rattle.octets.specs.Words.{wordsAt, putWords}
 use Rattle.octets.specs.WordsLaws.{word-at}
 use borrow.Rule.Slice.PartMut.{midOf, putMid, put-same}
-use Rattle.frame.specs.Limits.{refusesData, bufferOctets}
-use Rattle.frame.specs.Build.{frameOf, built}
-use Rattle.frame.specs.BuildLaws.{frame-size, data-within}
-use Rattle.layout.specs.declared.Figures.{Figures}
-use Rattle.layout.specs.declared.Tap.{Tap}
-use Rattle.layout.specs.Layout.{placesOf}
-use Rattle.packet.specs.declared.Heard.{Heard}
-use Rattle.packet.specs.declared.Heard.the-variants.{Nothing, Clean, Jammed, Several}
-use Rattle.packet.specs.declared.Symbol.{Symbol}
-use Rattle.packet.specs.declared.Symbol.the-variants.{Silence, Bit, Jam}
-use Rattle.packet.specs.declared.Emission.{Emission}
-use Rattle.packet.specs.Packet.{symbolOf}
-use Rattle.state.specs.declared.Station.{Station}
-use Rattle.record.specs.Codec.{decoded, encoded, recordWords}
+use Rattle.frame_build.specs.Limits.{refusesData, bufferOctets}
+use Rattle.frame_build.specs.Build.{frameOf, built}
+use Rattle.frame_build.specs.BuildLaws.{frame-size, data-within}
+use Rattle.sheet_layout.specs.declared.Figures.{Figures}
+use Rattle.sheet_layout.specs.declared.Tap.{Tap}
+use Rattle.sheet_layout.specs.Layout.{placesOf}
+use Rattle.station_symbols.specs.declared.Heard.{Heard}
+use Rattle.station_symbols.specs.declared.Heard.the-variants.{Nothing, Clean, Jammed, Several}
+use Rattle.station_symbols.specs.declared.Symbol.{Symbol}
+use Rattle.station_symbols.specs.declared.Symbol.the-variants.{Silence, Bit, Jam}
+use Rattle.station_symbols.specs.declared.Emission.{Emission}
+use Rattle.station_symbols.specs.Packet.{symbolOf}
+use Rattle.station_state.specs.declared.Station.{Station}
+use Rattle.area_record.specs.Codec.{decoded, encoded, recordWords}
 use Rattle.area.specs.Area.{clockAt, withClock, depthAt, drawAt, figuresAt, countAt, positionAt, addressAt, tapAt, layoutAt, distance, spaceAt, countersAt, withCounters, recordAt, stationAt, withStation, withWord, octetWith, withBit, withOctet, heardOf, heardCode, symbolAt, arrivalAt, withArrival, alone, overlaid, joined, withSymbol, withFrame, frameAt, bufferAt, frameBuilt}
 use Rattle.area.specs.Offsets.{areaSize, counterCount}
 

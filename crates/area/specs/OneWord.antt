@@ -15,8 +15,8 @@ use Rattle.octets.specs.Region.{Same, put-leaves}
 use Rattle.octets.specs.Store.{octet-same, octet-other}
 use Rattle.octets.specs.Words.{putWords}
 use Rattle.octets.specs.WordsLaws.{word-at}
-use Rattle.state.specs.declared.Station.{Station}
-use Rattle.record.specs.Codec.{encoded, recordWords}
+use Rattle.station_state.specs.declared.Station.{Station}
+use Rattle.area_record.specs.Codec.{encoded, recordWords}
 use Rattle.area.specs.Area.{recordAt, withStation, withWord}
 use Rattle.area.specs.Offsets.{areaSize}
 

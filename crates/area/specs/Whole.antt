@@ -14,14 +14,14 @@ use Rattle.octets.specs.Region.{Same, put-leaves, words-leave}
 use Rattle.octets.specs.Number.{spelled, put}
 use Rattle.octets.specs.NumberLaws.{length-spelled}
 use Rattle.octets.specs.Store.{Apart, octet-same}
-use Rattle.packet.specs.declared.Heard.{Heard}
-use Rattle.state.specs.declared.Station.{Station}
-use Rattle.record.specs.Codec.{encoded, recordWords}
+use Rattle.station_symbols.specs.declared.Heard.{Heard}
+use Rattle.station_state.specs.declared.Station.{Station}
+use Rattle.area_record.specs.Codec.{encoded, recordWords}
 use Rattle.area.specs.Offsets.{theClock, theCounters, theStation, theLine, theBuffer, from, width, areaSize, counterCount}
 use Rattle.area.specs.Places.{clock, counters, station, buffer, place, Keeps}
 use Rattle.area.specs.Written.{words-over}
 use Rattle.area.specs.Area.{withClock, withCounters, withStation, octetWith, withBit, heardCode, symbolAt, withArrival}
-use Rattle.frame.specs.Limits.{bufferBits}
+use Rattle.frame_build.specs.Limits.{bufferBits}
 
 -- an octet that is neither the clock's nor any station's, of n stations; frames are only written by offers
 pub record Still (n k : ℕ) : Type 0 where

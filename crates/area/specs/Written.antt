@@ -15,9 +15,9 @@ use Rattle.octets.specs.Region.{Same, put-leaves, words-leave}
 use Rattle.octets.specs.Store.{Apart, octet-same, octet-other}
 use Rattle.octets.specs.Words.{wordsAt, putWords}
 use Rattle.octets.specs.WordsLaws.{length-words, length-put-words, word-at}
-use Rattle.packet.specs.declared.Heard.{Heard}
-use Rattle.state.specs.declared.Station.{Station}
-use Rattle.record.specs.Codec.{encoded, recordWords}
+use Rattle.station_symbols.specs.declared.Heard.{Heard}
+use Rattle.station_state.specs.declared.Station.{Station}
+use Rattle.area_record.specs.Codec.{encoded, recordWords}
 use Rattle.area.specs.Area.{recordAt, withStation, withWord, withBit, heardCode, symbolAt, withArrival}
 use Rattle.area.specs.AreaLaws.{code-small}
 use Rattle.area.specs.OneWord.{station-back, length-word}

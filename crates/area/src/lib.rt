@@ -13,17 +13,17 @@
 // | 8192 + 1536 i | the frame of station i, up to 1518 octets |
 // | 32768 + 1536 i | what station i collected, up to 1518 octets |
 
-use layout::Figures;
-use layout::Layout;
-use layout::Tap;
-use state::Station;
+use sheet_layout::Figures;
+use sheet_layout::Layout;
+use sheet_layout::Tap;
+use station_state::Station;
 ghost use mathlib.Core.Path.{_≡_};
 ghost use Prim.Native.Nat.{_+_, _*_, _%_, _<_, _≤_, min, max};
 ghost use lib.ListN.{length, getD};
-ghost use Rattle.layout.specs.Layout.{placesOf};
+ghost use Rattle.sheet_layout.specs.Layout.{placesOf};
 ghost use Rattle.area.specs.Area.{clockAt, withClock, depthAt, drawAt, figuresAt, countAt, positionAt, addressAt, tapAt, layoutAt, distance, countersAt, withCounters, recordAt, stationAt, withStation, withWord};
 ghost use Rattle.area.specs.Offsets.{areaSize};
-ghost use Rattle.record.specs.Codec.{recordWords};
+ghost use Rattle.area_record.specs.Codec.{recordWords};
 
 // The octets of a work area.
 pub const AREA: usize = 57344;
@@ -32,14 +32,14 @@ pub fn read_clock(area: &[u8]) -> u32
     requires { ⌜ areaSize ≤ length (now area) ⌝ }
     ensures { λ r. ⌜ r ≡ clockAt (now (area .entry)) ⌝ }
 {
-    words::get32(area, 0)
+    octets_words::get32(area, 0)
 }
 
 pub fn write_clock(area: &mut [u8], t: u32)
     requires { ⌜ areaSize ≤ length (now area) ⌝ }
     ensures { λ r. ⌜ now (area .exit) ≡ withClock (now (area .entry)) t ⌝ }
 {
-    words::put32(area, 0, t);
+    octets_words::put32(area, 0, t);
 }
 
 // D.
@@ -47,7 +47,7 @@ pub fn read_depth(area: &[u8]) -> u32
     requires { ⌜ areaSize ≤ length (now area) ⌝ }
     ensures { λ r. ⌜ r ≡ depthAt (now (area .entry)) ⌝ }
 {
-    words::get32(area, 4)
+    octets_words::get32(area, 4)
 }
 
 // Draw k of station i.
@@ -55,7 +55,7 @@ pub fn read_draw(area: &[u8], i: usize, k: usize) -> u32
     requires { ⌜ (i < 16) × (k < 16) × (areaSize ≤ length (now area)) ⌝ }
     ensures { λ r. ⌜ r ≡ drawAt (now (area .entry)) i k ⌝ }
 {
-    words::get16(area, 320 + 32 * i + 2 * k)
+    octets_words::get16(area, 320 + 32 * i + 2 * k)
 }
 
 pub fn read_figures(area: &[u8]) -> Figures
@@ -63,12 +63,12 @@ pub fn read_figures(area: &[u8]) -> Figures
     ensures { λ r. ⌜ r ≡ figuresAt (now (area .entry)) ⌝ }
 {
     Figures {
-        slot: words::get32(area, 8),
-        gap1: words::get32(area, 12),
-        gap2: words::get32(area, 16),
-        jam: words::get32(area, 20),
-        limit: words::get32(area, 24),
-        backoff: words::get32(area, 28),
+        slot: octets_words::get32(area, 8),
+        gap1: octets_words::get32(area, 12),
+        gap2: octets_words::get32(area, 16),
+        jam: octets_words::get32(area, 20),
+        limit: octets_words::get32(area, 24),
+        backoff: octets_words::get32(area, 28),
     }
 }
 
@@ -77,7 +77,7 @@ pub fn read_count(area: &[u8]) -> u32
     requires { ⌜ areaSize ≤ length (now area) ⌝ }
     ensures { λ r. ⌜ r ≡ countAt (now (area .entry)) ⌝ }
 {
-    words::get32(area, 32)
+    octets_words::get32(area, 32)
 }
 
 // Where station i is.
@@ -85,14 +85,14 @@ pub fn read_position(area: &[u8], i: usize) -> u32
     requires { ⌜ (i < 16) × (areaSize ≤ length (now area)) ⌝ }
     ensures { λ r. ⌜ r ≡ positionAt (now (area .entry)) i ⌝ }
 {
-    words::get32(area, 64 + 16 * i)
+    octets_words::get32(area, 64 + 16 * i)
 }
 
 pub fn read_address(area: &[u8], i: usize) -> [u8; 6]
     requires { ⌜ (i < 16) × (areaSize ≤ length (now area)) ⌝ }
     ensures { λ r. ⌜ r ≡ addressAt (now (area .entry)) i ⌝ }
 {
-    copies::six(area, 68 + 16 * i)
+    octets_copies::six(area, 68 + 16 * i)
 }
 
 fn read_tap(area: &[u8], i: usize) -> Tap
@@ -129,7 +129,7 @@ pub fn read_layout(area: &[u8]) -> Layout
 {
     let figures = read_figures(area);
     let count = read_count(area);
-    let stations = read_taps(area, layout::places(count));
+    let stations = read_taps(area, sheet_layout::places(count));
     Layout {
         figures,
         count,
@@ -162,7 +162,7 @@ pub fn read_counters(area: &[u8], i: usize) -> [u32; 16]
     ensures { λ r. ⌜ r ≡ countersAt (now (area .entry)) i ⌝ }
 {
     let mut w = [0u32; 16];
-    words::load_words(area, 1024 + 64 * i, &mut w);
+    octets_words::load_words(area, 1024 + 64 * i, &mut w);
     w
 }
 
@@ -170,7 +170,7 @@ pub fn write_counters(area: &mut [u8], i: usize, counters: [u32; 16])
     requires { ⌜ (i < 16) × (areaSize ≤ length (now area)) ⌝ }
     ensures { λ r. ⌜ now (area .exit) ≡ withCounters (now (area .entry)) i counters ⌝ }
 {
-    words::store_words(area, 1024 + 64 * i, &counters);
+    octets_words::store_words(area, 1024 + 64 * i, &counters);
 }
 
 // The words of the record of station i.
@@ -179,7 +179,7 @@ pub fn read_record(area: &[u8], i: usize) -> [u32; 14]
     ensures { λ r. ⌜ r ≡ recordAt (now (area .entry)) i ⌝ }
 {
     let mut w = [0u32; 14];
-    words::load_words(area, 2048 + 64 * i, &mut w);
+    octets_words::load_words(area, 2048 + 64 * i, &mut w);
     w
 }
 
@@ -188,7 +188,7 @@ pub fn read_word(area: &[u8], i: usize, k: usize) -> u32
     requires { ⌜ (i < 16) × (k < recordWords) × (areaSize ≤ length (now area)) ⌝ }
     ensures { λ r. ⌜ r ≡ getD (recordAt (now (area .entry)) i) k 0 ⌝ }
 {
-    words::get32(area, 2048 + 64 * i + 4 * k)
+    octets_words::get32(area, 2048 + 64 * i + 4 * k)
 }
 
 // The low octet of word k of the record of station i: all of it, where the word is a code or a flag.
@@ -204,7 +204,7 @@ pub fn write_word(area: &mut [u8], i: usize, k: usize, v: u32)
     requires { ⌜ (i < 16) × (k < recordWords) × (areaSize ≤ length (now area)) ⌝ }
     ensures { λ r. ⌜ now (area .exit) ≡ withWord (now (area .entry)) i k v ⌝ }
 {
-    words::put32(area, 2048 + 64 * i + 4 * k, v);
+    octets_words::put32(area, 2048 + 64 * i + 4 * k, v);
 }
 
 pub fn read_station(area: &[u8], i: usize) -> Station
@@ -213,13 +213,13 @@ pub fn read_station(area: &[u8], i: usize) -> Station
 {
     let w = read_record(area, i);
     let address = read_address(area, i);
-    record::decode(w, address)
+    area_record::decode(w, address)
 }
 
 pub fn write_station(area: &mut [u8], i: usize, s: Station)
     requires { ⌜ (i < 16) × (areaSize ≤ length (now area)) ⌝ }
     ensures { λ r. ⌜ now (area .exit) ≡ withStation (now (area .entry)) i s ⌝ }
 {
-    let w = record::encode(s);
-    words::store_words(area, 2048 + 64 * i, &w);
+    let w = area_record::encode(s);
+    octets_words::store_words(area, 2048 + 64 * i, &w);
 }

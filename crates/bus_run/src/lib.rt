@@ -1,18 +1,18 @@
 // Runs over many bit times, step by step: the reference for every faster run.
 
-use course::Course;
-use course::Ended;
-use course::RunAnswer;
+use bus_spec::course::Course;
+use bus_spec::course::Ended;
+use bus_spec::course::RunAnswer;
 use octets::Done;
 ghost use mathlib.Core.Path.{_≡_};
 ghost use Prim.Native.Nat.{_+_, _<_, _≤_};
 ghost use lib.ListN.{length};
-ghost use Rattle.course.specs.Run.{courseOf, runOf, runOutcome, ran};
-ghost use Rattle.course.specs.RunLaws.{Runnable};
-ghost use Rattle.tally.specs.TallyLaws.{Bounded};
-ghost use Rattle.layout.specs.Limits.{lastClock};
+ghost use Rattle.bus_spec.specs.Run.{courseOf, runOf, runOutcome, ran};
+ghost use Rattle.bus_spec.specs.RunLaws.{Runnable};
+ghost use Rattle.station_tally.specs.TallyLaws.{Bounded};
+ghost use Rattle.sheet_layout.specs.Limits.{lastClock};
 ghost use Rattle.area.specs.Offsets.{areaSize};
-ghost use Rattle.tally.specs.Tally.{wordCount};
+ghost use Rattle.station_tally.specs.Tally.{wordCount};
 
 // At most n steps, on an area that is ready for them, counted into `words`.
 fn run_steps(area: &mut [u8], words: &mut [u32], n: u32) -> Course
@@ -23,15 +23,15 @@ fn run_steps(area: &mut [u8], words: &mut [u32], n: u32) -> Course
     let mut ended = Ended::All;
     let mut t: u32 = 0;
     'steps: while t < n {
-        let events = turn::step::step(area);
-        course::count_events(words, events, 32 * t);
+        let events = bus_turn::step::step(area);
+        bus_spec::course::count_events(words, events, 32 * t);
         t += 1;
         let mut i: usize = 0;
         while i < 16 {
             let e = events[i];
             let sent = e.sent;
-            if tally::is_late(sent) {
-                ended = course::late_end(t, i as u32);
+            if station_tally::is_late(sent) {
+                ended = bus_spec::course::late_end(t, i as u32);
                 break 'steps;
             }
             i += 1;
@@ -44,13 +44,13 @@ fn run_steps(area: &mut [u8], words: &mut [u32], n: u32) -> Course
 pub fn run(area: &mut [u8], n: u32) -> RunAnswer
     ensures { λ r. ⌜ runOutcome r (now (area .exit)) ≡ ran (now (area .entry)) n ⌝ }
 {
-    let number = ready::refusal(area);
+    let number = bus_spec::ready::refusal(area);
     if number != 0 {
-        return course::no_run(number);
+        return bus_spec::course::no_run(number);
     }
     let t = area::read_clock(area);
-    if layout::LAST_CLOCK - t < n {
-        return course::no_run(13);
+    if sheet_layout::LAST_CLOCK - t < n {
+        return bus_spec::course::no_run(13);
     }
     let mut words = [0u32; 9];
     let c = run_steps(area, &mut words, n);

@@ -4,17 +4,17 @@
 
 ghost use mathlib.Core.Path.{_≡_};
 ghost use Prim.Native.Nat.{_<_};
-ghost use Rattle.crc32.specs.Crc.{crcOf};
-ghost use Rattle.calls.specs.Calls.{given, left, sheetGiven, fitsGiven, buildGiven, statusGiven, clientGiven, startGiven, offerGiven, stepLeft, runLeft, frameGiven, countersGiven};
-ghost use Rattle.check_calls.specs.CheckCalls.{receptionGiven, areaGiven, layoutGiven, planGiven};
-ghost use Rattle.text_calls.specs.TextCalls.{lent, begunLent, advancedLent, printLeft};
+ghost use Rattle.frame_crc.specs.Crc.{crcOf};
+ghost use Rattle.c_calls.specs.Calls.{given, left, sheetGiven, fitsGiven, buildGiven, statusGiven, clientGiven, startGiven, offerGiven, stepLeft, runLeft, frameGiven, countersGiven};
+ghost use Rattle.c_checks.specs.CheckCalls.{receptionGiven, areaGiven, layoutGiven, planGiven};
+ghost use Rattle.c_text.specs.TextCalls.{lent, begunLent, advancedLent, printLeft};
 
 // Reads a sheet: the octets used. Refusals 3 to 8, 15.
 #[no_mangle]
 pub extern "C" fn wisavulome_read_sheet(sheet: &[u8], out: &mut [u8]) -> u32
     ensures { λ r. ⌜ given r (now (out .exit)) ≡ sheetGiven (now (sheet .entry)) (now (out .entry)) ⌝ }
 {
-    calls::read_sheet(sheet, out)
+    c_calls::read_sheet(sheet, out)
 }
 
 // Whether the layout of a sheet fits: 1 or 0. Refusals 3 to 8.
@@ -22,7 +22,7 @@ pub extern "C" fn wisavulome_read_sheet(sheet: &[u8], out: &mut [u8]) -> u32
 pub extern "C" fn wisavulome_fits(sheet: &[u8]) -> u32
     ensures { λ r. ⌜ r ≡ fitsGiven (now (sheet .entry)) ⌝ }
 {
-    calls::fits(sheet)
+    c_calls::fits(sheet)
 }
 
 // Checks a layout, as `wisavulome_read_sheet` writes one: 0. Refusals 3, 5 to 8.
@@ -30,7 +30,7 @@ pub extern "C" fn wisavulome_fits(sheet: &[u8]) -> u32
 pub extern "C" fn wisavulome_check_layout(layout: &[u8]) -> u32
     ensures { λ r. ⌜ r ≡ layoutGiven (now (layout .entry)) ⌝ }
 {
-    check_calls::check_layout(layout)
+    c_checks::check_layout(layout)
 }
 
 // Reads a run input: 0. Refusals 3 to 9, 13, 15, 16.
@@ -38,7 +38,7 @@ pub extern "C" fn wisavulome_check_layout(layout: &[u8]) -> u32
 pub extern "C" fn wisavulome_read_plan(input: &[u8], out: &mut [u8]) -> u32
     ensures { λ r. ⌜ given r (now (out .exit)) ≡ planGiven (now (input .entry)) (now (out .entry)) ⌝ }
 {
-    check_calls::read_plan(input, out)
+    c_checks::read_plan(input, out)
 }
 
 // Builds a frame: its octets. Refusals 11, 15.
@@ -52,7 +52,7 @@ pub extern "C" fn wisavulome_build(
 ) -> u32
     ensures { λ r. ⌜ given r (now (out .exit)) ≡ buildGiven destination source value (now (payload .entry)) (now (out .entry)) ⌝ }
 {
-    calls::build(destination, source, value, payload, out)
+    c_calls::build(destination, source, value, payload, out)
 }
 
 // The status of a frame's octets and excess bits: 0 to 5. Refusal 5.
@@ -60,7 +60,7 @@ pub extern "C" fn wisavulome_build(
 pub extern "C" fn wisavulome_status(frame: &[u8], excess: u32) -> u32
     ensures { λ r. ⌜ r ≡ statusGiven (now (frame .entry)) excess ⌝ }
 {
-    calls::status(frame, excess)
+    c_calls::status(frame, excess)
 }
 
 // The status of a reception, spoiled (not 0) or not: 0 to 5. Refusal 5.
@@ -68,7 +68,7 @@ pub extern "C" fn wisavulome_status(frame: &[u8], excess: u32) -> u32
 pub extern "C" fn wisavulome_reception_status(frame: &[u8], excess: u32, spoiled: u32) -> u32
     ensures { λ r. ⌜ r ≡ receptionGiven (now (frame .entry)) excess spoiled ⌝ }
 {
-    check_calls::reception_status(frame, excess, spoiled)
+    c_checks::reception_status(frame, excess, spoiled)
 }
 
 // The status, and where the client data lie. Refusals 5, 15.
@@ -76,7 +76,7 @@ pub extern "C" fn wisavulome_reception_status(frame: &[u8], excess: u32, spoiled
 pub extern "C" fn wisavulome_client_data(frame: &[u8], excess: u32, out: &mut [u8]) -> u32
     ensures { λ r. ⌜ given r (now (out .exit)) ≡ clientGiven (now (frame .entry)) excess (now (out .entry)) ⌝ }
 {
-    calls::client_data(frame, excess, out)
+    c_calls::client_data(frame, excess, out)
 }
 
 // A fresh start: 0. Refusals 1, 3 to 8, 9.
@@ -84,7 +84,7 @@ pub extern "C" fn wisavulome_client_data(frame: &[u8], excess: u32, out: &mut [u
 pub extern "C" fn wisavulome_start(area: &mut [u8], sheet: &[u8], depth: u32, draws: &[u8]) -> u32
     ensures { λ r. ⌜ given r (now (area .exit)) ≡ startGiven (now (area .entry)) (now (sheet .entry)) depth (now (draws .entry)) ⌝ }
 {
-    calls::start(area, sheet, depth, draws)
+    c_calls::start(area, sheet, depth, draws)
 }
 
 // Checks a work area: 0. Refusals 1, 2.
@@ -92,7 +92,7 @@ pub extern "C" fn wisavulome_start(area: &mut [u8], sheet: &[u8], depth: u32, dr
 pub extern "C" fn wisavulome_check_area(area: &[u8]) -> u32
     ensures { λ r. ⌜ r ≡ areaGiven (now (area .entry)) ⌝ }
 {
-    check_calls::check_area(area)
+    c_checks::check_area(area)
 }
 
 // Offers a frame to a station: 0. Refusals 1, 2, 10, 11, 12.
@@ -106,7 +106,7 @@ pub extern "C" fn wisavulome_offer(
 ) -> u32
     ensures { λ r. ⌜ given r (now (area .exit)) ≡ offerGiven (now (area .entry)) station destination value (now (payload .entry)) ⌝ }
 {
-    calls::offer(area, station, destination, value, payload)
+    c_calls::offer(area, station, destination, value, payload)
 }
 
 // One bit time: 0, and the events of each station. Refusals 1, 2, 13, 15.
@@ -114,7 +114,7 @@ pub extern "C" fn wisavulome_offer(
 pub extern "C" fn wisavulome_step(area: &mut [u8], out: &mut [u8]) -> u32
     ensures { λ r. ⌜ left r (now (area .exit)) (now (out .exit)) ≡ stepLeft (now (area .entry)) (now (out .entry)) ⌝ }
 {
-    calls::step(area, out)
+    c_calls::step(area, out)
 }
 
 // A run of n bit times: the steps made, and how many events of each word came. Refusals 1, 2, 13, 15.
@@ -123,17 +123,17 @@ pub extern "C" fn wisavulome_run(area: &mut [u8], n: u32, out: &mut [u8]) -> u32
     ensures { λ r. ⌜ left r (now (area .exit)) (now (out .exit)) ≡ runLeft (now (area .entry)) n (now (out .entry)) ⌝ }
 {
     if out.len() < 48 {
-        return calls::refuse_short(area, n);
+        return c_calls::refuse_short(area, n);
     }
     let a = fast_run::run(area, n);
     let done = a.done;
-    let number = answers::numbers::done_number(done);
+    let number = c_words::numbers::done_number(done);
     if number != 0 {
-        return answers::numbers::reply(number, 0);
+        return c_words::numbers::reply(number, 0);
     }
     let words = a.words;
     let ended = a.ended;
-    tables::write_run(out, words, ended);
+    c_tables::write_run(out, words, ended);
     a.steps
 }
 
@@ -143,17 +143,17 @@ pub extern "C" fn wisavulome_run_stepwise(area: &mut [u8], n: u32, out: &mut [u8
     ensures { λ r. ⌜ left r (now (area .exit)) (now (out .exit)) ≡ runLeft (now (area .entry)) n (now (out .entry)) ⌝ }
 {
     if out.len() < 48 {
-        return calls::refuse_short(area, n);
+        return c_calls::refuse_short(area, n);
     }
     let a = bus_run::run(area, n);
     let done = a.done;
-    let number = answers::numbers::done_number(done);
+    let number = c_words::numbers::done_number(done);
     if number != 0 {
-        return answers::numbers::reply(number, 0);
+        return c_words::numbers::reply(number, 0);
     }
     let words = a.words;
     let ended = a.ended;
-    tables::write_run(out, words, ended);
+    c_tables::write_run(out, words, ended);
     a.steps
 }
 
@@ -162,7 +162,7 @@ pub extern "C" fn wisavulome_run_stepwise(area: &mut [u8], n: u32, out: &mut [u8
 pub extern "C" fn wisavulome_read_frame(area: &[u8], station: u32, out: &mut [u8]) -> u32
     ensures { λ r. ⌜ given r (now (out .exit)) ≡ frameGiven (now (area .entry)) station (now (out .entry)) ⌝ }
 {
-    calls::read_frame(area, station, out)
+    c_calls::read_frame(area, station, out)
 }
 
 // The sixteen counters of a station: 0. Refusals 1, 2, 10, 15.
@@ -170,7 +170,7 @@ pub extern "C" fn wisavulome_read_frame(area: &[u8], station: u32, out: &mut [u8
 pub extern "C" fn wisavulome_counters(area: &[u8], station: u32, out: &mut [u8]) -> u32
     ensures { λ r. ⌜ given r (now (out .exit)) ≡ countersGiven (now (area .entry)) station (now (out .entry)) ⌝ }
 {
-    calls::counters(area, station, out)
+    c_calls::counters(area, station, out)
 }
 
 // The first piece of what is printed for a run input: its octets, and where the run stands. Refusals 1, 15.
@@ -183,7 +183,7 @@ pub extern "C" fn wisavulome_begin(
 ) -> u32
     ensures { λ r. ⌜ lent r (now (area .exit)) (now (progress .exit)) (now (out .exit)) ≡ begunLent (now (input .entry)) (now (area .entry)) (now (progress .entry)) (now (out .entry)) ⌝ }
 {
-    text_calls::begin(input, area, progress, out)
+    c_text::begin(input, area, progress, out)
 }
 
 // The next piece: its octets, and where the run stands after it. Refusals 1, 2, 13, 15, 16.
@@ -196,7 +196,7 @@ pub extern "C" fn wisavulome_advance(
 ) -> u32
     ensures { λ r. ⌜ lent r (now (area .exit)) (now (progress .exit)) (now (out .exit)) ≡ advancedLent (now (input .entry)) (now (area .entry)) (now (progress .entry)) (now (out .entry)) ⌝ }
 {
-    text_calls::advance(input, area, progress, out)
+    c_text::advance(input, area, progress, out)
 }
 
 // All that is printed for a run input: its octets. Refusals 1, 15.
@@ -204,7 +204,7 @@ pub extern "C" fn wisavulome_advance(
 pub extern "C" fn wisavulome_print(input: &[u8], area: &mut [u8], out: &mut [u8]) -> u32
     ensures { λ r. ⌜ left r (now (area .exit)) (now (out .exit)) ≡ printLeft (now (input .entry)) (now (area .entry)) (now (out .entry)) ⌝ }
 {
-    text_calls::print(input, area, out)
+    c_text::print(input, area, out)
 }
 
 // The CRC-32 of the octets.
@@ -212,5 +212,5 @@ pub extern "C" fn wisavulome_print(input: &[u8], area: &mut [u8], out: &mut [u8]
 pub extern "C" fn wisavulome_crc32(payload: &[u8]) -> u32
     ensures { λ r. ⌜ r ≡ crcOf (now (payload .entry)) ⌝ }
 {
-    crc32::crc_of(payload)
+    frame_crc::crc_of(payload)
 }

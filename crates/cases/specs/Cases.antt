@@ -9,18 +9,18 @@ use Rattle.octets.specs.Bits.{lowBits, bitsOf, lowFirst, packed}
 use Rattle.octets.specs.Equal.{equal}
 use Rattle.octets.specs.Filled.{listed, filled}
 use Rattle.octets.specs.Number.{get, spelled}
-use Rattle.crc32.specs.Crc.{generator, add, complementFirst, remainder, dividend, crcBits, checkSequence}
-use Rattle.frame.specs.Limits.{maxData, maxFrame, refusesValue, refusesData}
-use Rattle.frame.specs.Build.{header, padded, covered, frameOf, built}
-use Rattle.opener.specs.Open.{destinationOf, valueOf, dataField, checkWrong, checkError, lengthWrong, clientSize, unpadded, opened}
-use Rattle.layout.specs.declared.Figures.{Figures}
-use Rattle.layout.specs.Layout.{tapAt, gapOf, spanOf, fitsWell}
-use Rattle.layout.specs.Check.{gap1Out, figuresOut, addressWrong, refusalOf}
-use Rattle.layout.specs.Fit.{fitOf}
-use Rattle.sheet.specs.Sheet.{fieldAt, field, figuresIn, tapIn, layoutIn}
-use Rattle.transmitter.specs.Transmit.{afterBit, collision, backoffRange}
-use Rattle.receiver.specs.Receive.{addressed, openAnswer, gotEvent, readableAfter, opening, decide}
-use Rattle.station.specs.Events.{transmitNumbers, receiveNumbers}
+use Rattle.frame_crc.specs.Crc.{generator, add, complementFirst, remainder, dividend, crcBits, checkSequence}
+use Rattle.frame_build.specs.Limits.{maxData, maxFrame, refusesValue, refusesData}
+use Rattle.frame_build.specs.Build.{header, padded, covered, frameOf, built}
+use Rattle.frame_open.specs.Open.{destinationOf, valueOf, dataField, checkWrong, checkError, lengthWrong, clientSize, unpadded, opened}
+use Rattle.sheet_layout.specs.declared.Figures.{Figures}
+use Rattle.sheet_layout.specs.Layout.{tapAt, gapOf, spanOf, fitsWell}
+use Rattle.sheet_layout.specs.Check.{gap1Out, figuresOut, addressWrong, refusalOf}
+use Rattle.sheet_layout.specs.Fit.{fitOf}
+use Rattle.sheet_read.specs.Sheet.{fieldAt, field, figuresIn, tapIn, layoutIn}
+use Rattle.station_transmit.specs.Transmit.{afterBit, collision, backoffRange}
+use Rattle.station_receive.specs.Receive.{addressed, openAnswer, gotEvent, readableAfter, opening, decide}
+use Rattle.station_spec.specs.Events.{transmitNumbers, receiveNumbers}
 
 -- a sheet of two stations so far apart, behind a map and its fields
 sheet : List ℕ → ℕ → List ℕ
@@ -47,7 +47,7 @@ data Row : Type 0 where
   build : (value size : ℕ) → Row
   gather : (spoiled : Bool) (bits : ℕ) → Row
 
--- the answer in document 01's numbers; of an event its word's number and its values (station/Events)
+-- the answer in document 01's numbers; of an event its word's number and its values (station_spec/Events)
 answer : Row → Answer
 answer (fit fields span) = fitOf (layoutIn (sheet fields span))
 answer (range n) = accepted (backoffRange n (figures .backoff) ∷ [])

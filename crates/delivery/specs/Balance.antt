@@ -14,39 +14,39 @@ use Rattle.octets.specs.Bits.{digit}
 use Rattle.octets.specs.Number.{get}
 use Rattle.octets.specs.Words.{wordsAt}
 use Rattle.octets.specs.WordsLaws.{length-words, word-at}
-use Rattle.frame.specs.Limits.{refusesData, bufferOctets}
-use Rattle.frame.specs.Build.{frameOf}
-use Rattle.layout.specs.declared.Figures.{Figures}
-use Rattle.layout.specs.declared.Layout.{Layout}
-use Rattle.layout.specs.Layout as lay
-use Rattle.layout.specs.Check.{refusalOf}
-use Rattle.state.specs.declared.Transmitter.{Transmitter}
-use Rattle.state.specs.declared.Transmitter.the-variants.{NoFrame, Waiting, BackingOff, Sending, Heading, Jamming}
-use Rattle.transmitter.specs.declared.TransmitEvent.{TransmitEvent}
-use Rattle.transmitter.specs.declared.TransmitEvent.the-variants.{NoTransmit, Collision, Late, Sent, GivenUp}
-use Rattle.transmitter.specs.Transmit.{afterBit, collision, sendBit, headBit, backoffRange, backOff, lastJam, jamBit, backoffBit, waitBit, packetLength, transmit}
-use Rattle.receiver.specs.declared.ReceiveEvent.{ReceiveEvent}
-use Rattle.receiver.specs.declared.ReceiveEvent.the-variants.{NoReceive, GotOk, GotTooLong, GotAlignment, GotCheck, GotLength}
-use Rattle.state.specs.declared.Station.{Station}
-use Rattle.station.specs.declared.Stepped.{Stepped}
-use Rattle.station.specs.Step.{stepped, nextStation}
-use Rattle.station.specs.Count.{offered, sent, excessive, added, addedIf, countSent, countTransmit, countReceive, counted}
+use Rattle.frame_build.specs.Limits.{refusesData, bufferOctets}
+use Rattle.frame_build.specs.Build.{frameOf}
+use Rattle.sheet_layout.specs.declared.Figures.{Figures}
+use Rattle.sheet_layout.specs.declared.Layout.{Layout}
+use Rattle.sheet_layout.specs.Layout as lay
+use Rattle.sheet_layout.specs.Check.{refusalOf}
+use Rattle.station_state.specs.declared.Transmitter.{Transmitter}
+use Rattle.station_state.specs.declared.Transmitter.the-variants.{NoFrame, Waiting, BackingOff, Sending, Heading, Jamming}
+use Rattle.station_transmit.specs.declared.TransmitEvent.{TransmitEvent}
+use Rattle.station_transmit.specs.declared.TransmitEvent.the-variants.{NoTransmit, Collision, Late, Sent, GivenUp}
+use Rattle.station_transmit.specs.Transmit.{afterBit, collision, sendBit, headBit, backoffRange, backOff, lastJam, jamBit, backoffBit, waitBit, packetLength, transmit}
+use Rattle.station_receive.specs.declared.ReceiveEvent.{ReceiveEvent}
+use Rattle.station_receive.specs.declared.ReceiveEvent.the-variants.{NoReceive, GotOk, GotTooLong, GotAlignment, GotCheck, GotLength}
+use Rattle.station_state.specs.declared.Station.{Station}
+use Rattle.station_spec.specs.declared.Stepped.{Stepped}
+use Rattle.station_spec.specs.Step.{stepped, nextStation}
+use Rattle.station_spec.specs.Count.{offered, sent, excessive, added, addedIf, countSent, countTransmit, countReceive, counted}
 use Rattle.area.specs.Area.{clockAt, countAt, addressAt, countersAt, stationAt, figuresAt}
 use Rattle.area.specs.AreaLaws.{count-by}
-use Rattle.start.specs.Fresh.{fresh}
-use Rattle.start.specs.FreshLaws.{Formed, fresh-counters, fresh-count}
-use Rattle.layout.specs.CheckLaws.{sound}
-use Rattle.valid.specs.Valid.{areaRefusal}
-use Rattle.pair.specs.BitTime.{outcomeIn, actIn, actAt, stepArea}
-use Rattle.pair.specs.Ready.{Readiness}
-use Rattle.ready.specs.Passes.{Passing, ready-passes}
-use Rattle.ready.specs.Stays.{step-layout, step-clock, step-station, step-counters}
-use Rattle.offer.specs.Offer as offers
-use Rattle.offer.specs.OfferLaws.{address-six}
-use Rattle.start.specs.Start.{started}
-use Rattle.bus.specs.Step.{steppedOnce}
+use Rattle.bus_start.specs.Fresh.{fresh}
+use Rattle.bus_start.specs.FreshLaws.{Formed, fresh-counters, fresh-count}
+use Rattle.sheet_layout.specs.CheckLaws.{sound}
+use Rattle.area_check.specs.Valid.{areaRefusal}
+use Rattle.bus_spec.specs.BitTime.{outcomeIn, actIn, actAt, stepArea}
+use Rattle.bus_spec.specs.Ready.{Readiness}
+use Rattle.bus_spec.specs.Passes.{Passing, ready-passes}
+use Rattle.bus_spec.specs.Stays.{step-layout, step-clock, step-station, step-counters}
+use Rattle.bus_offer.specs.Offer as offers
+use Rattle.bus_offer.specs.OfferLaws.{address-six}
+use Rattle.bus_start.specs.Start.{started}
+use Rattle.bus_step.specs.Step.{steppedOnce}
 use Rattle.delivery.specs.Passing.{by-start, freshStation, start-station, holding, offer-layout, offer-clock, offer-own, offer-other, offer-counters, offer-counters-other, frame-range}
-use Rattle.layout.specs.Limits.{lastClock}
+use Rattle.sheet_layout.specs.Limits.{lastClock}
 use Rattle.area.specs.Offsets.{areaSize, counterCount}
 
 -- a frame still held counts one

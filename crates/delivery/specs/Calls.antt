@@ -10,17 +10,17 @@ use lib.Dec.{eqb}
 use lib.ListN.{length, getD}
 use Rattle.octets.specs.Base.{pick, numberOf}
 use Rattle.octets.specs.NumberLaws.{Octets}
-use Rattle.frame.specs.Build.{frameOf}
-use Rattle.packet.specs.declared.Heard.{Heard}
-use Rattle.packet.specs.declared.Heard.the-variants.{Nothing}
-use Rattle.receiver.specs.declared.ReceiveEvent.{ReceiveEvent}
-use Rattle.transmitter.specs.declared.TransmitEvent.{TransmitEvent}
-use Rattle.transmitter.specs.declared.TransmitEvent.the-variants.{Sent, GivenUp}
+use Rattle.frame_build.specs.Build.{frameOf}
+use Rattle.station_symbols.specs.declared.Heard.{Heard}
+use Rattle.station_symbols.specs.declared.Heard.the-variants.{Nothing}
+use Rattle.station_receive.specs.declared.ReceiveEvent.{ReceiveEvent}
+use Rattle.station_transmit.specs.declared.TransmitEvent.{TransmitEvent}
+use Rattle.station_transmit.specs.declared.TransmitEvent.the-variants.{Sent, GivenUp}
 use Rattle.area.specs.Area.{clockAt, addressAt, arrivalAt}
-use Rattle.pair.specs.BitTime.{actAt, eventsAt, stepArea, eventAt}
-use Rattle.offer.specs.Offer.{offered}
-use Rattle.bus.specs.Step.{steppedOnce}
-use Rattle.course.specs.Run.{ran, stops}
+use Rattle.bus_spec.specs.BitTime.{actAt, eventsAt, stepArea, eventAt}
+use Rattle.bus_offer.specs.Offer.{offered}
+use Rattle.bus_step.specs.Step.{steppedOnce}
+use Rattle.bus_spec.specs.Run.{ran, stops}
 
 -- offer: station, destination, length/type value, data. read: station, and what the lent output holds
 pub data Call : Type 0 where

@@ -9,22 +9,22 @@ use lib.ListN.{length, getD, replicate}
 use lib.Seq.{sets}
 use Rattle.octets.specs.Base.{pick, refused, accepted, Outcome, outcome}
 use Rattle.octets.specs.Bits.{digit}
-use Rattle.layout.specs.declared.Layout.{Layout}
-use Rattle.layout.specs.Layout.{positionAt, addressAt}
-use Rattle.transmitter.specs.declared.TransmitEvent.the-variants.{Late, Sent}
-use Rattle.receiver.specs.declared.ReceiveEvent.the-variants.{GotOk}
-use Rattle.receiver.specs.Receive.{addressed}
-use Rattle.station.specs.Count as counter
+use Rattle.sheet_layout.specs.declared.Layout.{Layout}
+use Rattle.sheet_layout.specs.Layout.{positionAt, addressAt}
+use Rattle.station_transmit.specs.declared.TransmitEvent.the-variants.{Late, Sent}
+use Rattle.station_receive.specs.declared.ReceiveEvent.the-variants.{GotOk}
+use Rattle.station_receive.specs.Receive.{addressed}
+use Rattle.station_spec.specs.Count as counter
 use Rattle.area.specs.Area.{distance, clockAt, stationAt, countersAt}
-use Rattle.valid.specs.Valid.{areaRefusal}
-use Rattle.pair.specs.BitTime.{actAt, eventsAt}
-use Rattle.offer.specs.Offer.{holds, offered}
-use Rattle.bus.specs.Step.{steppedOnce}
-use Rattle.course.specs.declared.Ended.the-variants.{All}
-use Rattle.course.specs.Run.{tallied, ran}
-use Rattle.reading.specs.Read.{frameRead}
+use Rattle.area_check.specs.Valid.{areaRefusal}
+use Rattle.bus_spec.specs.BitTime.{actAt, eventsAt}
+use Rattle.bus_offer.specs.Offer.{holds, offered}
+use Rattle.bus_step.specs.Step.{steppedOnce}
+use Rattle.bus_spec.specs.declared.course.Ended.the-variants.{All}
+use Rattle.bus_spec.specs.Run.{tallied, ran}
+use Rattle.bus_read.specs.Read.{frameRead}
 use Rattle.delivery.specs.Calls.{Call, offer, step, run, read, Moment, made, leaves, log, end, begin, momentAt, sentAt, gotAt, Ends, QuietSince}
-use Rattle.tally.specs.Tally.{wordCount}
+use Rattle.station_tally.specs.Tally.{wordCount}
 
 -- what a call leaves in the area, by its promise
 abbrev pub called : Call → List ℕ → List ℕ

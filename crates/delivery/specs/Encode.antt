@@ -9,33 +9,33 @@ use native.Mathlib.Numerals.{add-one}
 use lib.ListN.{length}
 use Rattle.octets.specs.BaseLaws.{by-eq}
 use Rattle.octets.specs.Turns.{turns}
-use Rattle.layout.specs.declared.Figures.{Figures}
-use Rattle.packet.specs.declared.Heard.{Heard}
-use Rattle.packet.specs.declared.Symbol.{Symbol}
-use Rattle.packet.specs.declared.Emission.{Emission}
-use Rattle.packet.specs.declared.Emission.the-variants.{Rest}
-use Rattle.packet.specs.Packet.{symbolOf, hearsAny}
-use Rattle.state.specs.declared.Transmitter.{Transmitter}
-use Rattle.state.specs.declared.Transmitter.the-variants.{NoFrame, Waiting, BackingOff, Sending, Heading, Jamming}
-use Rattle.transmitter.specs.Transmit.{octetsHeld, transmit}
-use Rattle.state.specs.declared.Station.{Station}
-use Rattle.station.specs.declared.Stepped.{Stepped}
-use Rattle.station.specs.Step.{triesAfter, deferring, stepped, nextStation}
+use Rattle.sheet_layout.specs.declared.Figures.{Figures}
+use Rattle.station_symbols.specs.declared.Heard.{Heard}
+use Rattle.station_symbols.specs.declared.Symbol.{Symbol}
+use Rattle.station_symbols.specs.declared.Emission.{Emission}
+use Rattle.station_symbols.specs.declared.Emission.the-variants.{Rest}
+use Rattle.station_symbols.specs.Packet.{symbolOf, hearsAny}
+use Rattle.station_state.specs.declared.Transmitter.{Transmitter}
+use Rattle.station_state.specs.declared.Transmitter.the-variants.{NoFrame, Waiting, BackingOff, Sending, Heading, Jamming}
+use Rattle.station_transmit.specs.Transmit.{octetsHeld, transmit}
+use Rattle.station_state.specs.declared.Station.{Station}
+use Rattle.station_spec.specs.declared.Stepped.{Stepped}
+use Rattle.station_spec.specs.Step.{triesAfter, deferring, stepped, nextStation}
 use Rattle.area.specs.Places.{clock, depth, layout, draws, station, frame, buffer, place, Keeps}
 use Rattle.area.specs.Area.{clockAt, depthAt, drawAt, figuresAt, countAt, addressAt, spaceAt, stationAt, frameAt, bufferAt, arrivalAt}
 use Rattle.area.specs.AreaLaws.{depth-by, draw-by, figures-by, count-by, address-by, space-by, frame-by, arrival-by, arrival-turn, clock-keeps}
-use Rattle.pair.specs.BitTime.{outcomeIn, actIn, actAt, settled, stepArea}
-use Rattle.pair.specs.Range.{FrameIn}
-use Rattle.pair.specs.Ready.{Readiness, kept-at}
-use Rattle.ready.specs.After.{storedIn}
-use Rattle.ready.specs.Stays.{step-length, step-layout, step-depth, step-draws, step-frame, step-clock, step-station, step-buffer}
-use Rattle.offer.specs.Offer.{holds}
-use Rattle.meeting.specs.Net.{Net, gathered, heard, grown}
+use Rattle.bus_spec.specs.BitTime.{outcomeIn, actIn, actAt, settled, stepArea}
+use Rattle.bus_spec.specs.Range.{FrameIn}
+use Rattle.bus_spec.specs.Ready.{Readiness, kept-at}
+use Rattle.bus_spec.specs.After.{storedIn}
+use Rattle.bus_spec.specs.Stays.{step-length, step-layout, step-depth, step-draws, step-frame, step-clock, step-station, step-buffer}
+use Rattle.bus_offer.specs.Offer.{holds}
+use Rattle.bus_meeting.specs.Net.{Net, gathered, heard, grown}
 use Rattle.trace.specs.World.{World, outcome, symbol, step}
-use Rattle.meeting.specs.Gather.{gathered-same}
+use Rattle.bus_meeting.specs.Gather.{gathered-same}
 use Rattle.trace.specs.Keep.{held-back}
-use Rattle.meeting.specs.Meet.{met, adds, Ends, grown-ends, heard-grown, heard-far}
-use Rattle.meeting.specs.Lines.{share, share-adds, line-all, clear-all}
+use Rattle.bus_meeting.specs.Meet.{met, adds, Ends, grown-ends, heard-grown, heard-far}
+use Rattle.bus_meeting.specs.Lines.{share, share-adds, line-all, clear-all}
 use Rattle.area.specs.Offsets.{areaSize}
 
 -- the layout, the draws and the addresses of area a are P's

@@ -9,31 +9,31 @@ use lib.ListN.{length}
 use Rattle.octets.specs.BaseLaws.{by-test, by-eq}
 use Rattle.octets.specs.NumberLaws.{Octets}
 use Rattle.octets.specs.Store.{length-part}
-use Rattle.layout.specs.declared.Figures.{Figures}
-use Rattle.layout.specs.declared.Layout.{Layout}
-use Rattle.layout.specs.Layout as lay
-use Rattle.layout.specs.Check.{refusalOf}
-use Rattle.layout.specs.CheckLaws.{Figured, Sound, sound}
-use Rattle.packet.specs.declared.Heard.the-variants.{Nothing}
-use Rattle.packet.specs.declared.Symbol.the-variants.{Silence}
-use Rattle.state.specs.declared.Transmitter.the-variants.{NoFrame}
-use Rattle.state.specs.declared.Station.{Station}
+use Rattle.sheet_layout.specs.declared.Figures.{Figures}
+use Rattle.sheet_layout.specs.declared.Layout.{Layout}
+use Rattle.sheet_layout.specs.Layout as lay
+use Rattle.sheet_layout.specs.Check.{refusalOf}
+use Rattle.sheet_layout.specs.CheckLaws.{Figured, Sound, sound}
+use Rattle.station_symbols.specs.declared.Heard.the-variants.{Nothing}
+use Rattle.station_symbols.specs.declared.Symbol.the-variants.{Silence}
+use Rattle.station_state.specs.declared.Transmitter.the-variants.{NoFrame}
+use Rattle.station_state.specs.declared.Station.{Station}
 use Rattle.area.specs.Area.{depthAt, drawAt, figuresAt, countAt, positionAt, addressAt, distance, spaceAt, bufferAt}
-use Rattle.start.specs.Fresh.{tapIn, fresh}
-use Rattle.start.specs.FreshLaws.{Formed, fresh-clock, fresh-count, fresh-figures, fresh-position, fresh-address, fresh-arrival}
-use Rattle.pair.specs.Ready.{Readiness}
-use Rattle.ready.specs.Passes.{Passing, rise}
-use Rattle.offer.specs.OfferLaws.{address-six}
+use Rattle.bus_start.specs.Fresh.{tapIn, fresh}
+use Rattle.bus_start.specs.FreshLaws.{Formed, fresh-clock, fresh-count, fresh-figures, fresh-position, fresh-address, fresh-arrival}
+use Rattle.bus_spec.specs.Ready.{Readiness}
+use Rattle.bus_spec.specs.Passes.{Passing, rise}
+use Rattle.bus_offer.specs.OfferLaws.{address-six}
 use Rattle.trace.specs.Trace.{Metric}
 use Rattle.trace.specs.World as world
-use Rattle.meeting.specs.Net.{Net, heard, reaches}
+use Rattle.bus_meeting.specs.Net.{Net, heard, reaches}
 use Rattle.trace.specs.World.{World}
-use Rattle.meeting.specs.Gather.{gathered-none}
+use Rattle.bus_meeting.specs.Gather.{gathered-none}
 use Rattle.trace.specs.Run as run
 use Rattle.delivery.specs.Passing.{freshStation, start-station, start-passing}
 use Rattle.delivery.specs.Encode.{Plan, Encodes}
 use Rattle.area.specs.Offsets.{areaSize}
-use Rattle.frame.specs.Limits.{bufferOctets}
+use Rattle.frame_build.specs.Limits.{bufferOctets}
 
 abbrev pub netOf : List ℕ → Net
 netOf b =

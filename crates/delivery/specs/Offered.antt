@@ -7,21 +7,21 @@ use native.Mathlib.Omega.{arith}
 use borrow.Author.Tests.{eq-eqb, ne-eqb}
 use lib.ListN.{length}
 use Rattle.octets.specs.BaseLaws.{by-eq}
-use Rattle.state.specs.declared.Transmitter.the-variants.{NoFrame, Waiting, BackingOff, Sending, Heading, Jamming}
-use Rattle.state.specs.declared.Station.{Station}
+use Rattle.station_state.specs.declared.Transmitter.the-variants.{NoFrame, Waiting, BackingOff, Sending, Heading, Jamming}
+use Rattle.station_state.specs.declared.Station.{Station}
 use Rattle.area.specs.Places.{Part, clock, depth, draws, counters, station, frame, buffer, place, Off, Keeps}
 use Rattle.area.specs.Area.{clockAt, countAt, stationAt, frameAt, withFrame, bufferAt, arrivalAt}
 use Rattle.area.specs.AreaLaws.{keeps-trans, frame-by, buffer-by, arrival-by, frame-same, station-keeps, counters-keeps, length-frame, length-station, length-counters}
-use Rattle.pair.specs.Range.{FrameIn}
-use Rattle.ready.specs.Passes.{Passing}
-use Rattle.offer.specs.Offer.{holds, offeredStation, withHeld, withOffered}
-use Rattle.meeting.specs.Net.{Net, heard}
+use Rattle.bus_spec.specs.Range.{FrameIn}
+use Rattle.bus_spec.specs.Passes.{Passing}
+use Rattle.bus_offer.specs.Offer.{holds, offeredStation, withHeld, withOffered}
+use Rattle.bus_meeting.specs.Net.{Net, heard}
 use Rattle.trace.specs.World.{Offer, frameFor, World, given}
 use Rattle.delivery.specs.Passing.{holding, elsewhere, offer-layout, offer-clock, offer-own, offer-other}
-use Rattle.meeting.specs.Meet.{Ends}
+use Rattle.bus_meeting.specs.Meet.{Ends}
 use Rattle.delivery.specs.Encode.{Plan, Encodes, plan-by, frame-room}
 use Rattle.area.specs.Offsets.{areaSize}
-use Rattle.frame.specs.Limits.{bufferOctets}
+use Rattle.frame_build.specs.Limits.{bufferOctets}
 
 holding-length : (a f : List ℕ) (i : ℕ) → length (holding a f i) ≡ length a
 unfolding withOffered withHeld

@@ -13,38 +13,38 @@ use Rattle.octets.specs.BaseLaws.{by-test, by-eq, refused-none, within}
 use Rattle.octets.specs.Number.{get}
 use Rattle.octets.specs.Words.{wordsAt}
 use Rattle.octets.specs.WordsLaws.{Small, length-words}
-use Rattle.frame.specs.Limits.{refusesData, bufferOctets}
-use Rattle.frame.specs.Build.{frameOf}
-use Rattle.frame.specs.BuildLaws.{frame-size, data-within}
-use Rattle.layout.specs.declared.Figures.{Figures}
-use Rattle.layout.specs.declared.Layout.{Layout}
-use Rattle.layout.specs.Layout as lay
-use Rattle.layout.specs.Check.{refusalOf}
-use Rattle.layout.specs.CheckLaws.{Figured, Sound, sound, refusal-same}
-use Rattle.state.specs.declared.Deference.the-variants.{Quiet}
-use Rattle.state.specs.declared.Transmitter.the-variants.{NoFrame}
-use Rattle.state.specs.declared.Receiver.the-variants.{Listening}
-use Rattle.state.specs.declared.Station.{Station}
-use Rattle.station.specs.Count.{added}
-use Rattle.record.specs.Codec.{decoded, encoded, recordWords}
-use Rattle.record.specs.CodecLaws.{Fit, decoded-encoded}
+use Rattle.frame_build.specs.Limits.{refusesData, bufferOctets}
+use Rattle.frame_build.specs.Build.{frameOf}
+use Rattle.frame_build.specs.BuildLaws.{frame-size, data-within}
+use Rattle.sheet_layout.specs.declared.Figures.{Figures}
+use Rattle.sheet_layout.specs.declared.Layout.{Layout}
+use Rattle.sheet_layout.specs.Layout as lay
+use Rattle.sheet_layout.specs.Check.{refusalOf}
+use Rattle.sheet_layout.specs.CheckLaws.{Figured, Sound, sound, refusal-same}
+use Rattle.station_state.specs.declared.Deference.the-variants.{Quiet}
+use Rattle.station_state.specs.declared.Transmitter.the-variants.{NoFrame}
+use Rattle.station_state.specs.declared.Receiver.the-variants.{Listening}
+use Rattle.station_state.specs.declared.Station.{Station}
+use Rattle.station_spec.specs.Count.{added}
+use Rattle.area_record.specs.Codec.{decoded, encoded, recordWords}
+use Rattle.area_record.specs.CodecLaws.{Fit, decoded-encoded}
 use Rattle.area.specs.Places.{Part, clock, depth, layout, counters, station, frame, place, Off, Keeps}
 use Rattle.area.specs.Area.{clockAt, depthAt, figuresAt, countAt, addressAt, tapAt, layoutAt, countersAt, recordAt, stationAt, withStation, withFrame}
 use Rattle.area.specs.AreaLaws.{keeps-trans, clock-by, depth-by, figures-by, count-by, address-by, counters-by, record-by, station-by, symbol-by, station-keeps, counters-keeps, frame-keeps, record-same, counters-same, length-station, length-counters, length-frame}
-use Rattle.start.specs.Fresh.{fresh}
-use Rattle.start.specs.FreshLaws.{Formed, fresh-length, fresh-clock, fresh-record, fresh-counters, fresh-symbol, fresh-depth, fresh-count, fresh-figures, fresh-position, fresh-address}
-use Rattle.valid.specs.Valid.{recordWrong, areaRefusal}
-use Rattle.pair.specs.Range.{Fine, fine-fit}
-use Rattle.pair.specs.InPlace.{Spread}
-use Rattle.pair.specs.Ready.{Readiness}
-use Rattle.ready.specs.After.{added-words}
-use Rattle.ready.specs.Passes.{Passing, tap-in, layout-figures, layout-spread, record-right, ready-passes}
-use Rattle.ready.specs.Stays.{layout-by, spread-by, step-passing}
-use Rattle.offer.specs.Offer.{holds, offeredStation, withHeld, withOffered, withOffer, offered}
-use Rattle.offer.specs.OfferLaws.{address-six}
-use Rattle.start.specs.Start.{started}
-use Rattle.bus.specs.Step.{steppedOnce}
-use Rattle.layout.specs.Limits.{lastClock}
+use Rattle.bus_start.specs.Fresh.{fresh}
+use Rattle.bus_start.specs.FreshLaws.{Formed, fresh-length, fresh-clock, fresh-record, fresh-counters, fresh-symbol, fresh-depth, fresh-count, fresh-figures, fresh-position, fresh-address}
+use Rattle.area_check.specs.Valid.{recordWrong, areaRefusal}
+use Rattle.bus_spec.specs.Range.{Fine, fine-fit}
+use Rattle.bus_spec.specs.InPlace.{Spread}
+use Rattle.bus_spec.specs.Ready.{Readiness}
+use Rattle.bus_spec.specs.After.{added-words}
+use Rattle.bus_spec.specs.Passes.{Passing, tap-in, layout-figures, layout-spread, record-right, ready-passes}
+use Rattle.bus_spec.specs.Stays.{layout-by, spread-by, step-passing}
+use Rattle.bus_offer.specs.Offer.{holds, offeredStation, withHeld, withOffered, withOffer, offered}
+use Rattle.bus_offer.specs.OfferLaws.{address-six}
+use Rattle.bus_start.specs.Start.{started}
+use Rattle.bus_step.specs.Step.{steppedOnce}
+use Rattle.sheet_layout.specs.Limits.{lastClock}
 use Rattle.area.specs.Offsets.{areaSize, counterCount}
 
 -- ---- a fresh start

@@ -14,41 +14,41 @@ use Rattle.octets.specs.Base.{pick, Answer, refused, accepted, outcome, numberO
 use Rattle.octets.specs.BaseLaws.{by-test, by-eq, below-none, refused-none}
 use Rattle.octets.specs.Filled.{filled-past}
 use Rattle.octets.specs.NumberLaws.{Octets}
-use Rattle.frame.specs.Limits.{refusesData}
-use Rattle.layout.specs.declared.Figures.{Figures}
-use Rattle.layout.specs.declared.Layout.{Layout}
-use Rattle.layout.specs.Layout as lay
-use Rattle.layout.specs.Fit.{fitOf}
-use Rattle.layout.specs.Check.{refusalOf}
-use Rattle.layout.specs.CheckLaws.{sound}
-use Rattle.packet.specs.declared.Heard.the-variants.{Nothing}
-use Rattle.transmitter.specs.declared.TransmitEvent.{TransmitEvent}
-use Rattle.transmitter.specs.declared.TransmitEvent.the-variants.{NoTransmit, Collision, Late, Sent, GivenUp}
-use Rattle.state.specs.declared.Receiver.{Receiver}
-use Rattle.state.specs.declared.Receiver.the-variants.{Listening, Readable, Seeking, Collecting}
-use Rattle.receiver.specs.declared.ReceiveEvent.the-variants.{GotOk}
-use Rattle.receiver.specs.Receive.{addressed}
-use Rattle.state.specs.declared.Station.{Station}
-use Rattle.station.specs.declared.Stepped.{Stepped}
+use Rattle.frame_build.specs.Limits.{refusesData}
+use Rattle.sheet_layout.specs.declared.Figures.{Figures}
+use Rattle.sheet_layout.specs.declared.Layout.{Layout}
+use Rattle.sheet_layout.specs.Layout as lay
+use Rattle.sheet_layout.specs.Fit.{fitOf}
+use Rattle.sheet_layout.specs.Check.{refusalOf}
+use Rattle.sheet_layout.specs.CheckLaws.{sound}
+use Rattle.station_symbols.specs.declared.Heard.the-variants.{Nothing}
+use Rattle.station_transmit.specs.declared.TransmitEvent.{TransmitEvent}
+use Rattle.station_transmit.specs.declared.TransmitEvent.the-variants.{NoTransmit, Collision, Late, Sent, GivenUp}
+use Rattle.station_state.specs.declared.Receiver.{Receiver}
+use Rattle.station_state.specs.declared.Receiver.the-variants.{Listening, Readable, Seeking, Collecting}
+use Rattle.station_receive.specs.declared.ReceiveEvent.the-variants.{GotOk}
+use Rattle.station_receive.specs.Receive.{addressed}
+use Rattle.station_state.specs.declared.Station.{Station}
+use Rattle.station_spec.specs.declared.Stepped.{Stepped}
 use Rattle.area.specs.Area.{clockAt, figuresAt, countAt, addressAt, stationAt, bufferAt, arrivalAt}
-use Rattle.start.specs.Fresh.{fresh}
-use Rattle.valid.specs.Valid.{areaRefusal}
-use Rattle.pair.specs.declared.Events.{Events}
-use Rattle.pair.specs.BitTime.{actAt, eventsOf, noEvents, eventsAt, stepArea, eventAt}
-use Rattle.ready.specs.Passes.{Passing, ready-passes}
-use Rattle.offer.specs.Offer.{holds, offered}
-use Rattle.start.specs.Start.{started}
-use Rattle.bus.specs.Step.{steppedOnce}
-use Rattle.tally.specs.Tally.{isLate, wordCount}
-use Rattle.course.specs.declared.Ended.the-variants as how
-use Rattle.course.specs.Run.{tallied, lateAt, runOf, ran, stops}
-use Rattle.sheet.specs.Sheet.{readSheet}
-use Rattle.sheet.specs.SheetTheorems.{read-formed, read-octets}
-use Rattle.station.specs.Count.{octetsIn}
-use Rattle.reading.specs.Read.{isReadable, frameRead}
+use Rattle.bus_start.specs.Fresh.{fresh}
+use Rattle.area_check.specs.Valid.{areaRefusal}
+use Rattle.bus_spec.specs.declared.Events.{Events}
+use Rattle.bus_spec.specs.BitTime.{actAt, eventsOf, noEvents, eventsAt, stepArea, eventAt}
+use Rattle.bus_spec.specs.Passes.{Passing, ready-passes}
+use Rattle.bus_offer.specs.Offer.{holds, offered}
+use Rattle.bus_start.specs.Start.{started}
+use Rattle.bus_step.specs.Step.{steppedOnce}
+use Rattle.station_tally.specs.Tally.{isLate, wordCount}
+use Rattle.bus_spec.specs.declared.course.Ended.the-variants as how
+use Rattle.bus_spec.specs.Run.{tallied, lateAt, runOf, ran, stops}
+use Rattle.sheet_read.specs.Sheet.{readSheet}
+use Rattle.sheet_read.specs.SheetTheorems.{read-formed, read-octets}
+use Rattle.station_spec.specs.Count.{octetsIn}
+use Rattle.bus_read.specs.Read.{isReadable, frameRead}
 use Rattle.trace.specs.Basic.{either, by-le, clash}
 use Rattle.trace.specs.World as world
-use Rattle.meeting.specs.Net.{Net}
+use Rattle.bus_meeting.specs.Net.{Net}
 use Rattle.trace.specs.World.{Offer, ready}
 use Rattle.trace.specs.Run as exec
 use Rattle.trace.specs.Run.{outAt, sees, frameIn, ready-clock, sees-is}
@@ -64,7 +64,7 @@ use Rattle.delivery.specs.Passing.{by-start, start-passing}
 use Rattle.delivery.specs.Balance.{AllBalanced, area-balanced, stepped-balanced, offered-balanced, start-balanced}
 use Rattle.delivery.specs.Traced.{Traced, event-is, tries-count, end-none, end-late, end-on, run-early, run-room, run-fits, clock-is, traced-step, traced-call, traced-all, traced-begin}
 use Rattle.delivery.specs.Demand3.{called, counted, apart, Sender, offerSent, readAs, ReadFrom, Demand3For}
-use Rattle.layout.specs.Limits.{lastClock}
+use Rattle.sheet_layout.specs.Limits.{lastClock}
 use Rattle.area.specs.Offsets.{areaSize}
 
 -- ---- from a step made to the step of the execution

@@ -15,28 +15,28 @@ use Rattle.octets.specs.Base.{pick, numberOf}
 use Rattle.octets.specs.BaseLaws.{by-test, by-eq}
 use Rattle.octets.specs.Filled.{filled-at}
 use Rattle.octets.specs.NumberLaws.{Octets}
-use Rattle.frame.specs.Limits.{refusesData, bufferOctets}
-use Rattle.frame.specs.Build.{frameOf}
-use Rattle.packet.specs.declared.Heard.{Heard}
-use Rattle.transmitter.specs.declared.TransmitEvent.{TransmitEvent}
-use Rattle.state.specs.declared.Transmitter.{Transmitter}
-use Rattle.state.specs.declared.Station.{Station}
-use Rattle.station.specs.declared.Stepped.{Stepped}
-use Rattle.station.specs.Step.{triesAfter, stepped, nextStation}
-use Rattle.station.specs.StepLaws.{tries-more, tries-same}
+use Rattle.frame_build.specs.Limits.{refusesData, bufferOctets}
+use Rattle.frame_build.specs.Build.{frameOf}
+use Rattle.station_symbols.specs.declared.Heard.{Heard}
+use Rattle.station_transmit.specs.declared.TransmitEvent.{TransmitEvent}
+use Rattle.station_state.specs.declared.Transmitter.{Transmitter}
+use Rattle.station_state.specs.declared.Station.{Station}
+use Rattle.station_spec.specs.declared.Stepped.{Stepped}
+use Rattle.station_spec.specs.Step.{triesAfter, stepped, nextStation}
+use Rattle.station_spec.specs.StepLaws.{tries-more, tries-same}
 use Rattle.area.specs.Area.{clockAt, countAt, addressAt, stationAt}
-use Rattle.valid.specs.Valid.{areaRefusal}
-use Rattle.pair.specs.declared.Events.{Events}
-use Rattle.pair.specs.BitTime.{actAt, eventsOf, noEvents, eventsAt, eventAt}
-use Rattle.ready.specs.Passes.{Passing, ready-passes}
-use Rattle.ready.specs.Stays.{step-passing}
-use Rattle.offer.specs.Offer.{holds, offeredStation, withOffer, offered}
-use Rattle.offer.specs.OfferLaws.{address-six}
-use Rattle.bus.specs.Step.{steppedOnce}
-use Rattle.course.specs.Run.{ran}
+use Rattle.area_check.specs.Valid.{areaRefusal}
+use Rattle.bus_spec.specs.declared.Events.{Events}
+use Rattle.bus_spec.specs.BitTime.{actAt, eventsOf, noEvents, eventsAt, eventAt}
+use Rattle.bus_spec.specs.Passes.{Passing, ready-passes}
+use Rattle.bus_spec.specs.Stays.{step-passing}
+use Rattle.bus_offer.specs.Offer.{holds, offeredStation, withOffer, offered}
+use Rattle.bus_offer.specs.OfferLaws.{address-six}
+use Rattle.bus_step.specs.Step.{steppedOnce}
+use Rattle.bus_spec.specs.Run.{ran}
 use Rattle.trace.specs.Basic.{either, clash}
 use Rattle.trace.specs.World as world
-use Rattle.meeting.specs.Net.{Net}
+use Rattle.bus_meeting.specs.Net.{Net}
 use Rattle.trace.specs.World.{Offer, frameFor, World, outcome, given, offers, before, ready}
 use Rattle.trace.specs.Run.{before-suc, ready-clock}
 use Rattle.trace.specs.Keep.{held-back}
@@ -45,7 +45,7 @@ use Rattle.delivery.specs.Passing.{frame-range, holding, offer-passing}
 use Rattle.delivery.specs.Encode.{Plan, Encodes, same-outcome, encodes-step}
 use Rattle.delivery.specs.Offered.{encodes-offer}
 use Rattle.delivery.specs.Calls.{Call, offer, step, run, read, FairOffer, Fair, AllFair, Moment, next, accept, late, runMade, runEnd, made, leaves, log, end, begin, momentAt, sentAt, Ends}
-use Rattle.layout.specs.Limits.{lastClock}
+use Rattle.sheet_layout.specs.Limits.{lastClock}
 
 -- ---- inputs that agree make the same worlds
 

@@ -14,11 +14,11 @@ use Rattle.octets.specs.Equal.{equal}
 use Rattle.octets.specs.Filled.{listed, filled}
 use Rattle.octets.specs.Number.{get}
 use Rattle.octets.specs.NumberLaws.{Octets, octets-by}
-use Rattle.layout.specs.Layout.{tapAt, gapOf, spanOf, fitsWell}
-use Rattle.layout.specs.Check.{gap1Out, figuresOut, addressWrong, refusalOf}
-use Rattle.layout.specs.Fit.{fitOf}
-use Rattle.sheet.specs.Sheet.{fieldAt, field, figuresIn, tapIn, layoutIn, sheetSize, readSheet}
-use Rattle.start.specs.Start.{started}
+use Rattle.sheet_layout.specs.Layout.{tapAt, gapOf, spanOf, fitsWell}
+use Rattle.sheet_layout.specs.Check.{gap1Out, figuresOut, addressWrong, refusalOf}
+use Rattle.sheet_layout.specs.Fit.{fitOf}
+use Rattle.sheet_read.specs.Sheet.{fieldAt, field, figuresIn, tapIn, layoutIn, sheetSize, readSheet}
+use Rattle.bus_start.specs.Start.{started}
 use Rattle.delivery.specs.Calls.{Call, AllFair}
 use Rattle.delivery.specs.Demand3.{Demand3For}
 use Rattle.delivery.specs.Theorem.{demand-3}

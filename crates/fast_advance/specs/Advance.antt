@@ -4,12 +4,12 @@ use mathlib.Core.Path.{_≡_}
 use mathlib.Core.List.{List}
 use lib.ListN.{replicate}
 use Rattle.area.specs.Area.{clockAt}
-use Rattle.pair.specs.declared.Events.{Events}
-use Rattle.pair.specs.BitTime.{noEvents, eventsAt, stepArea}
-use Rattle.pair.specs.Ready.{Readiness}
-use Rattle.course.specs.Run.{runOf}
-use Rattle.course.specs.Until.{untilEvent}
-use Rattle.course.specs.UntilLaws.{plus}
+use Rattle.bus_spec.specs.declared.Events.{Events}
+use Rattle.bus_spec.specs.BitTime.{noEvents, eventsAt, stepArea}
+use Rattle.bus_spec.specs.Ready.{Readiness}
+use Rattle.bus_spec.specs.Run.{runOf}
+use Rattle.bus_spec.specs.Until.{untilEvent}
+use Rattle.bus_spec.specs.UntilLaws.{plus}
 
 -- b is what r steps leave of a, none of which has an event: a run counts nothing in them, and a stretch until an event goes on past them
 pub record Quiet (r : ℕ) (a b : List ℕ) : Type 0 where

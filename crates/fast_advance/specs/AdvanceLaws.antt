@@ -9,18 +9,18 @@ use lib.ListN.{replicate, getD}
 use Rattle.octets.specs.Base.{accepted}
 use Rattle.octets.specs.Filled.{blank-at}
 use Rattle.octets.specs.Turns.{turns}
-use Rattle.tally.specs.Tally.{sentCounted, gotCounted, isLate}
-use Rattle.tally.specs.TallyLaws.{Bounded}
+use Rattle.station_tally.specs.Tally.{sentCounted, gotCounted, isLate}
+use Rattle.station_tally.specs.TallyLaws.{Bounded}
 use Rattle.area.specs.Area.{clockAt}
-use Rattle.pair.specs.declared.Events.{Events}
-use Rattle.pair.specs.BitTime.{noEvents, eventsAt, stepArea, eventAt}
-use Rattle.pair.specs.Ready.{Readiness, Ready}
-use Rattle.course.specs.declared.Ended.{Ended}
-use Rattle.course.specs.declared.Ended.the-variants as how
-use Rattle.course.specs.Run.{tallied, lateAt, Ran, runOf}
-use Rattle.course.specs.RunLaws.{Runnable, NoneLate, run-first, run-next, run-searched, run-found, tallied-bounded}
-use Rattle.course.specs.Until.{eventful, Stretched, untilEvent}
-use Rattle.course.specs.UntilLaws.{none-eventful, plus, stretch-on, stretch-hit}
+use Rattle.bus_spec.specs.declared.Events.{Events}
+use Rattle.bus_spec.specs.BitTime.{noEvents, eventsAt, stepArea, eventAt}
+use Rattle.bus_spec.specs.Ready.{Readiness, Ready}
+use Rattle.bus_spec.specs.declared.course.Ended.{Ended}
+use Rattle.bus_spec.specs.declared.course.Ended.the-variants as how
+use Rattle.bus_spec.specs.Run.{tallied, lateAt, Ran, runOf}
+use Rattle.bus_spec.specs.RunLaws.{Runnable, NoneLate, run-first, run-next, run-searched, run-found, tallied-bounded}
+use Rattle.bus_spec.specs.Until.{eventful, Stretched, untilEvent}
+use Rattle.bus_spec.specs.UntilLaws.{none-eventful, plus, stretch-on, stretch-hit}
 use Rattle.fast_plan.specs.Plan.{steps, Planned}
 use Rattle.fast_plan.specs.Calm.{AllCalm, calm-holds, calm-run, calm-until}
 use Rattle.fast_plan.specs.Happens.{plan-happens}
@@ -29,7 +29,7 @@ use Rattle.fast_silence.specs.Bound.{silentFor, silent-most, skipped, silence-r
 use Rattle.fast_heard.specs.Hearing.{planOf}
 use Rattle.fast_window.specs.Window.{Passed}
 use Rattle.fast_advance.specs.Advance.{Quiet, Leap, Advance, quiet, stepped, Leapt, Advanced}
-use Rattle.layout.specs.Limits.{lastClock}
+use Rattle.sheet_layout.specs.Limits.{lastClock}
 
 -- ---- many steps at once
 

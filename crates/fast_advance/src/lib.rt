@@ -2,15 +2,15 @@
 
 pub mod until;
 
-use course::Stretch;
-use pair::Events;
-use receiver::ReceiveEvent;
-use transmitter::TransmitEvent;
+use bus_spec::Events;
+use bus_spec::course::Stretch;
+use station_receive::ReceiveEvent;
+use station_transmit::TransmitEvent;
 ghost use mathlib.Core.Path.{_≡_};
 ghost use Prim.Native.Nat.{_<_, _≤_};
 ghost use lib.ListN.{length, replicate};
-ghost use Rattle.pair.specs.BitTime.{noEvents};
-ghost use Rattle.course.specs.RunLaws.{Runnable};
+ghost use Rattle.bus_spec.specs.BitTime.{noEvents};
+ghost use Rattle.bus_spec.specs.RunLaws.{Runnable};
 ghost use Rattle.fast_advance.specs.Advance.{Leapt, Advanced};
 ghost use Rattle.area.specs.Offsets.{areaSize};
 
@@ -58,6 +58,6 @@ pub fn advance(area: &mut [u8], left: u32) -> Stretch
     if steps != 0 {
         return eventless(steps);
     }
-    let events = turn::step::step(area);
+    let events = bus_turn::step::step(area);
     Stretch { steps: 1, events }
 }

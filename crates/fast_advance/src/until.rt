@@ -1,12 +1,12 @@
 // Steps until an event.
 
-use course::Stretch;
-use pair::Events;
+use bus_spec::Events;
+use bus_spec::course::Stretch;
 ghost use mathlib.Core.Path.{_≡_};
 ghost use Prim.Native.Nat.{_≤_};
 ghost use lib.ListN.{length};
-ghost use Rattle.course.specs.RunLaws.{Runnable};
-ghost use Rattle.course.specs.Until.{hasEvent, eventful, untilEvent, stretchOf};
+ghost use Rattle.bus_spec.specs.RunLaws.{Runnable};
+ghost use Rattle.bus_spec.specs.Until.{hasEvent, eventful, untilEvent, stretchOf};
 ghost use Rattle.area.specs.Offsets.{areaSize};
 
 fn has_event(e: Events) -> bool
@@ -14,7 +14,7 @@ fn has_event(e: Events) -> bool
 {
     let sent = e.sent;
     let got = e.got;
-    octets::either(turn::is_transmit(sent), turn::is_receive(got))
+    octets::either(bus_turn::is_transmit(sent), bus_turn::is_receive(got))
 }
 
 // Whether some station has an event.

@@ -6,17 +6,17 @@ use mathlib.Core.Bool.{Bool, true, false, not, _||_, _&&_}
 use mathlib.Core.List.{List}
 use lib.Dec.{ltb}
 use Rattle.octets.specs.Base.{pick}
-use Rattle.layout.specs.declared.Figures.{Figures}
-use Rattle.packet.specs.Packet.{hearsAny}
-use Rattle.state.specs.declared.Deference.{Deference}
-use Rattle.state.specs.declared.Deference.the-variants.{Quiet, Busy, Gap}
-use Rattle.state.specs.declared.Transmitter.{Transmitter}
-use Rattle.state.specs.declared.Transmitter.the-variants.{NoFrame, Waiting, BackingOff, Sending, Heading, Jamming}
-use Rattle.state.specs.declared.Receiver.{Receiver}
-use Rattle.state.specs.declared.Station.{Station}
-use Rattle.receiver.specs.Receive.{bitsIn}
+use Rattle.sheet_layout.specs.declared.Figures.{Figures}
+use Rattle.station_symbols.specs.Packet.{hearsAny}
+use Rattle.station_state.specs.declared.Deference.{Deference}
+use Rattle.station_state.specs.declared.Deference.the-variants.{Quiet, Busy, Gap}
+use Rattle.station_state.specs.declared.Transmitter.{Transmitter}
+use Rattle.station_state.specs.declared.Transmitter.the-variants.{NoFrame, Waiting, BackingOff, Sending, Heading, Jamming}
+use Rattle.station_state.specs.declared.Receiver.{Receiver}
+use Rattle.station_state.specs.declared.Station.{Station}
+use Rattle.station_receive.specs.Receive.{bitsIn}
 use Rattle.area.specs.Area.{clockAt, depthAt, figuresAt, countAt, stationAt}
-use Rattle.pair.specs.Ready.{Readiness}
+use Rattle.bus_spec.specs.Ready.{Readiness}
 use Rattle.fast_plan.specs.Plan.{hears}
 use Rattle.fast_plan.specs.Calm.{Calm}
 use Rattle.fast_silence.specs.Rested.{restedDeference, restedTransmitter}

@@ -3,15 +3,15 @@ use Prim.Native.Nat.{ℕ, _+_, _-_, min}
 use mathlib.Core.Path.{_≡_, _∙_, ap, ap₂}
 use mathlib.Core.Bool.{Bool, true, false, not, _||_, _&&_}
 use lib.Dec.{ltb}
-use Rattle.layout.specs.declared.Figures.{Figures}
-use Rattle.state.specs.declared.Deference.{Deference}
-use Rattle.state.specs.declared.Deference.the-variants.{Quiet, Busy, Gap}
-use Rattle.state.specs.declared.Transmitter.{Transmitter}
-use Rattle.state.specs.declared.Transmitter.the-variants.{NoFrame, Waiting, BackingOff, Sending, Heading, Jamming}
-use Rattle.state.specs.declared.Receiver.{Receiver}
-use Rattle.state.specs.declared.Receiver.the-variants.{Listening, Readable, Seeking, Collecting}
-use Rattle.state.specs.declared.Station.{Station}
-use Rattle.receiver.specs.Receive.{bitsIn}
+use Rattle.sheet_layout.specs.declared.Figures.{Figures}
+use Rattle.station_state.specs.declared.Deference.{Deference}
+use Rattle.station_state.specs.declared.Deference.the-variants.{Quiet, Busy, Gap}
+use Rattle.station_state.specs.declared.Transmitter.{Transmitter}
+use Rattle.station_state.specs.declared.Transmitter.the-variants.{NoFrame, Waiting, BackingOff, Sending, Heading, Jamming}
+use Rattle.station_state.specs.declared.Receiver.{Receiver}
+use Rattle.station_state.specs.declared.Receiver.the-variants.{Listening, Readable, Seeking, Collecting}
+use Rattle.station_state.specs.declared.Station.{Station}
+use Rattle.station_receive.specs.Receive.{bitsIn}
 use Rattle.fast_silence.specs.Rested.{restedDeference, restedTransmitter}
 use Rattle.fast_silence.specs.Bound.{framesRest, idle}
 use Rattle.fast_station.specs.Forms.{heardDeference, heardRest, emitsFor}

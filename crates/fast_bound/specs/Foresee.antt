@@ -9,29 +9,29 @@ use borrow.Author.Tests.{ltb-true, ne-eqb}
 use lib.Dec.{ltb}
 use lib.ListN.{length}
 use Rattle.octets.specs.BaseLaws.{by-test}
-use Rattle.layout.specs.declared.Figures.{Figures}
-use Rattle.packet.specs.declared.Heard.{Heard}
-use Rattle.packet.specs.declared.Heard.the-variants.{Nothing}
-use Rattle.packet.specs.declared.Symbol.the-variants.{Silence}
-use Rattle.packet.specs.Packet.{hearsAny, symbolOf}
-use Rattle.state.specs.declared.Deference.{Deference}
-use Rattle.state.specs.declared.Deference.the-variants.{Busy}
-use Rattle.state.specs.declared.Transmitter.{Transmitter}
-use Rattle.state.specs.declared.Transmitter.the-variants.{NoFrame, Waiting, BackingOff, Sending, Heading, Jamming}
-use Rattle.state.specs.declared.Receiver.{Receiver}
-use Rattle.state.specs.declared.Receiver.the-variants.{Listening, Readable, Seeking, Collecting}
-use Rattle.state.specs.declared.Station.{Station}
-use Rattle.transmitter.specs.Transmit.{octetsHeld}
-use Rattle.receiver.specs.declared.Stored.{Stored}
-use Rattle.receiver.specs.declared.Stored.the-variants.{NoStore}
-use Rattle.receiver.specs.declared.ReceiveEvent.the-variants.{NoReceive}
-use Rattle.receiver.specs.Receive.{bitsIn, rowIn, hearing, deciding, receive, ended}
-use Rattle.record.specs.Codec.{receiverNumber}
+use Rattle.sheet_layout.specs.declared.Figures.{Figures}
+use Rattle.station_symbols.specs.declared.Heard.{Heard}
+use Rattle.station_symbols.specs.declared.Heard.the-variants.{Nothing}
+use Rattle.station_symbols.specs.declared.Symbol.the-variants.{Silence}
+use Rattle.station_symbols.specs.Packet.{hearsAny, symbolOf}
+use Rattle.station_state.specs.declared.Deference.{Deference}
+use Rattle.station_state.specs.declared.Deference.the-variants.{Busy}
+use Rattle.station_state.specs.declared.Transmitter.{Transmitter}
+use Rattle.station_state.specs.declared.Transmitter.the-variants.{NoFrame, Waiting, BackingOff, Sending, Heading, Jamming}
+use Rattle.station_state.specs.declared.Receiver.{Receiver}
+use Rattle.station_state.specs.declared.Receiver.the-variants.{Listening, Readable, Seeking, Collecting}
+use Rattle.station_state.specs.declared.Station.{Station}
+use Rattle.station_transmit.specs.Transmit.{octetsHeld}
+use Rattle.station_receive.specs.declared.Stored.{Stored}
+use Rattle.station_receive.specs.declared.Stored.the-variants.{NoStore}
+use Rattle.station_receive.specs.declared.ReceiveEvent.the-variants.{NoReceive}
+use Rattle.station_receive.specs.Receive.{bitsIn, rowIn, hearing, deciding, receive, ended}
+use Rattle.area_record.specs.Codec.{receiverNumber}
 use Rattle.area.specs.Area.{clockAt, depthAt, figuresAt, countAt, stationAt, frameAt, bufferAt, withStation}
 use Rattle.area.specs.Places.{buffer}
 use Rattle.area.specs.AreaLaws.{buffer-by, station-keeps, length-station}
-use Rattle.pair.specs.Range.{ReceiverIn, fine-fit, fine-room}
-use Rattle.pair.specs.Ready.{Readiness}
+use Rattle.bus_spec.specs.Range.{ReceiverIn, fine-fit, fine-room}
+use Rattle.bus_spec.specs.Ready.{Readiness}
 use Rattle.fast_plan.specs.Own.{byItself, by-itself-none, itself-split}
 use Rattle.fast_plan.specs.Plan.{hears}
 use Rattle.fast_plan.specs.Goes.{wentTo}
@@ -46,9 +46,9 @@ use Rattle.fast_segment.specs.Alone.{Moves, itself-moves}
 use Rattle.fast_segment.specs.Segments.{Segment, heard-segment, emit-segment, rest-segment}
 use Rattle.fast_heard.specs.Hearing.{planOf, emits, emitsAt, heldAt, goesOn}
 use Rattle.fast_heard.specs.NearLaws.{silent-off}
-use Rattle.layout.specs.Limits.{lastClock}
+use Rattle.sheet_layout.specs.Limits.{lastClock}
 use Rattle.area.specs.Offsets.{areaSize}
-use Rattle.frame.specs.Limits.{bufferOctets}
+use Rattle.frame_build.specs.Limits.{bufferOctets}
 
 calm-bits : (m : ℕ) (r : Receiver) → 0 < m → bitsIn (calmed m r) ≡ 0
 unfolding calmed

@@ -8,21 +8,21 @@ use borrow.Author.Tests.{ltb-true, ltb-false, not-true, not-false}
 use lib.Dec.{ltb}
 use lib.ListN.{getD}
 use Rattle.octets.specs.BaseLaws.{by-test, by-eq}
-use Rattle.layout.specs.declared.Figures.{Figures}
-use Rattle.packet.specs.declared.Heard.{Heard}
-use Rattle.packet.specs.declared.Heard.the-variants.{Nothing, Clean, Jammed, Several}
-use Rattle.packet.specs.Packet.{hearsAny}
-use Rattle.state.specs.declared.Deference.{Deference}
-use Rattle.state.specs.declared.Deference.the-variants.{Quiet, Busy, Gap}
-use Rattle.state.specs.declared.Transmitter.{Transmitter}
-use Rattle.state.specs.declared.Transmitter.the-variants.{NoFrame, Waiting, BackingOff, Sending, Heading, Jamming}
-use Rattle.state.specs.declared.Receiver.{Receiver}
-use Rattle.state.specs.declared.Station.{Station}
-use Rattle.receiver.specs.Receive.{bitsIn}
+use Rattle.sheet_layout.specs.declared.Figures.{Figures}
+use Rattle.station_symbols.specs.declared.Heard.{Heard}
+use Rattle.station_symbols.specs.declared.Heard.the-variants.{Nothing, Clean, Jammed, Several}
+use Rattle.station_symbols.specs.Packet.{hearsAny}
+use Rattle.station_state.specs.declared.Deference.{Deference}
+use Rattle.station_state.specs.declared.Deference.the-variants.{Quiet, Busy, Gap}
+use Rattle.station_state.specs.declared.Transmitter.{Transmitter}
+use Rattle.station_state.specs.declared.Transmitter.the-variants.{NoFrame, Waiting, BackingOff, Sending, Heading, Jamming}
+use Rattle.station_state.specs.declared.Receiver.{Receiver}
+use Rattle.station_state.specs.declared.Station.{Station}
+use Rattle.station_receive.specs.Receive.{bitsIn}
 use Rattle.area.specs.Area.{clockAt, depthAt, figuresAt, countAt, addressAt, recordAt, stationAt, bufferAt, arrivalAt}
-use Rattle.pair.specs.Range.{FrameIn}
-use Rattle.pair.specs.Ready.{Readiness, Ready}
-use Rattle.quick.specs.Quick.{both-true}
+use Rattle.bus_spec.specs.Range.{FrameIn}
+use Rattle.bus_spec.specs.Ready.{Readiness, Ready}
+use Rattle.bus_quick.specs.Quick.{both-true}
 use Rattle.fast_plan.specs.Plan.{hears}
 use Rattle.fast_plan.specs.Calm.{AllCalm, calm-none, calm-less}
 use Rattle.fast_silence.specs.Bound.{framesRest, frames-last, is-idle}
@@ -43,8 +43,8 @@ use Rattle.fast_heard.specs.HearingLaws.{segment-hears}
 use Rattle.fast_bound.specs.declared.Ahead.{Ahead}
 use Rattle.fast_bound.specs.Foresee.{Foreseen, bits-clock, foreseen-start, foreseen-heard, foreseen-rest, emits-unheard, emits-heard}
 use Rattle.fast_bound.specs.Bound.{restSteps, hearSteps, restedTo, heardTo, restAhead, hearAhead, ahead, aheadOf, ownBusy, sends, unhurt, emitsWith, emitSteps, isLike, Alike, CalmFor, CalmIf, CalmAmong, AllLast, ReadFrom, NearTo, Underway}
-use Rattle.layout.specs.Limits.{lastClock}
-use Rattle.frame.specs.Limits.{bufferOctets}
+use Rattle.sheet_layout.specs.Limits.{lastClock}
+use Rattle.frame_build.specs.Limits.{bufferOctets}
 
 -- ---- in a run of any kind but silence others are heard
 

@@ -3,22 +3,22 @@
 use fast_heard::Kind;
 use fast_heard::Near;
 use fast_heard::Sight;
-use layout::Figures;
-use state::Deference;
-use state::Receiver;
-use state::Station;
-use state::Transmitter;
+use sheet_layout::Figures;
+use station_state::Deference;
+use station_state::Receiver;
+use station_state::Station;
+use station_state::Transmitter;
 ghost use mathlib.Core.Path.{_≡_};
 ghost use mathlib.Core.Bool.{true, false};
 ghost use Prim.Native.Nat.{_+_, _<_, _≤_};
 ghost use lib.ListN.{length};
-ghost use Rattle.receiver.specs.Receive.{bitsIn};
+ghost use Rattle.station_receive.specs.Receive.{bitsIn};
 ghost use Rattle.area.specs.Area.{figuresAt};
 ghost use Rattle.fast_plan.specs.Calm.{AllCalm};
 ghost use Rattle.fast_heard.specs.Hearing.{planOf, emitsAt};
 ghost use Rattle.fast_heard.specs.Sights.{sightsOf};
 ghost use Rattle.fast_bound.specs.Bound.{restSteps, hearSteps, restAhead, hearAhead, ahead, aheadOf, ownBusy, sends, unhurt, emitSteps, isLike, Alike, CalmFor, CalmIf, CalmAmong, AllLast, ReadFrom, NearTo, Underway};
-ghost use Rattle.layout.specs.Limits.{lastClock};
+ghost use Rattle.sheet_layout.specs.Limits.{lastClock};
 ghost use Rattle.area.specs.Offsets.{areaSize};
 
 // Fewer steps than these are not worth a window.

@@ -7,18 +7,18 @@ use mathlib.Core.List.{List}
 use lib.Dec.{eqb, ltb, leb}
 use Rattle.octets.specs.Base.{pick}
 use Rattle.octets.specs.Turns.{turns}
-use Rattle.packet.specs.declared.Heard.{Heard}
-use Rattle.packet.specs.declared.Heard.the-variants.{Nothing, Clean, Several}
-use Rattle.packet.specs.declared.Symbol.{Symbol}
-use Rattle.packet.specs.declared.Symbol.the-variants.{Bit, Jam}
-use Rattle.packet.specs.declared.Emission.{Emission}
-use Rattle.packet.specs.declared.Emission.the-variants.{Rest, PacketBit, JamBit}
-use Rattle.packet.specs.Packet.{packetBit, symbolOf}
-use Rattle.state.specs.declared.Transmitter.{Transmitter}
-use Rattle.state.specs.declared.Transmitter.the-variants.{NoFrame, Waiting, BackingOff, Sending, Heading, Jamming}
-use Rattle.transmitter.specs.Transmit.{octetsHeld}
+use Rattle.station_symbols.specs.declared.Heard.{Heard}
+use Rattle.station_symbols.specs.declared.Heard.the-variants.{Nothing, Clean, Several}
+use Rattle.station_symbols.specs.declared.Symbol.{Symbol}
+use Rattle.station_symbols.specs.declared.Symbol.the-variants.{Bit, Jam}
+use Rattle.station_symbols.specs.declared.Emission.{Emission}
+use Rattle.station_symbols.specs.declared.Emission.the-variants.{Rest, PacketBit, JamBit}
+use Rattle.station_symbols.specs.Packet.{packetBit, symbolOf}
+use Rattle.station_state.specs.declared.Transmitter.{Transmitter}
+use Rattle.station_state.specs.declared.Transmitter.the-variants.{NoFrame, Waiting, BackingOff, Sending, Heading, Jamming}
+use Rattle.station_transmit.specs.Transmit.{octetsHeld}
 use Rattle.area.specs.Area.{spaceAt, stationAt, frameAt, arrivalAt, alone}
-use Rattle.meeting.specs.Meet.{met}
+use Rattle.bus_meeting.specs.Meet.{met}
 use Rattle.fast_plan.specs.Plan.{Plan}
 use Rattle.fast_line.specs.declared.LineRun.{LineRun}
 use Rattle.fast_line.specs.Line.{kindOf}

@@ -8,18 +8,18 @@ use native.Mathlib.Omega.{arith}
 use borrow.Author.Tests.{eq-eqb, ne-eqb, lt-ltb, le-ltb, ltb-true, ltb-false, le-leb, lt-leb, leb-true, leb-false}
 use lib.Dec.{eqb, ltb, leb}
 use Rattle.octets.specs.BaseLaws.{by-test, by-eq}
-use Rattle.packet.specs.declared.Heard.{Heard}
-use Rattle.packet.specs.declared.Heard.the-variants.{Nothing, Clean, Jammed, Several}
-use Rattle.packet.specs.declared.Symbol.{Symbol}
-use Rattle.packet.specs.declared.Symbol.the-variants.{Bit, Jam}
-use Rattle.packet.specs.Packet.{packetBit, symbolOf}
-use Rattle.state.specs.declared.Transmitter.{Transmitter}
-use Rattle.state.specs.declared.Transmitter.the-variants.{NoFrame, Waiting, BackingOff, Sending, Heading, Jamming}
+use Rattle.station_symbols.specs.declared.Heard.{Heard}
+use Rattle.station_symbols.specs.declared.Heard.the-variants.{Nothing, Clean, Jammed, Several}
+use Rattle.station_symbols.specs.declared.Symbol.{Symbol}
+use Rattle.station_symbols.specs.declared.Symbol.the-variants.{Bit, Jam}
+use Rattle.station_symbols.specs.Packet.{packetBit, symbolOf}
+use Rattle.station_state.specs.declared.Transmitter.{Transmitter}
+use Rattle.station_state.specs.declared.Transmitter.the-variants.{NoFrame, Waiting, BackingOff, Sending, Heading, Jamming}
 use Rattle.area.specs.Area.{clockAt, countAt, stationAt, arrivalAt, alone}
-use Rattle.layout.specs.declared.Figures.{Figures}
-use Rattle.pair.specs.Range.{NumberIn}
-use Rattle.pair.specs.Ready.{Readiness}
-use Rattle.meeting.specs.Meet.{met, met-none}
+use Rattle.sheet_layout.specs.declared.Figures.{Figures}
+use Rattle.bus_spec.specs.Range.{NumberIn}
+use Rattle.bus_spec.specs.Ready.{Readiness}
+use Rattle.bus_meeting.specs.Meet.{met, met-none}
 use Rattle.fast_plan.specs.Plan.{lineNow, hears}
 use Rattle.fast_line.specs.declared.LineRun.{LineRun}
 use Rattle.fast_line.specs.Line.{kindOf, kindAt, lasts, runAt, isClear}

@@ -11,18 +11,18 @@ use lib.ListN.{getD}
 use Rattle.octets.specs.BaseLaws.{by-test, by-eq}
 use Rattle.octets.specs.Filled.{filled, filled-at}
 use Rattle.octets.specs.Turns.{turns, turns-none, turns-end}
-use Rattle.packet.specs.declared.Heard.the-variants.{Nothing, Several}
-use Rattle.packet.specs.declared.Symbol.the-variants.{Silence}
-use Rattle.packet.specs.Packet.{symbolOf}
-use Rattle.state.specs.declared.Transmitter.{Transmitter}
-use Rattle.state.specs.declared.Transmitter.the-variants.{NoFrame, Waiting, BackingOff, Sending, Heading, Jamming}
-use Rattle.record.specs.Codec.{transmitterOf, decoded}
+use Rattle.station_symbols.specs.declared.Heard.the-variants.{Nothing, Several}
+use Rattle.station_symbols.specs.declared.Symbol.the-variants.{Silence}
+use Rattle.station_symbols.specs.Packet.{symbolOf}
+use Rattle.station_state.specs.declared.Transmitter.{Transmitter}
+use Rattle.station_state.specs.declared.Transmitter.the-variants.{NoFrame, Waiting, BackingOff, Sending, Heading, Jamming}
+use Rattle.area_record.specs.Codec.{transmitterOf, decoded}
 use Rattle.area.specs.Area.{countAt, positionAt, distance, spaceAt, recordAt, stationAt, alone}
 use Rattle.area.specs.CodeLaws.{space-is}
-use Rattle.pair.specs.InPlace.{Spread}
-use Rattle.meeting.specs.Net.{reaches, heard}
-use Rattle.meeting.specs.Gather.{on, gathered-none, gathered-one, gathered-two}
-use Rattle.meeting.specs.Reach.{reach-at, reach-none}
+use Rattle.bus_spec.specs.InPlace.{Spread}
+use Rattle.bus_meeting.specs.Net.{reaches, heard}
+use Rattle.bus_meeting.specs.Gather.{on, gathered-none, gathered-one, gathered-two}
+use Rattle.bus_meeting.specs.Reach.{reach-at, reach-none}
 use Rattle.fast_plan.specs.Plan.{netOf}
 use Rattle.fast_line.specs.Line.{bitsFrom, jams}
 use Rattle.fast_heard.specs.declared.Near.{Near}

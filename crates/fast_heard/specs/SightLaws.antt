@@ -10,7 +10,7 @@ use lib.ListN.{getD}
 use Rattle.octets.specs.Base.{pick}
 use Rattle.octets.specs.BaseLaws.{by-test}
 use Rattle.octets.specs.Filled.{filled, filled-at, filled-end}
-use Rattle.record.specs.Codec.{decoded}
+use Rattle.area_record.specs.Codec.{decoded}
 use Rattle.area.specs.Area.{recordAt, stationAt}
 use Rattle.fast_heard.specs.declared.Near.{Near}
 use Rattle.fast_heard.specs.declared.Sight.{Sight}

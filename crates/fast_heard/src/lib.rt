@@ -158,7 +158,7 @@ fn line_ahead(area: &[u8], j: usize, t: usize, s: usize, m: usize) -> LineRun
             return LineRun { kind: 0, len: m };
         }
     }
-    let most = quick::capped(256 - s, m);
+    let most = bus_quick::capped(256 - s, m);
     fast_line::line_run(area, j, t + s, most)
 }
 

@@ -6,15 +6,15 @@ use native.Mathlib.Omega.{arith}
 use borrow.Author.Tests.{ne-eqb}
 use lib.ListN.{length}
 use Rattle.octets.specs.Turns.{turns-none, turns-more, turns-end}
-use Rattle.layout.specs.declared.Figures.{Figures}
-use Rattle.state.specs.declared.Station.{Station}
+use Rattle.sheet_layout.specs.declared.Figures.{Figures}
+use Rattle.station_state.specs.declared.Station.{Station}
 use Rattle.area.specs.Places.{layout, station}
 use Rattle.area.specs.Area.{clockAt, withClock, figuresAt, countAt, stationAt, withStation}
 use Rattle.area.specs.AreaLaws.{station-by}
 use Rattle.fast_silence.specs.Rested.{rested}
 use Rattle.fast_silence.specs.Jump.{restedAll, jumped, rested-length, rested-keeps}
 use Rattle.fast_silence.specs.Bound.{silentFor, silent-most, skipped}
-use Rattle.layout.specs.Limits.{lastClock}
+use Rattle.sheet_layout.specs.Limits.{lastClock}
 use Rattle.area.specs.Offsets.{areaSize}
 
 module _ (a : List ℕ) (m : ℕ) where

@@ -1,14 +1,14 @@
 // Many steps of silence at once, on the area.
 
-use layout::Figures;
+use sheet_layout::Figures;
 ghost use mathlib.Core.Path.{_≡_};
 ghost use Prim.Native.Nat.{_+_, _<_, _≤_};
 ghost use lib.ListN.{length};
 ghost use Rattle.area.specs.Area.{clockAt, figuresAt};
-ghost use Rattle.pair.specs.Ready.{Ready};
+ghost use Rattle.bus_spec.specs.Ready.{Ready};
 ghost use Rattle.fast_silence.specs.Jump.{restedAll, jumped};
 ghost use Rattle.fast_silence.specs.Bound.{silentFor, skipped};
-ghost use Rattle.layout.specs.Limits.{lastClock};
+ghost use Rattle.sheet_layout.specs.Limits.{lastClock};
 ghost use Rattle.area.specs.Offsets.{areaSize};
 
 // Each of n stations after m steps of silence.

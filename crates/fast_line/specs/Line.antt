@@ -6,11 +6,11 @@ use mathlib.Core.Bool.{Bool, not}
 use mathlib.Core.List.{List}
 use lib.Dec.{eqb}
 use Rattle.octets.specs.Base.{pick, some}
-use Rattle.packet.specs.declared.Heard.{Heard}
-use Rattle.packet.specs.declared.Heard.the-variants.{Nothing, Clean, Jammed, Several}
-use Rattle.packet.specs.declared.Symbol.{Symbol}
-use Rattle.packet.specs.declared.Symbol.the-variants.{Bit, Jam}
-use Rattle.packet.specs.Packet.{hearsAny, packetBit}
+use Rattle.station_symbols.specs.declared.Heard.{Heard}
+use Rattle.station_symbols.specs.declared.Heard.the-variants.{Nothing, Clean, Jammed, Several}
+use Rattle.station_symbols.specs.declared.Symbol.{Symbol}
+use Rattle.station_symbols.specs.declared.Symbol.the-variants.{Bit, Jam}
+use Rattle.station_symbols.specs.Packet.{hearsAny, packetBit}
 use Rattle.area.specs.Area.{arrivalAt}
 use Rattle.fast_line.specs.declared.LineRun.{LineRun}
 

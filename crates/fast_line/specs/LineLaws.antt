@@ -16,17 +16,17 @@ use Rattle.octets.specs.Base.{some}
 use Rattle.octets.specs.BaseLaws.{by-test, by-eq, neither, none-below, some-hit}
 use Rattle.octets.specs.Store.{length-part}
 use Rattle.octets.specs.Turns.{turns, turns-none, turns-more, turns-end}
-use Rattle.packet.specs.declared.Heard.{Heard}
-use Rattle.packet.specs.declared.Heard.the-variants.{Nothing, Clean, Jammed, Several}
-use Rattle.packet.specs.declared.Symbol.{Symbol}
-use Rattle.packet.specs.declared.Symbol.the-variants.{Silence, Bit}
-use Rattle.packet.specs.Packet.{hearsAny, packetBit}
-use Rattle.packet.specs.PacketLaws.{frame-bit, bit-alternates, bit-delimits, bit-of-frame}
+use Rattle.station_symbols.specs.declared.Heard.{Heard}
+use Rattle.station_symbols.specs.declared.Heard.the-variants.{Nothing, Clean, Jammed, Several}
+use Rattle.station_symbols.specs.declared.Symbol.{Symbol}
+use Rattle.station_symbols.specs.declared.Symbol.the-variants.{Silence, Bit}
+use Rattle.station_symbols.specs.Packet.{hearsAny, packetBit}
+use Rattle.station_symbols.specs.PacketLaws.{frame-bit, bit-alternates, bit-delimits, bit-of-frame}
 use Rattle.area.specs.Places.{frame}
 use Rattle.area.specs.Area.{frameAt, heardOf, heardCode, symbolAt, arrivalAt, withArrival, alone, withSymbol}
 use Rattle.area.specs.AreaLaws.{frame-by, arrival-turn}
 use Rattle.area.specs.CodeLaws.{heard-nothing, heard-zero, heard-one, heard-jam, heard-several, joined-code}
-use Rattle.meeting.specs.Gather.{joined-none}
+use Rattle.bus_meeting.specs.Gather.{joined-none}
 use Rattle.fast_plan.specs.Push.{cleared, joinedAt, onWay}
 use Rattle.fast_plan.specs.Placed.{way-only}
 use Rattle.fast_line.specs.Line.{kindOf, kindAt, firstOf, otherKind, lasts, runAt, AllOf, inUse, isClear, bitsFrom, jams}

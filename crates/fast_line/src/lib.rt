@@ -1,13 +1,13 @@
 // A station's delay line over many places at once: what it holds, places cleared, symbols put.
 // Above this crate nobody knows how a place is kept.
 
-use packet::Heard;
+use station_symbols::Heard;
 ghost use mathlib.Core.Path.{_≡_};
 ghost use mathlib.Core.Bool.{true};
 ghost use Prim.Native.Nat.{_+_, _*_, _%_, _<_, _≤_, min};
 ghost use lib.ListN.{length};
-ghost use Rattle.packet.specs.declared.Symbol.the-variants.{Bit};
-ghost use Rattle.packet.specs.Packet.{packetBit};
+ghost use Rattle.station_symbols.specs.declared.Symbol.the-variants.{Bit};
+ghost use Rattle.station_symbols.specs.Packet.{packetBit};
 ghost use Rattle.area.specs.Area.{heardOf, heardCode, symbolAt, alone, frameAt};
 ghost use Rattle.fast_plan.specs.Push.{cleared, onWay};
 ghost use Rattle.fast_line.specs.Line.{kindOf, lasts, runAt, AllOf, isClear, bitsFrom, jams};
@@ -27,7 +27,7 @@ pub fn is_clear(area: &[u8], j: usize) -> bool
     let mut all: u8 = 0;
     let mut u: usize = 0;
     while u < 256 {
-        all = all | delay::read_symbol(area, j, u);
+        all = all | area_line::read_symbol(area, j, u);
         u += 1;
     }
     all == 0
@@ -111,7 +111,7 @@ fn lasting(area: &[u8], j: usize, u: usize, kind: u8, m: usize) -> usize
     ensures bound { λ r. ⌜ r ≤ m ⌝ }
 {
     let p = u % 256;
-    let row = quick::capped(256 - p, m);
+    let row = bus_quick::capped(256 - p, m);
     let s = lasting_row(area, j, p, kind, row);
     if s < row {
         return s;
@@ -125,7 +125,7 @@ pub fn line_run(area: &[u8], j: usize, u: usize, m: usize) -> LineRun
     ensures run { λ r. ⌜ r ≡ runAt (now (area .entry)) j u m ⌝ }
     ensures bound { λ r. ⌜ (0 < r .len) × (r .len ≤ m) ⌝ }
 {
-    let kind = kind_of(delay::read_symbol(area, j, u));
+    let kind = kind_of(area_line::read_symbol(area, j, u));
     let len = lasting(area, j, u, kind, m);
     LineRun { kind, len }
 }
@@ -151,7 +151,7 @@ pub fn clear(area: &mut [u8], j: usize, t: usize, m: usize)
     let mut s: usize = 0;
     while s < m {
         let u = t + s;
-        let n = quick::capped(256 - u % 256, m - s);
+        let n = bus_quick::capped(256 - u % 256, m - s);
         clear_row(area, j, u, n);
         s += n;
     }
@@ -190,12 +190,12 @@ pub fn push_bits(
     requires { ⌜ (j < 16) × (i < 16) × (octets ≤ 1536) × (areaSize ≤ length (now area)) × (t + steps + d < 4294967296) × (k + steps ≤ 65 + 8 * octets) ⌝ }
     ensures { λ r. ⌜ now (area .exit) ≡ onWay t d steps (bitsFrom (frameAt (now (area .entry)) i octets) k) j (min d steps) (now (area .entry)) ⌝ }
 {
-    let m = quick::capped(d, steps);
+    let m = bus_quick::capped(d, steps);
     let from = steps - m;
     let mut put: usize = 0;
     while put < m {
-        let code = bit_code(buffers::frame(area, i, octets), k + (from + put));
-        delay::add_symbol(area, j, t + (from + put + d), code);
+        let code = bit_code(area_buffers::frame(area, i, octets), k + (from + put));
+        area_line::add_symbol(area, j, t + (from + put + d), code);
         put += 1;
     }
 }
@@ -205,11 +205,11 @@ pub fn push_jam(area: &mut [u8], j: usize, t: usize, d: usize, steps: usize)
     requires { ⌜ (j < 16) × (areaSize ≤ length (now area)) × (t + steps + d < 4294967296) ⌝ }
     ensures { λ r. ⌜ now (area .exit) ≡ onWay t d steps jams j (min d steps) (now (area .entry)) ⌝ }
 {
-    let m = quick::capped(d, steps);
+    let m = bus_quick::capped(d, steps);
     let from = steps - m;
     let mut s: usize = 0;
     while s < m {
-        delay::add_symbol(area, j, t + (from + s + d), 3);
+        area_line::add_symbol(area, j, t + (from + s + d), 3);
         s += 1;
     }
 }

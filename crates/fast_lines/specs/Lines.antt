@@ -7,16 +7,16 @@ use lib.Dec.{eqb}
 use lib.ListN.{length, getD}
 use Rattle.octets.specs.Base.{pick}
 use Rattle.octets.specs.Filled.{filled}
-use Rattle.packet.specs.declared.Symbol.{Symbol}
-use Rattle.packet.specs.declared.Symbol.the-variants.{Silence}
-use Rattle.state.specs.declared.Transmitter.{Transmitter}
-use Rattle.state.specs.declared.Transmitter.the-variants.{NoFrame, Waiting, BackingOff, Sending, Heading, Jamming}
+use Rattle.station_symbols.specs.declared.Symbol.{Symbol}
+use Rattle.station_symbols.specs.declared.Symbol.the-variants.{Silence}
+use Rattle.station_state.specs.declared.Transmitter.{Transmitter}
+use Rattle.station_state.specs.declared.Transmitter.the-variants.{NoFrame, Waiting, BackingOff, Sending, Heading, Jamming}
 use Rattle.area.specs.Area.{clockAt, countAt, spaceAt, stationAt, frameAt, symbolAt}
 use Rattle.fast_plan.specs.Plan.{Plan}
 use Rattle.fast_plan.specs.Push.{onWay}
 use Rattle.fast_line.specs.Line.{bitsFrom, jams}
 use Rattle.fast_lines.specs.declared.Emitter.{Emitter}
-use Rattle.layout.specs.Limits.{lastClock}
+use Rattle.sheet_layout.specs.Limits.{lastClock}
 use Rattle.area.specs.Offsets.{areaSize}
 
 -- ---- what a station emits

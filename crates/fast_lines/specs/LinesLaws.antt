@@ -12,20 +12,20 @@ use Rattle.octets.specs.Base.{pick}
 use Rattle.octets.specs.BaseLaws.{by-test}
 use Rattle.octets.specs.Filled.{filled, filled-at, filled-end}
 use Rattle.octets.specs.Turns.{turns, turns-none, turns-more, turns-end}
-use Rattle.packet.specs.declared.Symbol.{Symbol}
-use Rattle.packet.specs.declared.Symbol.the-variants.{Silence, Bit}
-use Rattle.packet.specs.Packet.{packetBit, symbolOf}
-use Rattle.state.specs.declared.Transmitter.{Transmitter}
-use Rattle.state.specs.declared.Transmitter.the-variants.{NoFrame, Waiting, BackingOff, Sending, Heading, Jamming}
-use Rattle.transmitter.specs.Transmit.{octetsHeld}
-use Rattle.record.specs.Codec.{transmitterOf, decoded}
+use Rattle.station_symbols.specs.declared.Symbol.{Symbol}
+use Rattle.station_symbols.specs.declared.Symbol.the-variants.{Silence, Bit}
+use Rattle.station_symbols.specs.Packet.{packetBit, symbolOf}
+use Rattle.station_state.specs.declared.Transmitter.{Transmitter}
+use Rattle.station_state.specs.declared.Transmitter.the-variants.{NoFrame, Waiting, BackingOff, Sending, Heading, Jamming}
+use Rattle.station_transmit.specs.Transmit.{octetsHeld}
+use Rattle.area_record.specs.Codec.{transmitterOf, decoded}
 use Rattle.area.specs.Places.{Part, clock, layout, frame, place, Keeps}
 use Rattle.area.specs.Area.{clockAt, figuresAt, countAt, positionAt, distance, spaceAt, recordAt, stationAt, frameAt, symbolAt}
 use Rattle.area.specs.AreaLaws.{clock-by, count-by, space-by, symbol-by, frame-by}
 use Rattle.area.specs.CodeLaws.{space-is}
-use Rattle.layout.specs.declared.Figures.{Figures}
-use Rattle.pair.specs.Range.{NumberIn, FrameIn}
-use Rattle.pair.specs.Ready.{Readiness}
+use Rattle.sheet_layout.specs.declared.Figures.{Figures}
+use Rattle.bus_spec.specs.Range.{NumberIn, FrameIn}
+use Rattle.bus_spec.specs.Ready.{Readiness}
 use Rattle.fast_plan.specs.Own.{Others}
 use Rattle.fast_plan.specs.Plan.{Plan}
 use Rattle.fast_plan.specs.Exact.{ownAll, length-own, own-keeps}
@@ -38,7 +38,7 @@ use Rattle.fast_station.specs.Forms.{emitsFor}
 use Rattle.fast_heard.specs.Hearing.{goesOn, heldAt, planOf, emits}
 use Rattle.fast_lines.specs.declared.Emitter.{Emitter}
 use Rattle.fast_lines.specs.Lines.{silent, emitterOf, emitterAt, emittersOf, silence, emitted, planBy, Enough, Pushes, pushedFrom, Settles}
-use Rattle.layout.specs.Limits.{lastClock}
+use Rattle.sheet_layout.specs.Limits.{lastClock}
 
 -- ---- the code: what a station is about to emit
 

@@ -8,7 +8,7 @@ ghost use Rattle.area.specs.Area.{symbolAt};
 ghost use Rattle.fast_plan.specs.Push.{cleared, waysTo, lineDone};
 ghost use Rattle.fast_plan.specs.Placed.{linesDone};
 ghost use Rattle.fast_lines.specs.Lines.{emitterAt, emittersOf, planBy, Pushes, pushedFrom, Settles};
-ghost use Rattle.layout.specs.Limits.{lastClock};
+ghost use Rattle.sheet_layout.specs.Limits.{lastClock};
 ghost use Rattle.area.specs.Offsets.{areaSize};
 
 // What a station emits in a window. Kind 0: nothing. Kind 1: its packet's bits from `bit` on, of the frame of so many
@@ -97,7 +97,7 @@ fn clear_line(area: &mut [u8], j: usize, t: usize, steps: usize)
     if fast_line::is_clear(area, j) {
         return;
     }
-    let m = quick::capped(steps, 256);
+    let m = bus_quick::capped(steps, 256);
     fast_line::clear(area, j, t, m);
 }
 

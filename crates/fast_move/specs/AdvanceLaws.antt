@@ -7,16 +7,16 @@ use native.Mathlib.Omega.{arith}
 use lib.ListN.{length}
 use Rattle.octets.specs.Base.{pick}
 use Rattle.octets.specs.Turns.{turns}
-use Rattle.layout.specs.declared.Figures.{Figures}
-use Rattle.packet.specs.declared.Heard.{Heard}
-use Rattle.packet.specs.declared.Heard.the-variants.{Nothing, Clean, Several}
-use Rattle.packet.specs.Packet.{packetBit}
-use Rattle.state.specs.declared.Transmitter.{Transmitter}
-use Rattle.state.specs.declared.Receiver.{Receiver}
-use Rattle.state.specs.declared.Station.{Station}
-use Rattle.receiver.specs.Receive.{bitsIn}
+use Rattle.sheet_layout.specs.declared.Figures.{Figures}
+use Rattle.station_symbols.specs.declared.Heard.{Heard}
+use Rattle.station_symbols.specs.declared.Heard.the-variants.{Nothing, Clean, Several}
+use Rattle.station_symbols.specs.Packet.{packetBit}
+use Rattle.station_state.specs.declared.Transmitter.{Transmitter}
+use Rattle.station_state.specs.declared.Receiver.{Receiver}
+use Rattle.station_state.specs.declared.Station.{Station}
+use Rattle.station_receive.specs.Receive.{bitsIn}
 use Rattle.area.specs.Area.{addressAt, bufferAt, stationAt, arrivalAt}
-use Rattle.pair.specs.Ready.{Able}
+use Rattle.bus_spec.specs.Ready.{Able}
 use Rattle.fast_plan.specs.Own.{ownTurn, byItself, by-itself-more, by-itself-none}
 use Rattle.fast_receive.specs.Received.{spoils, lineFrom, bitsFrom, AllHeard, mayReport}
 use Rattle.fast_receive.specs.ReceivedLaws.{spoils-heard, bits-heard}
@@ -27,7 +27,7 @@ use Rattle.fast_stretch.specs.Stretch.{heardStretch, quietStretch, Movable}
 use Rattle.fast_stretch.specs.StretchLaws.{fine-movable, bits-room}
 use Rattle.fast_move.specs.Move.{heardIn, isHeard, emitting, restsAll, hearsAll, emitsAll, canMove, stretched, Moving, Audible, Held}
 use Rattle.fast_move.specs.MoveLaws.{frame-small, moves-once}
-use Rattle.layout.specs.Limits.{lastClock}
+use Rattle.sheet_layout.specs.Limits.{lastClock}
 
 -- ---- whether it can go over them at once
 

@@ -5,14 +5,14 @@ use mathlib.Core.Bool.{Bool, true, false, not, _&&_}
 use mathlib.Core.List.{List}
 use lib.Dec.{leb}
 use Rattle.octets.specs.Base.{pick}
-use Rattle.layout.specs.declared.Figures.{Figures}
-use Rattle.packet.specs.declared.Heard.{Heard}
-use Rattle.packet.specs.declared.Heard.the-variants.{Nothing}
-use Rattle.state.specs.declared.Deference.{Deference}
-use Rattle.state.specs.declared.Deference.the-variants.{Quiet, Busy, Gap}
-use Rattle.state.specs.declared.Transmitter.{Transmitter}
-use Rattle.state.specs.declared.Transmitter.the-variants.{NoFrame, Waiting, BackingOff, Sending, Heading, Jamming}
-use Rattle.state.specs.declared.Station.{Station}
+use Rattle.sheet_layout.specs.declared.Figures.{Figures}
+use Rattle.station_symbols.specs.declared.Heard.{Heard}
+use Rattle.station_symbols.specs.declared.Heard.the-variants.{Nothing}
+use Rattle.station_state.specs.declared.Deference.{Deference}
+use Rattle.station_state.specs.declared.Deference.the-variants.{Quiet, Busy, Gap}
+use Rattle.station_state.specs.declared.Transmitter.{Transmitter}
+use Rattle.station_state.specs.declared.Transmitter.the-variants.{NoFrame, Waiting, BackingOff, Sending, Heading, Jamming}
+use Rattle.station_state.specs.declared.Station.{Station}
 use Rattle.area.specs.Area.{addressAt, bufferAt, stationAt}
 use Rattle.fast_silence.specs.Bound.{framesRest, idle}
 use Rattle.fast_station.specs.Forms.{heardRest, emitsFor}

@@ -10,24 +10,24 @@ use lib.ListN.{length}
 use Rattle.octets.specs.Base.{pick}
 use Rattle.octets.specs.BaseLaws.{by-test}
 use Rattle.octets.specs.Turns.{turns}
-use Rattle.layout.specs.declared.Figures.{Figures}
-use Rattle.packet.specs.declared.Heard.{Heard}
-use Rattle.packet.specs.declared.Heard.the-variants.{Nothing}
-use Rattle.packet.specs.Packet.{hearsAny}
-use Rattle.state.specs.declared.Deference.{Deference}
-use Rattle.state.specs.declared.Deference.the-variants.{Quiet, Busy, Gap}
-use Rattle.state.specs.declared.Transmitter.{Transmitter}
-use Rattle.state.specs.declared.Transmitter.the-variants.{NoFrame, Waiting, BackingOff, Sending, Heading, Jamming}
-use Rattle.state.specs.declared.Receiver.{Receiver}
-use Rattle.state.specs.declared.Receiver.the-variants.{Listening, Readable, Seeking, Collecting}
-use Rattle.state.specs.declared.Station.{Station}
-use Rattle.receiver.specs.declared.Stored.{Stored}
-use Rattle.receiver.specs.declared.Stored.the-variants.{NoStore}
-use Rattle.receiver.specs.declared.ReceiveEvent.the-variants.{NoReceive}
-use Rattle.receiver.specs.Receive.{rowIn, bitsIn, hearing, deciding, receive, ended}
-use Rattle.record.specs.Codec.{receiverNumber}
+use Rattle.sheet_layout.specs.declared.Figures.{Figures}
+use Rattle.station_symbols.specs.declared.Heard.{Heard}
+use Rattle.station_symbols.specs.declared.Heard.the-variants.{Nothing}
+use Rattle.station_symbols.specs.Packet.{hearsAny}
+use Rattle.station_state.specs.declared.Deference.{Deference}
+use Rattle.station_state.specs.declared.Deference.the-variants.{Quiet, Busy, Gap}
+use Rattle.station_state.specs.declared.Transmitter.{Transmitter}
+use Rattle.station_state.specs.declared.Transmitter.the-variants.{NoFrame, Waiting, BackingOff, Sending, Heading, Jamming}
+use Rattle.station_state.specs.declared.Receiver.{Receiver}
+use Rattle.station_state.specs.declared.Receiver.the-variants.{Listening, Readable, Seeking, Collecting}
+use Rattle.station_state.specs.declared.Station.{Station}
+use Rattle.station_receive.specs.declared.Stored.{Stored}
+use Rattle.station_receive.specs.declared.Stored.the-variants.{NoStore}
+use Rattle.station_receive.specs.declared.ReceiveEvent.the-variants.{NoReceive}
+use Rattle.station_receive.specs.Receive.{rowIn, bitsIn, hearing, deciding, receive, ended}
+use Rattle.area_record.specs.Codec.{receiverNumber}
 use Rattle.area.specs.Area.{addressAt, bufferAt, stationAt}
-use Rattle.pair.specs.Range.{Fine, FrameIn, ReceiverIn, fine-room, fine-fit}
+use Rattle.bus_spec.specs.Range.{Fine, FrameIn, ReceiverIn, fine-room, fine-fit}
 use Rattle.fast_plan.specs.Own.{byItself}
 use Rattle.fast_plan.specs.Goes.{storedAll, wentTo}
 use Rattle.fast_silence.specs.Rested.{Lasts, Idle}
@@ -42,8 +42,8 @@ use Rattle.fast_segment.specs.Alone.{Moves, address-in}
 use Rattle.fast_segment.specs.Segments.{Segment, heard-segment, emit-segment, rest-segment}
 use Rattle.fast_stretch.specs.Stretch.{heardStretch, quietStretch, movedOn, quietOn}
 use Rattle.fast_move.specs.Move.{heardIn, isHeard, emitting, isBusyOwn, sending, restsAll, hearsAll, emitsAll, canMove, stretched, Moving}
-use Rattle.layout.specs.Limits.{lastClock}
-use Rattle.frame.specs.Limits.{bufferOctets}
+use Rattle.sheet_layout.specs.Limits.{lastClock}
+use Rattle.frame_build.specs.Limits.{bufferOctets}
 
 -- ---- the tests
 

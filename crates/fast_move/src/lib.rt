@@ -1,12 +1,12 @@
 // A station moves on by itself, over steps of one kind at once where that can be, else by one turn.
 
 use fast_heard::Kind;
-use layout::Figures;
-use packet::Heard;
-use state::Deference;
-use state::Receiver;
-use state::Station;
-use state::Transmitter;
+use sheet_layout::Figures;
+use station_state::Deference;
+use station_state::Receiver;
+use station_state::Station;
+use station_state::Transmitter;
+use station_symbols::Heard;
 ghost use mathlib.Core.Path.{_≡_};
 ghost use mathlib.Core.Bool.{not};
 ghost use Prim.Native.Nat.{_+_, _<_, _≤_};
@@ -17,7 +17,7 @@ ghost use Rattle.fast_silence.specs.Bound.{idle};
 ghost use Rattle.area.specs.Area.{stationAt};
 ghost use Rattle.fast_stretch.specs.Stretch.{Movable};
 ghost use Rattle.fast_move.specs.Move.{heardIn, isHeard, emitting, sending, isBusyOwn, restsAll, hearsAll, emitsAll, canMove, stretched, Moving, Audible, Held};
-ghost use Rattle.layout.specs.Limits.{lastClock};
+ghost use Rattle.sheet_layout.specs.Limits.{lastClock};
 ghost use Rattle.area.specs.Offsets.{areaSize};
 
 fn is_heard(kind: Kind) -> bool
@@ -167,9 +167,9 @@ fn heard_first(area: &[u8], kind: Kind, j: usize, u: usize, frame: &[u8], b: u32
 {
     match kind {
         Kind::Silent => Heard::Nothing,
-        Kind::Line => delay::arrival(area, j, u),
+        Kind::Line => area_line::arrival(area, j, u),
         Kind::From => {
-            let one = packet::packet_bit(frame, b);
+            let one = station_symbols::packet_bit(frame, b);
             Heard::Clean(one)
         }
         Kind::Spoiled => Heard::Several,

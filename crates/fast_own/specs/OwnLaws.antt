@@ -2,15 +2,15 @@
 use Prim.Native.Nat.{ℕ}
 use mathlib.Core.Path.{_≡_, refl, sym, _∙_, ap, subst}
 use mathlib.Core.List.{List}
-use Rattle.layout.specs.declared.Figures.{Figures}
-use Rattle.packet.specs.declared.Heard.{Heard}
-use Rattle.station.specs.declared.Stepped.{Stepped}
-use Rattle.state.specs.declared.Station.{Station}
-use Rattle.station.specs.Step.{stepped}
+use Rattle.sheet_layout.specs.declared.Figures.{Figures}
+use Rattle.station_symbols.specs.declared.Heard.{Heard}
+use Rattle.station_spec.specs.declared.Stepped.{Stepped}
+use Rattle.station_state.specs.declared.Station.{Station}
+use Rattle.station_spec.specs.Step.{stepped}
 use Rattle.area.specs.Area.{stationAt, drawAt, bufferAt, withStation}
-use Rattle.pair.specs.declared.Act.{Act}
-use Rattle.pair.specs.BitTime.{withStored, withCounted}
-use Rattle.pair.specs.InPlace.{Kept}
+use Rattle.bus_spec.specs.declared.Act.{Act}
+use Rattle.bus_spec.specs.BitTime.{withStored, withCounted}
+use Rattle.bus_spec.specs.InPlace.{Kept}
 use Rattle.fast_plan.specs.Own.{outcomeOn, actOn, ownLeft, ownTurn, on-kept}
 
 module _ (f : Figures) (d i : ℕ) (h : Heard) (a : List ℕ) where

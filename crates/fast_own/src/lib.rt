@@ -1,13 +1,13 @@
 // The turn of one station by itself, on what it is told that it hears: no line is read or written.
 
-use layout::Figures;
-use packet::Heard;
-use station::Stepped;
+use sheet_layout::Figures;
+use station_spec::Stepped;
+use station_symbols::Heard;
 ghost use mathlib.Core.Path.{_≡_};
 ghost use Prim.Native.Nat.{_<_, _≤_};
 ghost use lib.ListN.{length};
-ghost use Rattle.pair.specs.InPlace.{Kept};
-ghost use Rattle.pair.specs.Ready.{Able};
+ghost use Rattle.bus_spec.specs.InPlace.{Kept};
+ghost use Rattle.bus_spec.specs.Ready.{Able};
 ghost use Rattle.fast_plan.specs.Own.{outcomeOn, ownLeft, ownTurn};
 ghost use Rattle.area.specs.Offsets.{areaSize};
 
@@ -18,7 +18,7 @@ fn outcome(area: &[u8], f: Figures, depth: u32, i: usize, h: Heard) -> Stepped
 {
     let s = area::read_station(area, i);
     let draw = area::read_draw(area, i, s.draw as usize);
-    stepping::step(f, s, depth, draw, buffers::buffer(area, i), h)
+    station_step::step(f, s, depth, draw, area_buffers::buffer(area, i), h)
 }
 
 // What it leaves of its own: its record, its counters, the bit that it collected.
@@ -29,8 +29,8 @@ fn leave(area: &mut [u8], i: usize, o: Stepped)
     let next = o.station;
     let stored = o.stored;
     area::write_station(area, i, next);
-    turn::count_step(area, i, o);
-    turn::keep_bit(area, i, stored);
+    bus_turn::count_step(area, i, o);
+    bus_turn::keep_bit(area, i, stored);
 }
 
 pub fn turn_alone(area: &mut [u8], f: Figures, depth: u32, i: usize, h: Heard)

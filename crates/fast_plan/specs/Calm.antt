@@ -11,24 +11,24 @@ use lib.ListN.{getD}
 use Rattle.octets.specs.BaseLaws.{below-none}
 use Rattle.octets.specs.Filled.{filled, filled-same}
 use Rattle.octets.specs.Turns.{turns}
-use Rattle.layout.specs.declared.Figures.{Figures}
-use Rattle.packet.specs.declared.Heard.{Heard}
-use Rattle.packet.specs.declared.Symbol.{Symbol}
-use Rattle.tally.specs.Tally.{isLate}
+use Rattle.sheet_layout.specs.declared.Figures.{Figures}
+use Rattle.station_symbols.specs.declared.Heard.{Heard}
+use Rattle.station_symbols.specs.declared.Symbol.{Symbol}
+use Rattle.station_tally.specs.Tally.{isLate}
 use Rattle.area.specs.Area.{clockAt, depthAt, figuresAt, countAt}
-use Rattle.pair.specs.declared.Act.{Act}
-use Rattle.pair.specs.declared.Events.{Events}
-use Rattle.pair.specs.BitTime.{eventsOf, noEvents, eventsAt, stepArea}
-use Rattle.pair.specs.Ready.{Readiness}
-use Rattle.course.specs.Run.{tallied, runOf}
-use Rattle.course.specs.Until.{hasEvent, eventful, Stretched, oneMore, untilEvent}
-use Rattle.course.specs.UntilLaws.{plus}
+use Rattle.bus_spec.specs.declared.Act.{Act}
+use Rattle.bus_spec.specs.declared.Events.{Events}
+use Rattle.bus_spec.specs.BitTime.{eventsOf, noEvents, eventsAt, stepArea}
+use Rattle.bus_spec.specs.Ready.{Readiness}
+use Rattle.bus_spec.specs.Run.{tallied, runOf}
+use Rattle.bus_spec.specs.Until.{hasEvent, eventful, Stretched, oneMore, untilEvent}
+use Rattle.bus_spec.specs.UntilLaws.{plus}
 use Rattle.fast_plan.specs.Own.{actOn, byItself, itself-split}
 use Rattle.fast_plan.specs.Plan.{Plan, hears, ownAfter, actAfter, Holds, steps}
 use Rattle.fast_plan.specs.Prefix.{Unhurt}
 use Rattle.fast_plan.specs.Runs.{eventsBy, talliedBy, run-steps, plan-events}
 use Rattle.fast_plan.specs.NoEvents.{none-at, nothing-tallied}
-use Rattle.layout.specs.Limits.{lastClock}
+use Rattle.sheet_layout.specs.Limits.{lastClock}
 
 -- for m steps from x on station i, which hears H, emits Q and has no event
 pub record Calm (f : Figures) (d i : ℕ) (H : ℕ → Heard) (Q : ℕ → Symbol) (m : ℕ) (x : List ℕ) : Type 0 where

@@ -8,12 +8,12 @@ use lib.Dec.{eqb}
 use lib.ListN.{length, getD}
 use Rattle.octets.specs.BaseLaws.{by-test, by-eq}
 use Rattle.octets.specs.Turns.{turns, length-turns}
-use Rattle.packet.specs.declared.Heard.{Heard}
+use Rattle.station_symbols.specs.declared.Heard.{Heard}
 use Rattle.area.specs.Places.{Part, clock, layout, draws, counters, station, frame, buffer, Keeps}
 use Rattle.area.specs.Whole.{Still, area-same}
 use Rattle.area.specs.Area.{clockAt, withClock, depthAt, figuresAt, countAt, stationAt, heardOf, heardCode, symbolAt, arrivalAt, withArrival}
 use Rattle.area.specs.AreaLaws.{keeps-refl, keeps-trans, keeps-sym, place-keeps, symbol-turn, count-by, length-arrival}
-use Rattle.pair.specs.Ready.{Readiness}
+use Rattle.bus_spec.specs.Ready.{Readiness}
 use Rattle.fast_plan.specs.Own.{actOn, ownTurn, byItself, on-kept, length-itself, Others, itself-keeps, OwnSame, own-trans, Stays, Drawn, itself-same}
 use Rattle.fast_plan.specs.Plan.{Plan, hears, lineAfter, ownAfter, steps, Planned}
 use Rattle.fast_plan.specs.Happens.{left-still, planned-station, drawn}

@@ -6,24 +6,24 @@ use mathlib.Core.List.{List}
 use native.Mathlib.Omega.{arith}
 use lib.ListN.{length}
 use Rattle.octets.specs.Turns.{turns, length-turns}
-use Rattle.layout.specs.declared.Figures.{Figures}
-use Rattle.packet.specs.declared.Heard.{Heard}
-use Rattle.packet.specs.declared.Emission.{Emission}
-use Rattle.packet.specs.Packet.{symbolOf}
-use Rattle.receiver.specs.declared.Stored.{Stored}
-use Rattle.receiver.specs.declared.Stored.the-variants.{NoStore, Store}
-use Rattle.transmitter.specs.Transmit.{octetsHeld}
-use Rattle.state.specs.declared.Station.{Station}
-use Rattle.station.specs.declared.Stepped.{Stepped}
-use Rattle.station.specs.Step.{stepped}
-use Rattle.record.specs.CodecLaws.{Fit}
+use Rattle.sheet_layout.specs.declared.Figures.{Figures}
+use Rattle.station_symbols.specs.declared.Heard.{Heard}
+use Rattle.station_symbols.specs.declared.Emission.{Emission}
+use Rattle.station_symbols.specs.Packet.{symbolOf}
+use Rattle.station_receive.specs.declared.Stored.{Stored}
+use Rattle.station_receive.specs.declared.Stored.the-variants.{NoStore, Store}
+use Rattle.station_transmit.specs.Transmit.{octetsHeld}
+use Rattle.station_state.specs.declared.Station.{Station}
+use Rattle.station_spec.specs.declared.Stepped.{Stepped}
+use Rattle.station_spec.specs.Step.{stepped}
+use Rattle.area_record.specs.CodecLaws.{Fit}
 use Rattle.area.specs.Places.{Part, layout, station, frame, buffer, Off, Keeps}
 use Rattle.area.specs.Area.{drawAt, addressAt, stationAt, withStation, frameAt, bufferAt}
 use Rattle.area.specs.AreaLaws.{keeps-refl, keeps-trans, station-by, frame-by, station-keeps, station-same, length-station}
 use Rattle.area.specs.Written.{station-over, station-bit}
-use Rattle.pair.specs.BitTime.{withStored, happened, withCounted}
-use Rattle.pair.specs.InPlace.{Kept, length-stored, stored-keeps}
-use Rattle.quick.specs.Quick.{quietly}
+use Rattle.bus_spec.specs.BitTime.{withStored, happened, withCounted}
+use Rattle.bus_spec.specs.InPlace.{Kept, length-stored, stored-keeps}
+use Rattle.bus_quick.specs.Quick.{quietly}
 use Rattle.fast_plan.specs.Own.{outcomeOn, actOn, ownLeft, ownTurn, byItself}
 use Rattle.area.specs.Offsets.{areaSize}
 

@@ -8,33 +8,33 @@ use lib.Dec.{eqb, ltb, leb}
 use lib.ListN.{length, getD}
 use Rattle.octets.specs.BaseLaws.{by-test, by-eq}
 use Rattle.octets.specs.Turns.{turns}
-use Rattle.layout.specs.declared.Figures.{Figures}
-use Rattle.packet.specs.declared.Heard.{Heard}
-use Rattle.packet.specs.declared.Heard.the-variants.{Nothing}
-use Rattle.packet.specs.declared.Symbol.{Symbol}
-use Rattle.packet.specs.declared.Symbol.the-variants.{Silence}
-use Rattle.receiver.specs.declared.Stored.{Stored}
-use Rattle.receiver.specs.declared.Stored.the-variants.{NoStore, Store}
-use Rattle.station.specs.declared.Stepped.{Stepped}
+use Rattle.sheet_layout.specs.declared.Figures.{Figures}
+use Rattle.station_symbols.specs.declared.Heard.{Heard}
+use Rattle.station_symbols.specs.declared.Heard.the-variants.{Nothing}
+use Rattle.station_symbols.specs.declared.Symbol.{Symbol}
+use Rattle.station_symbols.specs.declared.Symbol.the-variants.{Silence}
+use Rattle.station_receive.specs.declared.Stored.{Stored}
+use Rattle.station_receive.specs.declared.Stored.the-variants.{NoStore, Store}
+use Rattle.station_spec.specs.declared.Stepped.{Stepped}
 use Rattle.area.specs.Places.{Part, clock, depth, layout, draws, counters, station, frame, buffer, place, Off, Keeps}
 use Rattle.area.specs.Area.{clockAt, withClock, depthAt, figuresAt, countAt, spaceAt, stationAt, arrivalAt}
 use Rattle.area.specs.Whole.{Still, clock-still, station-still, counters-still, bit-still, arrival-still, clock-on}
 use Rattle.area.specs.AreaLaws.{keeps-refl, keeps-trans, depth-by, figures-by, count-by, space-by, station-by, arrival-by, arrival-turn, arrival-keeps, clock-keeps}
-use Rattle.medium.specs.Medium.{sendTo, isSilence, pushed}
-use Rattle.pair.specs.declared.Act.{Act}
-use Rattle.pair.specs.BitTime.{actIn, actAt, withStored, happened, withCounted, placed, settled, stepArea}
-use Rattle.pair.specs.Range.{held-small}
-use Rattle.pair.specs.InPlace.{Kept, Spread, Foreign}
-use Rattle.pair.specs.Ready.{Readiness, kept-at}
-use Rattle.ready.specs.After.{length-after, own, ahead}
-use Rattle.ready.specs.Stays.{step-length, step-layout, step-depth, step-draws, step-frame, step-clock, step-ready}
-use Rattle.meeting.specs.Net.{Net, gathered, reaches, heard, grown}
-use Rattle.meeting.specs.Gather.{gathered-same, gathered-none}
-use Rattle.meeting.specs.Meet.{met, met-none, met-group, adds, heard-grown, heard-far}
-use Rattle.meeting.specs.Lines.{share, share-adds, line-all, clear-all}
+use Rattle.bus_spec.specs.Medium.{sendTo, isSilence, pushed}
+use Rattle.bus_spec.specs.declared.Act.{Act}
+use Rattle.bus_spec.specs.BitTime.{actIn, actAt, withStored, happened, withCounted, placed, settled, stepArea}
+use Rattle.bus_spec.specs.Range.{held-small}
+use Rattle.bus_spec.specs.InPlace.{Kept, Spread, Foreign}
+use Rattle.bus_spec.specs.Ready.{Readiness, kept-at}
+use Rattle.bus_spec.specs.After.{length-after, own, ahead}
+use Rattle.bus_spec.specs.Stays.{step-length, step-layout, step-depth, step-draws, step-frame, step-clock, step-ready}
+use Rattle.bus_meeting.specs.Net.{Net, gathered, reaches, heard, grown}
+use Rattle.bus_meeting.specs.Gather.{gathered-same, gathered-none}
+use Rattle.bus_meeting.specs.Meet.{met, met-none, met-group, adds, heard-grown, heard-far}
+use Rattle.bus_meeting.specs.Lines.{share, share-adds, line-all, clear-all}
 use Rattle.fast_plan.specs.Own.{actOn, ownLeft, ownTurn, byItself, by-itself-more, act-heard, length-itself, OwnSame, own-refl, own-sym, own-trans, left-same, Stays, stays-refl, stays-trans, stays-sym, Drawn, on-same, itself-stays}
 use Rattle.fast_plan.specs.Plan.{Plan, cut, netOf, lineNow, hears, lineAfter, ownAfter, actAfter, Holds, steps, Planned}
-use Rattle.layout.specs.Limits.{lastClock}
+use Rattle.sheet_layout.specs.Limits.{lastClock}
 use Rattle.area.specs.Offsets.{areaSize}
 
 -- ---- the plan's symbols on their way

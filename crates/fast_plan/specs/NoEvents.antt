@@ -9,22 +9,22 @@ use lib.ListN.{getD}
 use Rattle.octets.specs.BaseLaws.{by-test}
 use Rattle.octets.specs.Filled.{filled, filled-at, filled-past}
 use Rattle.octets.specs.Turns.{turns}
-use Rattle.layout.specs.declared.Figures.{Figures}
-use Rattle.packet.specs.declared.Heard.{Heard}
-use Rattle.packet.specs.declared.Symbol.the-variants.{Silence}
-use Rattle.packet.specs.declared.Emission.{Emission}
-use Rattle.packet.specs.declared.Emission.the-variants.{Rest}
-use Rattle.packet.specs.Packet.{symbolOf}
-use Rattle.receiver.specs.declared.Stored.{Stored}
-use Rattle.transmitter.specs.Transmit.{octetsHeld}
-use Rattle.tally.specs.Tally.{sentCounted, gotCounted}
-use Rattle.state.specs.declared.Station.{Station}
-use Rattle.station.specs.declared.Stepped.{Stepped}
+use Rattle.sheet_layout.specs.declared.Figures.{Figures}
+use Rattle.station_symbols.specs.declared.Heard.{Heard}
+use Rattle.station_symbols.specs.declared.Symbol.the-variants.{Silence}
+use Rattle.station_symbols.specs.declared.Emission.{Emission}
+use Rattle.station_symbols.specs.declared.Emission.the-variants.{Rest}
+use Rattle.station_symbols.specs.Packet.{symbolOf}
+use Rattle.station_receive.specs.declared.Stored.{Stored}
+use Rattle.station_transmit.specs.Transmit.{octetsHeld}
+use Rattle.station_tally.specs.Tally.{sentCounted, gotCounted}
+use Rattle.station_state.specs.declared.Station.{Station}
+use Rattle.station_spec.specs.declared.Stepped.{Stepped}
 use Rattle.area.specs.Area.{stationAt, frameAt}
-use Rattle.pair.specs.declared.Act.{Act}
-use Rattle.pair.specs.BitTime.{eventsOf, noEvents}
-use Rattle.course.specs.Run.{tallied}
-use Rattle.quick.specs.Quick.{quietly}
+use Rattle.bus_spec.specs.declared.Act.{Act}
+use Rattle.bus_spec.specs.BitTime.{eventsOf, noEvents}
+use Rattle.bus_spec.specs.Run.{tallied}
+use Rattle.bus_quick.specs.Quick.{quietly}
 use Rattle.fast_plan.specs.Own.{actOn}
 
 pub quiet-events : (r : Act) (s : Station) (e : Emission) (o : Stored) → r .outcome ≡ quietly s e o → eventsOf r ≡ noEvents

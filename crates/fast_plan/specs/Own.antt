@@ -7,24 +7,24 @@ use native.Mathlib.Omega.{arith}
 use lib.ListN.{length}
 use Rattle.octets.specs.BaseLaws.{by-test}
 use Rattle.octets.specs.Turns.{turns, length-turns}
-use Rattle.layout.specs.declared.Figures.{Figures}
-use Rattle.packet.specs.declared.Heard.{Heard}
-use Rattle.packet.specs.Packet.{symbolOf}
-use Rattle.receiver.specs.declared.Stored.{Stored}
-use Rattle.receiver.specs.declared.Stored.the-variants.{NoStore, Store}
-use Rattle.transmitter.specs.Transmit.{octetsHeld}
-use Rattle.state.specs.declared.Station.{Station}
-use Rattle.station.specs.declared.Stepped.{Stepped}
-use Rattle.station.specs.Step.{stepped}
-use Rattle.station.specs.Count.{counted}
+use Rattle.sheet_layout.specs.declared.Figures.{Figures}
+use Rattle.station_symbols.specs.declared.Heard.{Heard}
+use Rattle.station_symbols.specs.Packet.{symbolOf}
+use Rattle.station_receive.specs.declared.Stored.{Stored}
+use Rattle.station_receive.specs.declared.Stored.the-variants.{NoStore, Store}
+use Rattle.station_transmit.specs.Transmit.{octetsHeld}
+use Rattle.station_state.specs.declared.Station.{Station}
+use Rattle.station_spec.specs.declared.Stepped.{Stepped}
+use Rattle.station_spec.specs.Step.{stepped}
+use Rattle.station_spec.specs.Count.{counted}
 use Rattle.area.specs.Places.{Part, layout, draws, counters, station, frame, buffer, Off, Keeps}
 use Rattle.area.specs.Area.{drawAt, countersAt, stationAt, withStation, frameAt, bufferAt, arrivalAt}
 use Rattle.area.specs.AreaLaws.{keeps-refl, keeps-trans, keeps-sym, draw-by, counters-by, station-by, frame-by, buffer-by, station-keeps, length-station}
 use Rattle.area.specs.Whole.{station-on, counters-on, bit-on}
-use Rattle.pair.specs.declared.Act.{Act}
-use Rattle.pair.specs.BitTime.{outcomeIn, actIn, withStored, happened, withCounted}
-use Rattle.pair.specs.Ready.{receive-kept}
-use Rattle.pair.specs.InPlace.{Kept, length-stored, length-counted, stored-keeps, counted-keeps}
+use Rattle.bus_spec.specs.declared.Act.{Act}
+use Rattle.bus_spec.specs.BitTime.{outcomeIn, actIn, withStored, happened, withCounted}
+use Rattle.bus_spec.specs.Ready.{receive-kept}
+use Rattle.bus_spec.specs.InPlace.{Kept, length-stored, length-counted, stored-keeps, counted-keeps}
 use Rattle.area.specs.Offsets.{areaSize}
 
 -- ---- a turn on what is heard

@@ -9,14 +9,14 @@ use lib.ListN.{length, getD}
 use Rattle.octets.specs.Base.{pick}
 use Rattle.octets.specs.BaseLaws.{by-test, by-eq}
 use Rattle.octets.specs.Turns.{turns}
-use Rattle.packet.specs.declared.Heard.{Heard}
-use Rattle.packet.specs.declared.Heard.the-variants.{Nothing}
-use Rattle.packet.specs.declared.Symbol.{Symbol}
+use Rattle.station_symbols.specs.declared.Heard.{Heard}
+use Rattle.station_symbols.specs.declared.Heard.the-variants.{Nothing}
+use Rattle.station_symbols.specs.declared.Symbol.{Symbol}
 use Rattle.area.specs.Places.{Part, place, Off, Keeps}
 use Rattle.area.specs.Area.{clockAt, countAt, spaceAt, symbolAt, arrivalAt, withArrival, joined}
 use Rattle.area.specs.Whole.{Still, arrival-still}
 use Rattle.area.specs.AreaLaws.{keeps-refl, keeps-trans, arrival-by, arrival-keeps, symbol-same, code-small, length-arrival}
-use Rattle.pair.specs.InPlace.{Spread}
+use Rattle.bus_spec.specs.InPlace.{Spread}
 use Rattle.fast_plan.specs.Plan.{Plan, lineAfter}
 use Rattle.fast_plan.specs.Push.{cleared, joinedAt, onWay, waysTo, lineDone, pushed-line}
 use Rattle.area.specs.Offsets.{areaSize}

@@ -7,18 +7,18 @@ use lib.Dec.{ltb}
 use lib.ListN.{length, getD}
 use Rattle.octets.specs.Base.{pick}
 use Rattle.octets.specs.Turns.{turns}
-use Rattle.packet.specs.declared.Heard.{Heard}
-use Rattle.packet.specs.declared.Heard.the-variants.{Nothing}
-use Rattle.packet.specs.declared.Symbol.{Symbol}
-use Rattle.packet.specs.declared.Symbol.the-variants.{Silence}
+use Rattle.station_symbols.specs.declared.Heard.{Heard}
+use Rattle.station_symbols.specs.declared.Heard.the-variants.{Nothing}
+use Rattle.station_symbols.specs.declared.Symbol.{Symbol}
+use Rattle.station_symbols.specs.declared.Symbol.the-variants.{Silence}
 use Rattle.area.specs.Places.{clock, depth, Keeps}
 use Rattle.area.specs.Whole.{Still}
 use Rattle.area.specs.Area.{clockAt, withClock, depthAt, drawAt, figuresAt, countAt, addressAt, spaceAt, bufferAt, arrivalAt}
-use Rattle.pair.specs.declared.Act.{Act}
-use Rattle.pair.specs.BitTime.{stepArea}
-use Rattle.pair.specs.Ready.{Readiness}
-use Rattle.meeting.specs.Net.{Net, heard}
-use Rattle.meeting.specs.Meet.{met}
+use Rattle.bus_spec.specs.declared.Act.{Act}
+use Rattle.bus_spec.specs.BitTime.{stepArea}
+use Rattle.bus_spec.specs.Ready.{Readiness}
+use Rattle.bus_meeting.specs.Net.{Net, heard}
+use Rattle.bus_meeting.specs.Meet.{met}
 use Rattle.fast_plan.specs.Own.{actOn, byItself, Stays, OwnSame}
 
 -- P i s: what station i emits in step s from now

@@ -10,9 +10,9 @@ use lib.Dec.{eqb}
 use Rattle.octets.specs.Base.{pick}
 use Rattle.octets.specs.BaseLaws.{by-test, by-eq, neither}
 use Rattle.octets.specs.Turns.{turns}
-use Rattle.packet.specs.declared.Symbol.{Symbol}
-use Rattle.packet.specs.declared.Symbol.the-variants.{Silence, Bit, Jam}
-use Rattle.tally.specs.Tally.{isLate}
+use Rattle.station_symbols.specs.declared.Symbol.{Symbol}
+use Rattle.station_symbols.specs.declared.Symbol.the-variants.{Silence, Bit, Jam}
+use Rattle.station_tally.specs.Tally.{isLate}
 use Rattle.area.specs.Area.{countAt}
 use Rattle.fast_plan.specs.Plan.{Plan, actAfter, Holds}
 

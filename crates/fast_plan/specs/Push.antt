@@ -10,17 +10,17 @@ use lib.ListN.{length}
 use Rattle.octets.specs.Base.{pick}
 use Rattle.octets.specs.BaseLaws.{by-test, by-eq}
 use Rattle.octets.specs.Turns.{turns, length-turns}
-use Rattle.packet.specs.declared.Heard.{Heard}
-use Rattle.packet.specs.declared.Heard.the-variants.{Nothing}
-use Rattle.packet.specs.declared.Symbol.{Symbol}
-use Rattle.packet.specs.declared.Symbol.the-variants.{Silence}
+use Rattle.station_symbols.specs.declared.Heard.{Heard}
+use Rattle.station_symbols.specs.declared.Heard.the-variants.{Nothing}
+use Rattle.station_symbols.specs.declared.Symbol.{Symbol}
+use Rattle.station_symbols.specs.declared.Symbol.the-variants.{Silence}
 use Rattle.area.specs.Places.{place}
 use Rattle.area.specs.Area.{clockAt, countAt, spaceAt, arrivalAt, withArrival, alone, joined}
 use Rattle.area.specs.AreaLaws.{arrival-by, arrival-same, arrival-turn, arrival-keeps, length-arrival}
-use Rattle.pair.specs.InPlace.{Spread}
-use Rattle.meeting.specs.Net.{gathered, reaches, heard}
-use Rattle.meeting.specs.Gather.{joined-none}
-use Rattle.meeting.specs.Meet.{met, met-none, met-group, joined-met}
+use Rattle.bus_spec.specs.InPlace.{Spread}
+use Rattle.bus_meeting.specs.Net.{gathered, reaches, heard}
+use Rattle.bus_meeting.specs.Gather.{joined-none}
+use Rattle.bus_meeting.specs.Meet.{met, met-none, met-group, joined-met}
 use Rattle.fast_plan.specs.Plan.{Plan, cut, netOf, lineNow, lineAfter}
 use Rattle.area.specs.Offsets.{areaSize}
 

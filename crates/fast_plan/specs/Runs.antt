@@ -11,19 +11,19 @@ use borrow.Author.Tests.{ltb-true, ltb-false}
 use lib.Dec.{ltb}
 use Rattle.octets.specs.Filled.{filled, filled-same, filled-at, filled-past}
 use Rattle.octets.specs.Turns.{turns}
-use Rattle.tally.specs.Tally.{isLate}
+use Rattle.station_tally.specs.Tally.{isLate}
 use Rattle.area.specs.Area.{clockAt, countAt}
 use Rattle.area.specs.AreaLaws.{count-by}
-use Rattle.pair.specs.declared.Events.{Events}
-use Rattle.pair.specs.BitTime.{actAt, eventsOf, noEvents, eventsAt, stepArea}
-use Rattle.pair.specs.Ready.{Readiness}
-use Rattle.course.specs.Run.{tallied, lateAt, runOf, stops}
-use Rattle.course.specs.Until.{eventful, Stretched, oneMore, untilEvent}
-use Rattle.course.specs.UntilLaws.{plus, stretch-first}
+use Rattle.bus_spec.specs.declared.Events.{Events}
+use Rattle.bus_spec.specs.BitTime.{actAt, eventsOf, noEvents, eventsAt, stepArea}
+use Rattle.bus_spec.specs.Ready.{Readiness}
+use Rattle.bus_spec.specs.Run.{tallied, lateAt, runOf, stops}
+use Rattle.bus_spec.specs.Until.{eventful, Stretched, oneMore, untilEvent}
+use Rattle.bus_spec.specs.UntilLaws.{plus, stretch-first}
 use Rattle.fast_plan.specs.Plan.{Plan, actAfter, Holds, steps, Planned}
 use Rattle.fast_plan.specs.Happens.{plan-happens, plan-acts}
 use Rattle.fast_plan.specs.Prefix.{Unhurt, holds-less}
-use Rattle.layout.specs.Limits.{lastClock}
+use Rattle.sheet_layout.specs.Limits.{lastClock}
 
 -- those of step s, by the plan
 unfoldable pub eventsBy : List ℕ → Plan → ℕ → List Events

@@ -9,13 +9,13 @@ use Rattle.area.specs.Places.{counters, station, buffer, place, Keeps}
 use Rattle.area.specs.Area.{clockAt, withClock, countAt, heardCode, symbolAt}
 use Rattle.area.specs.Whole.{clock-still, clock-on}
 use Rattle.area.specs.AreaLaws.{arrival-by, symbol-by, clock-keeps, length-clock}
-use Rattle.pair.specs.Ready.{Readiness}
+use Rattle.bus_spec.specs.Ready.{Readiness}
 use Rattle.fast_plan.specs.Own.{own-trans}
 use Rattle.fast_plan.specs.Plan.{Plan, ownAfter, Holds, steps}
 use Rattle.fast_plan.specs.Happens.{plan-happens}
 use Rattle.fast_plan.specs.Exact.{planned-left, left-same-area, symbol-code, ownAll, length-own, own-keeps, own-built, own-still, own-drawn}
 use Rattle.fast_plan.specs.Placed.{linesDone, done-long, done-keeps, done-still, done-codes, done-line}
-use Rattle.layout.specs.Limits.{lastClock}
+use Rattle.sheet_layout.specs.Limits.{lastClock}
 
 unfoldable pub turnedOf : List ℕ → Plan → ℕ → List ℕ
 turnedOf a P K = withClock (linesDone a P K (countAt a) (ownAll a P K (countAt a) a)) (clockAt a + K)

@@ -12,25 +12,25 @@ use lib.Seq.{getD-take, getD-drop}
 use Rattle.octets.specs.BaseLaws.{by-test}
 use Rattle.octets.specs.Store.{part, length-part}
 use Rattle.octets.specs.Turns.{turns-none, turns-more, turns-end}
-use Rattle.packet.specs.declared.Heard.{Heard}
-use Rattle.packet.specs.declared.Heard.the-variants.{Clean}
-use Rattle.packet.specs.Packet.{hearsAny, packetBit}
-use Rattle.state.specs.declared.Receiver.{Receiver}
-use Rattle.state.specs.declared.Receiver.the-variants.{Listening, Readable, Seeking, Collecting}
-use Rattle.receiver.specs.declared.Received.{Received}
-use Rattle.receiver.specs.Receive.{rowIn, bitsIn, storedBit, seek, seekBit, collect, collectBit, hear, receive}
+use Rattle.station_symbols.specs.declared.Heard.{Heard}
+use Rattle.station_symbols.specs.declared.Heard.the-variants.{Clean}
+use Rattle.station_symbols.specs.Packet.{hearsAny, packetBit}
+use Rattle.station_state.specs.declared.Receiver.{Receiver}
+use Rattle.station_state.specs.declared.Receiver.the-variants.{Listening, Readable, Seeking, Collecting}
+use Rattle.station_receive.specs.declared.Received.{Received}
+use Rattle.station_receive.specs.Receive.{rowIn, bitsIn, storedBit, seek, seekBit, collect, collectBit, hear, receive}
 use Rattle.area.specs.Places.{place}
 use Rattle.area.specs.Area.{bufferAt, heardOf, symbolAt, arrivalAt, withOctet}
 use Rattle.area.specs.AreaLaws.{symbol-by}
-use Rattle.pair.specs.BitTime.{withStored}
-use Rattle.pair.specs.InPlace.{Kept}
+use Rattle.bus_spec.specs.BitTime.{withStored}
+use Rattle.bus_spec.specs.InPlace.{Kept}
 use Rattle.fast_plan.specs.Goes.{storedAll}
 use Rattle.fast_receive.specs.Received.{Taken, taken, stepTaken, heardAll, spoils, lineFrom, bitsFrom, AllHeard, copied}
 use Rattle.fast_receive.specs.ReceivedLaws.{hear-range, heard-split, heard-keeps}
 use Rattle.fast_receive.specs.Copy.{octets-copied}
 use Rattle.fast_receive.specs.Zeros.{lowKept, blanks, zeroed, zeroedUpTo, zeros-stored, spoiled-seeking, spoiled-listening, spoiled-readable, spoiled-collecting}
 use Rattle.area.specs.Offsets.{areaSize}
-use Rattle.frame.specs.Limits.{bufferOctets, bufferBits}
+use Rattle.frame_build.specs.Limits.{bufferOctets, bufferBits}
 
 -- ---- one step
 

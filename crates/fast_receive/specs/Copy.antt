@@ -10,19 +10,19 @@ use lib.ListN.{length, getD, set, length-set}
 use lib.Seq.{getD-set-same, set-set}
 use Rattle.octets.specs.Bits.{digit}
 use Rattle.octets.specs.Turns.{turns, length-turns}
-use Rattle.packet.specs.declared.Heard.the-variants.{Clean}
-use Rattle.packet.specs.Packet.{frameBit, packetBit}
-use Rattle.packet.specs.PacketLaws.{frame-bit, bit-of-frame}
-use Rattle.state.specs.declared.Receiver.the-variants.{Collecting}
-use Rattle.receiver.specs.declared.Stored.{Stored}
-use Rattle.receiver.specs.Receive.{storedBit, receive, hear, collect, collectBit}
+use Rattle.station_symbols.specs.declared.Heard.the-variants.{Clean}
+use Rattle.station_symbols.specs.Packet.{frameBit, packetBit}
+use Rattle.station_symbols.specs.PacketLaws.{frame-bit, bit-of-frame}
+use Rattle.station_state.specs.declared.Receiver.the-variants.{Collecting}
+use Rattle.station_receive.specs.declared.Stored.{Stored}
+use Rattle.station_receive.specs.Receive.{storedBit, receive, hear, collect, collectBit}
 use Rattle.area.specs.Area.{octetWith, withBit, withOctet}
-use Rattle.pair.specs.BitTime.{withStored}
+use Rattle.bus_spec.specs.BitTime.{withStored}
 use Rattle.fast_plan.specs.Goes.{storedAll}
 use Rattle.fast_receive.specs.Received.{Taken, taken, stepTaken, heardAll, bitsFrom, copied}
 use Rattle.fast_receive.specs.ReceivedLaws.{turns-add}
 use Rattle.area.specs.Offsets.{areaSize}
-use Rattle.frame.specs.Limits.{bufferOctets, bufferBits}
+use Rattle.frame_build.specs.Limits.{bufferOctets, bufferBits}
 
 -- ---- one octet
 

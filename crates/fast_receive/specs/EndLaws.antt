@@ -13,24 +13,24 @@ use Rattle.octets.specs.Equal.{equal}
 use Rattle.octets.specs.Region.{Same, part-goes-by}
 use Rattle.octets.specs.Store.{part, length-part}
 use Rattle.octets.specs.Turns.{turns}
-use Rattle.opener.specs.Open.{destinationOf}
-use Rattle.packet.specs.declared.Heard.{Heard}
-use Rattle.packet.specs.declared.Heard.the-variants.{Nothing, Clean, Jammed, Several}
-use Rattle.packet.specs.Packet.{hearsAny}
-use Rattle.state.specs.declared.Receiver.{Receiver}
-use Rattle.state.specs.declared.Receiver.the-variants.{Listening, Readable, Seeking, Collecting}
-use Rattle.receiver.specs.declared.ReceiveEvent.the-variants.{NoReceive}
-use Rattle.receiver.specs.declared.Stored.{Stored}
-use Rattle.receiver.specs.declared.Stored.the-variants.{NoStore, Store}
-use Rattle.receiver.specs.Receive.{rowIn, bitsIn, nextRow, storedBit, seek, seekBit, collect, collectBit, hear, addressed, deciding, decide, ended, receive}
+use Rattle.frame_open.specs.Open.{destinationOf}
+use Rattle.station_symbols.specs.declared.Heard.{Heard}
+use Rattle.station_symbols.specs.declared.Heard.the-variants.{Nothing, Clean, Jammed, Several}
+use Rattle.station_symbols.specs.Packet.{hearsAny}
+use Rattle.station_state.specs.declared.Receiver.{Receiver}
+use Rattle.station_state.specs.declared.Receiver.the-variants.{Listening, Readable, Seeking, Collecting}
+use Rattle.station_receive.specs.declared.ReceiveEvent.the-variants.{NoReceive}
+use Rattle.station_receive.specs.declared.Stored.{Stored}
+use Rattle.station_receive.specs.declared.Stored.the-variants.{NoStore, Store}
+use Rattle.station_receive.specs.Receive.{rowIn, bitsIn, nextRow, storedBit, seek, seekBit, collect, collectBit, hear, addressed, deciding, decide, ended, receive}
 use Rattle.area.specs.Area.{bufferAt, withBit, addressAt}
-use Rattle.pair.specs.BitTime.{withStored}
+use Rattle.bus_spec.specs.BitTime.{withStored}
 use Rattle.fast_plan.specs.Goes.{storedAll, length-all}
 use Rattle.fast_station.specs.Forms.{calmed}
 use Rattle.fast_receive.specs.Received.{receivedBy, keptBy, AllHeard, mayReport}
 use Rattle.fast_receive.specs.ReceivedLaws.{received-range}
 use Rattle.area.specs.Offsets.{areaSize}
-use Rattle.frame.specs.Limits.{bufferOctets, bufferBits}
+use Rattle.frame_build.specs.Limits.{bufferOctets, bufferBits}
 
 -- ---- a law for each way through the code
 

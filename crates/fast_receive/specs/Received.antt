@@ -7,16 +7,16 @@ use mathlib.Core.List.{List, []}
 use lib.Dec.{leb, ltb}
 use lib.ListN.{getD}
 use Rattle.octets.specs.Turns.{turns}
-use Rattle.packet.specs.declared.Heard.{Heard}
-use Rattle.packet.specs.declared.Heard.the-variants.{Clean, Several}
-use Rattle.packet.specs.Packet.{hearsAny, packetBit}
-use Rattle.state.specs.declared.Receiver.{Receiver}
-use Rattle.state.specs.declared.Receiver.the-variants.{Listening, Readable, Seeking, Collecting}
-use Rattle.receiver.specs.declared.Received.{Received}
-use Rattle.receiver.specs.declared.Stored.{Stored}
-use Rattle.receiver.specs.Receive.{addressed, receive}
+use Rattle.station_symbols.specs.declared.Heard.{Heard}
+use Rattle.station_symbols.specs.declared.Heard.the-variants.{Clean, Several}
+use Rattle.station_symbols.specs.Packet.{hearsAny, packetBit}
+use Rattle.station_state.specs.declared.Receiver.{Receiver}
+use Rattle.station_state.specs.declared.Receiver.the-variants.{Listening, Readable, Seeking, Collecting}
+use Rattle.station_receive.specs.declared.Received.{Received}
+use Rattle.station_receive.specs.declared.Stored.{Stored}
+use Rattle.station_receive.specs.Receive.{addressed, receive}
 use Rattle.area.specs.Area.{arrivalAt, withOctet}
-use Rattle.pair.specs.BitTime.{withStored}
+use Rattle.bus_spec.specs.BitTime.{withStored}
 
 -- ---- a receiver, and what it stores in the area
 

@@ -10,18 +10,18 @@ use lib.ListN.{length}
 use Rattle.octets.specs.BaseLaws.{by-test}
 use Rattle.octets.specs.Bits.{digit}
 use Rattle.octets.specs.Turns.{turns}
-use Rattle.packet.specs.declared.Heard.{Heard}
-use Rattle.packet.specs.declared.Heard.the-variants.{Nothing, Clean, Jammed, Several}
-use Rattle.packet.specs.Packet.{hearsAny}
-use Rattle.state.specs.declared.Receiver.{Receiver}
-use Rattle.state.specs.declared.Receiver.the-variants.{Listening, Readable, Seeking, Collecting}
-use Rattle.receiver.specs.declared.Received.{Received}
-use Rattle.receiver.specs.Receive.{rowIn, bitsIn, nextRow, hearing, seekBit, seek, collect, collectBit, hear, receive}
-use Rattle.record.specs.Codec.{receiverNumber}
+use Rattle.station_symbols.specs.declared.Heard.{Heard}
+use Rattle.station_symbols.specs.declared.Heard.the-variants.{Nothing, Clean, Jammed, Several}
+use Rattle.station_symbols.specs.Packet.{hearsAny}
+use Rattle.station_state.specs.declared.Receiver.{Receiver}
+use Rattle.station_state.specs.declared.Receiver.the-variants.{Listening, Readable, Seeking, Collecting}
+use Rattle.station_receive.specs.declared.Received.{Received}
+use Rattle.station_receive.specs.Receive.{rowIn, bitsIn, nextRow, hearing, seekBit, seek, collect, collectBit, hear, receive}
+use Rattle.area_record.specs.Codec.{receiverNumber}
 use Rattle.area.specs.Places.{Part, buffer, Off, Keeps}
 use Rattle.area.specs.AreaLaws.{keeps-refl, keeps-trans}
-use Rattle.pair.specs.InPlace.{Kept, length-stored, stored-keeps}
-use Rattle.pair.specs.Ready.{receive-kept}
+use Rattle.bus_spec.specs.InPlace.{Kept, length-stored, stored-keeps}
+use Rattle.bus_spec.specs.Ready.{receive-kept}
 use Rattle.fast_plan.specs.Goes.{storedAll}
 use Rattle.fast_receive.specs.Received.{Taken, taken, stepTaken, heardAll, receivedBy, keptBy, spoils, bitsFrom, AllHeard}
 

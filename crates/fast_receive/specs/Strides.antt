@@ -10,17 +10,17 @@ use lib.Dec.{eqb, leb, ltb}
 use lib.ListN.{length}
 use Rattle.octets.specs.BaseLaws.{by-test, by-eq}
 use Rattle.octets.specs.Turns.{turns}
-use Rattle.packet.specs.declared.Heard.{Heard}
-use Rattle.packet.specs.declared.Heard.the-variants.{Nothing, Clean, Jammed, Several}
-use Rattle.packet.specs.Packet.{hearsAny, packetBit}
-use Rattle.packet.specs.PacketLaws.{bit-alternates}
-use Rattle.state.specs.declared.Receiver.{Receiver}
-use Rattle.state.specs.declared.Receiver.the-variants.{Seeking, Collecting}
-use Rattle.receiver.specs.Receive.{rowIn, bitsIn, nextRow, storedBit, seek, seekBit, hear, receive}
+use Rattle.station_symbols.specs.declared.Heard.{Heard}
+use Rattle.station_symbols.specs.declared.Heard.the-variants.{Nothing, Clean, Jammed, Several}
+use Rattle.station_symbols.specs.Packet.{hearsAny, packetBit}
+use Rattle.station_symbols.specs.PacketLaws.{bit-alternates}
+use Rattle.station_state.specs.declared.Receiver.{Receiver}
+use Rattle.station_state.specs.declared.Receiver.the-variants.{Seeking, Collecting}
+use Rattle.station_receive.specs.Receive.{rowIn, bitsIn, nextRow, storedBit, seek, seekBit, hear, receive}
 use Rattle.area.specs.Places.{place}
 use Rattle.area.specs.Area.{heardOf, symbolAt, arrivalAt, withOctet}
 use Rattle.area.specs.AreaLaws.{symbol-by}
-use Rattle.pair.specs.BitTime.{withStored}
+use Rattle.bus_spec.specs.BitTime.{withStored}
 use Rattle.fast_plan.specs.Goes.{storedAll}
 use Rattle.fast_receive.specs.Received.{Taken, taken, stepTaken, heardAll, lineFrom, bitsFrom, AllHeard}
 use Rattle.fast_receive.specs.ReceivedLaws.{heard-split, heard-keeps}

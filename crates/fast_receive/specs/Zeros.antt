@@ -14,18 +14,18 @@ use lib.Seq.{getD-set-same, set-getD}
 use Rattle.octets.specs.Base.{pick}
 use Rattle.octets.specs.BaseLaws.{by-test, by-eq}
 use Rattle.octets.specs.Turns.{turns, length-turns}
-use Rattle.packet.specs.declared.Heard.the-variants.{Several}
-use Rattle.state.specs.declared.Receiver.the-variants.{Listening, Readable, Seeking, Collecting}
-use Rattle.receiver.specs.declared.Stored.{Stored}
-use Rattle.receiver.specs.Receive.{storedBit, receive, hear, seek, collect, collectBit}
+use Rattle.station_symbols.specs.declared.Heard.the-variants.{Several}
+use Rattle.station_state.specs.declared.Receiver.the-variants.{Listening, Readable, Seeking, Collecting}
+use Rattle.station_receive.specs.declared.Stored.{Stored}
+use Rattle.station_receive.specs.Receive.{storedBit, receive, hear, seek, collect, collectBit}
 use Rattle.area.specs.Area.{octetWith, withBit, withOctet}
-use Rattle.pair.specs.BitTime.{withStored}
+use Rattle.bus_spec.specs.BitTime.{withStored}
 use Rattle.fast_plan.specs.Goes.{storedAll}
 use Rattle.fast_receive.specs.Received.{Taken, taken, stepTaken, heardAll, spoils}
 use Rattle.fast_receive.specs.ReceivedLaws.{turns-add}
 use Rattle.fast_receive.specs.Copy.{or-twice}
 use Rattle.area.specs.Offsets.{areaSize}
-use Rattle.frame.specs.Limits.{bufferOctets, bufferBits}
+use Rattle.frame_build.specs.Limits.{bufferOctets, bufferBits}
 
 -- octets q + 1 .. q + n of the buffer of station i are 0
 unfoldable pub blanks : (i q n : ℕ) → List ℕ → List ℕ

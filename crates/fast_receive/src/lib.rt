@@ -1,17 +1,17 @@
 // A receiver over many steps in each of which others are heard: it looks for the delimiter, then collects; the bits are stored in the area.
 
-use state::Receiver;
+use station_state::Receiver;
 ghost use mathlib.Core.Path.{_≡_};
 ghost use Prim.Native.Nat.{_+_, _-_, _*_, _/_, _%_, _<_, _≤_};
 ghost use lib.ListN.{length};
-ghost use Rattle.receiver.specs.Receive.{rowIn, bitsIn, hear, addressed};
+ghost use Rattle.station_receive.specs.Receive.{rowIn, bitsIn, hear, addressed};
 ghost use Rattle.area.specs.Area.{addressAt, bufferAt, symbolAt};
-ghost use Rattle.state.specs.declared.Receiver.the-variants.{Seeking, Collecting};
+ghost use Rattle.station_state.specs.declared.Receiver.the-variants.{Seeking, Collecting};
 ghost use Rattle.fast_receive.specs.Received.{taken, stepTaken, heardAll, spoils, lineFrom, bitsFrom, AllHeard, copied, mayReport};
 ghost use Rattle.fast_receive.specs.Strides.{Passes, CleanBits};
 ghost use Rattle.fast_receive.specs.Zeros.{lowKept, blanks, zeroedUpTo};
 ghost use Rattle.area.specs.Offsets.{areaSize};
-ghost use Rattle.frame.specs.Limits.{bufferOctets};
+ghost use Rattle.frame_build.specs.Limits.{bufferOctets};
 
 // A receiver after so many steps.
 struct Part {
@@ -27,10 +27,10 @@ fn hear_one(area: &mut [u8], j: usize, r: Receiver, clean: bool, one: bool, e: b
     ensures heard { λ q. ⌜ taken q (now (area .exit)) ≡ stepTaken j (hear r clean one e) (now (area .entry)) ⌝ }
     ensures range { λ q. ⌜ (rowIn q < 512) × (bitsIn q ≤ bitsIn r + 1) ⌝ }
 {
-    let o = receiver::hear(r, clean, one, e);
+    let o = station_receive::hear(r, clean, one, e);
     let next = o.receiver;
     let stored = o.stored;
-    turn::keep_bit(area, j, stored);
+    bus_turn::keep_bit(area, j, stored);
     next
 }
 
@@ -42,7 +42,7 @@ fn code_at(area: &[u8], j: usize, u: usize) -> u32
     ensures value { λ c. ⌜ c ≡ symbolAt (now (area .entry)) j u ⌝ }
     ensures small { λ c. ⌜ c < 256 ⌝ }
 {
-    octets::wide(delay::read_symbol(area, j, u))
+    octets::wide(area_line::read_symbol(area, j, u))
 }
 
 // Four clean bits of the line of station j from step u on, the first lowest; 16 or more where one of the symbols is
@@ -105,7 +105,7 @@ fn collect_eight(
     if 255 < v {
         return stay(bits, spoiled, own);
     }
-    buffers::write_octet(area, j, (bits / 8) as usize, v as u8);
+    area_buffers::write_octet(area, j, (bits / 8) as usize, v as u8);
     Part {
         receiver: Receiver::Collecting {
             bits: bits + 8,
@@ -142,7 +142,7 @@ fn hear_some(area: &mut [u8], j: usize, u: usize, e: bool, r: Receiver, m: u32) 
         return o;
     }
     let q = o.receiver;
-    let code = delay::read_symbol(area, j, u);
+    let code = area_line::read_symbol(area, j, u);
     let next = hear_one(area, j, q, code <= 2, code == 2, e);
     Part {
         receiver: next,
@@ -183,7 +183,7 @@ fn hear_bits(
     let mut q = r;
     let mut s: u32 = 0;
     while s < m {
-        let one = packet::packet_bit(frame, a + s);
+        let one = station_symbols::packet_bit(frame, a + s);
         q = hear_one(area, j, q, true, one, e);
         s += 1;
     }
@@ -253,7 +253,7 @@ fn hear_next(area: &mut [u8], j: usize, frame: &[u8], a: u32, e: bool, r: Receiv
     if p.steps != 0 {
         return p;
     }
-    let one = packet::packet_bit(frame, a);
+    let one = station_symbols::packet_bit(frame, a);
     let next = hear_one(area, j, r, true, one, e);
     Part {
         receiver: next,
@@ -319,7 +319,7 @@ fn copy_octets(area: &mut [u8], j: usize, frame: &[u8], q: usize, p: usize, n: u
 {
     let mut k: usize = 0;
     while k < n {
-        buffers::write_octet(area, j, q + k, frame[p + k]);
+        area_buffers::write_octet(area, j, q + k, frame[p + k]);
         k += 1;
     }
 }
@@ -334,7 +334,7 @@ fn octets_left(size: usize, q: usize, p: usize, m: u32) -> usize
     if 1518 <= q {
         return 0;
     }
-    quick::capped((m / 8) as usize, quick::capped(size - p, 1518 - q))
+    bus_quick::capped((m / 8) as usize, bus_quick::capped(size - p, 1518 - q))
 }
 
 // A receiver that has taken no step.
@@ -443,11 +443,11 @@ fn keep_low(area: &mut [u8], j: usize, q: usize, p: usize)
     requires { ⌜ (j < 16) × (areaSize ≤ length (now area)) × (q < bufferOctets) × (p < 8) ⌝ }
     ensures { λ r. ⌜ now (area .exit) ≡ lowKept j q p (now (area .entry)) ⌝ }
 {
-    let b = buffers::buffer(area, j);
+    let b = area_buffers::buffer(area, j);
     let old = octets::wide(b[q]);
-    let unit = buffers::power(p);
-    let low = buffers::low_bits(old, p, unit);
-    buffers::write_octet(area, j, q, low as u8);
+    let unit = area_buffers::power(p);
+    let low = area_buffers::low_bits(old, p, unit);
+    area_buffers::write_octet(area, j, q, low as u8);
 }
 
 // The n octets behind octet q of what station j collected become 0.
@@ -457,7 +457,7 @@ fn blank_octets(area: &mut [u8], j: usize, q: usize, n: usize)
 {
     let mut k: usize = 0;
     while k < n {
-        buffers::write_octet(area, j, q + (k + 1), 0);
+        area_buffers::write_octet(area, j, q + (k + 1), 0);
         k += 1;
     }
 }
@@ -470,7 +470,7 @@ fn store_zeros(area: &mut [u8], j: usize, c: usize, m: usize)
     if 12144 <= c {
         return;
     }
-    let n = quick::capped(m, 12144 - c);
+    let n = bus_quick::capped(m, 12144 - c);
     keep_low(area, j, c / 8, c % 8);
     blank_octets(area, j, c / 8, (c + n - 1) / 8 - c / 8);
 }
@@ -527,8 +527,8 @@ fn has_destination(area: &[u8], j: usize) -> bool
     ensures { λ b. ⌜ b ≡ addressed (addressAt (now (area .entry)) j) (bufferAt (now (area .entry)) j) ⌝ }
 {
     let address = area::read_address(area, j);
-    let b = buffers::buffer(area, j);
-    reception::is_addressed(address, b)
+    let b = area_buffers::buffer(area, j);
+    station_end::is_addressed(address, b)
 }
 
 // Whether the reception of station j, in which others are heard for at most `more` steps from now on, could be opened when it ends.

@@ -1,10 +1,10 @@
 // How long a station rests in a silence.
 
-use layout::Figures;
-use state::Deference;
-use state::Receiver;
-use state::Station;
-use state::Transmitter;
+use sheet_layout::Figures;
+use station_state::Deference;
+use station_state::Receiver;
+use station_state::Station;
+use station_state::Transmitter;
 ghost use mathlib.Core.Path.{_≡_};
 ghost use Prim.Native.Nat.{_+_, _<_, min, max};
 ghost use Rattle.fast_silence.specs.Rested.{restsFor, gapTo, restedDeference, restedTransmitter, hasWaited, rested};

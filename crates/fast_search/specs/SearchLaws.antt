@@ -10,15 +10,15 @@ use lib.Dec.{eqb}
 use lib.ListN.{getD}
 use Rattle.octets.specs.Base.{some}
 use Rattle.octets.specs.BaseLaws.{by-test, by-eq, below-none, some-none, some-more, some-hit, some-end}
-use Rattle.layout.specs.declared.Figures.{Figures}
-use Rattle.state.specs.declared.Station.{Station}
-use Rattle.record.specs.Codec.{decoded}
+use Rattle.sheet_layout.specs.declared.Figures.{Figures}
+use Rattle.station_state.specs.declared.Station.{Station}
+use Rattle.area_record.specs.Codec.{decoded}
 use Rattle.area.specs.Area.{clockAt, figuresAt, countAt, recordAt, stationAt, symbolAt}
 use Rattle.area.specs.AreaLaws.{symbol-turn}
-use Rattle.pair.specs.Ready.{Ready}
-use Rattle.course.specs.RunLaws.{first-hit}
+use Rattle.bus_spec.specs.Ready.{Ready}
+use Rattle.bus_spec.specs.RunLaws.{first-hit}
 use Rattle.fast_silence.specs.Bound.{stationRests, used, lineRests, stationsRest, linesRest, worth, silentFor, worth-most, stations-fall, lines-fall}
-use Rattle.layout.specs.Limits.{lastClock}
+use Rattle.sheet_layout.specs.Limits.{lastClock}
 
 -- ---- who emitted
 

@@ -1,15 +1,15 @@
 // How many of the next steps are silence, on the area: no station starts, and nothing is on its way.
 
-use layout::Figures;
+use sheet_layout::Figures;
 ghost use mathlib.Core.Path.{_≡_};
 ghost use Prim.Native.Nat.{_+_, _<_, _≤_};
 ghost use lib.ListN.{length};
 ghost use Rattle.octets.specs.Base.{some};
 ghost use Rattle.area.specs.Area.{clockAt, figuresAt};
-ghost use Rattle.pair.specs.Ready.{Ready};
+ghost use Rattle.bus_spec.specs.Ready.{Ready};
 ghost use Rattle.fast_silence.specs.Bound.{stationsRest, linesRest, lineRests, worth, silentFor};
 ghost use Rattle.fast_search.specs.SearchLaws.{emittedAt, AtMost};
-ghost use Rattle.layout.specs.Limits.{lastClock};
+ghost use Rattle.sheet_layout.specs.Limits.{lastClock};
 ghost use Rattle.area.specs.Offsets.{areaSize};
 
 // Whether station i emitted in the step before.
@@ -64,7 +64,7 @@ fn line_top(area: &[u8], i: usize) -> u32
     let mut top: u32 = 0;
     let mut u: usize = 0;
     while u < 256 {
-        let code = octets::wide(delay::read_symbol(area, i, u));
+        let code = octets::wide(area_line::read_symbol(area, i, u));
         top = fast_rest::larger(code, top);
         u += 1;
     }
@@ -82,7 +82,7 @@ fn line_rests(area: &[u8], i: usize, t: u32, m: u32) -> u32
     let most = fast_rest::smaller(m, 256);
     let mut s: u32 = 0;
     while s < most {
-        if delay::read_symbol(area, i, (t + s) as usize) != 0 {
+        if area_line::read_symbol(area, i, (t + s) as usize) != 0 {
             return s;
         }
         s += 1;

@@ -4,24 +4,24 @@ use mathlib.Core.Path.{_≡_, refl, sym, _∙_, ap, subst}
 use mathlib.Core.List.{List}
 use native.Mathlib.Omega.{arith}
 use lib.ListN.{length}
-use Rattle.layout.specs.declared.Figures.{Figures}
-use Rattle.layout.specs.CheckLaws.{Figured}
-use Rattle.packet.specs.declared.Heard.{Heard}
-use Rattle.state.specs.declared.Station.{Station}
-use Rattle.station.specs.declared.Stepped.{Stepped}
-use Rattle.station.specs.Step.{stepped, nextStation}
-use Rattle.record.specs.Codec.{decoded}
+use Rattle.sheet_layout.specs.declared.Figures.{Figures}
+use Rattle.sheet_layout.specs.CheckLaws.{Figured}
+use Rattle.station_symbols.specs.declared.Heard.{Heard}
+use Rattle.station_state.specs.declared.Station.{Station}
+use Rattle.station_spec.specs.declared.Stepped.{Stepped}
+use Rattle.station_spec.specs.Step.{stepped, nextStation}
+use Rattle.area_record.specs.Codec.{decoded}
 use Rattle.area.specs.Places.{layout, station, Keeps}
 use Rattle.area.specs.Area.{drawAt, addressAt, stationAt, bufferAt, withStation}
 use Rattle.area.specs.AreaLaws.{keeps-trans, station-by, address-by, station-same, length-station}
-use Rattle.pair.specs.declared.Act.{Act}
-use Rattle.pair.specs.BitTime.{withStored, withCounted}
-use Rattle.pair.specs.InPlace.{Kept, length-stored, length-counted, stored-keeps, counted-keeps}
-use Rattle.pair.specs.Range.{Fine, fine-room, fine-fit, fine-stepped, held-small}
-use Rattle.pair.specs.Ready.{CanAct, Able}
+use Rattle.bus_spec.specs.declared.Act.{Act}
+use Rattle.bus_spec.specs.BitTime.{withStored, withCounted}
+use Rattle.bus_spec.specs.InPlace.{Kept, length-stored, length-counted, stored-keeps, counted-keeps}
+use Rattle.bus_spec.specs.Range.{Fine, fine-room, fine-fit, fine-stepped, held-small}
+use Rattle.bus_spec.specs.Ready.{CanAct, Able}
 use Rattle.fast_plan.specs.Own.{outcomeOn, actOn, ownLeft, ownTurn, byItself, by-itself-more, by-itself-none, on-kept, length-itself, itself-stays}
 use Rattle.area.specs.Offsets.{areaSize}
-use Rattle.frame.specs.Limits.{bufferOctets}
+use Rattle.frame_build.specs.Limits.{bufferOctets}
 
 -- Station i of area x, at clock t, is in range, and so are the figures and D.
 pub record Moves (f : Figures) (D i t : ℕ) (x : List ℕ) : Type 0 where

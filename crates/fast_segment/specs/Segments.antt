@@ -6,35 +6,35 @@ use mathlib.Core.Bool.{Bool, true, false}
 use mathlib.Core.List.{List}
 use native.Mathlib.Omega.{arith}
 use lib.ListN.{length}
-use Rattle.layout.specs.declared.Figures.{Figures}
-use Rattle.layout.specs.Layout.{gapOf}
-use Rattle.layout.specs.CheckLaws.{Figured}
-use Rattle.packet.specs.declared.Heard.{Heard}
-use Rattle.packet.specs.declared.Heard.the-variants.{Nothing}
-use Rattle.packet.specs.declared.Symbol.{Symbol}
-use Rattle.packet.specs.declared.Symbol.the-variants.{Silence}
-use Rattle.packet.specs.declared.Emission.{Emission}
-use Rattle.packet.specs.declared.Emission.the-variants.{Rest}
-use Rattle.packet.specs.Packet.{hearsAny, symbolOf}
-use Rattle.state.specs.declared.Deference.the-variants.{Busy}
-use Rattle.state.specs.declared.Transmitter.the-variants.{Sending}
-use Rattle.state.specs.declared.Receiver.{Receiver}
-use Rattle.state.specs.declared.Station.{Station}
-use Rattle.transmitter.specs.Transmit.{octetsHeld, packetLength}
-use Rattle.receiver.specs.declared.Stored.{Stored}
-use Rattle.receiver.specs.declared.Stored.the-variants.{NoStore}
-use Rattle.receiver.specs.declared.ReceiveEvent.the-variants.{NoReceive}
-use Rattle.receiver.specs.Receive.{hearing, deciding, receive, ended}
-use Rattle.station.specs.declared.Stepped.{Stepped}
-use Rattle.station.specs.Step.{stepped}
-use Rattle.record.specs.Codec.{receiverNumber}
-use Rattle.record.specs.CodecLaws.{Fit}
+use Rattle.sheet_layout.specs.declared.Figures.{Figures}
+use Rattle.sheet_layout.specs.Layout.{gapOf}
+use Rattle.sheet_layout.specs.CheckLaws.{Figured}
+use Rattle.station_symbols.specs.declared.Heard.{Heard}
+use Rattle.station_symbols.specs.declared.Heard.the-variants.{Nothing}
+use Rattle.station_symbols.specs.declared.Symbol.{Symbol}
+use Rattle.station_symbols.specs.declared.Symbol.the-variants.{Silence}
+use Rattle.station_symbols.specs.declared.Emission.{Emission}
+use Rattle.station_symbols.specs.declared.Emission.the-variants.{Rest}
+use Rattle.station_symbols.specs.Packet.{hearsAny, symbolOf}
+use Rattle.station_state.specs.declared.Deference.the-variants.{Busy}
+use Rattle.station_state.specs.declared.Transmitter.the-variants.{Sending}
+use Rattle.station_state.specs.declared.Receiver.{Receiver}
+use Rattle.station_state.specs.declared.Station.{Station}
+use Rattle.station_transmit.specs.Transmit.{octetsHeld, packetLength}
+use Rattle.station_receive.specs.declared.Stored.{Stored}
+use Rattle.station_receive.specs.declared.Stored.the-variants.{NoStore}
+use Rattle.station_receive.specs.declared.ReceiveEvent.the-variants.{NoReceive}
+use Rattle.station_receive.specs.Receive.{hearing, deciding, receive, ended}
+use Rattle.station_spec.specs.declared.Stepped.{Stepped}
+use Rattle.station_spec.specs.Step.{stepped}
+use Rattle.area_record.specs.Codec.{receiverNumber}
+use Rattle.area_record.specs.CodecLaws.{Fit}
 use Rattle.area.specs.Area.{addressAt, stationAt, frameAt, bufferAt}
-use Rattle.pair.specs.declared.Act.{Act}
-use Rattle.pair.specs.BitTime.{eventsOf, noEvents}
-use Rattle.pair.specs.InPlace.{Kept}
-use Rattle.pair.specs.Range.{Fine, fine-fit, held-small}
-use Rattle.quick.specs.Quick.{quietly}
+use Rattle.bus_spec.specs.declared.Act.{Act}
+use Rattle.bus_spec.specs.BitTime.{eventsOf, noEvents}
+use Rattle.bus_spec.specs.InPlace.{Kept}
+use Rattle.bus_spec.specs.Range.{Fine, fine-fit, held-small}
+use Rattle.bus_quick.specs.Quick.{quietly}
 use Rattle.fast_plan.specs.Own.{actOn, byItself}
 use Rattle.fast_plan.specs.Goes.{wentTo, goes-on, goes-there, goes-act, goes-symbol}
 use Rattle.fast_plan.specs.NoEvents.{quiet-events, rest-symbol}
@@ -44,7 +44,7 @@ use Rattle.fast_station.specs.Forms.{heardRest, hearOn, calmed, restOn, emitted
 use Rattle.fast_station.specs.FormLaws.{hear-step, hear-none, hear-address, hear-fit, rest-step, rest-none, rest-address, rest-fit, emit-step, emit-none, emit-address, emit-held, emit-fit}
 use Rattle.fast_segment.specs.Alone.{Moves, address-in}
 use Rattle.area.specs.Offsets.{areaSize}
-use Rattle.frame.specs.Limits.{bufferOctets}
+use Rattle.frame_build.specs.Limits.{bufferOctets}
 
 -- what a segment comes to: K turns by itself leave the station q, and the bits st; it emits Q and has no event
 pub record Segment (f : Figures) (D i : ℕ) (H : ℕ → Heard) (Q : ℕ → Symbol) (K : ℕ) (x : List ℕ) (st : ℕ → Stored) (q : Station) : Type 0 where

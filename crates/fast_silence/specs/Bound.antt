@@ -8,23 +8,23 @@ use borrow.Author.Tests.{eqb-true}
 use lib.Dec.{eqb, ltb}
 use Rattle.octets.specs.Base.{pick, some}
 use Rattle.octets.specs.BaseLaws.{by-test, by-eq, none-below}
-use Rattle.layout.specs.declared.Figures.{Figures}
-use Rattle.state.specs.declared.Deference.{Deference}
-use Rattle.state.specs.declared.Transmitter.{Transmitter}
-use Rattle.state.specs.declared.Transmitter.the-variants.{NoFrame, Waiting, BackingOff, Sending, Heading, Jamming}
-use Rattle.state.specs.declared.Receiver.{Receiver}
-use Rattle.state.specs.declared.Receiver.the-variants.{Listening, Readable, Seeking, Collecting}
-use Rattle.state.specs.declared.Station.{Station}
+use Rattle.sheet_layout.specs.declared.Figures.{Figures}
+use Rattle.station_state.specs.declared.Deference.{Deference}
+use Rattle.station_state.specs.declared.Transmitter.{Transmitter}
+use Rattle.station_state.specs.declared.Transmitter.the-variants.{NoFrame, Waiting, BackingOff, Sending, Heading, Jamming}
+use Rattle.station_state.specs.declared.Receiver.{Receiver}
+use Rattle.station_state.specs.declared.Receiver.the-variants.{Listening, Readable, Seeking, Collecting}
+use Rattle.station_state.specs.declared.Station.{Station}
 use Rattle.area.specs.Area.{clockAt, figuresAt, countAt, stationAt, symbolAt}
-use Rattle.pair.specs.Ready.{Readiness}
-use Rattle.course.specs.Run.{first, runOf}
-use Rattle.course.specs.RunLaws.{first-most, below-first}
-use Rattle.course.specs.Until.{untilEvent}
-use Rattle.course.specs.UntilLaws.{plus}
+use Rattle.bus_spec.specs.Ready.{Readiness}
+use Rattle.bus_spec.specs.Run.{first, runOf}
+use Rattle.bus_spec.specs.RunLaws.{first-most, below-first}
+use Rattle.bus_spec.specs.Until.{untilEvent}
+use Rattle.bus_spec.specs.UntilLaws.{plus}
 use Rattle.fast_plan.specs.Plan.{Holds, Planned, steps}
 use Rattle.fast_silence.specs.Rested.{restsFor, Lasts, Idle, Rests}
 use Rattle.fast_silence.specs.Jump.{Silent, silentPlan, jumped, silence-holds, silence-jumps, jump-planned, run-jumps, until-jumps}
-use Rattle.layout.specs.Limits.{lastClock}
+use Rattle.sheet_layout.specs.Limits.{lastClock}
 
 -- ---- a station, of m steps asked
 

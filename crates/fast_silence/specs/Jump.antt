@@ -11,37 +11,37 @@ use lib.ListN.{length, getD}
 use Rattle.octets.specs.BaseLaws.{by-test, by-eq, below-none}
 use Rattle.octets.specs.Filled.{filled, filled-same, filled-at, filled-past}
 use Rattle.octets.specs.Turns.{turns, length-turns}
-use Rattle.layout.specs.declared.Figures.{Figures}
-use Rattle.layout.specs.Layout.{gapOf}
-use Rattle.layout.specs.CheckLaws.{Figured}
-use Rattle.packet.specs.declared.Heard.{Heard}
-use Rattle.packet.specs.declared.Heard.the-variants.{Nothing}
-use Rattle.packet.specs.declared.Symbol.the-variants.{Silence}
-use Rattle.packet.specs.declared.Emission.the-variants.{Rest}
-use Rattle.packet.specs.Packet.{symbolOf}
-use Rattle.receiver.specs.declared.Stored.the-variants.{NoStore}
-use Rattle.transmitter.specs.Transmit.{octetsHeld}
-use Rattle.tally.specs.Tally.{isLate, sentCounted, gotCounted}
-use Rattle.state.specs.declared.Station.{Station}
-use Rattle.station.specs.declared.Stepped.{Stepped}
-use Rattle.station.specs.Step.{stepped}
-use Rattle.record.specs.Codec.{decoded}
-use Rattle.record.specs.CodecLaws.{Fit}
+use Rattle.sheet_layout.specs.declared.Figures.{Figures}
+use Rattle.sheet_layout.specs.Layout.{gapOf}
+use Rattle.sheet_layout.specs.CheckLaws.{Figured}
+use Rattle.station_symbols.specs.declared.Heard.{Heard}
+use Rattle.station_symbols.specs.declared.Heard.the-variants.{Nothing}
+use Rattle.station_symbols.specs.declared.Symbol.the-variants.{Silence}
+use Rattle.station_symbols.specs.declared.Emission.the-variants.{Rest}
+use Rattle.station_symbols.specs.Packet.{symbolOf}
+use Rattle.station_receive.specs.declared.Stored.the-variants.{NoStore}
+use Rattle.station_transmit.specs.Transmit.{octetsHeld}
+use Rattle.station_tally.specs.Tally.{isLate, sentCounted, gotCounted}
+use Rattle.station_state.specs.declared.Station.{Station}
+use Rattle.station_spec.specs.declared.Stepped.{Stepped}
+use Rattle.station_spec.specs.Step.{stepped}
+use Rattle.area_record.specs.Codec.{decoded}
+use Rattle.area_record.specs.CodecLaws.{Fit}
 use Rattle.area.specs.Places.{Part, counters, station, frame, buffer, place, Off, Keeps}
 use Rattle.area.specs.Area.{clockAt, withClock, depthAt, drawAt, figuresAt, countAt, addressAt, stationAt, withStation, frameAt, bufferAt, heardOf, heardCode, symbolAt, arrivalAt}
 use Rattle.area.specs.AreaLaws.{keeps-refl, keeps-trans, keeps-sym, station-keeps, clock-keeps, symbol-by, symbol-turn, station-same, length-station, length-clock}
 use Rattle.area.specs.Written.{station-over}
 use Rattle.area.specs.Whole.{Still, clock-still, station-still, station-on, clock-on}
-use Rattle.pair.specs.declared.Events.{Events}
-use Rattle.pair.specs.BitTime.{happened, withCounted, eventsOf, noEvents, eventAt, eventsAt}
-use Rattle.pair.specs.Range.{Fine, fine-fit}
-use Rattle.pair.specs.Ready.{Readiness}
-use Rattle.course.specs.Run.{tallied, runOf}
-use Rattle.course.specs.Until.{hasEvent, eventful, untilEvent}
-use Rattle.course.specs.UntilLaws.{plus}
-use Rattle.meeting.specs.Net.{heard}
-use Rattle.meeting.specs.Meet.{met, met-none}
-use Rattle.quick.specs.Quick.{quietly}
+use Rattle.bus_spec.specs.declared.Events.{Events}
+use Rattle.bus_spec.specs.BitTime.{happened, withCounted, eventsOf, noEvents, eventAt, eventsAt}
+use Rattle.bus_spec.specs.Range.{Fine, fine-fit}
+use Rattle.bus_spec.specs.Ready.{Readiness}
+use Rattle.bus_spec.specs.Run.{tallied, runOf}
+use Rattle.bus_spec.specs.Until.{hasEvent, eventful, untilEvent}
+use Rattle.bus_spec.specs.UntilLaws.{plus}
+use Rattle.bus_meeting.specs.Net.{heard}
+use Rattle.bus_meeting.specs.Meet.{met, met-none}
+use Rattle.bus_quick.specs.Quick.{quietly}
 use Rattle.fast_plan.specs.Own.{outcomeOn, actOn, ownLeft, ownTurn, byItself, itself-heard, OwnSame, own-trans}
 use Rattle.fast_plan.specs.Plan.{Plan, cut, netOf, lineNow, hears, lineAfter, ownAfter, actAfter, Holds, steps, Planned}
 use Rattle.fast_plan.specs.Happens.{heard-none, plan-happens}
@@ -49,7 +49,7 @@ use Rattle.fast_plan.specs.Exact.{Left, symbol-code, left-same-area, planned-le
 use Rattle.fast_plan.specs.Prefix.{Unhurt}
 use Rattle.fast_plan.specs.Runs.{eventsBy, plan-events, talliedBy, run-steps, until-steps}
 use Rattle.fast_silence.specs.Rested.{rested, Rests, rested-step, rested-none, rested-fit, rested-address}
-use Rattle.layout.specs.Limits.{lastClock}
+use Rattle.sheet_layout.specs.Limits.{lastClock}
 use Rattle.area.specs.Offsets.{areaSize}
 
 -- ---- what a silence is

@@ -9,29 +9,29 @@ use borrow.Author.Tests.{ne-eqb, ltb-true, ltb-false, lt-ltb, le-ltb, leb-true, 
 use lib.Dec.{eqb, ltb, leb}
 use Rattle.octets.specs.Base.{pick}
 use Rattle.octets.specs.BaseLaws.{by-test, by-eq}
-use Rattle.layout.specs.declared.Figures.{Figures}
-use Rattle.layout.specs.Layout.{gapOf}
-use Rattle.layout.specs.CheckLaws.{Figured}
-use Rattle.packet.specs.declared.Heard.the-variants.{Nothing}
-use Rattle.packet.specs.declared.Emission.the-variants.{Rest}
-use Rattle.state.specs.declared.Deference.{Deference}
-use Rattle.state.specs.declared.Deference.the-variants.{Quiet, Busy, Gap}
-use Rattle.state.specs.declared.Transmitter.{Transmitter}
-use Rattle.state.specs.declared.Transmitter.the-variants.{NoFrame, Waiting, BackingOff, Sending, Heading, Jamming}
-use Rattle.state.specs.declared.Receiver.{Receiver}
-use Rattle.state.specs.declared.Receiver.the-variants.{Listening, Readable, Seeking, Collecting}
-use Rattle.state.specs.declared.Station.{Station}
-use Rattle.state.specs.State.{numberIn}
-use Rattle.deference.specs.Defer.{to, defer, quietRule, busyRule, gapRule, gapOver, goesBack}
-use Rattle.transmitter.specs.Transmit.{waits, resting, transmit, waitBit, backoffBit}
-use Rattle.receiver.specs.declared.Stored.the-variants.{NoStore}
-use Rattle.receiver.specs.Receive.{deciding, receive, ended}
-use Rattle.receiver.specs.declared.ReceiveEvent.the-variants.{NoReceive}
-use Rattle.station.specs.Step.{triesAfter, drawAfter, deferredAfter, stepped, nextStation}
-use Rattle.record.specs.Codec.{deferenceCount}
-use Rattle.record.specs.CodecLaws.{Fit}
-use Rattle.pair.specs.Range.{Fine, GapIn, NumberIn}
-use Rattle.quick.specs.Quick.{quietly}
+use Rattle.sheet_layout.specs.declared.Figures.{Figures}
+use Rattle.sheet_layout.specs.Layout.{gapOf}
+use Rattle.sheet_layout.specs.CheckLaws.{Figured}
+use Rattle.station_symbols.specs.declared.Heard.the-variants.{Nothing}
+use Rattle.station_symbols.specs.declared.Emission.the-variants.{Rest}
+use Rattle.station_state.specs.declared.Deference.{Deference}
+use Rattle.station_state.specs.declared.Deference.the-variants.{Quiet, Busy, Gap}
+use Rattle.station_state.specs.declared.Transmitter.{Transmitter}
+use Rattle.station_state.specs.declared.Transmitter.the-variants.{NoFrame, Waiting, BackingOff, Sending, Heading, Jamming}
+use Rattle.station_state.specs.declared.Receiver.{Receiver}
+use Rattle.station_state.specs.declared.Receiver.the-variants.{Listening, Readable, Seeking, Collecting}
+use Rattle.station_state.specs.declared.Station.{Station}
+use Rattle.station_state.specs.State.{numberIn}
+use Rattle.station_defer.specs.Defer.{to, defer, quietRule, busyRule, gapRule, gapOver, goesBack}
+use Rattle.station_transmit.specs.Transmit.{waits, resting, transmit, waitBit, backoffBit}
+use Rattle.station_receive.specs.declared.Stored.the-variants.{NoStore}
+use Rattle.station_receive.specs.Receive.{deciding, receive, ended}
+use Rattle.station_receive.specs.declared.ReceiveEvent.the-variants.{NoReceive}
+use Rattle.station_spec.specs.Step.{triesAfter, drawAfter, deferredAfter, stepped, nextStation}
+use Rattle.area_record.specs.Codec.{deferenceCount}
+use Rattle.area_record.specs.CodecLaws.{Fit}
+use Rattle.bus_spec.specs.Range.{Fine, GapIn, NumberIn}
+use Rattle.bus_quick.specs.Quick.{quietly}
 
 -- ---- the closed form
 

@@ -8,34 +8,34 @@ use borrow.Author.Tests.{ne-eqb, ltb-true, ltb-false, le-ltb, leb-true, leb-fals
 use lib.Dec.{eqb, ltb, leb}
 use Rattle.octets.specs.Base.{pick}
 use Rattle.octets.specs.BaseLaws.{by-test}
-use Rattle.layout.specs.declared.Figures.{Figures}
-use Rattle.layout.specs.Layout.{gapOf}
-use Rattle.layout.specs.CheckLaws.{Figured}
-use Rattle.packet.specs.declared.Heard.{Heard}
-use Rattle.packet.specs.declared.Heard.the-variants.{Nothing}
-use Rattle.packet.specs.declared.Emission.{Emission}
-use Rattle.packet.specs.declared.Emission.the-variants.{Rest, PacketBit}
-use Rattle.packet.specs.Packet.{hearsAny, isEmission}
-use Rattle.state.specs.declared.Deference.{Deference}
-use Rattle.state.specs.declared.Deference.the-variants.{Quiet, Busy, Gap}
-use Rattle.state.specs.declared.Transmitter.{Transmitter}
-use Rattle.state.specs.declared.Transmitter.the-variants.{NoFrame, Waiting, BackingOff, Sending, Heading, Jamming}
-use Rattle.state.specs.declared.Receiver.{Receiver}
-use Rattle.state.specs.declared.Receiver.the-variants.{Listening, Readable, Seeking, Collecting}
-use Rattle.state.specs.declared.Station.{Station}
-use Rattle.state.specs.State.{numberIn}
-use Rattle.deference.specs.Defer.{to, defer, quietRule, busyRule, gapRule, gapOver, goesBack}
-use Rattle.transmitter.specs.declared.TransmitEvent.the-variants.{NoTransmit}
-use Rattle.transmitter.specs.Transmit.{waits, emitting, transmit, sendBit, afterBit, headBit, jamBit, packetLength, octetsHeld}
-use Rattle.receiver.specs.declared.ReceiveEvent.the-variants.{NoReceive}
-use Rattle.receiver.specs.declared.Stored.{Stored}
-use Rattle.receiver.specs.declared.Stored.the-variants.{NoStore}
-use Rattle.receiver.specs.Receive.{hearing, deciding, receive, ended}
-use Rattle.station.specs.Step.{triesAfter, drawAfter, deferredAfter, stepped, nextStation}
-use Rattle.record.specs.Codec.{deferenceCount, receiverNumber}
-use Rattle.record.specs.CodecLaws.{Fit}
-use Rattle.pair.specs.Range.{Fine}
-use Rattle.quick.specs.Quick.{quietly}
+use Rattle.sheet_layout.specs.declared.Figures.{Figures}
+use Rattle.sheet_layout.specs.Layout.{gapOf}
+use Rattle.sheet_layout.specs.CheckLaws.{Figured}
+use Rattle.station_symbols.specs.declared.Heard.{Heard}
+use Rattle.station_symbols.specs.declared.Heard.the-variants.{Nothing}
+use Rattle.station_symbols.specs.declared.Emission.{Emission}
+use Rattle.station_symbols.specs.declared.Emission.the-variants.{Rest, PacketBit}
+use Rattle.station_symbols.specs.Packet.{hearsAny, isEmission}
+use Rattle.station_state.specs.declared.Deference.{Deference}
+use Rattle.station_state.specs.declared.Deference.the-variants.{Quiet, Busy, Gap}
+use Rattle.station_state.specs.declared.Transmitter.{Transmitter}
+use Rattle.station_state.specs.declared.Transmitter.the-variants.{NoFrame, Waiting, BackingOff, Sending, Heading, Jamming}
+use Rattle.station_state.specs.declared.Receiver.{Receiver}
+use Rattle.station_state.specs.declared.Receiver.the-variants.{Listening, Readable, Seeking, Collecting}
+use Rattle.station_state.specs.declared.Station.{Station}
+use Rattle.station_state.specs.State.{numberIn}
+use Rattle.station_defer.specs.Defer.{to, defer, quietRule, busyRule, gapRule, gapOver, goesBack}
+use Rattle.station_transmit.specs.declared.TransmitEvent.the-variants.{NoTransmit}
+use Rattle.station_transmit.specs.Transmit.{waits, emitting, transmit, sendBit, afterBit, headBit, jamBit, packetLength, octetsHeld}
+use Rattle.station_receive.specs.declared.ReceiveEvent.the-variants.{NoReceive}
+use Rattle.station_receive.specs.declared.Stored.{Stored}
+use Rattle.station_receive.specs.declared.Stored.the-variants.{NoStore}
+use Rattle.station_receive.specs.Receive.{hearing, deciding, receive, ended}
+use Rattle.station_spec.specs.Step.{triesAfter, drawAfter, deferredAfter, stepped, nextStation}
+use Rattle.area_record.specs.Codec.{deferenceCount, receiverNumber}
+use Rattle.area_record.specs.CodecLaws.{Fit}
+use Rattle.bus_spec.specs.Range.{Fine}
+use Rattle.bus_quick.specs.Quick.{quietly}
 use Rattle.fast_silence.specs.Rested.{restedDeference, restedTransmitter, hasWaited, Lasts, NoneOut, defer-goes, waits-rests, lasts-none, transmit-goes, waited-more, deferred-more, rested-gap, rested-frame, none-waited, as-was, count-small, number-less}
 use Rattle.fast_station.specs.Forms.{made, deferredBy, heardGap, heardDeference, heardFor, heardRest, hearOn, calmed, restOn, emitsOn, emittedAt, emitsFor, emitOn}
 

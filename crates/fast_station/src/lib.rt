@@ -1,13 +1,13 @@
 // A station after many steps of one kind, by value: others are heard, nothing is heard, or it emits; and how long each lasts.
 
-use layout::Figures;
-use state::Deference;
-use state::Receiver;
-use state::Station;
-use state::Transmitter;
+use sheet_layout::Figures;
+use station_state::Deference;
+use station_state::Receiver;
+use station_state::Station;
+use station_state::Transmitter;
 ghost use mathlib.Core.Path.{_≡_};
 ghost use Prim.Native.Nat.{_+_, _-_, _<_};
-ghost use Rattle.state.specs.State.{numberIn};
+ghost use Rattle.station_state.specs.State.{numberIn};
 ghost use Rattle.fast_station.specs.Forms.{heardGap, heardDeference, heardFor, heardRest, hearOn, calmed, restOn, emitsOn, emitsFor, emitOn};
 
 // ---- others are heard, and it emits nothing
@@ -21,7 +21,7 @@ fn heard_for(f: Figures, m: u32, d: Deference) -> u32
         Deference::Quiet => m,
         Deference::Busy(_) => m,
         Deference::Gap { count, own } => {
-            if deference::goes_back(f.gap1, count, own, true) {
+            if station_defer::goes_back(f.gap1, count, own, true) {
                 return m;
             }
             if f.gap1 + f.gap2 < count {
@@ -53,7 +53,7 @@ fn hear_gap(f: Figures, m: u32, count: u32, own: bool) -> Deference
     ensures { λ r. ⌜ r ≡ heardGap f m count own ⌝ }
 {
     let g = f.gap1 + f.gap2;
-    if deference::goes_back(f.gap1, count, own, true) {
+    if station_defer::goes_back(f.gap1, count, own, true) {
         return Deference::Busy(false);
     }
     if g < count {

@@ -4,13 +4,13 @@ use Prim.Native.Nat.{ℕ, _+_, _<_}
 use mathlib.Core.Bool.{Bool}
 use mathlib.Core.List.{List}
 use Rattle.octets.specs.Base.{pick}
-use Rattle.layout.specs.declared.Figures.{Figures}
-use Rattle.packet.specs.declared.Heard.{Heard}
-use Rattle.state.specs.declared.Receiver.{Receiver}
-use Rattle.state.specs.declared.Station.{Station}
-use Rattle.state.specs.State.{numberIn}
-use Rattle.receiver.specs.declared.Stored.the-variants.{NoStore}
-use Rattle.receiver.specs.Receive.{rowIn, bitsIn}
+use Rattle.sheet_layout.specs.declared.Figures.{Figures}
+use Rattle.station_symbols.specs.declared.Heard.{Heard}
+use Rattle.station_state.specs.declared.Receiver.{Receiver}
+use Rattle.station_state.specs.declared.Station.{Station}
+use Rattle.station_state.specs.State.{numberIn}
+use Rattle.station_receive.specs.declared.Stored.the-variants.{NoStore}
+use Rattle.station_receive.specs.Receive.{rowIn, bitsIn}
 use Rattle.area.specs.Area.{stationAt}
 use Rattle.fast_plan.specs.Goes.{wentTo}
 use Rattle.fast_station.specs.Forms.{hearOn, calmed, restOn, emitOn}

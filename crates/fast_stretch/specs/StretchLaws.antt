@@ -6,25 +6,25 @@ use mathlib.Core.List.{List}
 use native.Mathlib.Omega.{arith}
 use Rattle.octets.specs.Base.{pick}
 use Rattle.octets.specs.Turns.{turns}
-use Rattle.layout.specs.declared.Figures.{Figures}
-use Rattle.layout.specs.CheckLaws.{Figured}
-use Rattle.packet.specs.declared.Heard.{Heard}
-use Rattle.state.specs.declared.Transmitter.{Transmitter}
-use Rattle.state.specs.declared.Transmitter.the-variants.{NoFrame, Waiting, BackingOff, Sending, Heading, Jamming}
-use Rattle.state.specs.declared.Receiver.{Receiver}
-use Rattle.state.specs.declared.Receiver.the-variants.{Listening, Readable, Seeking, Collecting}
-use Rattle.state.specs.declared.Station.{Station}
-use Rattle.state.specs.State.{numberIn}
-use Rattle.receiver.specs.declared.Stored.the-variants.{NoStore}
-use Rattle.receiver.specs.Receive.{rowIn, bitsIn}
+use Rattle.sheet_layout.specs.declared.Figures.{Figures}
+use Rattle.sheet_layout.specs.CheckLaws.{Figured}
+use Rattle.station_symbols.specs.declared.Heard.{Heard}
+use Rattle.station_state.specs.declared.Transmitter.{Transmitter}
+use Rattle.station_state.specs.declared.Transmitter.the-variants.{NoFrame, Waiting, BackingOff, Sending, Heading, Jamming}
+use Rattle.station_state.specs.declared.Receiver.{Receiver}
+use Rattle.station_state.specs.declared.Receiver.the-variants.{Listening, Readable, Seeking, Collecting}
+use Rattle.station_state.specs.declared.Station.{Station}
+use Rattle.station_state.specs.State.{numberIn}
+use Rattle.station_receive.specs.declared.Stored.the-variants.{NoStore}
+use Rattle.station_receive.specs.Receive.{rowIn, bitsIn}
 use Rattle.area.specs.Area.{stationAt, withStation}
-use Rattle.pair.specs.Range.{Fine, NumberIn, FrameIn, ReceiverIn}
+use Rattle.bus_spec.specs.Range.{Fine, NumberIn, FrameIn, ReceiverIn}
 use Rattle.fast_plan.specs.Goes.{storedAll, wentTo, station-all}
 use Rattle.fast_station.specs.Forms.{hearOn, calmed, restOn, emitOn}
 use Rattle.fast_receive.specs.Received.{taken, heardAll, receivedBy, keptBy}
 use Rattle.fast_receive.specs.ReceivedLaws.{heard-receiver, heard-octets}
 use Rattle.fast_stretch.specs.Stretch.{movedOn, heardStretch, quietOn, quietStretch, Room, Movable}
-use Rattle.layout.specs.Limits.{lastClock}
+use Rattle.sheet_layout.specs.Limits.{lastClock}
 
 -- ---- the code
 

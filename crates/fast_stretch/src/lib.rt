@@ -1,12 +1,12 @@
 // Many steps of one kind of one station, on the area: its record, and the bits that it collects.
 
-use layout::Figures;
-use state::Receiver;
-use state::Station;
+use sheet_layout::Figures;
+use station_state::Receiver;
+use station_state::Station;
 ghost use mathlib.Core.Path.{_≡_};
 ghost use Prim.Native.Nat.{_+_, _<_, _≤_};
 ghost use lib.ListN.{length};
-ghost use Rattle.state.specs.State.{numberIn};
+ghost use Rattle.station_state.specs.State.{numberIn};
 ghost use Rattle.area.specs.Area.{stationAt};
 ghost use Rattle.fast_receive.specs.Received.{spoils, lineFrom, bitsFrom, AllHeard};
 ghost use Rattle.fast_stretch.specs.Stretch.{Movable, movedOn, heardStretch, quietOn, quietStretch};

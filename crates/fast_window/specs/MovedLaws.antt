@@ -14,26 +14,26 @@ use Rattle.octets.specs.Base.{pick}
 use Rattle.octets.specs.BaseLaws.{by-test, by-eq}
 use Rattle.octets.specs.Filled.{filled, filled-at, filled-end}
 use Rattle.octets.specs.Turns.{turns, turns-none, turns-more, turns-end}
-use Rattle.layout.specs.declared.Figures.{Figures}
-use Rattle.layout.specs.CheckLaws.{Figured}
-use Rattle.packet.specs.declared.Heard.{Heard}
-use Rattle.packet.specs.declared.Heard.the-variants.{Nothing, Clean, Jammed, Several}
-use Rattle.packet.specs.declared.Symbol.{Symbol}
-use Rattle.packet.specs.declared.Symbol.the-variants.{Bit}
-use Rattle.packet.specs.Packet.{packetBit, hearsAny}
-use Rattle.state.specs.declared.Transmitter.{Transmitter}
-use Rattle.state.specs.declared.Transmitter.the-variants.{NoFrame, Waiting, BackingOff, Sending, Heading, Jamming}
-use Rattle.state.specs.declared.Station.{Station}
-use Rattle.receiver.specs.Receive.{receive}
-use Rattle.transmitter.specs.Transmit.{octetsHeld}
-use Rattle.station.specs.Step.{stepped, nextStation}
-use Rattle.record.specs.Codec.{decoded}
+use Rattle.sheet_layout.specs.declared.Figures.{Figures}
+use Rattle.sheet_layout.specs.CheckLaws.{Figured}
+use Rattle.station_symbols.specs.declared.Heard.{Heard}
+use Rattle.station_symbols.specs.declared.Heard.the-variants.{Nothing, Clean, Jammed, Several}
+use Rattle.station_symbols.specs.declared.Symbol.{Symbol}
+use Rattle.station_symbols.specs.declared.Symbol.the-variants.{Bit}
+use Rattle.station_symbols.specs.Packet.{packetBit, hearsAny}
+use Rattle.station_state.specs.declared.Transmitter.{Transmitter}
+use Rattle.station_state.specs.declared.Transmitter.the-variants.{NoFrame, Waiting, BackingOff, Sending, Heading, Jamming}
+use Rattle.station_state.specs.declared.Station.{Station}
+use Rattle.station_receive.specs.Receive.{receive}
+use Rattle.station_transmit.specs.Transmit.{octetsHeld}
+use Rattle.station_spec.specs.Step.{stepped, nextStation}
+use Rattle.area_record.specs.Codec.{decoded}
 use Rattle.area.specs.Places.{Part, layout, station, frame, place, Keeps}
 use Rattle.area.specs.Area.{clockAt, depthAt, figuresAt, countAt, recordAt, stationAt, frameAt, arrivalAt}
 use Rattle.area.specs.AreaLaws.{station-by, frame-by, arrival-by}
-use Rattle.pair.specs.Range.{Fine, NumberIn, FrameIn}
-use Rattle.pair.specs.Ready.{Readiness, Ready}
-use Rattle.meeting.specs.Meet.{met}
+use Rattle.bus_spec.specs.Range.{Fine, NumberIn, FrameIn}
+use Rattle.bus_spec.specs.Ready.{Readiness, Ready}
+use Rattle.bus_meeting.specs.Meet.{met}
 use Rattle.fast_plan.specs.Own.{outcomeOn, actOn, ownTurn, byItself, itself-heard, itself-split, by-itself-none, itself-keeps, Others}
 use Rattle.fast_plan.specs.Plan.{hears}
 use Rattle.fast_plan.specs.Exact.{ownAll, length-own, own-keeps}
@@ -55,9 +55,9 @@ use Rattle.fast_heard.specs.declared.Sight.{Sight}
 use Rattle.fast_heard.specs.Sights.{sightBy, sightOf, unseen, blankSight, sightsOf}
 use Rattle.fast_heard.specs.SightLaws.{bit-near, bit-from, sight-at}
 use Rattle.fast_window.specs.Window.{bitAt, heardBy, heardFrom, Begins}
-use Rattle.layout.specs.Limits.{lastClock}
+use Rattle.sheet_layout.specs.Limits.{lastClock}
 use Rattle.area.specs.Offsets.{areaSize}
-use Rattle.frame.specs.Limits.{bufferOctets}
+use Rattle.frame_build.specs.Limits.{bufferOctets}
 
 -- ---- turns that hear alike
 

@@ -2,10 +2,10 @@
 use Prim.Native.Nat.{ℕ, _+_, _-_, _≤_, _<_}
 use mathlib.Core.Path.{_≡_}
 use mathlib.Core.List.{List}
-use Rattle.layout.specs.declared.Figures.{Figures}
-use Rattle.packet.specs.declared.Heard.{Heard}
+use Rattle.sheet_layout.specs.declared.Figures.{Figures}
+use Rattle.station_symbols.specs.declared.Heard.{Heard}
 use Rattle.area.specs.Area.{clockAt, depthAt, figuresAt, countAt}
-use Rattle.pair.specs.Ready.{Readiness}
+use Rattle.bus_spec.specs.Ready.{Readiness}
 use Rattle.fast_plan.specs.Plan.{steps}
 use Rattle.fast_plan.specs.Calm.{AllCalm}
 use Rattle.fast_plan.specs.Exact.{ownAll}

@@ -6,11 +6,11 @@ use mathlib.Core.List.{List}
 use native.Mathlib.Omega.{arith}
 use lib.ListN.{length}
 use Rattle.octets.specs.Turns.{turns, turns-none, turns-more, turns-end}
-use Rattle.layout.specs.declared.Figures.{Figures}
+use Rattle.sheet_layout.specs.declared.Figures.{Figures}
 use Rattle.area.specs.Area.{clockAt, withClock, depthAt, figuresAt, countAt, stationAt}
-use Rattle.pair.specs.BitTime.{stepArea}
-use Rattle.pair.specs.Ready.{Readiness, Ready}
-use Rattle.course.specs.RunLaws.{Runnable}
+use Rattle.bus_spec.specs.BitTime.{stepArea}
+use Rattle.bus_spec.specs.Ready.{Readiness, Ready}
+use Rattle.bus_spec.specs.RunLaws.{Runnable}
 use Rattle.fast_plan.specs.Plan.{steps}
 use Rattle.fast_plan.specs.Calm.{AllCalm, calm-holds}
 use Rattle.fast_plan.specs.Exact.{ownAll}
@@ -22,7 +22,7 @@ use Rattle.fast_lines.specs.Lines.{emittersOf, planBy, Settles}
 use Rattle.fast_lines.specs.LinesLaws.{moved-settles, moved-lines}
 use Rattle.fast_bound.specs.Bound.{AllLast, ReadFrom}
 use Rattle.fast_window.specs.Window.{Begins, settledOf, Lasting, Passed}
-use Rattle.layout.specs.Limits.{lastClock}
+use Rattle.sheet_layout.specs.Limits.{lastClock}
 
 pub begins : (a : List ℕ) (f : Figures) (d n t c : ℕ) → Ready a → f ≡ figuresAt a → d ≡ depthAt a → c ≡ countAt a → n ≡ c → t ≡ clockAt a → Begins a f d n t
 unfolding Begins Ready

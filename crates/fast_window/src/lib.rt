@@ -3,13 +3,13 @@
 
 use fast_heard::Near;
 use fast_heard::Sight;
-use layout::Figures;
+use sheet_layout::Figures;
 ghost use mathlib.Core.Path.{_≡_};
 ghost use Prim.Native.Nat.{_+_, _-_, _<_, _≤_};
 ghost use lib.ListN.{length, take};
 ghost use Rattle.area.specs.Area.{clockAt, frameAt};
-ghost use Rattle.pair.specs.Ready.{Ready};
-ghost use Rattle.course.specs.RunLaws.{Runnable};
+ghost use Rattle.bus_spec.specs.Ready.{Ready};
+ghost use Rattle.bus_spec.specs.RunLaws.{Runnable};
 ghost use Rattle.fast_plan.specs.Plan.{steps};
 ghost use Rattle.fast_plan.specs.Own.{byItself};
 ghost use Rattle.fast_plan.specs.Exact.{ownAll};
@@ -18,7 +18,7 @@ ghost use Rattle.fast_heard.specs.Hearing.{planOf};
 ghost use Rattle.fast_heard.specs.Sights.{sightsOf};
 ghost use Rattle.fast_move.specs.Move.{Moving};
 ghost use Rattle.fast_window.specs.Window.{bitAt, heardBy, heardFrom, Begins, settledOf, Lasting, Passed};
-ghost use Rattle.layout.specs.Limits.{lastClock};
+ghost use Rattle.sheet_layout.specs.Limits.{lastClock};
 ghost use Rattle.area.specs.Offsets.{areaSize};
 
 // A window of fewer steps is made by single steps: they cost less.
@@ -89,7 +89,7 @@ fn hold_frame(area: &[u8], i: usize, n: usize) -> [u8; 1536]
     ensures { λ r. ⌜ take n r ≡ frameAt (now (area .entry)) i n ⌝ }
 {
     let mut held = [0u8; 1536];
-    copies::store(&mut held, 0, buffers::frame(area, i, n));
+    octets_copies::store(&mut held, 0, area_buffers::frame(area, i, n));
     held
 }
 
@@ -162,7 +162,7 @@ fn goes_on(area: &[u8], i: usize, phase: u32, t: u32) -> bool
     requires { ⌜ (i < 16) × (areaSize ≤ length (now area)) ⌝ }
 {
     if phase == 3 {
-        if delay::read_symbol(area, i, t as usize) != 0 {
+        if area_line::read_symbol(area, i, t as usize) != 0 {
             return false;
         }
     }
@@ -206,7 +206,7 @@ fn make_singly(area: &mut [u8], r: u32)
 {
     let mut s: u32 = 0;
     while s < r {
-        turn::step::step(area);
+        bus_turn::step::step(area);
         s += 1;
     }
 }

@@ -12,7 +12,7 @@ use Rattle.log_entry.specs.declared.Entry.{Entry}
 use Rattle.log_entry.specs.declared.Event.{Event}
 use Rattle.log_entry.specs.declared.Event.the-variants.{Collision, Late, Sent, GivenUp, GotOk, GotTooLong, GotAlignment, GotCheck, GotLength}
 
--- the place of an event's word among those that are counted, as tally/Tally has them
+-- the place of an event's word among those that are counted, as station_tally/Tally has them
 abbrev pub wordOf : Event → ℕ
 wordOf (Collision k) = 0
 wordOf (Late k) = 1

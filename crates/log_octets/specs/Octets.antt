@@ -12,7 +12,7 @@ use Rattle.log_entry.specs.declared.Event.{Event}
 use Rattle.log_entry.specs.declared.Event.the-variants.{Collision, Late, Sent, GivenUp, GotOk, GotTooLong, GotAlignment, GotCheck, GotLength}
 use Rattle.log_lookup.specs.Lookup.{lookedUp}
 
--- the event of a number, as station/Events numbers them
+-- the event of a number, as station_spec/Events numbers them
 unfoldable pub eventOf : ℕ → Event
 eventOf c =
     pick (eqb c 1) (Collision 0)

@@ -60,7 +60,7 @@ fn entered_at(s: State, windows: &[u32], log: &[u8], k: usize) -> State
     requires { ⌜ 6 * k + 6 ≤ length (now log) ⌝ }
     ensures { λ r. ⌜ r ≡ enteredOf (now (windows .entry)) s (entryAt (now (log .entry)) k) ⌝ }
 {
-    let time = words::get32(log, 6 * k);
+    let time = octets_words::get32(log, 6 * k);
     let station = octets::wide(log[6 * k + 4]);
     let event = event_of(octets::wide(log[6 * k + 5]));
     log_windows::entered(s, windows, time, station, event)

@@ -6,12 +6,12 @@ use mathlib.Core.List.{List}
 use native.Mathlib.Omega.{arith}
 use borrow.Author.Tests.{not-true, not-false}
 use lib.ListN.{length, take}
-use Rattle.pieces.specs.declared.Progress.{Progress}
-use Rattle.pieces.specs.Printed.{printed}
-use Rattle.pieces.specs.Pieces.{Moved, moved, move, firstPiece}
-use Rattle.told.specs.Whole.{pieces, first-pieces}
-use Rattle.told.specs.Along.{Along, end-place}
-use Rattle.whole.specs.PartLaws.{part-size, begun-along, along-more, along-less}
+use Rattle.report_spec.specs.declared.Progress.{Progress}
+use Rattle.report_spec.specs.Printed.{printed}
+use Rattle.report_spec.specs.Pieces.{Moved, moved, move, firstPiece}
+use Rattle.report_theorem.specs.Whole.{pieces, first-pieces}
+use Rattle.report_theorem.specs.Along.{Along, end-place}
+use Rattle.report_whole.specs.PartLaws.{part-size, begun-along, along-more, along-less}
 use Rattle.area.specs.Offsets.{areaSize}
 
 -- 16,777,282 pieces of 2,048 octets

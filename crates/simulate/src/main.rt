@@ -3,15 +3,15 @@
 
 use libc::STDIN_FILENO;
 use libc::STDOUT_FILENO;
-use pieces::Progress;
+use report_spec::Progress;
 ghost use mathlib.Core.Path.{_≡_};
 ghost use mathlib.Core.Bool.{true};
 ghost use Prim.Native.Nat.{_+_, _*_, _≤_};
 ghost use lib.ListN.{length};
 ghost use Rattle.octets.specs.Store.{part};
-ghost use Rattle.pieces.specs.Printed.{printed};
-ghost use Rattle.told.specs.Whole.{pieces};
-ghost use Rattle.told.specs.Along.{Along};
+ghost use Rattle.report_spec.specs.Printed.{printed};
+ghost use Rattle.report_theorem.specs.Whole.{pieces};
+ghost use Rattle.report_theorem.specs.Along.{Along};
 ghost use Rattle.simulate.specs.Written.{most};
 ghost use Rattle.area.specs.Offsets.{areaSize};
 
@@ -43,7 +43,7 @@ fn write_rest(input: &[u8], area: &mut [u8], at: usize, g: Progress) -> Written
     let mut at = at;
     let mut g = g;
     while !g.ended {
-        let p = whole::parts::next(input, area, &mut buf, g);
+        let p = report_whole::parts::next(input, area, &mut buf, g);
         let size = p.size;
         let w = write_piece(input, at, &buf[0..size]);
         if !w.done {
@@ -61,7 +61,7 @@ fn write_run(input: &[u8], area: &mut [u8]) -> Written
     ensures { λ r. ⌜ (r .done ≡ true → r .at ≡ length (printed (now (input .entry)))) ⌝ }
 {
     let mut buf = [0u8; 2048];
-    let p = whole::parts::first(input, area, &mut buf);
+    let p = report_whole::parts::first(input, area, &mut buf);
     let size = p.size;
     let w = write_piece(input, 0, &buf[0..size]);
     if !w.done {

@@ -3,7 +3,7 @@
 
 use libc::STDIN_FILENO;
 use libc::STDOUT_FILENO;
-use pieces::Piece;
+use report_spec::Piece;
 ghost use Prim.Native.Nat.{_+_, _<_, _≤_};
 ghost use lib.ListN.{length};
 
@@ -22,7 +22,7 @@ fn read_file(path: &[u8], buf: &mut [u8]) -> usize
 
 // The whole text of the input, with no more said of it than that it is made.
 fn print_run(input: &[u8], area: &mut [u8], text: &mut [u8]) -> Piece {
-    whole::print(input, area, text)
+    report_whole::print(input, area, text)
 }
 
 // The octets of the text, none where there is a refusal.
@@ -53,8 +53,8 @@ fn read_case(name: &[u8], ending: &[u8], buf: &mut [u8]) -> usize
         return 0;
     }
     let end = n + ending.len();
-    copies::store(&mut path, 0, name);
-    copies::store(&mut path, n, ending);
+    octets_copies::store(&mut path, 0, name);
+    octets_copies::store(&mut path, n, ending);
     read_file(&path[0..end], buf)
 }
 
@@ -76,7 +76,7 @@ fn print_case(name: &[u8]) {
     io::write_all(STDOUT_FILENO, name);
     print_number(n);
     print_number(m);
-    if copies::same(&text[0..m], &expected[0..e]) {
+    if octets_copies::same(&text[0..m], &expected[0..e]) {
         io::write_all(STDOUT_FILENO, b" same\n");
     } else {
         io::write_all(STDOUT_FILENO, b" differs\n");

@@ -7,16 +7,16 @@ use mathlib.Core.Logic.{_⊎_}
 use native.Mathlib.Omega.{arith}
 use lib.ListN.{length}
 use Rattle.octets.specs.BaseLaws.{by-test}
-use Rattle.layout.specs.Layout.{gapOf}
-use Rattle.packet.specs.declared.Heard.the-variants.{Nothing, Clean}
-use Rattle.packet.specs.declared.Symbol.the-variants.{Silence, Bit}
-use Rattle.packet.specs.Packet.{packetBit}
-use Rattle.transmitter.specs.Transmit.{packetLength}
+use Rattle.sheet_layout.specs.Layout.{gapOf}
+use Rattle.station_symbols.specs.declared.Heard.the-variants.{Nothing, Clean}
+use Rattle.station_symbols.specs.declared.Symbol.the-variants.{Silence, Bit}
+use Rattle.station_symbols.specs.Packet.{packetBit}
+use Rattle.station_transmit.specs.Transmit.{packetLength}
 use Rattle.trace.specs.Basic.{either}
 use Rattle.trace.specs.Trace.{Clear, alone, apart, listens, silent-before, silent-after}
-use Rattle.meeting.specs.Net.{Net}
+use Rattle.bus_meeting.specs.Net.{Net}
 use Rattle.trace.specs.World.{Offer}
-use Rattle.meeting.specs.Gather.{on, off-is}
+use Rattle.bus_meeting.specs.Gather.{on, off-is}
 use Rattle.trace.specs.Hear.{Only, only-heard, silence-heard}
 use Rattle.trace.specs.Run.{sig, emits, sees, Sound}
 use Rattle.trace.specs.Inv.{Whole}

@@ -10,18 +10,18 @@ use lib.ListN.{length}
 use borrow.Author.Tests.{eqb-true}
 use Rattle.octets.specs.Base.{pick}
 use Rattle.octets.specs.BaseLaws.{by-test, by-eq}
-use Rattle.layout.specs.declared.Figures.{Figures}
-use Rattle.packet.specs.Packet.{hearsAny}
-use Rattle.transmitter.specs.declared.TransmitEvent.the-variants.{GivenUp}
-use Rattle.state.specs.declared.Transmitter.{Transmitter}
-use Rattle.state.specs.declared.Transmitter.the-variants.{NoFrame, Waiting, BackingOff, Sending, Heading, Jamming}
-use Rattle.transmitter.specs.Transmit.{packetLength, collision, sendBit, headBit, lastJam, jamBit, backoffBit, waitBit, transmit}
-use Rattle.state.specs.declared.Station.{Station}
-use Rattle.station.specs.Step.{triesAfter}
-use Rattle.pair.specs.Range.{AttemptsIn}
-use Rattle.offer.specs.Offer.{holds, offeredStation}
+use Rattle.sheet_layout.specs.declared.Figures.{Figures}
+use Rattle.station_symbols.specs.Packet.{hearsAny}
+use Rattle.station_transmit.specs.declared.TransmitEvent.the-variants.{GivenUp}
+use Rattle.station_state.specs.declared.Transmitter.{Transmitter}
+use Rattle.station_state.specs.declared.Transmitter.the-variants.{NoFrame, Waiting, BackingOff, Sending, Heading, Jamming}
+use Rattle.station_transmit.specs.Transmit.{packetLength, collision, sendBit, headBit, lastJam, jamBit, backoffBit, waitBit, transmit}
+use Rattle.station_state.specs.declared.Station.{Station}
+use Rattle.station_spec.specs.Step.{triesAfter}
+use Rattle.bus_spec.specs.Range.{AttemptsIn}
+use Rattle.bus_offer.specs.Offer.{holds, offeredStation}
 use Rattle.trace.specs.Basic.{either, clash}
-use Rattle.meeting.specs.Net.{Net}
+use Rattle.bus_meeting.specs.Net.{Net}
 use Rattle.trace.specs.World.{Offer, freshStation, fresh, before}
 use Rattle.trace.specs.Run.{state, frameIn, outAt, sees, deferAt, sendAt, Sound, Made, Kept, ready-kept, frame-suc, out-start, out-sent, next-transmitter, next-attempts, fine-before, fine}
 use Rattle.trace.specs.Keep.{held-back}

@@ -12,10 +12,10 @@ use Rattle.octets.specs.Bits.{digit}
 use Rattle.octets.specs.BitsLaws.{octet-bit}
 use Rattle.octets.specs.BaseLaws.{by-eq}
 use Rattle.octets.specs.NumberLaws.{Octets}
-use Rattle.packet.specs.Packet.{frameBit}
-use Rattle.receiver.specs.declared.Stored.the-variants.{Store}
+use Rattle.station_symbols.specs.Packet.{frameBit}
+use Rattle.station_receive.specs.declared.Stored.the-variants.{Store}
 use Rattle.area.specs.Area.{octetWith}
-use Rattle.ready.specs.After.{storedIn}
+use Rattle.bus_spec.specs.After.{storedIn}
 
 -- the buffer b after the first n bits of F
 unfoldable pub collected : List ℕ → List ℕ → ℕ → List ℕ

@@ -12,14 +12,14 @@ use lib.Seq.{take-take}
 use borrow.Author.Tests.{le-ltb, eqb-true}
 use Rattle.octets.specs.Base.{pick, Answer, refused, valuesOf}
 use Rattle.octets.specs.BaseLaws.{by-test}
-use Rattle.opener.specs.Open.{destinationOf, valueOf, fragment, frameTooLong, frameCheckError, alignmentError, receiveOK, Opening, checkWrong, checkError, opened}
-use Rattle.frame.specs.Limits.{maxFrame, bufferOctets}
-use Rattle.packet.specs.declared.Heard.{Heard}
-use Rattle.packet.specs.declared.Heard.the-variants.{Nothing, Clean, Jammed, Several}
-use Rattle.receiver.specs.declared.ReceiveEvent.the-variants.{NoReceive, GotOk}
-use Rattle.state.specs.declared.Receiver.{Receiver}
-use Rattle.state.specs.declared.Receiver.the-variants.{Listening, Readable, Seeking, Collecting}
-use Rattle.receiver.specs.Receive.{seekBit, seek, collectBit, collect, hear, addressed, openAnswer, gotEvent, readableAfter, deciding, opening, decide, ended, receive, nextRow}
+use Rattle.frame_open.specs.Open.{destinationOf, valueOf, fragment, frameTooLong, frameCheckError, alignmentError, receiveOK, Opening, checkWrong, checkError, opened}
+use Rattle.frame_build.specs.Limits.{maxFrame, bufferOctets}
+use Rattle.station_symbols.specs.declared.Heard.{Heard}
+use Rattle.station_symbols.specs.declared.Heard.the-variants.{Nothing, Clean, Jammed, Several}
+use Rattle.station_receive.specs.declared.ReceiveEvent.the-variants.{NoReceive, GotOk}
+use Rattle.station_state.specs.declared.Receiver.{Receiver}
+use Rattle.station_state.specs.declared.Receiver.the-variants.{Listening, Readable, Seeking, Collecting}
+use Rattle.station_receive.specs.Receive.{seekBit, seek, collectBit, collect, hear, addressed, openAnswer, gotEvent, readableAfter, deciding, opening, decide, ended, receive, nextRow}
 use Rattle.trace.specs.Basic.{clash}
 use Rattle.trace.specs.Listen.{Idle, ended-idle}
 

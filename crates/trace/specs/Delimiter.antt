@@ -16,8 +16,8 @@ use Rattle.octets.specs.Base.{pick}
 use Rattle.octets.specs.Bits.{lowBits, digit, lowFirst, bitsOf}
 use Rattle.octets.specs.BitsLaws.{bits-number}
 use Rattle.octets.specs.Table.{entry}
-use Rattle.packet.specs.Packet.{preamble, delimiter, packetBits}
-use Rattle.receiver.specs.Receive.{noRow, nextRow, delimiterRow}
+use Rattle.station_symbols.specs.Packet.{preamble, delimiter, packetBits}
+use Rattle.station_receive.specs.Receive.{noRow, nextRow, delimiterRow}
 use Rattle.trace.specs.Basic.{by-le}
 
 -- the row after these clean symbols, in the order in which they came

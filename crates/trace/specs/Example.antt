@@ -3,12 +3,12 @@ use Prim.Native.Nat.{ℕ, _+_, _-_, _*_, _≤_}
 use mathlib.Core.Path.{_≡_, refl}
 use native.Mathlib.Omega.{arith}
 use lib.ListN.{replicate, length-replicate}
-use Rattle.frame.specs.Limits.{maxData, refusesValue, refusesData, bufferOctets}
-use Rattle.layout.specs.declared.Figures.{Figures}
-use Rattle.layout.specs.Layout.{gapOf}
-use Rattle.layout.specs.CheckLaws.{Figured}
+use Rattle.frame_build.specs.Limits.{maxData, refusesValue, refusesData, bufferOctets}
+use Rattle.sheet_layout.specs.declared.Figures.{Figures}
+use Rattle.sheet_layout.specs.Layout.{gapOf}
+use Rattle.sheet_layout.specs.CheckLaws.{Figured}
 use Rattle.trace.specs.Trace.{Metric}
-use Rattle.meeting.specs.Net.{Net}
+use Rattle.bus_meeting.specs.Net.{Net}
 use Rattle.trace.specs.World.{Offer}
 use Rattle.trace.specs.Run.{Sound}
 use Rattle.trace.specs.Frames.{octets-replicate}

@@ -12,14 +12,14 @@ use Rattle.octets.specs.Equal.{equal}
 use Rattle.octets.specs.Number.{spelled}
 use Rattle.octets.specs.NumberLaws.{Octets}
 use Rattle.octets.specs.BitsLaws.{lowOctets}
-use Rattle.crc32.specs.Crc.{crcOf, checkSequence}
-use Rattle.crc32.specs.Division.{sequence-is}
-use Rattle.frame.specs.Build.{header, padded, covered, frameOf}
-use Rattle.opener.specs.Open.{destinationOf, sourceOf, receiveOK, Opening, opened}
-use Rattle.opener.specs.RoundTrip.{handedBack, received, opens-frame}
-use Rattle.receiver.specs.Receive.{addressed}
+use Rattle.frame_crc.specs.Crc.{crcOf, checkSequence}
+use Rattle.frame_crc.specs.Division.{sequence-is}
+use Rattle.frame_build.specs.Build.{header, padded, covered, frameOf}
+use Rattle.frame_open.specs.Open.{destinationOf, sourceOf, receiveOK, Opening, opened}
+use Rattle.frame_open.specs.RoundTrip.{handedBack, received, opens-frame}
+use Rattle.station_receive.specs.Receive.{addressed}
 use Rattle.trace.specs.Basic.{by-le}
-use Rattle.meeting.specs.Net.{Net}
+use Rattle.bus_meeting.specs.Net.{Net}
 use Rattle.trace.specs.World.{Offer, frameFor}
 use Rattle.trace.specs.Run.{Sound, Made}
 use Rattle.trace.specs.Inv.{Whole}

@@ -6,17 +6,17 @@ use native.Mathlib.Omega.{arith}
 use lib.Dec.{leb, eqb}
 use borrow.Author.Tests.{eqb-false, leb-true}
 use Rattle.octets.specs.BaseLaws.{by-test}
-use Rattle.packet.specs.declared.Heard.{Heard}
-use Rattle.packet.specs.declared.Heard.the-variants.{Nothing, Clean, Jammed, Several}
-use Rattle.packet.specs.declared.Symbol.{Symbol}
-use Rattle.packet.specs.declared.Symbol.the-variants.{Silence, Bit, Jam}
-use Rattle.packet.specs.Packet.{hearsAny}
+use Rattle.station_symbols.specs.declared.Heard.{Heard}
+use Rattle.station_symbols.specs.declared.Heard.the-variants.{Nothing, Clean, Jammed, Several}
+use Rattle.station_symbols.specs.declared.Symbol.{Symbol}
+use Rattle.station_symbols.specs.declared.Symbol.the-variants.{Silence, Bit, Jam}
+use Rattle.station_symbols.specs.Packet.{hearsAny}
 use Rattle.area.specs.Area.{alone}
 use Rattle.trace.specs.Basic.{clash}
 use Rattle.trace.specs.Trace.{Hears}
-use Rattle.meeting.specs.Net.{Net, reaches, heard}
-use Rattle.meeting.specs.Gather.{on, off-is, One, Says, gathered-says, gathered-none, gathered-one, gathered-two}
-use Rattle.meeting.specs.Reach.{reach-at, reach-none}
+use Rattle.bus_meeting.specs.Net.{Net, reaches, heard}
+use Rattle.bus_meeting.specs.Gather.{on, off-is, One, Says, gathered-says, gathered-none, gathered-one, gathered-two}
+use Rattle.bus_meeting.specs.Reach.{reach-at, reach-none}
 
 -- Of what reaches station j in step u just one symbol, s, is not silence: station `from` emitted it in step `at`.
 pub record Only (n : ℕ) (d : ℕ → ℕ → ℕ) (E : ℕ → ℕ → Symbol) (j u : ℕ) (s : Symbol) : Type 0 where

@@ -10,25 +10,25 @@ use lib.Dec.{ltb, leb, eqb}
 use lib.ListN.{length}
 use borrow.Author.Tests.{leb-true, leb-false, ltb-false, eqb-true}
 use Rattle.octets.specs.BaseLaws.{by-test, by-eq}
-use Rattle.layout.specs.declared.Figures.{Figures}
-use Rattle.packet.specs.declared.Heard.the-variants.{Nothing}
-use Rattle.packet.specs.declared.Symbol.the-variants.{Bit, Jam}
-use Rattle.packet.specs.declared.Emission.the-variants.{PacketBit, JamBit}
-use Rattle.packet.specs.Packet.{packetBit, symbolOf}
-use Rattle.transmitter.specs.declared.TransmitEvent.the-variants.{Sent}
-use Rattle.state.specs.declared.Transmitter.{Transmitter}
-use Rattle.state.specs.declared.Transmitter.the-variants.{NoFrame, Waiting, BackingOff, Sending, Heading, Jamming}
-use Rattle.transmitter.specs.Transmit.{packetLength, afterBit, collision, sendBit, headBit, backoffRange, backOff, lastJam, jamBit, backoffBit, waitBit, transmit}
-use Rattle.pair.specs.Range.{NumberIn}
-use Rattle.offer.specs.Offer.{holds}
+use Rattle.sheet_layout.specs.declared.Figures.{Figures}
+use Rattle.station_symbols.specs.declared.Heard.the-variants.{Nothing}
+use Rattle.station_symbols.specs.declared.Symbol.the-variants.{Bit, Jam}
+use Rattle.station_symbols.specs.declared.Emission.the-variants.{PacketBit, JamBit}
+use Rattle.station_symbols.specs.Packet.{packetBit, symbolOf}
+use Rattle.station_transmit.specs.declared.TransmitEvent.the-variants.{Sent}
+use Rattle.station_state.specs.declared.Transmitter.{Transmitter}
+use Rattle.station_state.specs.declared.Transmitter.the-variants.{NoFrame, Waiting, BackingOff, Sending, Heading, Jamming}
+use Rattle.station_transmit.specs.Transmit.{packetLength, afterBit, collision, sendBit, headBit, backoffRange, backOff, lastJam, jamBit, backoffBit, waitBit, transmit}
+use Rattle.bus_spec.specs.Range.{NumberIn}
+use Rattle.bus_offer.specs.Offer.{holds}
 use Rattle.trace.specs.Basic.{clash}
 use Rattle.trace.specs.Trace as trace
 use Rattle.trace.specs.Trace.{Hears, Start}
-use Rattle.meeting.specs.Net.{Net}
+use Rattle.bus_meeting.specs.Net.{Net}
 use Rattle.trace.specs.World.{Offer}
-use Rattle.meeting.specs.Gather.{on}
+use Rattle.bus_meeting.specs.Gather.{on}
 use Rattle.trace.specs.Run.{frameIn, outAt, sig, emits, sees, Sound}
-use Rattle.frame.specs.Limits.{bufferOctets}
+use Rattle.frame_build.specs.Limits.{bufferOctets}
 
 -- station i hears another in step t, and is busy then
 abbrev pub HeardIn : (P : Net) → (ℕ → List (Offer P)) → ℕ → ℕ → Type 0

@@ -9,29 +9,29 @@ use native.Mathlib.Nat.{suc-inj}
 use lib.Dec.{leb}
 use lib.ListN.{length}
 use Rattle.octets.specs.BaseLaws.{by-test}
-use Rattle.layout.specs.declared.Figures.{Figures}
-use Rattle.layout.specs.Layout.{gapOf}
-use Rattle.packet.specs.declared.Heard.the-variants.{Nothing}
-use Rattle.packet.specs.Packet.{hearsAny, isEmission}
-use Rattle.state.specs.declared.Deference.{Deference}
-use Rattle.deference.specs.Defer.{defer}
-use Rattle.state.specs.declared.Transmitter.{Transmitter}
-use Rattle.state.specs.declared.Transmitter.the-variants.{NoFrame, Waiting, BackingOff, Sending, Heading, Jamming}
-use Rattle.transmitter.specs.Transmit.{waits, headBit, backoffBit, waitBit, transmit}
-use Rattle.state.specs.declared.Station.{Station}
-use Rattle.station.specs.Step.{triesAfter}
-use Rattle.pair.specs.Range.{FrameIn, no-start}
-use Rattle.offer.specs.Offer.{holds, offeredStation}
+use Rattle.sheet_layout.specs.declared.Figures.{Figures}
+use Rattle.sheet_layout.specs.Layout.{gapOf}
+use Rattle.station_symbols.specs.declared.Heard.the-variants.{Nothing}
+use Rattle.station_symbols.specs.Packet.{hearsAny, isEmission}
+use Rattle.station_state.specs.declared.Deference.{Deference}
+use Rattle.station_defer.specs.Defer.{defer}
+use Rattle.station_state.specs.declared.Transmitter.{Transmitter}
+use Rattle.station_state.specs.declared.Transmitter.the-variants.{NoFrame, Waiting, BackingOff, Sending, Heading, Jamming}
+use Rattle.station_transmit.specs.Transmit.{waits, headBit, backoffBit, waitBit, transmit}
+use Rattle.station_state.specs.declared.Station.{Station}
+use Rattle.station_spec.specs.Step.{triesAfter}
+use Rattle.bus_spec.specs.Range.{FrameIn, no-start}
+use Rattle.bus_offer.specs.Offer.{holds, offeredStation}
 use Rattle.trace.specs.Basic.{either, clash}
 use Rattle.trace.specs.Trace.{Emitted, Rules, Lawful}
-use Rattle.meeting.specs.Net.{Net}
+use Rattle.bus_meeting.specs.Net.{Net}
 use Rattle.trace.specs.World.{Offer, freshStation, fresh, before}
-use Rattle.meeting.specs.Gather.{on}
+use Rattle.bus_meeting.specs.Gather.{on}
 use Rattle.trace.specs.Hear.{heard-yes, heard-no, unheard}
 use Rattle.trace.specs.Run.{state, frameIn, sig, emits, sees, deferAt, sendAt, Sound, Kept, ready-kept, frame-suc, out-sent, sig-is, next-deference, next-transmitter, next-size, next-emitted, on-symbol, fine}
 use Rattle.trace.specs.Inv.{HeardIn, Ran, Over, Resting, TxInv, tx-step, bit-sent, jam-sent}
 use Rattle.trace.specs.Phases.{PhInv, Flags, phase-step, start-fresh, free}
-use Rattle.frame.specs.Limits.{bufferOctets}
+use Rattle.frame_build.specs.Limits.{bufferOctets}
 
 -- What station i's state s and frame F say of the trace before step t.
 pub record Says (P : Net) (inp : ℕ → List (Offer P)) (i t : ℕ) (s : Station) (F : List ℕ) : Type 0 where

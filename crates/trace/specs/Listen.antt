@@ -8,22 +8,22 @@ use lib.Dec.{ltb, eqb}
 use lib.ListN.{length, getD, length-set}
 use Rattle.octets.specs.Base.{valuesOf}
 use Rattle.octets.specs.BaseLaws.{by-test}
-use Rattle.packet.specs.declared.Heard.{Heard}
-use Rattle.packet.specs.declared.Heard.the-variants.{Nothing, Clean}
-use Rattle.packet.specs.Packet.{isEmission}
-use Rattle.state.specs.declared.Receiver.{Receiver}
-use Rattle.state.specs.declared.Receiver.the-variants.{Listening, Readable, Seeking, Collecting}
-use Rattle.receiver.specs.declared.Received.{Received}
-use Rattle.receiver.specs.declared.Stored.{Stored}
-use Rattle.receiver.specs.declared.Stored.the-variants.{NoStore, Store}
-use Rattle.receiver.specs.Receive.{hear, addressed, openAnswer, readableAfter, opening, decide, ended, receive}
-use Rattle.state.specs.declared.Station.{Station}
-use Rattle.offer.specs.Offer.{offeredStation}
+use Rattle.station_symbols.specs.declared.Heard.{Heard}
+use Rattle.station_symbols.specs.declared.Heard.the-variants.{Nothing, Clean}
+use Rattle.station_symbols.specs.Packet.{isEmission}
+use Rattle.station_state.specs.declared.Receiver.{Receiver}
+use Rattle.station_state.specs.declared.Receiver.the-variants.{Listening, Readable, Seeking, Collecting}
+use Rattle.station_receive.specs.declared.Received.{Received}
+use Rattle.station_receive.specs.declared.Stored.{Stored}
+use Rattle.station_receive.specs.declared.Stored.the-variants.{NoStore, Store}
+use Rattle.station_receive.specs.Receive.{hear, addressed, openAnswer, readableAfter, opening, decide, ended, receive}
+use Rattle.station_state.specs.declared.Station.{Station}
+use Rattle.bus_offer.specs.Offer.{offeredStation}
 use Rattle.trace.specs.Basic.{either}
-use Rattle.ready.specs.After.{storedIn}
-use Rattle.meeting.specs.Net.{Net}
+use Rattle.bus_spec.specs.After.{storedIn}
+use Rattle.bus_meeting.specs.Net.{Net}
 use Rattle.trace.specs.World.{Offer, fresh, before}
-use Rattle.meeting.specs.Gather.{on}
+use Rattle.bus_meeting.specs.Gather.{on}
 use Rattle.trace.specs.Run.{state, frameIn, bufferIn, outAt, emits, sees, sendAt, receiveAt, Sound, Kept, ready-kept, ready-buffer, buffer-suc, out-got, out-stored, sig-is, next-receiver, on-symbol, address-is}
 
 -- ---- a step

@@ -10,15 +10,15 @@ use lib.Dec.{ltb, leb}
 use borrow.Author.Tests.{leb-true, leb-false}
 use Rattle.octets.specs.Base.{pick}
 use Rattle.octets.specs.BaseLaws.{by-eq}
-use Rattle.layout.specs.Layout.{gapOf}
-use Rattle.state.specs.declared.Deference.{Deference}
-use Rattle.state.specs.declared.Deference.the-variants.{Quiet, Busy, Gap}
-use Rattle.deference.specs.declared.Deferred.{Deferred}
-use Rattle.deference.specs.Defer.{defer, to, quietRule, busyRule, goesBack, gapOver, gapRule}
+use Rattle.sheet_layout.specs.Layout.{gapOf}
+use Rattle.station_state.specs.declared.Deference.{Deference}
+use Rattle.station_state.specs.declared.Deference.the-variants.{Quiet, Busy, Gap}
+use Rattle.station_defer.specs.declared.Deferred.{Deferred}
+use Rattle.station_defer.specs.Defer.{defer, to, quietRule, busyRule, goesBack, gapOver, gapRule}
 use Rattle.trace.specs.Basic.{either, clash, and-left}
 use Rattle.trace.specs.Trace as trace
 use Rattle.trace.specs.Trace.{Emitted, Free}
-use Rattle.meeting.specs.Net.{Net}
+use Rattle.bus_meeting.specs.Net.{Net}
 use Rattle.trace.specs.World.{Offer}
 use Rattle.trace.specs.Run.{emits, Sound}
 use Rattle.trace.specs.Inv.{HeardIn, BusyIn}

@@ -7,15 +7,15 @@ use native.Mathlib.Omega.{arith}
 use native.Mathlib.Nat.{add-zero, add-suc}
 use lib.ListN.{length, take}
 use Rattle.octets.specs.BaseLaws.{by-eq}
-use Rattle.layout.specs.Layout.{gapOf}
-use Rattle.packet.specs.declared.Heard.the-variants.{Nothing}
-use Rattle.receiver.specs.declared.ReceiveEvent.the-variants.{NoReceive, GotOk}
-use Rattle.state.specs.declared.Receiver.the-variants.{Readable}
-use Rattle.receiver.specs.declared.Received.{Received}
-use Rattle.receiver.specs.Receive.{addressed, deciding, ended, receive}
+use Rattle.sheet_layout.specs.Layout.{gapOf}
+use Rattle.station_symbols.specs.declared.Heard.the-variants.{Nothing}
+use Rattle.station_receive.specs.declared.ReceiveEvent.the-variants.{NoReceive, GotOk}
+use Rattle.station_state.specs.declared.Receiver.the-variants.{Readable}
+use Rattle.station_receive.specs.declared.Received.{Received}
+use Rattle.station_receive.specs.Receive.{addressed, deciding, ended, receive}
 use Rattle.trace.specs.Basic.{either}
-use Rattle.ready.specs.After.{storedIn}
-use Rattle.meeting.specs.Net.{Net}
+use Rattle.bus_spec.specs.After.{storedIn}
+use Rattle.bus_meeting.specs.Net.{Net}
 use Rattle.trace.specs.World.{Offer, freshStation, fresh, before}
 use Rattle.trace.specs.Run.{state, frameIn, bufferIn, outAt, emits, sees, Sound, ready-buffer}
 use Rattle.trace.specs.Frames.{clientIn}

@@ -8,21 +8,21 @@ use mathlib.Core.Logic.{inl}
 use native.Mathlib.Omega.{arith}
 use lib.ListN.{length}
 use Rattle.octets.specs.BaseLaws.{by-test, by-eq}
-use Rattle.opener.specs.Open.{receiveOK, opened}
-use Rattle.opener.specs.RoundTrip.{handedBack}
-use Rattle.layout.specs.Layout.{gapOf}
-use Rattle.packet.specs.declared.Heard.the-variants.{Nothing, Clean}
-use Rattle.packet.specs.declared.Symbol.the-variants.{Bit}
-use Rattle.packet.specs.Packet.{packetBit}
-use Rattle.transmitter.specs.declared.TransmitEvent.the-variants.{Sent}
-use Rattle.receiver.specs.declared.ReceiveEvent.the-variants.{NoReceive, GotOk}
-use Rattle.state.specs.declared.Receiver.the-variants.{Listening, Readable, Collecting}
-use Rattle.receiver.specs.declared.Received.{Received}
-use Rattle.receiver.specs.Receive.{addressed, deciding, decide, ended}
+use Rattle.frame_open.specs.Open.{receiveOK, opened}
+use Rattle.frame_open.specs.RoundTrip.{handedBack}
+use Rattle.sheet_layout.specs.Layout.{gapOf}
+use Rattle.station_symbols.specs.declared.Heard.the-variants.{Nothing, Clean}
+use Rattle.station_symbols.specs.declared.Symbol.the-variants.{Bit}
+use Rattle.station_symbols.specs.Packet.{packetBit}
+use Rattle.station_transmit.specs.declared.TransmitEvent.the-variants.{Sent}
+use Rattle.station_receive.specs.declared.ReceiveEvent.the-variants.{NoReceive, GotOk}
+use Rattle.station_state.specs.declared.Receiver.the-variants.{Listening, Readable, Collecting}
+use Rattle.station_receive.specs.declared.Received.{Received}
+use Rattle.station_receive.specs.Receive.{addressed, deciding, decide, ended}
 use Rattle.trace.specs.Basic.{clash}
-use Rattle.meeting.specs.Net.{Net}
+use Rattle.bus_meeting.specs.Net.{Net}
 use Rattle.trace.specs.World.{Offer, freshStation, fresh, before}
-use Rattle.meeting.specs.Gather.{on}
+use Rattle.bus_meeting.specs.Gather.{on}
 use Rattle.trace.specs.Hear.{Only}
 use Rattle.trace.specs.Run.{state, frameIn, bufferIn, outAt, sig, emits, sees, Sound, Made, sees-clean, sees-nothing}
 use Rattle.trace.specs.Inv.{Whole}

@@ -9,26 +9,26 @@ use lib.ListN.{length, getD, take, List·getD-append}
 use lib.Seq.{take-suc, take-all}
 use borrow.Author.Tests.{lt-ltb}
 use Rattle.octets.specs.Bits.{bitsOf}
-use Rattle.layout.specs.Layout.{gapOf}
-use Rattle.packet.specs.declared.Heard.the-variants.{Nothing, Clean}
-use Rattle.packet.specs.Packet.{preamble, delimiter, packetBits, frameBit, packetBit}
-use Rattle.packet.specs.PacketLaws.{bit-of-frame}
-use Rattle.state.specs.declared.Receiver.{Receiver}
-use Rattle.state.specs.declared.Receiver.the-variants.{Listening, Readable, Seeking, Collecting}
-use Rattle.receiver.specs.declared.Received.{Received}
-use Rattle.receiver.specs.declared.Stored.the-variants.{Store}
-use Rattle.receiver.specs.Receive.{nextRow, storedBit, hearing, seekBit, seek, collectBit, collect, hear}
-use Rattle.ready.specs.After.{storedIn}
-use Rattle.meeting.specs.Net.{Net}
+use Rattle.sheet_layout.specs.Layout.{gapOf}
+use Rattle.station_symbols.specs.declared.Heard.the-variants.{Nothing, Clean}
+use Rattle.station_symbols.specs.Packet.{preamble, delimiter, packetBits, frameBit, packetBit}
+use Rattle.station_symbols.specs.PacketLaws.{bit-of-frame}
+use Rattle.station_state.specs.declared.Receiver.{Receiver}
+use Rattle.station_state.specs.declared.Receiver.the-variants.{Listening, Readable, Seeking, Collecting}
+use Rattle.station_receive.specs.declared.Received.{Received}
+use Rattle.station_receive.specs.declared.Stored.the-variants.{Store}
+use Rattle.station_receive.specs.Receive.{nextRow, storedBit, hearing, seekBit, seek, collectBit, collect, hear}
+use Rattle.bus_spec.specs.After.{storedIn}
+use Rattle.bus_meeting.specs.Net.{Net}
 use Rattle.trace.specs.World.{Offer}
-use Rattle.meeting.specs.Gather.{on}
+use Rattle.bus_meeting.specs.Gather.{on}
 use Rattle.trace.specs.Run.{state, bufferIn, emits, sees, Sound}
 use Rattle.trace.specs.Inv.{Whole}
 use Rattle.trace.specs.Alone.{Passes, passes}
 use Rattle.trace.specs.Collect.{Filled, filled-none, filled-more, filled-all}
 use Rattle.trace.specs.Frames.{whole-octets}
 use Rattle.trace.specs.Listen.{receptionAt, receiver-next, buffer-next, buffer-length, reception-nothing, reception-clean, Idle, ended-idle}
-use Rattle.frame.specs.Limits.{bufferBits}
+use Rattle.frame_build.specs.Limits.{bufferBits}
 
 -- ---- a reception of clean symbols
 

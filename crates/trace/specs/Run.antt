@@ -11,34 +11,34 @@ use lib.ListN.{length}
 use borrow.Author.Tests.{eq-eqb, ne-eqb, eqb-true}
 use Rattle.octets.specs.BaseLaws.{by-test, by-eq}
 use Rattle.octets.specs.NumberLaws.{Octets}
-use Rattle.frame.specs.BuildLaws.{frame-size, data-within}
-use Rattle.layout.specs.CheckLaws.{Figured}
-use Rattle.packet.specs.declared.Heard.{Heard}
-use Rattle.packet.specs.declared.Heard.the-variants.{Nothing, Clean, Jammed, Several}
-use Rattle.packet.specs.declared.Symbol.{Symbol}
-use Rattle.packet.specs.declared.Symbol.the-variants.{Silence, Bit, Jam}
-use Rattle.packet.specs.declared.Emission.{Emission}
-use Rattle.packet.specs.declared.Emission.the-variants.{Rest, PacketBit, JamBit}
-use Rattle.packet.specs.Packet.{symbolOf, isEmission}
-use Rattle.deference.specs.declared.Deferred.{Deferred}
-use Rattle.state.specs.declared.Transmitter.{Transmitter}
-use Rattle.state.specs.declared.Transmitter.the-variants.{NoFrame, Waiting, BackingOff, Sending, Heading, Jamming}
-use Rattle.transmitter.specs.declared.Transmitted.{Transmitted}
-use Rattle.receiver.specs.declared.Received.{Received}
-use Rattle.state.specs.declared.Station.{Station}
-use Rattle.station.specs.declared.Stepped.{Stepped}
-use Rattle.station.specs.Step.{stepped, nextStation, triesAfter, deferring, sending, receiving}
-use Rattle.pair.specs.Range.{Fine, fine-stepped}
+use Rattle.frame_build.specs.BuildLaws.{frame-size, data-within}
+use Rattle.sheet_layout.specs.CheckLaws.{Figured}
+use Rattle.station_symbols.specs.declared.Heard.{Heard}
+use Rattle.station_symbols.specs.declared.Heard.the-variants.{Nothing, Clean, Jammed, Several}
+use Rattle.station_symbols.specs.declared.Symbol.{Symbol}
+use Rattle.station_symbols.specs.declared.Symbol.the-variants.{Silence, Bit, Jam}
+use Rattle.station_symbols.specs.declared.Emission.{Emission}
+use Rattle.station_symbols.specs.declared.Emission.the-variants.{Rest, PacketBit, JamBit}
+use Rattle.station_symbols.specs.Packet.{symbolOf, isEmission}
+use Rattle.station_defer.specs.declared.Deferred.{Deferred}
+use Rattle.station_state.specs.declared.Transmitter.{Transmitter}
+use Rattle.station_state.specs.declared.Transmitter.the-variants.{NoFrame, Waiting, BackingOff, Sending, Heading, Jamming}
+use Rattle.station_transmit.specs.declared.Transmitted.{Transmitted}
+use Rattle.station_receive.specs.declared.Received.{Received}
+use Rattle.station_state.specs.declared.Station.{Station}
+use Rattle.station_spec.specs.declared.Stepped.{Stepped}
+use Rattle.station_spec.specs.Step.{stepped, nextStation, triesAfter, deferring, sending, receiving}
+use Rattle.bus_spec.specs.Range.{Fine, fine-stepped}
 use Rattle.area.specs.Area.{alone}
-use Rattle.offer.specs.Offer.{holds, offeredStation}
+use Rattle.bus_offer.specs.Offer.{holds, offeredStation}
 use Rattle.trace.specs.Basic.{either, clash}
 use Rattle.trace.specs.Trace.{Metric}
-use Rattle.ready.specs.After.{storedIn}
-use Rattle.meeting.specs.Net.{Net, gathered, reaches, heard, grown}
+use Rattle.bus_spec.specs.After.{storedIn}
+use Rattle.bus_meeting.specs.Net.{Net, gathered, reaches, heard, grown}
 use Rattle.trace.specs.World.{Offer, frameFor, World, outcome, symbol, step, given, offer, offers, freshStation, fresh, before, ready}
-use Rattle.meeting.specs.Gather.{on, gathered-same}
+use Rattle.bus_meeting.specs.Gather.{on, gathered-same}
 use Rattle.trace.specs.Hear.{Only, Both, reaches-same, heard-clean, heard-jammed, only-heard, heard-several, both-heard, heard-nothing, nothing-heard}
-use Rattle.frame.specs.Limits.{bufferOctets}
+use Rattle.frame_build.specs.Limits.{bufferOctets}
 
 -- ---- an execution's words
 

@@ -9,22 +9,22 @@ use lib.Dec.{ltb, leb, eqb}
 use lib.ListN.{length}
 use Rattle.octets.specs.Base.{pick}
 use Rattle.octets.specs.BaseLaws.{by-test}
-use Rattle.layout.specs.declared.Figures.{Figures}
-use Rattle.packet.specs.declared.Symbol.the-variants.{Silence, Bit, Jam}
-use Rattle.packet.specs.declared.Emission.the-variants.{PacketBit}
-use Rattle.packet.specs.Packet.{packetBit, symbolOf, hearsAny, isEmission}
-use Rattle.transmitter.specs.declared.TransmitEvent.{TransmitEvent}
-use Rattle.transmitter.specs.declared.TransmitEvent.the-variants.{NoTransmit, Collision, Late, Sent, GivenUp}
-use Rattle.state.specs.declared.Transmitter.{Transmitter}
-use Rattle.state.specs.declared.Transmitter.the-variants.{NoFrame, Waiting, BackingOff, Sending, Heading, Jamming}
-use Rattle.transmitter.specs.Transmit.{packetLength, collision, sendBit, headBit, lastJam, jamBit, backoffBit, waitBit, transmit}
-use Rattle.state.specs.declared.Station.{Station}
-use Rattle.station.specs.Step.{triesAfter}
-use Rattle.offer.specs.Offer.{holds, offeredStation}
+use Rattle.sheet_layout.specs.declared.Figures.{Figures}
+use Rattle.station_symbols.specs.declared.Symbol.the-variants.{Silence, Bit, Jam}
+use Rattle.station_symbols.specs.declared.Emission.the-variants.{PacketBit}
+use Rattle.station_symbols.specs.Packet.{packetBit, symbolOf, hearsAny, isEmission}
+use Rattle.station_transmit.specs.declared.TransmitEvent.{TransmitEvent}
+use Rattle.station_transmit.specs.declared.TransmitEvent.the-variants.{NoTransmit, Collision, Late, Sent, GivenUp}
+use Rattle.station_state.specs.declared.Transmitter.{Transmitter}
+use Rattle.station_state.specs.declared.Transmitter.the-variants.{NoFrame, Waiting, BackingOff, Sending, Heading, Jamming}
+use Rattle.station_transmit.specs.Transmit.{packetLength, collision, sendBit, headBit, lastJam, jamBit, backoffBit, waitBit, transmit}
+use Rattle.station_state.specs.declared.Station.{Station}
+use Rattle.station_spec.specs.Step.{triesAfter}
+use Rattle.bus_offer.specs.Offer.{holds, offeredStation}
 use Rattle.trace.specs.Basic.{either}
-use Rattle.meeting.specs.Net.{Net}
+use Rattle.bus_meeting.specs.Net.{Net}
 use Rattle.trace.specs.World.{Offer, before}
-use Rattle.meeting.specs.Gather.{on, off-is}
+use Rattle.bus_meeting.specs.Gather.{on, off-is}
 use Rattle.trace.specs.Run.{state, frameIn, outAt, sig, emits, sees, deferAt, sendAt, Sound, ready-kept, out-sent, sig-is, next-transmitter}
 use Rattle.trace.specs.Inv.{Whole, TxInv, bit-sent}
 use Rattle.trace.specs.Keep.{says, says-before, emits-is, fresh-before, ended}

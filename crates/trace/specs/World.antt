@@ -8,20 +8,20 @@ use lib.Dec.{eqb}
 use lib.ListN.{length}
 use Rattle.octets.specs.Base.{pick}
 use Rattle.octets.specs.NumberLaws.{Octets}
-use Rattle.frame.specs.Limits.{refusesData}
-use Rattle.frame.specs.Build.{frameOf}
-use Rattle.packet.specs.declared.Symbol.{Symbol}
-use Rattle.packet.specs.declared.Symbol.the-variants.{Silence}
-use Rattle.packet.specs.Packet.{symbolOf}
-use Rattle.state.specs.declared.Deference.the-variants.{Quiet}
-use Rattle.state.specs.declared.Transmitter.the-variants.{NoFrame}
-use Rattle.state.specs.declared.Receiver.the-variants.{Listening}
-use Rattle.state.specs.declared.Station.{Station}
-use Rattle.station.specs.declared.Stepped.{Stepped}
-use Rattle.station.specs.Step.{stepped}
-use Rattle.ready.specs.After.{storedIn}
-use Rattle.offer.specs.Offer.{holds, offeredStation}
-use Rattle.meeting.specs.Net.{Net, heard, grown}
+use Rattle.frame_build.specs.Limits.{refusesData}
+use Rattle.frame_build.specs.Build.{frameOf}
+use Rattle.station_symbols.specs.declared.Symbol.{Symbol}
+use Rattle.station_symbols.specs.declared.Symbol.the-variants.{Silence}
+use Rattle.station_symbols.specs.Packet.{symbolOf}
+use Rattle.station_state.specs.declared.Deference.the-variants.{Quiet}
+use Rattle.station_state.specs.declared.Transmitter.the-variants.{NoFrame}
+use Rattle.station_state.specs.declared.Receiver.the-variants.{Listening}
+use Rattle.station_state.specs.declared.Station.{Station}
+use Rattle.station_spec.specs.declared.Stepped.{Stepped}
+use Rattle.station_spec.specs.Step.{stepped}
+use Rattle.bus_spec.specs.After.{storedIn}
+use Rattle.bus_offer.specs.Offer.{holds, offeredStation}
+use Rattle.bus_meeting.specs.Net.{Net, heard, grown}
 
 -- An offer that is not refused for its data: its destination and data are octets, its value one of two octets.
 pub record Offer (P : Net) : Type 0 where

@@ -22,7 +22,7 @@ fn address(a: &[u8], at: usize) -> u64 {
     if a.len() - 8 < at {
         return 0;
     }
-    words::get32(a, at) as u64 * 4294967296 + words::get32(a, at + 4) as u64
+    octets_words::get32(a, at) as u64 * 4294967296 + octets_words::get32(a, at + 4) as u64
 }
 
 fn number(a: &[u8], at: usize) -> u16 {
@@ -48,7 +48,7 @@ fn build(a: &[u8], out: &mut [u8]) -> u32 {
     if out.len() < room {
         return 0;
     }
-    calls::build(
+    c_calls::build(
         address(a, 2),
         address(a, 10),
         number(a, 18),
@@ -61,29 +61,29 @@ fn status(a: &[u8], out: &mut [u8]) -> u32 {
     if a.len() < 1 {
         return 0;
     }
-    calls::client_data(&a[1..], octets::wide(a[0]), out)
+    c_calls::client_data(&a[1..], octets::wide(a[0]), out)
 }
 
 fn spoiled(a: &[u8]) -> u32 {
     if a.len() < 1 {
         return 0;
     }
-    let s = opener::reception_status(&a[1..], octets::wide(a[0]), true);
-    let refusal = answers::numbers::status_number(s);
+    let s = frame_open::reception_status(&a[1..], octets::wide(a[0]), true);
+    let refusal = c_words::numbers::status_number(s);
     if refusal != 0 {
         return refused(refusal);
     }
-    answers::numbers::status_value(s)
+    c_words::numbers::status_value(s)
 }
 
 fn of_octets(call: u8, a: &[u8], out: &mut [u8]) -> u32 {
     match call {
-        b'k' => crc32::crc_of(a),
+        b'k' => frame_crc::crc_of(a),
         b'b' => build(a, out),
         b'v' => status(a, out),
         b'x' => spoiled(a),
-        b's' => calls::read_sheet(a, out),
-        _ => calls::fits(a),
+        b's' => c_calls::read_sheet(a, out),
+        _ => c_calls::fits(a),
     }
 }
 
@@ -95,13 +95,13 @@ fn start(area: &mut [u8], a: &[u8]) -> u32 {
     if a.len() < end {
         return 0;
     }
-    calls::start(area, &a[2..end], octets::wide(a[0]), &a[end..])
+    c_calls::start(area, &a[2..end], octets::wide(a[0]), &a[end..])
 }
 
 fn poke(area: &mut [u8], at: usize, v: u32) {
     if at <= 57340 {
         if area::AREA <= area.len() {
-            words::put32(area, at, v);
+            octets_words::put32(area, at, v);
         }
     }
 }
@@ -110,24 +110,24 @@ fn poke_all(area: &mut [u8], words: &[u8]) {
     let n = words.len() / 8;
     let mut k: usize = 0;
     while k < n {
-        let at = words::get32(words, 8 * k) as usize;
-        poke(area, at, words::get32(words, 8 * k + 4));
+        let at = octets_words::get32(words, 8 * k) as usize;
+        poke(area, at, octets_words::get32(words, 8 * k + 4));
         k += 1;
     }
 }
 
 fn check(area: &mut [u8], a: &[u8], out: &mut [u8]) -> u32 {
     let sheet = b"\x00\x02\x00\x02\x00\x00\x00\x00\x01\x0a\x02\x00\x00\x00\x00\x02";
-    calls::start(area, sheet, 2, &[0u8, 0, 0, 0, 0, 1, 0, 0]);
+    c_calls::start(area, sheet, 2, &[0u8, 0, 0, 0, 0, 1, 0, 0]);
     poke_all(area, a);
-    calls::counters(area, 0, out)
+    c_calls::counters(area, 0, out)
 }
 
 fn offer(area: &mut [u8], a: &[u8]) -> u32 {
     if a.len() < 11 {
         return 0;
     }
-    calls::offer(
+    c_calls::offer(
         area,
         octets::wide(a[0]),
         address(a, 1),
@@ -140,7 +140,7 @@ fn short_step(area: &mut [u8], out: &mut [u8]) -> u32 {
     if area.len() < 57343 {
         return 0;
     }
-    calls::step(&mut area[0..57343], out)
+    c_calls::step(&mut area[0..57343], out)
 }
 
 // As `wisavulome_run` has it.
@@ -151,12 +151,12 @@ fn run(area: &mut [u8], a: &[u8], out: &mut [u8]) -> u32 {
     if out.len() < 48 {
         return 0;
     }
-    let r = fast_run::run(area, words::get32(a, 0));
+    let r = fast_run::run(area, octets_words::get32(a, 0));
     let done = r.done;
     let words = r.words;
     let ended = r.ended;
-    tables::write_run(out, words, ended);
-    let refusal = answers::numbers::done_number(done);
+    c_tables::write_run(out, words, ended);
+    let refusal = c_words::numbers::done_number(done);
     if refusal != 0 {
         return refused(refusal);
     }
@@ -171,14 +171,14 @@ fn read(area: &[u8], a: &[u8], out: &mut [u8]) -> u32 {
     if out.len() < room {
         return 0;
     }
-    calls::read_frame(area, octets::wide(a[0]), &mut out[0..room])
+    c_calls::read_frame(area, octets::wide(a[0]), &mut out[0..room])
 }
 
 fn counters(area: &[u8], a: &[u8], out: &mut [u8]) -> u32 {
     if a.len() < 1 {
         return 0;
     }
-    calls::counters(area, octets::wide(a[0]), out)
+    c_calls::counters(area, octets::wide(a[0]), out)
 }
 
 fn of_area(area: &mut [u8], call: u8, a: &[u8], out: &mut [u8]) -> u32 {
@@ -186,7 +186,7 @@ fn of_area(area: &mut [u8], call: u8, a: &[u8], out: &mut [u8]) -> u32 {
         b'c' => counters(area, a, out),
         b'g' => read(area, a, out),
         b'r' => run(area, a, out),
-        b't' => calls::step(area, out),
+        b't' => c_calls::step(area, out),
         b'u' => short_step(area, out),
         _ => of_octets(call, a, out),
     }

@@ -22,7 +22,7 @@ fn print_words(out: &[u8], n: usize) {
         if out.len() - 4 * k < 4 {
             return;
         }
-        print_word(b" ", words::get32(out, 4 * k));
+        print_word(b" ", octets_words::get32(out, 4 * k));
         k += 1;
     }
 }

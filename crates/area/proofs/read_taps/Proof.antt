@@ -6,7 +6,7 @@ use Prim.Native.Nat.{_≤_, _-_}
 use lib.ListN.{length, length-set}
 use Rattle.area.specs.Area.{tapAt}
 use Rattle.octets.specs.Filled.{filled-none, filled-more, filled-end}
-use Rattle.layout.specs.Layout.{placesOf}
+use Rattle.sheet_layout.specs.Layout.{placesOf}
 use Rattle.area.proofs.read_taps.Statement.{statement}
 use Rattle.area.proofs.read_taps.Tie as tie
 

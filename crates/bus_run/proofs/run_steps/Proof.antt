@@ -4,10 +4,10 @@ use native.Mathlib.Omega.{arith}
 use Prim.Native.Nat.{_*_, _≤_, _-_}
 use mathlib.Core.Path.{_≡_, refl}
 use lib.ListN.{length}
-use Rattle.course.specs.declared.Ended.the-variants.{All}
-use Rattle.course.specs.Run.{runOf}
-use Rattle.course.specs.RunLaws.{Runnable, NoneLate, none-late-first, none-late-more, run-first, run-ready, run-clock, run-next, run-zero, run-searched, run-found, run-end, next-bounded}
-use Rattle.tally.specs.TallyLaws.{Bounded, zero-bounded}
+use Rattle.bus_spec.specs.declared.course.Ended.the-variants.{All}
+use Rattle.bus_spec.specs.Run.{runOf}
+use Rattle.bus_spec.specs.RunLaws.{Runnable, NoneLate, none-late-first, none-late-more, run-first, run-ready, run-clock, run-next, run-zero, run-searched, run-found, run-end, next-bounded}
+use Rattle.station_tally.specs.TallyLaws.{Bounded, zero-bounded}
 use Rattle.bus_run.proofs.run_steps.Statement.{statement}
 use Rattle.bus_run.proofs.run_steps.Tie as tie
 

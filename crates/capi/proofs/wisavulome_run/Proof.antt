@@ -1,5 +1,5 @@
 -- `capi::wisavulome_run` meets its contract. Assumes nothing.
-use Rattle.calls.specs.CallLaws.{run-short, run-number-low, run-refused, run-made}
+use Rattle.c_calls.specs.CallLaws.{run-short, run-number-low, run-refused, run-made}
 use borrow.Author.Needs.{needs}
 use Rattle.capi.proofs.wisavulome_run.Statement.{statement}
 use Rattle.capi.proofs.wisavulome_run.Tie as tie

@@ -7,7 +7,7 @@ use Rattle.fast_advance.proofs.advance.Reads as reads
 use Rattle.fast_advance.proofs.advance.Lts as lts
 use Rattle.fast_advance.proofs.eventless.Reads as eventless-reads
 use Rattle.fast_advance.proofs.leap.Reads as leap-reads
-use Rattle.turn.proofs.step.step.Reads as step-reads
+use Rattle.bus_turn.proofs.step.step.Reads as step-reads
 
 -- src/lib.rt:48:9
 leap-requires : tie.Need-leap-requires

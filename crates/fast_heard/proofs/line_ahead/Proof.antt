@@ -7,7 +7,7 @@ use Rattle.fast_heard.proofs.line_ahead.Reads as reads
 use Rattle.fast_heard.proofs.line_ahead.Lts as lts
 use Rattle.fast_line.proofs.is_clear.Reads as is-clear-reads
 use Rattle.fast_line.proofs.line_run.Reads as line-run-reads
-use Rattle.quick.proofs.capped.Reads as capped-reads
+use Rattle.bus_quick.proofs.capped.Reads as capped-reads
 
 -- src/lib.rt:135:9
 returns : tie.Need-returns

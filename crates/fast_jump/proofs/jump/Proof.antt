@@ -1,7 +1,7 @@
 -- `fast_jump::jump` meets its contract. Assumes nothing.
 use Rattle.fast_jump.specs.JumpLaws.{jump-is}
 use Rattle.fast_search.specs.SearchLaws.{ready-gap}
-use Rattle.pair.specs.Ready.{ready-few}
+use Rattle.bus_spec.specs.Ready.{ready-few}
 use native.Mathlib.Omega.{arith}
 use borrow.Author.Needs.{needs}
 use Rattle.fast_jump.proofs.jump.Statement.{statement}

@@ -10,7 +10,7 @@ use Rattle.fast_line.proofs.clear.Tie as tie
 use Rattle.fast_line.proofs.clear.Reads as reads
 use Rattle.fast_line.proofs.clear.Lts as lts
 use Rattle.fast_line.proofs.clear_row.Reads as clear-row-reads
-use Rattle.quick.proofs.capped.Reads as capped-reads
+use Rattle.bus_quick.proofs.capped.Reads as capped-reads
 
 abbrev Inv-loop : tie.InvT-loop
 Inv-loop area₀ j t m s₀ area s = (s ≤ m) × (length area ≡ length area₀) × (area ≡ cleared t j s area₀)

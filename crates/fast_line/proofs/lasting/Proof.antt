@@ -6,7 +6,7 @@ use Rattle.fast_line.proofs.lasting.Tie as tie
 use Rattle.fast_line.proofs.lasting.Reads as reads
 use Rattle.fast_line.proofs.lasting.Lts as lts
 use Rattle.fast_line.proofs.lasting_row.Reads as lasting-row-reads
-use Rattle.quick.proofs.capped.Reads as capped-reads
+use Rattle.bus_quick.proofs.capped.Reads as capped-reads
 
 -- src/lib.rt:113:29
 sub-capped : tie.Need-sub-capped

@@ -5,8 +5,8 @@ use Rattle.fast_move.proofs.heard_first.Statement.{statement}
 use Rattle.fast_move.proofs.heard_first.Tie as tie
 use Rattle.fast_move.proofs.heard_first.Reads as reads
 use Rattle.fast_move.proofs.heard_first.Lts as lts
-use Rattle.delay.proofs.arrival.Reads as arrival-reads
-use Rattle.packet.proofs.packet_bit.Reads as packet-bit-reads
+use Rattle.area_line.proofs.arrival.Reads as arrival-reads
+use Rattle.station_symbols.proofs.packet_bit.Reads as packet-bit-reads
 
 -- src/lib.rt:166:25
 enum-told : tie.Need-enum-told

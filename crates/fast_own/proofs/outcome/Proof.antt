@@ -1,5 +1,5 @@
 -- `fast_own::outcome` meets its contract. Assumes nothing.
-use Rattle.pair.specs.Ready.{able-draw, able-room}
+use Rattle.bus_spec.specs.Ready.{able-draw, able-room}
 use Rattle.fast_own.specs.OwnLaws.{outcome-is}
 use native.Mathlib.Omega.{arith}
 use borrow.Author.Needs.{needs}

@@ -6,7 +6,7 @@ use Rattle.fast_receive.proofs.collect_eight.Statement.{statement}
 use Rattle.fast_receive.proofs.collect_eight.Tie as tie
 use Rattle.fast_receive.proofs.collect_eight.Reads as reads
 use Rattle.fast_receive.proofs.collect_eight.Lts as lts
-use Rattle.buffers.proofs.write_octet.Reads as write-octet-reads
+use Rattle.area_buffers.proofs.write_octet.Reads as write-octet-reads
 use Rattle.fast_receive.proofs.line_octet.Reads as line-octet-reads
 use Rattle.fast_receive.proofs.stay.Reads as stay-reads
 use Rattle.octets.proofs.either.Reads as either-reads

@@ -7,7 +7,7 @@ use Rattle.fast_receive.proofs.hear_next.Reads as reads
 use Rattle.fast_receive.proofs.hear_next.Lts as lts
 use Rattle.fast_receive.proofs.hear_one.Reads as hear-one-reads
 use Rattle.fast_receive.proofs.pass_preamble.Reads as pass-preamble-reads
-use Rattle.packet.proofs.packet_bit.Reads as packet-bit-reads
+use Rattle.station_symbols.proofs.packet_bit.Reads as packet-bit-reads
 
 -- src/lib.rt:250:9
 pass-preamble-requires : tie.Need-pass-preamble-requires

@@ -5,7 +5,7 @@ use Rattle.fast_receive.proofs.hear_some.Statement.{statement}
 use Rattle.fast_receive.proofs.hear_some.Tie as tie
 use Rattle.fast_receive.proofs.hear_some.Reads as reads
 use Rattle.fast_receive.proofs.hear_some.Lts as lts
-use Rattle.delay.proofs.read_symbol.Reads as read-symbol-reads
+use Rattle.area_line.proofs.read_symbol.Reads as read-symbol-reads
 use Rattle.fast_receive.proofs.hear_eight.Reads as hear-eight-reads
 use Rattle.fast_receive.proofs.hear_one.Reads as hear-one-reads
 

@@ -1,8 +1,8 @@
 -- `fast_run::run` meets its contract. Assumes nothing.
 use native.Mathlib.Omega.{arith}
-use Rattle.valid.specs.AreaCheckLaws.{passes-long}
-use Rattle.course.specs.RunLaws.{ran-area, ran-over, ran-made, run-allowed, clock-within}
-use Rattle.tally.specs.TallyLaws.{zeros-bounded}
+use Rattle.area_check.specs.AreaCheckLaws.{passes-long}
+use Rattle.bus_spec.specs.RunLaws.{ran-area, ran-over, ran-made, run-allowed, clock-within}
+use Rattle.station_tally.specs.TallyLaws.{zeros-bounded}
 use borrow.Author.Needs.{needs}
 use Rattle.fast_run.proofs.run.Statement.{statement}
 use Rattle.fast_run.proofs.run.Tie as tie

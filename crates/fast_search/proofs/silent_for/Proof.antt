@@ -1,6 +1,6 @@
 -- `fast_search::silent_for` meets its contract. Assumes nothing.
 use native.Mathlib.Omega.{arith}
-use Rattle.pair.specs.Ready.{ready-few}
+use Rattle.bus_spec.specs.Ready.{ready-few}
 use Rattle.fast_search.specs.SearchLaws.{silent-few, silent-emitted, silent-is, silent-within, ready-gap}
 use borrow.Author.Needs.{needs}
 use Rattle.fast_search.proofs.silent_for.Statement.{statement}

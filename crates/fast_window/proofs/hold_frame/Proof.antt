@@ -6,8 +6,8 @@ use Rattle.fast_window.proofs.hold_frame.Statement.{statement}
 use Rattle.fast_window.proofs.hold_frame.Tie as tie
 use Rattle.fast_window.proofs.hold_frame.Reads as reads
 use Rattle.fast_window.proofs.hold_frame.Lts as lts
-use Rattle.buffers.proofs.frame.Reads as frame-reads
-use Rattle.copies.proofs.store.Reads as store-reads
+use Rattle.area_buffers.proofs.frame.Reads as frame-reads
+use Rattle.octets_copies.proofs.store.Reads as store-reads
 
 -- src/lib.rt:79:19
 slice-aggregate-store : tie.Need-slice-aggregate-store

@@ -1,5 +1,5 @@
 use Rattle.fast_window.specs.WindowLaws.{single-none, single-more, single-end}
-use Rattle.course.specs.RunLaws.{Runnable, run-first, run-ready, run-clock, run-next}
+use Rattle.bus_spec.specs.RunLaws.{Runnable, run-first, run-ready, run-clock, run-next}
 use Rattle.fast_plan.specs.Plan.{steps}
 use lib.ListN.{length}
 use mathlib.Core.Path.{_≡_, refl}
@@ -10,7 +10,7 @@ use Rattle.fast_window.proofs.make_singly.Statement.{statement}
 use Rattle.fast_window.proofs.make_singly.Tie as tie
 use Rattle.fast_window.proofs.make_singly.Reads as reads
 use Rattle.fast_window.proofs.make_singly.Lts as lts
-use Rattle.turn.proofs.step.step.Reads as step-reads
+use Rattle.bus_turn.proofs.step.step.Reads as step-reads
 
 abbrev Inv-loop : tie.InvT-loop
 Inv-loop area₀ r s₀ area s = (s ≤ r) × (length area ≡ length area₀) × (area ≡ steps s area₀) × Runnable (r - s) area

@@ -1,5 +1,5 @@
 use native.Mathlib.Omega.{arith}
-use Rattle.pair.specs.Ready.{ready-few}
+use Rattle.bus_spec.specs.Ready.{ready-few}
 use Rattle.fast_window.specs.WindowLaws.{begins}
 use borrow.Author.Needs.{needs}
 use Rattle.fast_window.proofs.pass.Statement.{statement}

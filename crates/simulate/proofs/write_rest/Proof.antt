@@ -1,13 +1,13 @@
 -- `simulate::write_rest` meets its contract. Assumes nothing.
-use Rattle.whole.specs.PartLaws.{may-advance, along-part, along-less}
+use Rattle.report_whole.specs.PartLaws.{may-advance, along-part, along-less}
 use Rattle.simulate.specs.Written.{most, next-room, next-end, next-most, not-done, all-done}
 use Prim.Native.Nat.{_+_, _*_, _≤_}
 use mathlib.Core.Path.{_≡_}
 use lib.ListN.{length}
 use native.Mathlib.Omega.{arith}
 use borrow.Author.Needs.{needs}
-use Rattle.told.specs.Whole.{pieces}
-use Rattle.told.specs.Along.{Along}
+use Rattle.report_theorem.specs.Whole.{pieces}
+use Rattle.report_theorem.specs.Along.{Along}
 use Rattle.simulate.proofs.write_rest.Statement.{statement}
 use Rattle.simulate.proofs.write_rest.Tie as tie
 

@@ -1,5 +1,5 @@
 -- `simulate::write_run` meets its contract. Assumes nothing.
-use Rattle.whole.specs.PartLaws.{begun-part}
+use Rattle.report_whole.specs.PartLaws.{begun-part}
 use Rattle.simulate.specs.Written.{first-fits, first-end, first-most, not-done}
 use borrow.Author.Needs.{needs}
 use Rattle.simulate.proofs.write_run.Statement.{statement}

@@ -1,5 +1,5 @@
 -- `fast_advance::until::has_event` meets its contract. Assumes nothing.
-use Rattle.course.specs.UntilLaws.{event-is}
+use Rattle.bus_spec.specs.UntilLaws.{event-is}
 use borrow.Author.Needs.{needs}
 use Rattle.fast_advance.proofs.until.has_event.Statement.{statement}
 use Rattle.fast_advance.proofs.until.has_event.Tie as tie

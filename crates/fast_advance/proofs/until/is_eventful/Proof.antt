@@ -1,7 +1,7 @@
 -- `fast_advance::until::is_eventful` meets its contract. Assumes nothing.
 use native.Mathlib.Omega.{arith}
 use Prim.Native.Nat.{_≤_, _-_}
-use Rattle.course.specs.UntilLaws.{Calm, calm-none, calm-more, calm-hit, calm-end}
+use Rattle.bus_spec.specs.UntilLaws.{Calm, calm-none, calm-more, calm-hit, calm-end}
 use Rattle.fast_advance.proofs.until.is_eventful.Statement.{statement}
 use Rattle.fast_advance.proofs.until.is_eventful.Tie as tie
 

@@ -4,9 +4,9 @@ use borrow.Author.Needs.{needs}
 use Prim.Native.Nat.{_≤_, _-_}
 use mathlib.Core.Path.{_≡_, refl}
 use lib.ListN.{length}
-use Rattle.course.specs.RunLaws.{Runnable, run-first}
-use Rattle.course.specs.Until.{untilEvent}
-use Rattle.course.specs.UntilLaws.{plus, stretch-first}
+use Rattle.bus_spec.specs.RunLaws.{Runnable, run-first}
+use Rattle.bus_spec.specs.Until.{untilEvent}
+use Rattle.bus_spec.specs.UntilLaws.{plus, stretch-first}
 use Rattle.fast_advance.specs.AdvanceLaws.{advance-runs, until-hit, until-on}
 use Rattle.fast_advance.specs.OnwardLaws.{onward-end}
 use Rattle.fast_advance.proofs.until.until_event.Statement.{statement}

@@ -1,0 +1,14 @@
+pub mod BitTime
+pub mod Range
+pub mod InPlace
+pub mod Ready
+pub mod CodeLaws
+pub mod Medium
+pub mod MediumLaws
+pub mod After
+pub mod Passes
+pub mod Stays
+pub mod Run
+pub mod RunLaws
+pub mod Until
+pub mod UntilLaws

@@ -1,0 +1,22 @@
+// One bit time of all stations on the pair, in place (document 01, "One bit time"). Checks 1 and 2 are not made here.
+
+pub mod course;
+pub mod medium;
+pub mod ready;
+
+use station_receive::ReceiveEvent;
+use station_spec::Stepped;
+use station_symbols::Symbol;
+use station_transmit::TransmitEvent;
+
+// A station's events in a step: at most one transmit and one receive event.
+pub struct Events {
+    pub sent: TransmitEvent,
+    pub got: ReceiveEvent,
+}
+
+// What a station does in a step: the step's outcome, and the symbol that it emits.
+pub struct Act {
+    pub outcome: Stepped,
+    pub symbol: Symbol,
+}

@@ -1,0 +1,72 @@
+-- The C interface: the calls that only look. A reception's status, checks 1 and 2 of a work area, checks 5 to 8 of a layout, and a run input
+-- as it is read. The laws are in CheckCallLaws. Assumes nothing.
+use Prim.Native.Nat.{ℕ, _+_, _*_}
+use mathlib.Core.Bool.{not}
+use mathlib.Core.List.{List, [], _∷_}
+use lib.Dec.{ltb, eqb}
+use lib.ListN.{length}
+use Rattle.octets.specs.Base.{pick, numberOf}
+use Rattle.octets.specs.Number.{get}
+use Rattle.octets.specs.Words.{putWords}
+use Rattle.octets.specs.Store.{part}
+use Rattle.sheet_layout.specs.declared.Figures.{Figures}
+use Rattle.sheet_layout.specs.declared.Tap.{Tap}
+use Rattle.sheet_layout.specs.declared.Layout.{Layout}
+use Rattle.sheet_layout.specs.Layout.{placesOf}
+use Rattle.sheet_layout.specs.Check.{refusalOf}
+use Rattle.frame_open.specs.Open.{opened}
+use Rattle.area_check.specs.Valid.{areaRefusal}
+use Rattle.plan_read.specs.Plan.{Planned, planRead}
+use Rattle.c_words.specs.Answers.{replied, layoutPut}
+use Rattle.c_calls.specs.Calls.{codeOf, Given, given, unless, kept, short}
+
+-- ---- a reception
+
+-- the status, 0 to 5; a number that is not 0 stands for "A jam bit, or any symbol heard from two or more"; refusal 5
+unfoldable pub receptionGiven : (frame : List ℕ) (excess spoiled : ℕ) → ℕ
+receptionGiven f e s = codeOf (opened (not (eqb s 0)) f e .status)
+
+-- ---- a work area
+
+-- 0; refusals 1, 2
+unfoldable pub areaGiven : (area : List ℕ) → ℕ
+areaGiven a = replied (areaRefusal a) 0
+
+-- ---- a layout, as `layoutPut` writes one
+
+-- the six figures, in the first six words
+unfoldable pub figuresWritten : List ℕ → Figures
+figuresWritten l =
+    record {
+      slot = get 4 l 0;
+      gap1 = get 4 l 4;
+      gap2 = get 4 l 8;
+      jam = get 4 l 12;
+      limit = get 4 l 16;
+      backoff = get 4 l 20;
+    }
+
+-- place i: a station's position, 4 octets, and its address, 6
+unfoldable pub tapWritten : List ℕ → ℕ → Tap
+tapWritten l i = record { position = get 4 l (32 + 10 * i); address = part l (36 + 10 * i) 6 }
+
+-- the seventh word is N; the eighth, whether it fits, is not looked at
+unfoldable pub layoutWritten : List ℕ → Layout
+layoutWritten l = record { figures = figuresWritten l; count = get 4 l 24; stations = placesOf (tapWritten l) 16 }
+
+-- 0; refusals 3 (under 192 octets), 5 to 8
+unfoldable pub layoutGiven : (layout : List ℕ) → ℕ
+layoutGiven l = unless (pick (ltb (length l) 192) 3 0) (λ r. r) (replied (refusalOf (layoutWritten l)) 0)
+
+-- ---- a run input
+
+-- D, the octet at which the draws begin, the number of offers, the octet at which the first begins, the bit times
+unfoldable pub planWords : Planned → List ℕ
+planWords r = r .depth ∷ r .drawn ∷ r .offers ∷ r .first ∷ r .times ∷ []
+
+-- the layout as a sheet's, and these words after it; refusals 3 to 9, 13, 16, and after them 15
+unfoldable pub planGiven : (input out : List ℕ) → Given
+planGiven l out =
+    unless (numberOf (planRead l .answer)) (kept out)
+    (unless (short 212 out) (kept out)
+    (given 0 (putWords 5 (layoutPut (planRead l .layout) out) 192 (planWords (planRead l)))))

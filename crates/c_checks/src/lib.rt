@@ -1,0 +1,150 @@
+// The calls of the C interface that only look: a reception's status, the checks of a work area and of a layout, and a run input as it is
+// read. Replies are as in `calls`.
+
+use plan_read::Plan;
+use plan_read::Verdict;
+use sheet_layout::Figures;
+use sheet_layout::Layout;
+use sheet_layout::Tap;
+ghost use mathlib.Core.Path.{_≡_};
+ghost use Prim.Native.Nat.{_<_, _≤_};
+ghost use lib.ListN.{length};
+ghost use Rattle.octets.specs.Base.{numberOf};
+ghost use Rattle.sheet_layout.specs.Layout.{placesOf};
+ghost use Rattle.plan_read.specs.Plan.{verdictAnswer, planReading};
+ghost use Rattle.c_calls.specs.Calls.{given};
+ghost use Rattle.c_checks.specs.CheckCalls.{receptionGiven, areaGiven, figuresWritten, tapWritten, layoutWritten, layoutGiven, planWords, planGiven};
+
+// The status of a reception: 0 to 5. Refusal 5.
+pub fn reception_status(frame: &[u8], excess: u32, spoiled: u32) -> u32
+    ensures { λ r. ⌜ r ≡ receptionGiven (now (frame .entry)) excess spoiled ⌝ }
+{
+    let s = frame_open::reception_status(frame, excess, spoiled != 0);
+    c_words::numbers::reply(
+        c_words::numbers::status_number(s),
+        c_words::numbers::status_value(s),
+    )
+}
+
+// Checks a work area: 0. Refusals 1, 2.
+pub fn check_area(area: &[u8]) -> u32
+    ensures { λ r. ⌜ r ≡ areaGiven (now (area .entry)) ⌝ }
+{
+    let number = area_check::refusal(area);
+    c_words::numbers::reply(number, 0)
+}
+
+// The six figures, each in a word.
+fn read_figures(s: &[u8]) -> Figures
+    requires { ⌜ 192 ≤ length (now s) ⌝ }
+    ensures { λ r. ⌜ r ≡ figuresWritten (now (s .entry)) ⌝ }
+{
+    let slot = octets_words::get32(s, 0);
+    let gap1 = octets_words::get32(s, 4);
+    let gap2 = octets_words::get32(s, 8);
+    let jam = octets_words::get32(s, 12);
+    let limit = octets_words::get32(s, 16);
+    let backoff = octets_words::get32(s, 20);
+    Figures {
+        slot,
+        gap1,
+        gap2,
+        jam,
+        limit,
+        backoff,
+    }
+}
+
+// The station at place i.
+fn read_tap(s: &[u8], i: usize) -> Tap
+    requires { ⌜ (i < 16) × (192 ≤ length (now s)) ⌝ }
+    ensures { λ r. ⌜ r ≡ tapWritten (now (s .entry)) i ⌝ }
+{
+    let address = octets_copies::six(s, 36 + 10 * i);
+    let position = octets_words::get32(s, 32 + 10 * i);
+    Tap { position, address }
+}
+
+// All sixteen places.
+fn read_taps(s: &[u8]) -> [Tap; 16]
+    requires { ⌜ 192 ≤ length (now s) ⌝ }
+    ensures { λ r. ⌜ r ≡ placesOf (tapWritten (now (s .entry))) 16 ⌝ }
+{
+    let blank = Tap {
+        position: 0,
+        address: [0u8; 6],
+    };
+    let mut all = [blank; 16];
+    let mut i: usize = 0;
+    while i < 16 {
+        let t = read_tap(s, i);
+        all[i] = t;
+        i += 1;
+    }
+    all
+}
+
+// A layout as `c_tables::write_layout` writes one.
+fn read_layout(s: &[u8]) -> Layout
+    requires { ⌜ 192 ≤ length (now s) ⌝ }
+    ensures { λ r. ⌜ r ≡ layoutWritten (now (s .entry)) ⌝ }
+{
+    let figures = read_figures(s);
+    let stations = read_taps(s);
+    let count = octets_words::get32(s, 24);
+    Layout {
+        figures,
+        count,
+        stations,
+    }
+}
+
+// Checks a layout: 0. Refusals 3, 5 to 8.
+pub fn check_layout(layout: &[u8]) -> u32
+    ensures { λ r. ⌜ r ≡ layoutGiven (now (layout .entry)) ⌝ }
+{
+    if layout.len() < 192 {
+        return c_words::numbers::reply(3, 0);
+    }
+    let y = read_layout(layout);
+    let number = sheet_check::refusal(y);
+    c_words::numbers::reply(number, 0)
+}
+
+// The number of the refusal of an input, 0 where there is none.
+fn verdict_number(v: Verdict) -> u32
+    ensures { λ r. ⌜ r ≡ numberOf (verdictAnswer v) ⌝ }
+{
+    match v {
+        Verdict::Refused(n) => n,
+        Verdict::Whole => 0,
+    }
+}
+
+// D, where the draws begin, the number of offers, where the first begins, the bit times.
+fn plan_words(p: Plan) -> [u32; 5]
+    requires { ⌜ (p .drawn < 4294967296) × (p .first < 4294967296) ⌝ }
+    ensures { λ r. ⌜ r ≡ planWords (planReading p) ⌝ }
+{
+    [p.depth, p.drawn as u32, p.offers, p.first as u32, p.times]
+}
+
+// Reads a run input: 0. Refusals 3 to 9, 13, 15, 16.
+pub fn read_plan(input: &[u8], out: &mut [u8]) -> u32
+    ensures { λ r. ⌜ given r (now (out .exit)) ≡ planGiven (now (input .entry)) (now (out .entry)) ⌝ }
+{
+    let p = plan_read::read_plan(input);
+    let read = p.read;
+    let number = verdict_number(read);
+    if number != 0 {
+        return c_words::numbers::reply(number, 0);
+    }
+    if out.len() < 212 {
+        return c_words::numbers::reply(15, 0);
+    }
+    let y = p.layout;
+    let words = plan_words(p);
+    c_tables::write_layout(out, y);
+    octets_words::store_words(out, 192, &words);
+    0
+}

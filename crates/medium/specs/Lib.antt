@@ -1,2 +1,0 @@
-pub mod Medium
-pub mod MediumLaws

@@ -1,5 +1,0 @@
-pub mod BitTime
-pub mod Range
-pub mod InPlace
-pub mod Ready
-pub mod CodeLaws

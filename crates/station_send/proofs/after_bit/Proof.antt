@@ -1,0 +1,17 @@
+-- `station_send::after_bit` meets its contract. Assumes nothing.
+use Rattle.station_transmit.specs.TransmitLaws.{after-heading, after-jamming}
+use borrow.Author.Needs.{needs}
+use Rattle.station_send.proofs.after_bit.Statement.{statement}
+use Rattle.station_send.proofs.after_bit.Tie as tie
+
+add-t4 : tie.Need-add-t4
+add-t4 c = search needs
+
+returns : tie.Need-returns
+returns c = search after-heading
+
+returns-2 : tie.Need-returns-2
+returns-2 c = search after-jamming
+
+pub after-bit-spec : {M : Type 1} → statement M
+after-bit-spec = tie.close (tie.spec add-t4 returns returns-2)

@@ -1,0 +1,138 @@
+// The transmitter: start, packet bits, collision, header, jam, backoff.
+
+use sheet_layout::Figures;
+use station_state::Transmitter;
+use station_symbols::Emission;
+ghost use mathlib.Core.Path.{_≡_};
+ghost use Prim.Native.Nat.{_*_, _<_, _≤_, min};
+ghost use Rattle.station_transmit.specs.Transmit.{waits, octetsHeld, jamBit, lastJam, backOff, backoffRange};
+
+// What a transmitter reports in a step, at most one: a collision or a late one with its bit; sent or given up with the frame's attempts.
+pub enum TransmitEvent {
+    NoTransmit,
+    Collision(u32),
+    Late(u32),
+    Sent(u32),
+    GivenUp(u32),
+}
+
+// What a step of the transmitter leads to: the next phase, the emission, the event, and whether a draw was used.
+pub struct Transmitted {
+    pub phase: Transmitter,
+    pub emission: Emission,
+    pub event: TransmitEvent,
+    pub drew: bool,
+}
+
+// Range 2^i at place i.
+const RANGES: [u32; 16] = [
+    1,
+    2,
+    4,
+    8,
+    16,
+    32,
+    64,
+    128,
+    256,
+    512,
+    1024,
+    2048,
+    4096,
+    8192,
+    16384,
+    32768,
+];
+
+pub fn is_waiting(t: Transmitter) -> bool
+    ensures { λ r. ⌜ r ≡ waits t ⌝ }
+{
+    match t {
+        Transmitter::NoFrame => false,
+        Transmitter::Waiting => true,
+        Transmitter::BackingOff(_) => false,
+        Transmitter::Sending(_) => false,
+        Transmitter::Heading(_) => false,
+        Transmitter::Jamming(_) => false,
+    }
+}
+
+// The octets of the frame that a station holds; 0 where it holds none.
+pub fn octets_held(t: Transmitter, frame: u32) -> u32
+    ensures { λ r. ⌜ r ≡ octetsHeld t frame ⌝ }
+{
+    match t {
+        Transmitter::NoFrame => 0,
+        Transmitter::Waiting => frame,
+        Transmitter::BackingOff(_) => frame,
+        Transmitter::Sending(_) => frame,
+        Transmitter::Heading(_) => frame,
+        Transmitter::Jamming(_) => frame,
+    }
+}
+
+fn least(a: u32, b: u32) -> u32
+    ensures value { λ r. ⌜ r ≡ min a b ⌝ }
+    ensures most { λ r. ⌜ r ≤ b ⌝ }
+{
+    if a < b { a } else { b }
+}
+
+// The backoff range after attempt n.
+fn range_after(n: u32, backoff: u32) -> u32
+    requires { ⌜ backoff < 16 ⌝ }
+    ensures value { λ r. ⌜ r ≡ backoffRange n backoff ⌝ }
+    ensures some { λ r. ⌜ (0 < r) × (r < 65536) ⌝ }
+{
+    let i = least(n, backoff) as usize;
+    RANGES[i]
+}
+
+// Where a frame goes after the last jam bit of attempt n, with this draw.
+fn back_off(f: Figures, n: u32, draw: u32) -> Transmitter
+    requires { ⌜ (f .backoff < 16) × (f .slot < 65536) ⌝ }
+    ensures { λ r. ⌜ r ≡ backOff f n draw ⌝ }
+{
+    let range = range_after(n, f.backoff);
+    let wait = f.slot * (draw % range);
+    if wait == 0 {
+        return Transmitter::Waiting;
+    }
+    Transmitter::BackingOff(wait)
+}
+
+fn last_jam(f: Figures, n: u32, draw: u32) -> Transmitted
+    requires { ⌜ (f .backoff < 16) × (f .slot < 65536) ⌝ }
+    ensures { λ r. ⌜ r ≡ lastJam f n draw ⌝ }
+{
+    if n == f.limit {
+        return Transmitted {
+            phase: Transmitter::NoFrame,
+            emission: Emission::JamBit,
+            event: TransmitEvent::GivenUp(n),
+            drew: false,
+        };
+    }
+    let phase = back_off(f, n, draw);
+    Transmitted {
+        phase,
+        emission: Emission::JamBit,
+        event: TransmitEvent::NoTransmit,
+        drew: true,
+    }
+}
+
+pub fn jam_bit(f: Figures, n: u32, draw: u32, left: u32) -> Transmitted
+    requires { ⌜ (f .backoff < 16) × (f .slot < 65536) ⌝ }
+    ensures { λ r. ⌜ r ≡ jamBit f n draw left ⌝ }
+{
+    if left <= 1 {
+        return last_jam(f, n, draw);
+    }
+    Transmitted {
+        phase: Transmitter::Jamming(left - 1),
+        emission: Emission::JamBit,
+        event: TransmitEvent::NoTransmit,
+        drew: false,
+    }
+}
