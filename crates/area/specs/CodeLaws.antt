@@ -32,8 +32,11 @@ use Rattle.station_symbols.specs.declared.Symbol.{Symbol}
 use Rattle.station_symbols.specs.declared.Symbol.the-variants.{Silence, Bit, Jam}
 use Rattle.station_symbols.specs.declared.Emission.{Emission}
 use Rattle.station_symbols.specs.Packet.{symbolOf}
+use Rattle.station_state.specs.declared.Deference.{Deference}
+use Rattle.station_state.specs.declared.Transmitter.{Transmitter}
+use Rattle.station_state.specs.declared.Receiver.{Receiver}
 use Rattle.station_state.specs.declared.Station.{Station}
-use Rattle.area_record.specs.Codec.{decoded, encoded, recordWords}
+use Rattle.area_record.specs.Codec.{deferenceOf, transmitterOf, receiverOf, decoded, encoded, recordWords}
 use Rattle.area.specs.Area.{clockAt, withClock, depthAt, drawAt, figuresAt, countAt, positionAt, addressAt, tapAt, layoutAt, distance, spaceAt, countersAt, withCounters, recordAt, stationAt, withStation, withWord, octetWith, withBit, withOctet, heardOf, heardCode, symbolAt, arrivalAt, withArrival, alone, overlaid, joined, withSymbol, withFrame, frameAt, bufferAt, frameBuilt}
 use Rattle.area.specs.Offsets.{areaSize, counterCount}
 
@@ -101,9 +104,27 @@ pub with-word-is : (a b : List ℕ) (i k v : ℕ) → b ≡ put 4 a (2048 + 64 *
 unfolding withWord
 with-word-is a b i k v p = p
 
-pub station-is : (a w d : List ℕ) (i : ℕ) (s : Station) → s ≡ decoded w d → d ≡ addressAt a i → w ≡ recordAt a i → s ≡ stationAt a i
-unfolding stationAt
-station-is a w d i s p q r = p ∙ rw (q, r)
+module _ (a : List ℕ) (i : ℕ) where
+  pub deference-is : (c o n : ℕ) (d : Deference) → d ≡ deferenceOf c (eqb o 1) n → n ≡ getD (recordAt a i) 2 0 → c ≡ getD (recordAt a i) 0 0 → o ≡ getD (recordAt a i) 1 0 → d ≡ stationAt a i .deference
+  unfolding stationAt decoded
+  deference-is c o n d p q r s = p ∙ rw (q, r, s)
+
+  pub receiver-is : (c n s o : ℕ) (r : Receiver) → r ≡ receiverOf c n (eqb s 1) (eqb o 1) → n ≡ getD (recordAt a i) 6 0 → c ≡ getD (recordAt a i) 5 0 → o ≡ getD (recordAt a i) 8 0
+      → s ≡ getD (recordAt a i) 7 0 → r ≡ stationAt a i .receiver
+  unfolding stationAt decoded
+  receiver-is c n s o r p q w x y = p ∙ rw (q, w, x, y)
+
+  pub transmitter-is : (c n : ℕ) (t : Transmitter) → t ≡ transmitterOf c n → n ≡ getD (recordAt a i) 4 0 → c ≡ getD (recordAt a i) 3 0 → t ≡ stationAt a i .transmitter
+  unfolding stationAt decoded
+  transmitter-is c n t p q r = p ∙ rw (q, r)
+
+  pub station-is : (d : List ℕ) (f : Deference) (t : Transmitter) (r : Receiver) (x y z v w : ℕ)
+      → f ≡ stationAt a i .deference → r ≡ stationAt a i .receiver → t ≡ stationAt a i .transmitter → d ≡ addressAt a i
+      → x ≡ getD (recordAt a i) 9 0 → y ≡ getD (recordAt a i) 10 0 → z ≡ getD (recordAt a i) 11 0 → v ≡ getD (recordAt a i) 12 0 → w ≡ getD (recordAt a i) 13 0
+      → record { address = d; deference = f; transmitter = t; receiver = r; frame = x; attempts = y; draw = z; deferred = eqb v 1; emitted = eqb w 1 } ≡ stationAt a i
+  unfolding stationAt decoded
+  station-is d f t r x y z v w ef er et ed ex ey ez ev ew k =
+      record { address = ed k; deference = ef k; transmitter = et k; receiver = er k; frame = ex k; attempts = ey k; draw = ez k; deferred = eqb (ev k) 1; emitted = eqb (ew k) 1 }
 
 pub with-station-is : (a b w : List ℕ) (i : ℕ) (s : Station) → b ≡ putWords (length w) a (2048 + 64 * i) w → w ≡ encoded s → b ≡ withStation a i s
 unfolding withStation encoded

@@ -16,7 +16,10 @@
 use sheet_layout::Figures;
 use sheet_layout::Layout;
 use sheet_layout::Tap;
+use station_state::Deference;
+use station_state::Receiver;
 use station_state::Station;
+use station_state::Transmitter;
 ghost use mathlib.Core.Path.{_≡_};
 ghost use Prim.Native.Nat.{_+_, _*_, _%_, _<_, _≤_, min, max};
 ghost use lib.ListN.{length, getD};
@@ -173,16 +176,6 @@ pub fn write_counters(area: &mut [u8], i: usize, counters: [u32; 16])
     octets_words::store_words(area, 1024 + 64 * i, &counters);
 }
 
-// The words of the record of station i.
-pub fn read_record(area: &[u8], i: usize) -> [u32; 14]
-    requires { ⌜ (i < 16) × (areaSize ≤ length (now area)) ⌝ }
-    ensures { λ r. ⌜ r ≡ recordAt (now (area .entry)) i ⌝ }
-{
-    let mut w = [0u32; 14];
-    octets_words::load_words(area, 2048 + 64 * i, &mut w);
-    w
-}
-
 // Word k of the record of station i.
 pub fn read_word(area: &[u8], i: usize, k: usize) -> u32
     requires { ⌜ (i < 16) × (k < recordWords) × (areaSize ≤ length (now area)) ⌝ }
@@ -207,13 +200,51 @@ pub fn write_word(area: &mut [u8], i: usize, k: usize, v: u32)
     octets_words::put32(area, 2048 + 64 * i + 4 * k, v);
 }
 
+// The parts of the state of station i. A word is read next to where it is used: so it is read at once, and not octet by
+// octet.
+fn read_deference(area: &[u8], i: usize) -> Deference
+    requires { ⌜ (i < 16) × (areaSize ≤ length (now area)) ⌝ }
+    ensures { λ r. ⌜ r ≡ stationAt (now (area .entry)) i .deference ⌝ }
+{
+    let own = read_word(area, i, 1) == 1;
+    area_record::deference_of(read_word(area, i, 0), own, read_word(area, i, 2))
+}
+
+fn read_receiver(area: &[u8], i: usize) -> Receiver
+    requires { ⌜ (i < 16) × (areaSize ≤ length (now area)) ⌝ }
+    ensures { λ r. ⌜ r ≡ stationAt (now (area .entry)) i .receiver ⌝ }
+{
+    let spoiled = read_word(area, i, 7) == 1;
+    let own = read_word(area, i, 8) == 1;
+    area_record::receiver_of(read_word(area, i, 5), read_word(area, i, 6), spoiled, own)
+}
+
+fn read_transmitter(area: &[u8], i: usize) -> Transmitter
+    requires { ⌜ (i < 16) × (areaSize ≤ length (now area)) ⌝ }
+    ensures { λ r. ⌜ r ≡ stationAt (now (area .entry)) i .transmitter ⌝ }
+{
+    area_record::transmitter_of(read_word(area, i, 3), read_word(area, i, 4))
+}
+
 pub fn read_station(area: &[u8], i: usize) -> Station
     requires { ⌜ (i < 16) × (areaSize ≤ length (now area)) ⌝ }
     ensures { λ r. ⌜ r ≡ stationAt (now (area .entry)) i ⌝ }
 {
-    let w = read_record(area, i);
+    let deference = read_deference(area, i);
+    let receiver = read_receiver(area, i);
+    let transmitter = read_transmitter(area, i);
     let address = read_address(area, i);
-    area_record::decode(w, address)
+    Station {
+        address,
+        deference,
+        transmitter,
+        receiver,
+        frame: read_word(area, i, 9),
+        attempts: read_word(area, i, 10),
+        draw: read_word(area, i, 11),
+        deferred: read_word(area, i, 12) == 1,
+        emitted: read_word(area, i, 13) == 1,
+    }
 }
 
 pub fn write_station(area: &mut [u8], i: usize, s: Station)

@@ -14,7 +14,7 @@ use station_state::Receiver;
 use station_state::Station;
 use station_state::Transmitter;
 ghost use mathlib.Core.Path.{_≡_};
-ghost use Rattle.area_record.specs.Codec.{flag, deferenceOf, deferenceCode, deferenceOwn, deferenceCount, transmitterOf, transmitterCode, receiverOf, receiverCode, receiverNumber, receiverSpoiled, receiverOwn, decoded, encoded};
+ghost use Rattle.area_record.specs.Codec.{flag, deferenceOf, deferenceCode, deferenceOwn, deferenceCount, transmitterOf, transmitterCode, receiverOf, receiverCode, receiverNumber, receiverSpoiled, receiverOwn, encoded};
 ghost use Rattle.station_state.specs.State.{numberIn};
 
 fn flag_of(b: bool) -> u32
@@ -211,26 +211,6 @@ fn receiver_own(r: Receiver) -> bool
             spoiled: _,
             own,
         } => own,
-    }
-}
-
-// The state of a station with this address that the words of a record stand for.
-pub fn decode(w: [u32; 14], address: [u8; 6]) -> Station
-    ensures { λ r. ⌜ r ≡ decoded w address ⌝ }
-{
-    let deference = deference_of(w[0], w[1] == 1, w[2]);
-    let transmitter = transmitter_of(w[3], w[4]);
-    let receiver = receiver_of(w[5], w[6], w[7] == 1, w[8] == 1);
-    Station {
-        address,
-        deference,
-        transmitter,
-        receiver,
-        frame: w[9],
-        attempts: w[10],
-        draw: w[11],
-        deferred: w[12] == 1,
-        emitted: w[13] == 1,
     }
 }
 

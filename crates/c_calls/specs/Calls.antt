@@ -1,6 +1,6 @@
 -- The C interface: what each call returns, and what it leaves in the octets lent to it. A call returns one number of 32 bits: "A refusal
 -- returns its number alone", with bit 31; what is below is the answer. What is written into the lent output stands here in words of four
--- octets, high octet first; those words, and the numbers of answers, are in `answers`. The laws are in CallLaws. Assumes nothing.
+-- octets, high octet first; those words, and the numbers of answers, are in `c_words`. The laws are in CallLaws. Assumes nothing.
 use Prim.Native.Nat.{ℕ, _+_, _*_}
 use mathlib.Core.Bool.{false}
 use mathlib.Core.List.{List}

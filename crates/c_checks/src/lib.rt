@@ -1,5 +1,5 @@
 // The calls of the C interface that only look: a reception's status, the checks of a work area and of a layout, and a run input as it is
-// read. Replies are as in `calls`.
+// read. Replies are as in `c_calls`.
 
 use plan_read::Plan;
 use plan_read::Verdict;

@@ -1,5 +1,5 @@
 // The run program's calls on numbers and lent octets, as the C interface hands them out: what is printed for an input, piece by piece or the
-// whole. Replies are as in `calls`. Where a run stands is lent as 16 octets: four words, high octet first.
+// whole. Replies are as in `c_calls`. Where a run stands is lent as 16 octets: four words, high octet first.
 
 use report_spec::Handed;
 use report_spec::Piece;

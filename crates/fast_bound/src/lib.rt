@@ -314,7 +314,8 @@ fn emitter_bound(area: &[u8], j: usize, t: u32, w: Sight, m: u32) -> u32
     ensures calm { λ r. ⌜ CalmIf (now (area .entry)) true j r ⌝ }
     ensures bound { λ r. ⌜ r ≤ m ⌝ }
 {
-    if area::read_word(area, j, 3) < 3 {
+    let phase = area::read_word(area, j, 3);
+    if phase < 3 {
         return m;
     }
     let near = w.near;

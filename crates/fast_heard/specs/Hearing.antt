@@ -5,6 +5,7 @@ use mathlib.Core.Path.{_≡_}
 use mathlib.Core.Bool.{Bool, true, false, _&&_}
 use mathlib.Core.List.{List}
 use lib.Dec.{eqb, ltb, leb}
+use lib.ListN.{getD}
 use Rattle.octets.specs.Base.{pick}
 use Rattle.octets.specs.Turns.{turns}
 use Rattle.station_symbols.specs.declared.Heard.{Heard}
@@ -90,6 +91,12 @@ spaceTo a j i = spaceAt a i j
 -- none
 unfoldable pub nearestOf : List ℕ → (n j : ℕ) → Near
 nearestOf a n j = turns (noted (emitsAt a) (spaceTo a j) j) n noNear
+
+-- the first c numbers of l are emitters among n stations, and with them alone each station finds its nearest
+unfoldable pub Lists : List ℕ → (n : ℕ) (l : List ℕ) (c : ℕ) → Type 0
+Lists a n l c =
+    ((k : ℕ) → k < c → (getD l k 0 < n) × (emitsAt a (getD l k 0) ≡ true))
+    × ((j : ℕ) → turns (λ k w. noted (emitsAt a) (spaceTo a j) j (getD l k 0) w) c noNear ≡ turns (noted (emitsAt a) (spaceTo a j) j) n noNear)
 
 -- the next packet bit of the nearest; 0 where there is none, or it jams
 unfoldable pub nearBit : List ℕ → Near → ℕ

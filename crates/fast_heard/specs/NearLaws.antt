@@ -1,15 +1,17 @@
 -- Laws of the nearest emitters: what they are, what they bring, and one law for each way through the code that finds
 -- them. Assumes nothing.
-use Prim.Native.Nat.{ℕ, zero, suc, _-_, _≤_, _<_}
-use mathlib.Core.Path.{_≡_, refl, sym, _∙_, ap, subst}
+use Prim.Native.Nat.{ℕ, zero, suc, _+_, _-_, _≤_, _<_}
+use mathlib.Core.Path.{_≡_, refl, sym, _∙_, ap, ap₂, subst}
 use mathlib.Core.Bool.{Bool, true, false, not, true≢false}
 use mathlib.Core.List.{List}
+use native.Mathlib.Numerals.{add-one}
 use native.Mathlib.Omega.{arith}
-use borrow.Author.Tests.{eq-eqb, ne-eqb, eqb-true, eqb-false, lt-ltb, le-ltb, ltb-true, ltb-false, leb-true, leb-false, not-true, not-false}
+use borrow.Author.Tests.{eq-eqb, ne-eqb, eqb-true, eqb-false, lt-ltb, le-ltb, ltb-true, ltb-false, le-leb, lt-leb, leb-true, leb-false, not-true, not-false}
 use lib.Dec.{eqb, ltb, leb}
-use lib.ListN.{getD}
+use lib.ListN.{length, getD, set}
+use lib.Seq.{getD-set-same, getD-set-other}
+use Rattle.octets.specs.Base.{pick}
 use Rattle.octets.specs.BaseLaws.{by-test, by-eq}
-use Rattle.octets.specs.Filled.{filled, filled-at}
 use Rattle.octets.specs.Turns.{turns, turns-none, turns-end}
 use Rattle.station_symbols.specs.declared.Heard.the-variants.{Nothing, Several}
 use Rattle.station_symbols.specs.declared.Symbol.the-variants.{Silence}
@@ -26,7 +28,7 @@ use Rattle.bus_meeting.specs.Reach.{reach-at, reach-none}
 use Rattle.fast_plan.specs.Plan.{netOf}
 use Rattle.fast_line.specs.Line.{bitsFrom, jams}
 use Rattle.fast_heard.specs.declared.Near.{Near}
-use Rattle.fast_heard.specs.Hearing.{goesOn, heldAt, planOf, emits, emitsAt, bitOf, noNear, nearer, noted, spaceTo, nearestOf, nearBit, begun, brought}
+use Rattle.fast_heard.specs.Hearing.{goesOn, heldAt, planOf, emits, emitsAt, bitOf, noNear, nearer, noted, spaceTo, Lists, nearestOf, nearBit, begun, brought}
 
 -- ---- what they are
 
@@ -320,37 +322,91 @@ module _ (a : List ℕ) (j i : ℕ) (w : Near) where
   unfolding noted
   note-own e = rw (eq-eqb i j e)
 
-  pub note-silent : (e : Bool) → e ≡ emitsAt a i → not e ≡ true → w ≡ noted (emitsAt a) (spaceTo a j) j i w
+  note-silent : emitsAt a i ≡ false → noted (emitsAt a) (spaceTo a j) j i w ≡ w
   unfolding noted
-  note-silent e q h =
-      let x : emitsAt a i ≡ false = sym q ∙ not-true e h in
-      by-test (eqb i j) (λ b. rw b) (λ b. rw (b, x))
+  note-silent x = by-test (eqb i j) (λ b. rw b) (λ b. rw (b, x))
 
-  pub note-more : (e : Bool) (d p q : ℕ) (r : Near) → r ≡ nearer w i d → d ≡ distance q p → q ≡ positionAt a i → p ≡ positionAt a j → e ≡ emitsAt a i → not e ≡ false → (i ≡ j → ⊥)
+  pub note-more : (d p q : ℕ) (r : Near) → r ≡ nearer w i d → d ≡ distance q p → q ≡ positionAt a i → p ≡ positionAt a j → emitsAt a i ≡ true → (i ≡ j → ⊥)
       → r ≡ noted (emitsAt a) (spaceTo a j) j i w
   unfolding noted spaceTo
-  note-more e d p q r er ed eq ep ee h ne =
-      let x : emitsAt a i ≡ true = sym ee ∙ not-false e h in
-      rw (ne-eqb i j ne, x) (er ∙ ap (nearer w i) (space-is a i j d q p ed ep eq))
+  note-more d p q r er ed eq ep x ne = rw (ne-eqb i j ne, x) (er ∙ ap (nearer w i) (space-is a i j d q p ed ep eq))
 
--- which emit
-pub emits-is : (a : List ℕ) (i c : ℕ) → c ≡ getD (recordAt a i) 3 0 → leb 3 c ≡ emitsAt a i
-emits-is a i c e =
-    by-test (leb 3 c)
-    (λ p. p ∙ sym (emits-by-code a i c e (leb-true 3 c p)))
-    (λ p. p ∙ sym (silent-by-code a i c e (omega (arith, leb-false 3 c p))))
+-- ---- the list of those that emit
 
-pub emitting-at : (a : List ℕ) (n i : ℕ) (es : List Bool) (e : Bool) → i < n → es ≡ filled false (emitsAt a) n → e ≡ getD es i false → e ≡ emitsAt a i
-emitting-at a n i es e h p q = q ∙ ap (λ (x : List Bool). getD x i false) p ∙ filled-at false (emitsAt a) n i false h
+pub count-more : (c k : ℕ) → 3 ≤ k → c + 1 ≡ pick (leb 3 k) (c + 1) c
+count-more c k h = rw (le-leb 3 k h)
 
-module _ (a : List ℕ) (j : ℕ) where
-  pub nearest-none : record { from = 16; d1 = 256; d2 = 256 } ≡ turns (noted (emitsAt a) (spaceTo a j) j) 0 noNear
-  unfolding noNear
-  nearest-none = turns-none _ noNear
+pub count-same : (c k : ℕ) → k < 3 → c ≡ pick (leb 3 k) (c + 1) c
+count-same c k h = rw (lt-leb 3 k h)
 
-  pub nearest-end : (n i : ℕ) (w : Near) → i ≤ n → n ≤ i → w ≡ turns (noted (emitsAt a) (spaceTo a j) j) i noNear → w ≡ nearestOf a n j
-  unfolding nearestOf
-  nearest-end n i w p q r = turns-end _ n i noNear w p q r
+module _ (a : List ℕ) where
+  abbrev byList : List ℕ → (j c : ℕ) → Near
+  byList l j c = turns (λ k w. noted (emitsAt a) (spaceTo a j) j (getD l k 0) w) c noNear
+
+  pub lists-none : (l : List ℕ) → Lists a 0 l 0
+  unfolding Lists turns
+  lists-none l = (λ k h. absurd (omega arith), λ j. refl)
+
+  -- only the first c matter
+  list-same : (l m : List ℕ) (j c : ℕ) → ((k : ℕ) → k < c → getD l k 0 ≡ getD m k 0) → byList l j c ≡ byList m j c
+  unfolding turns
+  list-same l m j zero h = refl
+  list-same l m j (suc c) h =
+      ap₂ (λ (i : ℕ) (w : Near). noted (emitsAt a) (spaceTo a j) j i w) (h c (omega arith)) (list-same l m j c (λ k g. h k (omega arith)))
+
+  module _ (i c code : ℕ) (l : List ℕ) (ec : code ≡ getD (recordAt a i) 3 0) (room : c < length l) (v : Lists a i l c) where
+    before : (k : ℕ) → k < c → getD (set l c i) k 0 ≡ getD l k 0
+    before k h = getD-set-other l c k i 0 (λ z. omega arith)
+
+    same-found : (j : ℕ) → byList (set l c i) j c ≡ turns (noted (emitsAt a) (spaceTo a j) j) i noNear
+    unfolding Lists
+    same-found j = list-same (set l c i) l j c before ∙ v .1 j
+
+    listed-more : 3 ≤ code → Lists a (suc i) (set l c i) (suc c)
+    unfolding Lists turns
+    listed-more h = (
+      λ k g. by-eq k c
+          (λ z. rw (z, getD-set-same l c i 0 room) (omega arith, emits-by-code a i code ec h))
+          (λ z. let o = v .0 k (omega (arith, z)) in rw (before k (omega (arith, z))) (omega (arith, o .0), o .1)),
+      λ j. ap₂ (λ (s : ℕ) (w : Near). noted (emitsAt a) (spaceTo a j) j s w) (getD-set-same l c i 0 room) (same-found j),
+    )
+
+    listed-same : code < 3 → Lists a (suc i) (set l c i) c
+    unfolding Lists turns
+    listed-same h = (
+      λ k g. let o = v .0 k g in rw (before k g) (omega (arith, o .0), o .1),
+      λ j. same-found j ∙ sym (note-silent a j i (turns (noted (emitsAt a) (spaceTo a j) j) i noNear) (silent-by-code a i code ec h)),
+    )
+
+    lists-more : (n : ℕ) → n ≡ pick (leb 3 code) (c + 1) c → Lists a (i + 1) (set l c i) n
+    lists-more n en =
+        by-test (leb 3 code)
+        (λ p. let z : suc c ≡ n = sym (en ∙ ap (λ (b : Bool). pick b (c + 1) c) p ∙ add-one c) in rw (add-one i) (subst (Lists a (suc i) (set l c i)) z (listed-more (leb-true 3 code p))))
+        (λ p. let z : c ≡ n = sym (en ∙ ap (λ (b : Bool). pick b (c + 1) c) p) in rw (add-one i) (subst (Lists a (suc i) (set l c i)) z (listed-same (omega (arith, leb-false 3 code p)))))
+
+  pub lists-on : (n i c code next : ℕ) (l ds : List ℕ) → next ≡ pick (leb 3 code) (c + 1) c → code ≡ getD (recordAt a i) 3 0 → length l ≡ length ds → length ds ≡ 16
+      → c ≤ i → i < n → n ≤ 16 → Lists a i l c → Lists a (i + 1) (set l c i) next
+  lists-on n i c code next l ds en ec el ed hc hi hn v = lists-more i c code l ec (omega arith) v next en
+
+  pub lists-end : (n i c : ℕ) (l : List ℕ) → i ≤ n → n ≤ i → Lists a i l c → Lists a n l c
+  lists-end n i c l p q v = let z : i ≡ n = omega arith in subst (λ (k : ℕ). Lists a k l c) z v
+
+  module _ (n c : ℕ) (l : List ℕ) (v : Lists a n l c) where
+    pub listed-few : (k : ℕ) → k < c → n ≤ 16 → getD l k 0 < 16
+    unfolding Lists
+    listed-few k h few = omega (arith, v .0 k h .0)
+
+    pub listed-emits : (k : ℕ) → k < c → emitsAt a (getD l k 0) ≡ true
+    unfolding Lists
+    listed-emits k h = v .0 k h .1
+
+    pub nearest-end : (j k : ℕ) (w : Near) → k ≤ c → c ≤ k → w ≡ turns (λ s u. noted (emitsAt a) (spaceTo a j) j (getD l s 0) u) k noNear → w ≡ nearestOf a n j
+    unfolding Lists nearestOf
+    nearest-end j k w p q r = turns-end _ c k noNear w p q r ∙ v .1 j
+
+pub nearest-none : (f : ℕ → Near → Near) → record { from = 16; d1 = 256; d2 = 256 } ≡ turns f 0 noNear
+unfolding noNear
+nearest-none f = turns-none f noNear
 
 module _ (a : List ℕ) (w : Near) where
   pub bit-none : 256 ≤ w .d1 → 0 ≡ nearBit a w

@@ -3,13 +3,14 @@
 
 use fast_line::LineRun;
 ghost use mathlib.Core.Path.{_≡_};
-ghost use mathlib.Core.Bool.{false};
+ghost use mathlib.Core.Bool.{true};
 ghost use Prim.Native.Nat.{_+_, _<_, _≤_};
+ghost use lib.Dec.{leb};
 ghost use lib.ListN.{length};
-ghost use Rattle.octets.specs.Filled.{filled};
+ghost use Rattle.octets.specs.Base.{pick};
 ghost use Rattle.area.specs.Area.{positionAt};
 ghost use Rattle.fast_heard.specs.Sights.{sightOf, sightsOf};
-ghost use Rattle.fast_heard.specs.Hearing.{emitsAt, nearer, noted, spaceTo, nearestOf, nearBit, begun, before, lineFrom, RunOf, kindNear, kindHeard, Segmented};
+ghost use Rattle.fast_heard.specs.Hearing.{emitsAt, nearer, noted, spaceTo, Lists, nearestOf, nearBit, begun, before, lineFrom, RunOf, kindNear, kindHeard, Segmented};
 ghost use Rattle.area.specs.Offsets.{areaSize};
 
 // The nearest other emitter and its distance, and the distance of the second nearest; 256 where there is none.
@@ -54,29 +55,39 @@ fn nearer_with(near: Near, i: usize, d: usize) -> Near
     near
 }
 
-// Which of n stations emit.
-fn emitting(area: &[u8], n: usize) -> [bool; 16]
-    requires { ⌜ (n ≤ 16) × (areaSize ≤ length (now area)) ⌝ }
-    ensures { λ r. ⌜ r ≡ filled false (emitsAt (now (area .entry))) n ⌝ }
+// So many emitters, or one more, by the code of a station's phase.
+fn counted(count: usize, code: u32) -> usize
+    requires { ⌜ count < 16 ⌝ }
+    ensures { λ r. ⌜ r ≡ pick (leb 3 code) (count + 1) count ⌝ }
+    ensures bound { λ r. ⌜ r ≤ count + 1 ⌝ }
 {
-    let mut all = [false; 16];
-    let mut i: usize = 0;
-    while i < n {
-        let code = area::read_word(area, i, 3);
-        all[i] = 3 <= code;
-        i += 1;
+    if 3 <= code {
+        return count + 1;
     }
-    all
+    count
 }
 
-// With station i more, seen from station j, which is at p.
-fn note(area: &[u8], j: usize, p: u32, i: usize, emits: bool, near: Near) -> Near
-    requires { ⌜ (i < 16) × (areaSize ≤ length (now area)) × (p ≡ positionAt (now area) j) × (emits ≡ emitsAt (now area) i) ⌝ }
+// Lists those of n stations that emit, in their order; says how many. Each is written, and counted if it emits.
+fn emitters(area: &[u8], n: usize, list: &mut [usize]) -> usize
+    requires { ⌜ (n ≤ 16) × (areaSize ≤ length (now area)) × (length (now list) ≡ 16) ⌝ }
+    ensures { λ r. ⌜ Lists (now (area .entry)) n (now (list .exit)) r ⌝ }
+    ensures bound { λ r. ⌜ r ≤ n ⌝ }
+{
+    let mut count: usize = 0;
+    let mut i: usize = 0;
+    while i < n {
+        list[count] = i;
+        count = counted(count, area::read_word(area, i, 3));
+        i += 1;
+    }
+    count
+}
+
+// With emitter i more, seen from station j, which is at p.
+fn note(area: &[u8], j: usize, p: u32, i: usize, near: Near) -> Near
+    requires { ⌜ (i < 16) × (areaSize ≤ length (now area)) × (p ≡ positionAt (now area) j) × (emitsAt (now area) i ≡ true) ⌝ }
     ensures { λ r. ⌜ r ≡ noted (emitsAt (now (area .entry))) (spaceTo (now (area .entry)) j) j i near ⌝ }
 {
-    if !emits {
-        return near;
-    }
     if i == j {
         return near;
     }
@@ -84,9 +95,9 @@ fn note(area: &[u8], j: usize, p: u32, i: usize, emits: bool, near: Near) -> Nea
     nearer_with(near, i, area::apart(q, p) as usize)
 }
 
-// The emitters nearest to station j, of n stations, of which these emit.
-fn nearest(area: &[u8], n: usize, j: usize, emits: [bool; 16]) -> Near
-    requires { ⌜ (j < 16) × (n ≤ 16) × (areaSize ≤ length (now area)) × (emits ≡ filled false (emitsAt (now area)) n) ⌝ }
+// The emitters nearest to station j, of those of n stations that are listed.
+fn nearest(area: &[u8], n: usize, j: usize, list: &[usize], count: usize) -> Near
+    requires { ⌜ (j < 16) × (n ≤ 16) × (areaSize ≤ length (now area)) × (length (now list) ≡ 16) × (count ≤ n) × Lists (now area) n (now list) count ⌝ }
     ensures { λ r. ⌜ r ≡ nearestOf (now (area .entry)) n j ⌝ }
 {
     let p = area::read_position(area, j);
@@ -95,11 +106,11 @@ fn nearest(area: &[u8], n: usize, j: usize, emits: [bool; 16]) -> Near
         d1: 256,
         d2: 256,
     };
-    let mut i: usize = 0;
-    while i < n {
-        let e = emits[i];
-        near = note(area, j, p, i, e, near);
-        i += 1;
+    let mut k: usize = 0;
+    while k < count {
+        let i = list[k];
+        near = note(area, j, p, i, near);
+        k += 1;
     }
     near
 }
@@ -230,12 +241,12 @@ pub struct Sight {
     pub octets: u32,
 }
 
-// What station j, of n, hears of.
-fn see(area: &[u8], n: usize, j: usize, emits: [bool; 16]) -> Sight
-    requires { ⌜ (j < 16) × (n ≤ 16) × (areaSize ≤ length (now area)) × (emits ≡ filled false (emitsAt (now area)) n) ⌝ }
+// What station j, of n, hears of, by the list of those that emit.
+fn see(area: &[u8], n: usize, j: usize, list: &[usize], count: usize) -> Sight
+    requires { ⌜ (j < 16) × (n ≤ 16) × (areaSize ≤ length (now area)) × (length (now list) ≡ 16) × (count ≤ n) × Lists (now area) n (now list) count ⌝ }
     ensures { λ r. ⌜ r ≡ sightOf (now (area .entry)) n j ⌝ }
 {
-    let near = nearest(area, n, j, emits);
+    let near = nearest(area, n, j, list, count);
     let bit = near_bit(area, near);
     if bit == 0 {
         return Sight {
@@ -260,7 +271,8 @@ pub fn sights(area: &[u8], n: usize) -> [Sight; 16]
     requires { ⌜ (n ≤ 16) × (areaSize ≤ length (now area)) ⌝ }
     ensures { λ r. ⌜ r ≡ sightsOf (now (area .entry)) n ⌝ }
 {
-    let emits = emitting(area, n);
+    let mut list = [0usize; 16];
+    let count = emitters(area, n, &mut list);
     let near = Near {
         from: 16,
         d1: 256,
@@ -275,7 +287,7 @@ pub fn sights(area: &[u8], n: usize) -> [Sight; 16]
     let mut all = [unseen; 16];
     let mut j: usize = 0;
     while j < n {
-        let w = see(area, n, j, emits);
+        let w = see(area, n, j, &list, count);
         all[j] = w;
         j += 1;
     }

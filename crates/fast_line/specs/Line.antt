@@ -1,17 +1,19 @@
 -- A station's delay line over many places: of what kind they are, how long a kind lasts, whether nothing is there; and
 -- the symbols of a station that sends. The laws are in LineLaws. Assumes nothing.
-use Prim.Native.Nat.{ℕ, zero, suc, _+_, _<_}
+use Prim.Native.Nat.{ℕ, zero, suc, _+_, _-_, _≤_, _<_}
 use mathlib.Core.Path.{_≡_}
 use mathlib.Core.Bool.{Bool, not}
 use mathlib.Core.List.{List}
 use lib.Dec.{eqb}
+use lib.ListN.{getD}
 use Rattle.octets.specs.Base.{pick, some}
+use Rattle.octets.specs.Turns.{turns}
 use Rattle.station_symbols.specs.declared.Heard.{Heard}
 use Rattle.station_symbols.specs.declared.Heard.the-variants.{Nothing, Clean, Jammed, Several}
 use Rattle.station_symbols.specs.declared.Symbol.{Symbol}
 use Rattle.station_symbols.specs.declared.Symbol.the-variants.{Bit, Jam}
 use Rattle.station_symbols.specs.Packet.{hearsAny, packetBit}
-use Rattle.area.specs.Area.{arrivalAt}
+use Rattle.area.specs.Area.{arrivalAt, heardCode, alone, withSymbol}
 use Rattle.fast_line.specs.declared.LineRun.{LineRun}
 
 -- ---- kinds
@@ -65,3 +67,17 @@ bitsFrom f k s = Bit (packetBit f (k + s))
 -- jam
 unfoldable pub jams : ℕ → Symbol
 jams s = Jam
+
+-- ---- the codes of what is emitted
+
+-- the codes of Q 0 .. Q (K - 1), or of the last 256 of them, end at place `at` + 256 of cs; none is silence
+unfoldable pub Coded : (cs : List ℕ) (at K : ℕ) → (ℕ → Symbol) → Type 0
+Coded cs at K Q = (s : ℕ) → s < K → K ≤ s + 256 → (getD cs (at + (256 + s - K)) 0 ≡ heardCode (alone (Q s))) × (heardCode (alone (Q s)) ≡ 0 → ⊥)
+
+-- the first `at` are as they were
+unfoldable pub Below : (at : ℕ) → (ds cs : List ℕ) → Type 0
+Below at ds cs = (p : ℕ) → p < at → getD cs p 0 ≡ getD ds p 0
+
+-- n codes from place `at` on are put on the line of station j, from step u on
+unfoldable pub codesPut : (j u : ℕ) → (cs : List ℕ) → (at n : ℕ) → List ℕ → List ℕ
+codesPut j u cs at n x = turns (λ s y. withSymbol y j (u + s) (getD cs (at + s) 0)) n x

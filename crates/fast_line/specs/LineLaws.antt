@@ -11,8 +11,8 @@ use borrow.Author.Tests.{eq-eqb, ne-eqb, eqb-true, eqb-false, not-true, not-fals
 use lib.Dec.{eqb, leb, ltb}
 use lib.Bits.{bitOr, bitXor, or-add-and, xor-add-and, and-le-l, and-le-r}
 use lib.ListN.{length, getD, set}
-use lib.Seq.{set-getD}
-use Rattle.octets.specs.Base.{some}
+use lib.Seq.{set-getD, getD-set-same, getD-set-other}
+use Rattle.octets.specs.Base.{pick, some}
 use Rattle.octets.specs.BaseLaws.{by-test, by-eq, neither, none-below, some-hit}
 use Rattle.octets.specs.Store.{length-part}
 use Rattle.octets.specs.Turns.{turns, turns-none, turns-more, turns-end}
@@ -29,7 +29,7 @@ use Rattle.area.specs.CodeLaws.{heard-nothing, heard-zero, heard-one, heard-jam
 use Rattle.bus_meeting.specs.Gather.{joined-none}
 use Rattle.fast_plan.specs.Push.{cleared, joinedAt, onWay}
 use Rattle.fast_plan.specs.Placed.{way-only}
-use Rattle.fast_line.specs.Line.{kindOf, kindAt, firstOf, otherKind, lasts, runAt, AllOf, inUse, isClear, bitsFrom, jams}
+use Rattle.fast_line.specs.Line.{kindOf, kindAt, firstOf, otherKind, lasts, runAt, AllOf, inUse, isClear, bitsFrom, jams, Coded, Below, codesPut}
 use Rattle.area.specs.Offsets.{areaSize}
 
 -- ---- the first that passes a test
@@ -394,51 +394,140 @@ module _ (f : List ℕ) (k : ℕ) where
       digit-code (x / 2 ^ (j % 8) % 2) (packetBit f k) (mod-lt (x / 2 ^ (j % 8)) (omega arith))
       (bit-of-frame f k _ lo (frame-bit f j x e (omega arith)))
 
+-- ---- the codes of what is emitted
+
+-- so many of the last m of K symbols are noted, from place p on
+abbrev pub Noted : (cs : List ℕ) (p m K : ℕ) → (ℕ → Symbol) → (n : ℕ) → Type 0
+Noted cs p m K Q n = (v : ℕ) → v < n → getD cs (p + v) 0 ≡ heardCode (alone (Q (K - m + v)))
+
+module _ (cs : List ℕ) (p m K : ℕ) (Q : ℕ → Symbol) where
+  pub noted-none : Noted cs p m K Q 0
+  noted-none v h = absurd (omega arith)
+
+  noted-more : (n c : ℕ) → p + n < length cs → c ≡ heardCode (alone (Q (K - m + n))) → Noted cs p m K Q n → Noted (set cs (p + n) c) p m K Q (n + 1)
+  noted-more n c room e h v hv =
+      by-eq v n
+      (λ z. rw z (getD-set-same cs (p + n) c 0 room ∙ e))
+      (λ z. getD-set-other cs (p + n) (p + v) c 0 (λ w. z (omega arith)) ∙ h v (omega (arith, z)))
+
+note-fits : (cs ds : List ℕ) (at p m K n : ℕ) → length cs ≡ length ds → at + 256 ≤ length ds → p ≡ at + (256 - m) → m ≡ min 256 K → n < m → p + n < length cs
+note-fits cs ds at p m K n l h ep em hn = omega arith
+
+pub bits-noted : (cs ds F : List ℕ) (at p m f K k n c : ℕ) → c ≡ heardCode (alone (Bit (packetBit F (k + (f + n))))) → f ≡ K - m → length cs ≡ length ds → at + 256 ≤ length ds
+    → p ≡ at + (256 - m) → m ≡ min 256 K → n < m → Noted cs p m K (bitsFrom F k) n → Noted (set cs (p + n) c) p m K (bitsFrom F k) (n + 1)
+unfolding bitsFrom
+bits-noted cs ds F at p m f K k n c e ef l room ep em hn h =
+    noted-more cs p m K (bitsFrom F k) n c (note-fits cs ds at p m K n l room ep em hn) (e ∙ ap (λ (g : ℕ). heardCode (alone (Bit (packetBit F (k + (g + n)))))) ef) h
+
+pub jam-noted : (cs ds : List ℕ) (at p m K n : ℕ) → length cs ≡ length ds → at + 256 ≤ length ds → p ≡ at + (256 - m) → m ≡ min 256 K → n < m → Noted cs p m K jams n
+    → Noted (set cs (p + n) 3) p m K jams (n + 1)
+unfolding jams
+jam-noted cs ds at p m K n l room ep em hn h = noted-more cs p m K jams n 3 (note-fits cs ds at p m K n l room ep em hn) refl h
+
+coded-by : (cs : List ℕ) (at p m K : ℕ) (Q : ℕ → Symbol) (n : ℕ) → m ≡ min 256 K → p ≡ at + (256 - m) → m ≤ n → ((s : ℕ) → heardCode (alone (Q s)) ≡ 0 → ⊥)
+    → Noted cs p m K Q n → Coded cs at K Q
+unfolding Coded
+coded-by cs at p m K Q n em ep hn ne h s hs hk =
+    let w : p + (s - (K - m)) ≡ at + (256 + s - K) = omega arith in
+    let z : K - m + (s - (K - m)) ≡ s = omega arith in
+    (ap (λ (k : ℕ). getD cs k 0) (sym w) ∙ h (s - (K - m)) (omega arith) ∙ ap (λ (k : ℕ). heardCode (alone (Q k))) z, ne s)
+
+pub bits-coded : (cs F G : List ℕ) (at p m K k n : ℕ) → m ≡ min 256 K → p ≡ at + (256 - m) → m ≤ n → F ≡ G → Noted cs p m K (bitsFrom F k) n → Coded cs at K (bitsFrom G k)
+unfolding bitsFrom
+bits-coded cs F G at p m K k n em ep hn e h =
+    coded-by cs at p m K (bitsFrom G k) n em ep hn (λ s. bit-sounds (packetBit G (k + s))) (rw e at h)
+
+pub jam-coded : (cs : List ℕ) (at p m K n : ℕ) → m ≡ min 256 K → p ≡ at + (256 - m) → m ≤ n → Noted cs p m K jams n → Coded cs at K jams
+unfolding jams
+jam-coded cs at p m K n em ep hn h = coded-by cs at p m K jams n em ep hn (λ s z. omega (arith, z)) h
+
+-- what lies before is kept
+pub below-same : (at : ℕ) (cs : List ℕ) → Below at cs cs
+unfolding Below
+below-same at cs p h = refl
+
+pub below-more : (at p n c m : ℕ) (ds cs : List ℕ) → p ≡ at + (256 - m) → Below at ds cs → Below at ds (set cs (p + n) c)
+unfolding Below
+below-more at p n c m ds cs ep h q hq = getD-set-other cs (p + n) q c 0 (λ w. omega arith) ∙ h q hq
+
+pub below-coded : (at b K : ℕ) (Q : ℕ → Symbol) (ds cs : List ℕ) → Below b ds cs → at + 256 ≤ b → Coded ds at K Q → Coded cs at K Q
+unfolding Below Coded
+below-coded at b K Q ds cs h le c s hs hk = (h (at + (256 + s - K)) (omega arith) ∙ c s hs hk .0, c s hs hk .1)
+
+-- the frame has the bits that are noted
+pub note-room : (x F : List ℕ) (i n k K m f s : ℕ) → F ≡ frameAt x i n → i < 16 → n ≤ 1536 → areaSize ≤ length x → m ≡ min 256 K → f ≡ K - m → s < m → k + K ≤ 65 + 8 * n
+    → k + (f + s) < 65 + 8 * length F
+unfolding frameAt
+note-room x F i n k K m f s e hi hn room em ef hs hk =
+    let z : length F ≡ n = ap length e ∙ length-part x (8192 + 1536 * i) n (omega arith) in
+    omega arith
+
 -- ---- symbols put
 
-module _ (t d K : ℕ) (Q : ℕ → Symbol) (j : ℕ) (x : List ℕ) where
-  pub way-none : x ≡ onWay t d K Q j 0 x
-  unfolding onWay
-  way-none = turns-none _ x
+module _ (j u : ℕ) (cs : List ℕ) (at : ℕ) (x : List ℕ) where
+  pub codes-none : x ≡ codesPut j u cs at 0 x
+  unfolding codesPut
+  codes-none = turns-none _ x
 
-  way-more : (s f c : ℕ) (y z : List ℕ) → z ≡ withSymbol y j (t + (f + s + d)) c → c ≡ heardCode (alone (Q (f + s))) → (c ≡ 0 → ⊥) → f ≡ K - d → y ≡ onWay t d K Q j s x
-      → z ≡ onWay t d K Q j (s + 1) x
-  unfolding onWay joinedAt
-  way-more s f c y z ez ec ne ef ey =
-      turns-more _ s x y z (ez ∙ joined-code y j (t + (f + s + d)) (Q (f + s)) c ec ne ∙ ap (λ (g : ℕ). joinedAt j (t + (g + s + d)) (Q (g + s)) y) ef) ey
+  -- a place of a row
+  pub codes-row : (s n p c v : ℕ) (y : List ℕ) → p ≡ 4096 + 256 * j + u % 256 → u % 256 + n ≤ 256 → s < n
+      → v ≡ pick (eqb (getD y (p + s) 0) 0) c 4 → c ≡ getD cs (at + s) 0 → y ≡ codesPut j u cs at s x
+      → set y (p + s) v ≡ codesPut j u cs at (s + 1) x
+  unfolding codesPut withSymbol symbolAt
+  codes-row s n p c v y ep h hs ev ec ey =
+      let e : p + s ≡ 4096 + 256 * j + (u + s) % 256 = omega arith in
+      turns-more _ s x y (set y (p + s) v)
+      (ap (set y (p + s)) (ev ∙ ap (pick (eqb (getD y (p + s) 0) 0) _) refl)
+      ∙ ap₂ (λ (k d : ℕ). set y k (pick (eqb (getD y k 0) 0) d 4)) e ec)
+      ey
 
-  pub way-end : (m s : ℕ) (y : List ℕ) → y ≡ onWay t d K Q j s x → s ≤ m → m ≤ s → m ≡ min d K → y ≡ onWay t d K Q j (min d K) x
-  unfolding onWay
-  way-end m s y r p q e = turns-end _ (min d K) s x y (omega arith) (omega arith) r
+  pub codes-end : (n s : ℕ) (y : List ℕ) → s ≤ n → n ≤ s → y ≡ codesPut j u cs at s x → y ≡ codesPut j u cs at n x
+  unfolding codesPut
+  codes-end n s y p q h = turns-end _ n s x y p q h
 
--- symbols put change no frame
-module _ (t d K : ℕ) (Q : ℕ → Symbol) (j : ℕ) (x : List ℕ) (s i n : ℕ) (y : List ℕ) (ey : y ≡ onWay t d K Q j s x) (hj : j < 16) (hi : i < 16) (hn : n ≤ 1536) (room : areaSize ≤ length x) where
-  way-frame : frameAt y i n ≡ frameAt x i n
-  way-frame =
-      let o = way-only 16 j (omega arith) hj t d K Q s in
-      let l : length y ≡ length x = ap length ey ∙ o .long x in
-      frame-by y x i n hi hn (omega arith) room (rw ey (o .off (frame i) x (λ u p q. omega arith)))
+  codes-after : (n k : ℕ) → codesPut j (u + n) cs (at + n) k (codesPut j u cs at n x) ≡ codesPut j u cs at (n + k) x
+  unfolding codesPut turns
+  codes-after n zero = let e : n ≡ n + 0 = omega arith in ap (λ (i : ℕ). codesPut j u cs at i x) e
+  codes-after n (suc k) =
+      let e : u + n + k ≡ u + (n + k) = omega arith in
+      let f : at + n + k ≡ at + (n + k) = omega arith in
+      let g : n + k + 1 ≡ n + suc k = omega arith in
+      ap₂ (λ (v w : ℕ). withSymbol (codesPut j (u + n) cs (at + n) k (codesPut j u cs at n x)) j v (getD cs w 0)) e f
+      ∙ ap (λ (y : List ℕ). withSymbol y j (u + (n + k)) (getD cs (at + (n + k)) 0)) (codes-after n k)
+      ∙ turns-more _ (n + k) x (codesPut j u cs at (n + k) x) _ refl refl
+      ∙ ap (λ (i : ℕ). codesPut j u cs at i x) g
 
-  -- and a bit of it that is put is one of the packet's
-  pub way-bit : (F : List ℕ) (k f m : ℕ) → F ≡ frameAt y i n → s < m → m ≡ min d K → f ≡ K - d → k + K ≤ 65 + 8 * n → k + (f + s) < 65 + 8 * length F
-  unfolding frameAt
-  way-bit F k f m e hs em ef hk =
-      let l : length y ≡ length x = ap length ey ∙ way-only 16 j (omega arith) hj t d K Q s .long x in
-      let z : length F ≡ n = ap length e ∙ length-part y (8192 + 1536 * i) n (omega arith) in
-      omega arith
+both-rows : (m w n : ℕ) → n ≡ min w m → n + (m - n) ≡ m
+both-rows m w n e = omega arith
 
-pub bits-more : (t d K i n k j : ℕ) (x : List ℕ) (s f c : ℕ) (F y z : List ℕ) → z ≡ withSymbol y j (t + (f + s + d)) c → c ≡ heardCode (alone (Bit (packetBit F (k + (f + s))))) → F ≡ frameAt y i n
-    → f ≡ K - d → y ≡ onWay t d K (bitsFrom (frameAt x i n) k) j s x → j < 16 → i < 16 → n ≤ 1536 → areaSize ≤ length x → z ≡ onWay t d K (bitsFrom (frameAt x i n) k) j (s + 1) x
-unfolding bitsFrom
-bits-more t d K i n k j x s f c F y z ez ec eF ef ey hj hi hn room =
-    let G = frameAt x i n in
-    let e : F ≡ G = eF ∙ way-frame t d K (bitsFrom G k) j x s i n y ey hj hi hn room in
-    let g : c ≡ heardCode (alone (Bit (packetBit G (k + (f + s))))) = ec ∙ ap (λ (h : List ℕ). heardCode (alone (Bit (packetBit h (k + (f + s)))))) e in
-    way-more t d K (bitsFrom G k) j x s f c y z ez g (λ w. bit-sounds (packetBit G (k + (f + s))) (sym g ∙ w)) ef ey
+first-step : (t d K m : ℕ) → m ≡ min d K → t + (K - m + d) ≡ t + (K - d + d)
+first-step t d K m e = omega arith
 
-pub jam-more : (t d K j : ℕ) (x : List ℕ) (s f : ℕ) (y z : List ℕ) → z ≡ withSymbol y j (t + (f + s + d)) 3 → f ≡ K - d → y ≡ onWay t d K jams j s x → z ≡ onWay t d K jams j (s + 1) x
-unfolding jams
-jam-more t d K j x s f y z ez ef ey = way-more t d K jams j x s f 3 y z ez refl (λ w. omega (arith, w)) ef ey
+pub codes-rows : (j t d K at m u k n : ℕ) (cs x y z : List ℕ) → m ≡ min d K → u ≡ t + (K - m + d) → k ≡ at + (256 - m) → n ≡ min (256 - u % 256) m
+    → y ≡ codesPut j u cs k n x → z ≡ codesPut j (u + n) cs (k + n) (m - n) y
+    → z ≡ codesPut j (t + (K - d + d)) cs (at + (256 - min d K)) (min d K) x
+codes-rows j t d K at m u k n cs x y z em eu ek en ey ez =
+    let a : n + (m - n) ≡ min d K = both-rows m (256 - u % 256) n en ∙ em in
+    let b : u ≡ t + (K - d + d) = eu ∙ first-step t d K m em in
+    let c : k ≡ at + (256 - min d K) = ek ∙ ap (λ (i : ℕ). at + (256 - i)) em in
+    ez ∙ ap (codesPut j (u + n) cs (k + n) (m - n)) ey ∙ codes-after j u cs k x n (m - n)
+    ∙ ap (λ (i : ℕ). codesPut j u cs k i x) a
+    ∙ ap₂ (λ (v w : ℕ). codesPut j v cs w (min d K) x) b c
+
+-- where the codes are those of what is emitted
+pub way-coded : (t d K : ℕ) (Q : ℕ → Symbol) (j : ℕ) (cs : List ℕ) (at : ℕ) (x : List ℕ) (m : ℕ) → d ≤ 256 → m ≤ min d K → Coded cs at K Q
+    → codesPut j (t + (K - d + d)) cs (at + (256 - min d K)) m x ≡ onWay t d K Q j m x
+unfolding codesPut onWay turns joinedAt Coded
+way-coded t d K Q j cs at x zero hd h c = refl
+way-coded t d K Q j cs at x (suc m) hd h c =
+    let q = K - d + m in
+    let e : t + (K - d + d) + m ≡ t + (q + d) = omega arith in
+    let f : at + (256 - min d K) + m ≡ at + (256 + q - K) = omega arith in
+    let b = c q (omega arith) (omega arith) in
+    let y = onWay t d K Q j m x in
+    ap₂ (λ (v : ℕ) (l : List ℕ). withSymbol l j v (getD cs (at + (256 - min d K) + m) 0)) e (way-coded t d K Q j cs at x m hd (omega arith) c)
+    ∙ ap (λ (i : ℕ). withSymbol y j (t + (q + d)) (getD cs i 0)) f
+    ∙ joined-code y j (t + (q + d)) (Q q) (getD cs (at + (256 + q - K)) 0) (b .0) (λ z. b .1 (sym (b .0) ∙ z))
 
 -- only what is emitted matters
 pub way-same : (t d K : ℕ) (Q R : ℕ → Symbol) (j m : ℕ) (x : List ℕ) → m ≤ min d K → ((s : ℕ) → s < K → Q s ≡ R s) → onWay t d K Q j m x ≡ onWay t d K R j m x

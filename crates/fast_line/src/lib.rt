@@ -4,13 +4,15 @@
 use station_symbols::Heard;
 ghost use mathlib.Core.Path.{_≡_};
 ghost use mathlib.Core.Bool.{true};
-ghost use Prim.Native.Nat.{_+_, _*_, _%_, _<_, _≤_, min};
+ghost use Prim.Native.Nat.{_+_, _-_, _*_, _%_, _<_, _≤_, min};
+ghost use lib.Dec.{eqb};
 ghost use lib.ListN.{length};
+ghost use Rattle.octets.specs.Base.{pick};
 ghost use Rattle.station_symbols.specs.declared.Symbol.the-variants.{Bit};
 ghost use Rattle.station_symbols.specs.Packet.{packetBit};
 ghost use Rattle.area.specs.Area.{heardOf, heardCode, symbolAt, alone, frameAt};
-ghost use Rattle.fast_plan.specs.Push.{cleared, onWay};
-ghost use Rattle.fast_line.specs.Line.{kindOf, lasts, runAt, AllOf, isClear, bitsFrom, jams};
+ghost use Rattle.fast_plan.specs.Push.{cleared};
+ghost use Rattle.fast_line.specs.Line.{kindOf, lasts, runAt, AllOf, isClear, bitsFrom, jams, Coded, Below, codesPut};
 ghost use Rattle.area.specs.Offsets.{areaSize};
 
 // Places of one kind, and how many: 0 nothing, 1 clean bits, 2 spoiled.
@@ -175,41 +177,87 @@ fn bit_code(frame: &[u8], k: usize) -> u8
     ((x >> place) % 2 + 1) as u8
 }
 
-// Station i, at distance d, sends the bits of the packet that carries its frame, from bit k on, in `steps` steps from t
-// on: those that are still on their way then are put on the line of station j.
-pub fn push_bits(
+// ---- symbols put: codes are noted once for an emitter, and put on each line that they are on their way to
+
+// The codes of the last of `steps` bits, 256 at most, of the packet that carries the frame of station i, from bit k on; they
+// end at place `at` + 256.
+pub fn note_bits(
+    area: &[u8],
+    i: usize,
+    octets: usize,
+    k: usize,
+    steps: usize,
+    codes: &mut [u8],
+    at: usize,
+)
+    requires { ⌜ (i < 16) × (octets ≤ 1536) × (areaSize ≤ length (now area)) × (at + 256 ≤ length (now codes)) × (k + steps ≤ 65 + 8 * octets) ⌝ }
+    ensures coded { λ r. ⌜ Coded (now (codes .exit)) at steps (bitsFrom (frameAt (now (area .entry)) i octets) k) ⌝ }
+    ensures kept { λ r. ⌜ Below at (now (codes .entry)) (now (codes .exit)) ⌝ }
+{
+    let frame = area_buffers::frame(area, i, octets);
+    let m = bus_quick::capped(256, steps);
+    let from = steps - m;
+    let first = at + (256 - m);
+    let mut put: usize = 0;
+    while put < m {
+        codes[first + put] = bit_code(frame, k + (from + put));
+        put += 1;
+    }
+}
+
+// The same of jam.
+pub fn note_jam(steps: usize, codes: &mut [u8], at: usize)
+    requires { ⌜ at + 256 ≤ length (now codes) ⌝ }
+    ensures coded { λ r. ⌜ Coded (now (codes .exit)) at steps jams ⌝ }
+    ensures kept { λ r. ⌜ Below at (now (codes .entry)) (now (codes .exit)) ⌝ }
+{
+    let m = bus_quick::capped(256, steps);
+    let first = at + (256 - m);
+    let mut s: usize = 0;
+    while s < m {
+        codes[first + s] = 3;
+        s += 1;
+    }
+}
+
+// The code of one symbol more where this one is.
+fn mixed(there: u8, code: u8) -> u8
+    ensures { λ r. ⌜ r ≡ pick (eqb there 0) code 4 ⌝ }
+{
+    if there == 0 { code } else { 4 }
+}
+
+// Puts n codes, from the one at `at` on, on the line of station j from step u on; the places lie in a row.
+fn put_row(area: &mut [u8], j: usize, u: usize, codes: &[u8], at: usize, n: usize)
+    requires { ⌜ (j < 16) × (areaSize ≤ length (now area)) × (u % 256 + n ≤ 256) × (at + n ≤ length (now codes)) ⌝ }
+    ensures { λ r. ⌜ now (area .exit) ≡ codesPut j u (now (codes .entry)) at n (now (area .entry)) ⌝ }
+{
+    let first = 4096 + 256 * j + u % 256;
+    let mut s: usize = 0;
+    while s < n {
+        area[first + s] = mixed(area[first + s], codes[at + s]);
+        s += 1;
+    }
+}
+
+// A station at distance d emits in `steps` steps from t on what the codes say that end at place `at` + 256: those symbols
+// that are still on their way then are put on the line of station j.
+pub fn push_codes(
     area: &mut [u8],
     j: usize,
     t: usize,
     d: usize,
     steps: usize,
-    i: usize,
-    octets: usize,
-    k: usize,
+    codes: &[u8],
+    at: usize,
 )
-    requires { ⌜ (j < 16) × (i < 16) × (octets ≤ 1536) × (areaSize ≤ length (now area)) × (t + steps + d < 4294967296) × (k + steps ≤ 65 + 8 * octets) ⌝ }
-    ensures { λ r. ⌜ now (area .exit) ≡ onWay t d steps (bitsFrom (frameAt (now (area .entry)) i octets) k) j (min d steps) (now (area .entry)) ⌝ }
+    requires { ⌜ (j < 16) × (areaSize ≤ length (now area)) × (t + steps + d < 4294967296) × (d ≤ 256) × (at + 256 ≤ length (now codes)) ⌝ }
+    ensures { λ r. ⌜ now (area .exit) ≡ codesPut j (t + (steps - d + d)) (now (codes .entry)) (at + (256 - min d steps)) (min d steps) (now (area .entry)) ⌝ }
 {
     let m = bus_quick::capped(d, steps);
-    let from = steps - m;
-    let mut put: usize = 0;
-    while put < m {
-        let code = bit_code(area_buffers::frame(area, i, octets), k + (from + put));
-        area_line::add_symbol(area, j, t + (from + put + d), code);
-        put += 1;
-    }
-}
-
-// The same where it jams.
-pub fn push_jam(area: &mut [u8], j: usize, t: usize, d: usize, steps: usize)
-    requires { ⌜ (j < 16) × (areaSize ≤ length (now area)) × (t + steps + d < 4294967296) ⌝ }
-    ensures { λ r. ⌜ now (area .exit) ≡ onWay t d steps jams j (min d steps) (now (area .entry)) ⌝ }
-{
-    let m = bus_quick::capped(d, steps);
-    let from = steps - m;
-    let mut s: usize = 0;
-    while s < m {
-        area_line::add_symbol(area, j, t + (from + s + d), 3);
-        s += 1;
-    }
+    let u = t + (steps - m + d);
+    let k = at + (256 - m);
+    let n = bus_quick::capped(256 - u % 256, m);
+    put_row(area, j, u, codes, k, n);
+    put_row(area, j, u + n, codes, k + n, m - n);
 }

@@ -14,7 +14,7 @@ use Rattle.station_state.specs.declared.Transmitter.the-variants.{NoFrame, Wait
 use Rattle.area.specs.Area.{clockAt, countAt, spaceAt, stationAt, frameAt, symbolAt}
 use Rattle.fast_plan.specs.Plan.{Plan}
 use Rattle.fast_plan.specs.Push.{onWay}
-use Rattle.fast_line.specs.Line.{bitsFrom, jams}
+use Rattle.fast_line.specs.Line.{bitsFrom, jams, Coded}
 use Rattle.fast_lines.specs.declared.Emitter.{Emitter}
 use Rattle.sheet_layout.specs.Limits.{lastClock}
 use Rattle.area.specs.Offsets.{areaSize}
@@ -56,6 +56,18 @@ planBy x es i = emitted (frameAt x i (getD es i silent .octets)) (getD es i sile
 pub record Enough (K : ℕ) (e : Emitter) : Type 0 where
   pub frame : e .octets ≤ 1536
   pub bits : e .kind ≡ 1 → e .bit + K ≤ 65 + 8 * e .octets
+
+unfoldable pub AllEnough : (K : ℕ) → List Emitter → (n : ℕ) → Type 0
+AllEnough K es n = (i : ℕ) → i < n → Enough K (getD es i silent)
+
+-- ---- the codes of what is emitted
+
+-- the 256 places of emitter e at station i hold the codes of what it emits in K steps, if it emits any
+unfoldable pub CodedFrom : (cs : List ℕ) (K i : ℕ) → Emitter → List ℕ → Type 0
+CodedFrom cs K i e x = (e .kind ≡ 0 → ⊥) → Coded cs (256 * i) K (emitted (frameAt x i (e .octets)) e)
+
+unfoldable pub AllCoded : (cs : List ℕ) (K : ℕ) → List Emitter → List ℕ → (n : ℕ) → Type 0
+AllCoded cs K es x n = (i : ℕ) → i < n → CodedFrom cs K i (getD es i silent) x
 
 -- ---- the symbols of one station to another
 

@@ -1,6 +1,6 @@
 -- Laws of the lines after a window: one for each way through the code, and that the code's plan is the window's.
 -- Assumes nothing.
-use Prim.Native.Nat.{ℕ, zero, suc, _+_, _*_, _≤_, _<_, min}
+use Prim.Native.Nat.{ℕ, zero, suc, _+_, _-_, _*_, _≤_, _<_, min}
 use mathlib.Core.Path.{_≡_, refl, sym, _∙_, ap, ap₂, subst}
 use mathlib.Core.Bool.{Bool, true, false}
 use mathlib.Core.List.{List}
@@ -32,12 +32,12 @@ use Rattle.fast_plan.specs.Exact.{ownAll, length-own, own-keeps}
 use Rattle.fast_plan.specs.Push.{cleared, onWay, waysTo, lineDone}
 use Rattle.fast_plan.specs.Placed.{LineOnly, clear-only, ways-only, linesDone, done-long, done-keeps, done-codes}
 use Rattle.fast_plan.specs.Turned.{all-line}
-use Rattle.fast_line.specs.Line.{isClear, bitsFrom, jams}
-use Rattle.fast_line.specs.LineLaws.{clear-line, way-same, way-silent, cleared-same}
+use Rattle.fast_line.specs.Line.{isClear, bitsFrom, jams, Coded, Below, codesPut}
+use Rattle.fast_line.specs.LineLaws.{clear-line, way-same, way-silent, way-coded, below-coded, cleared-same}
 use Rattle.fast_station.specs.Forms.{emitsFor}
 use Rattle.fast_heard.specs.Hearing.{goesOn, heldAt, planOf, emits}
 use Rattle.fast_lines.specs.declared.Emitter.{Emitter}
-use Rattle.fast_lines.specs.Lines.{silent, emitterOf, emitterAt, emittersOf, silence, emitted, planBy, Enough, Pushes, pushedFrom, Settles}
+use Rattle.fast_lines.specs.Lines.{silent, emitterOf, emitterAt, emittersOf, silence, emitted, planBy, Enough, AllEnough, CodedFrom, AllCoded, Pushes, pushedFrom, Settles}
 use Rattle.sheet_layout.specs.Limits.{lastClock}
 
 -- ---- the code: what a station is about to emit
@@ -127,27 +127,63 @@ module _ (j t K i : ℕ) (e : Emitter) (x : List ℕ) where
   unfolding pushedFrom
   push-by d Q z ne ed eQ ez = rw (ne-eqb i j ne) (ez ∙ ap₂ (λ (g : ℕ) (R : ℕ → Symbol). onWay t g K R j (min g K) x) ed (sym eQ))
 
-  pub push-bits : (d p q : ℕ) (z : List ℕ)
-      → z ≡ onWay t d K (bitsFrom (frameAt x i (e .octets)) (e .bit)) j (min d K) x → d ≡ distance p q
+  pub push-coded : (cs : List ℕ) (d p q : ℕ) (z : List ℕ) → Pushes j t K i e x → CodedFrom cs K i e x
+      → z ≡ codesPut j (t + (K - d + d)) cs (256 * i + (256 - min d K)) (min d K) x → d ≡ distance p q
       → q ≡ positionAt x j → p ≡ positionAt x i
-      → e .kind ≡ 1 → (e .kind ≡ 0 → ⊥) → (i ≡ j → ⊥) → z ≡ pushedFrom j t K i e x
-  push-bits d p q z ez ed eq ep one some ne = push-by d (bitsFrom (frameAt x i (e .octets)) (e .bit)) z ne (space-is x i j d p q ed eq ep) (emitted-bits (frameAt x i (e .octets)) e some one) ez
-
-  pub push-jam : (d p q : ℕ) (z : List ℕ) → z ≡ onWay t d K jams j (min d K) x → d ≡ distance p q → q ≡ positionAt x j
-      → p ≡ positionAt x i
-      → (e .kind ≡ 1 → ⊥) → (e .kind ≡ 0 → ⊥) → (i ≡ j → ⊥) → z ≡ pushedFrom j t K i e x
-  push-jam d p q z ez ed eq ep other some ne = push-by d jams z ne (space-is x i j d p q ed eq ep) (emitted-jam (frameAt x i (e .octets)) e some other) ez
+      → (e .kind ≡ 0 → ⊥) → (i ≡ j → ⊥) → z ≡ pushedFrom j t K i e x
+  unfolding CodedFrom
+  push-coded cs d p q z h c ez ed eq ep some ne =
+      let Q = emitted (frameAt x i (e .octets)) e in
+      let w = space-is x i j d p q ed eq ep in
+      push-by d Q z ne w refl (ez ∙ way-coded t d K Q j cs (256 * i) x (min d K) (omega (arith, w, h .near)) (omega arith) (c some))
 
   -- how far the code's sums go
   pub push-near : Pushes j t K i e x → (d p q : ℕ) → d ≡ distance p q → q ≡ positionAt x j → p ≡ positionAt x i
       → t + K + d < 4294967296
   push-near h d p q ed eq ep = omega (arith, space-is x i j d p q ed eq ep, h .near, h .early)
 
-  pub push-frame : Pushes j t K i e x → e .octets ≤ 1536
-  push-frame h = h .enough .frame
+  pub push-close : Pushes j t K i e x → (d p q : ℕ) → d ≡ distance p q → q ≡ positionAt x j → p ≡ positionAt x i → d ≤ 256
+  push-close h d p q ed eq ep = omega (arith, space-is x i j d p q ed eq ep, h .near)
 
-  pub push-enough : Pushes j t K i e x → e .kind ≡ 1 → e .bit + K ≤ 65 + 8 * e .octets
-  push-enough h one = h .enough .bits one
+-- ---- the code: the codes of what is emitted
+
+module _ (K i : ℕ) (e : Emitter) (x cs : List ℕ) where
+  pub note-silent : e .kind ≡ 0 → CodedFrom cs K i e x
+  unfolding CodedFrom
+  note-silent h = λ ne. absurd (ne h)
+
+  pub note-sends : Coded cs (256 * i) K (bitsFrom (frameAt x i (e .octets)) (e .bit)) → e .kind ≡ 1 → (e .kind ≡ 0 → ⊥) → CodedFrom cs K i e x
+  unfolding CodedFrom
+  note-sends c one some = λ ne. subst (Coded cs (256 * i) K) (sym (emitted-bits (frameAt x i (e .octets)) e some one)) c
+
+  pub note-jams : Coded cs (256 * i) K jams → (e .kind ≡ 1 → ⊥) → (e .kind ≡ 0 → ⊥) → CodedFrom cs K i e x
+  unfolding CodedFrom
+  note-jams c other some = λ ne. subst (Coded cs (256 * i) K) (sym (emitted-jam (frameAt x i (e .octets)) e some other)) c
+
+  pub note-frame : Enough K e → e .octets ≤ 1536
+  note-frame h = h .frame
+
+  pub note-enough : Enough K e → e .kind ≡ 1 → e .bit + K ≤ 65 + 8 * e .octets
+  note-enough h one = h .bits one
+
+module _ (K : ℕ) (es : List Emitter) (x : List ℕ) where
+  pub all-noted-none : (cs : List ℕ) → AllCoded cs K es x 0
+  unfolding AllCoded
+  all-noted-none cs i h = absurd (omega arith)
+
+  pub all-noted-more : (n : ℕ) (ds cs : List ℕ) → AllCoded ds K es x n → Below (256 * n) ds cs → CodedFrom cs K n (getD es n silent) x → AllCoded cs K es x (n + 1)
+  unfolding AllCoded CodedFrom
+  all-noted-more n ds cs a b c i h =
+      by-test (eqb i n)
+      (λ p. let z : n ≡ i = sym (eqb-true i n p) in subst (λ (k : ℕ). (getD es k silent .kind ≡ 0 → ⊥) → Coded cs (256 * k) K (emitted (frameAt x k (getD es k silent .octets)) (getD es k silent))) z c)
+      (λ p. let z = eqb-false i n p in λ ne. below-coded (256 * i) (256 * n) K _ ds cs b (omega (arith, z)) (a i (omega (arith, z)) ne))
+
+  pub all-noted-end : (m n : ℕ) (cs : List ℕ) → n ≤ m → m ≤ n → AllCoded cs K es x n → AllCoded cs K es x m
+  all-noted-end m n cs p q a = let z : n ≡ m = omega arith in subst (AllCoded cs K es x) z a
+
+  pub enough-at : (n i : ℕ) → AllEnough K es n → i < n → Enough K (getD es i silent)
+  unfolding AllEnough
+  enough-at n i a h = a i h
 
 -- ---- the code: a line cleared
 
@@ -182,6 +218,19 @@ module _ (n t K : ℕ) (es : List Emitter) (x : List ℕ) (s : Settles n t K es 
         codes = k .codes;
         enough = s .enough;
       }
+
+  pub all-enough : AllEnough K es n
+  unfolding AllEnough
+  all-enough i h = s .enough i h
+
+  -- the frames are as they were, and so are the codes
+  coded-on : (cs y : List ℕ) → Kept n x y → AllCoded cs K es x n → AllCoded cs K es y n
+  unfolding AllCoded CodedFrom
+  coded-on cs y k a i h =
+      let few = s .few in
+      let e = getD es i silent in
+      let frames = frame-by y x i (e .octets) (omega arith) (s .enough i h .frame) (omega (arith, k .long, s .long)) (s .long) (k .frames i (omega arith)) in
+      λ ne. subst (λ (F : List ℕ). Coded cs (256 * i) K (emitted F e)) (sym frames) (a i h ne)
 
   pub line-codes : (j : ℕ) → j < n → (u : ℕ) → symbolAt x j u ≤ 4
   line-codes j hj u = s .codes j u hj
@@ -229,6 +278,10 @@ module _ (n t K : ℕ) (es : List Emitter) (x : List ℕ) (s : Settles n t K es 
           let few = s .few in
           let r = settles-on y ways-kept in
           record { from = omega arith; to = omega arith; long = r .long; near = r .near i j hi hj; early = r .early; codes = λ u. r .codes j u hj; enough = r .enough i hi }
+
+      pub ways-coded : (cs : List ℕ) → AllCoded cs K es x n → CodedFrom cs K i (getD es i silent) y
+      unfolding AllCoded
+      ways-coded cs a = coded-on cs y ways-kept a i hi
 
       pub ways-more : (z : List ℕ) → z ≡ pushedFrom j t K i (getD es i silent) y
           → z ≡ waysTo x (planBy x es) K j (i + 1) x
@@ -309,6 +362,9 @@ module _ (n t K : ℕ) (es : List Emitter) (x : List ℕ) (s : Settles n t K es 
     pub line-asks : Settles n t K es y
     line-asks = settles-on n t K es x s y clear-kept
 
+    pub line-coded : (cs : List ℕ) → AllCoded cs K es x n → AllCoded cs K es y n
+    line-coded cs a = coded-on n t K es x s cs y clear-kept a
+
     pub line-made : (z : List ℕ) → z ≡ waysTo y (planBy y es) K j n y → z ≡ lineDone x (planBy x es) K j x
     unfolding lineDone
     line-made z ez =
@@ -328,6 +384,9 @@ module _ (n t K : ℕ) (es : List Emitter) (x : List ℕ) (s : Settles n t K es 
 
     pub lines-asks : Settles n t K es y
     lines-asks = settles-on n t K es x s y lines-here
+
+    pub lines-coded : (cs : List ℕ) → AllCoded cs K es x n → AllCoded cs K es y n
+    lines-coded cs a = coded-on n t K es x s cs y lines-here a
 
     pub lines-more : (z : List ℕ) → z ≡ lineDone y (planBy y es) K j y → z ≡ linesDone x (planBy x es) K (j + 1) x
     unfolding linesDone

@@ -2,12 +2,13 @@
 // still on their way are put.
 
 ghost use mathlib.Core.Path.{_≡_};
-ghost use Prim.Native.Nat.{ℕ, _+_, _<_, _≤_, min};
+ghost use Prim.Native.Nat.{ℕ, _+_, _*_, _<_, _≤_, min};
 ghost use lib.ListN.{length};
 ghost use Rattle.area.specs.Area.{symbolAt};
 ghost use Rattle.fast_plan.specs.Push.{cleared, waysTo, lineDone};
 ghost use Rattle.fast_plan.specs.Placed.{linesDone};
-ghost use Rattle.fast_lines.specs.Lines.{emitterAt, emittersOf, planBy, Pushes, pushedFrom, Settles};
+ghost use Rattle.fast_line.specs.Line.{Below};
+ghost use Rattle.fast_lines.specs.Lines.{emitterAt, emittersOf, planBy, Enough, AllEnough, CodedFrom, AllCoded, Pushes, pushedFrom, Settles};
 ghost use Rattle.sheet_layout.specs.Limits.{lastClock};
 ghost use Rattle.area.specs.Offsets.{areaSize};
 
@@ -68,9 +69,39 @@ pub fn emitters(area: &[u8], n: usize) -> [Emitter; 16]
     all
 }
 
+// Notes the codes of what station i emits in so many steps, in its 256 places.
+fn note_from(area: &[u8], steps: usize, i: usize, e: Emitter, codes: &mut [u8])
+    requires { ⌜ (i < 16) × (areaSize ≤ length (now area)) × (256 * i + 256 ≤ length (now codes)) × Enough steps e ⌝ }
+    ensures coded { λ r. ⌜ CodedFrom (now (codes .exit)) steps i e (now (area .entry)) ⌝ }
+    ensures kept { λ r. ⌜ Below (256 * i) (now (codes .entry)) (now (codes .exit)) ⌝ }
+{
+    let at = 256 * i;
+    if e.kind == 0 {
+        return;
+    }
+    if e.kind == 1 {
+        fast_line::note_bits(area, i, e.octets as usize, e.bit as usize, steps, codes, at);
+        return;
+    }
+    fast_line::note_jam(steps, codes, at);
+}
+
+// The same of all n stations.
+fn note_all(area: &[u8], n: usize, steps: usize, from: [Emitter; 16], codes: &mut [u8])
+    requires { ⌜ (n ≤ 16) × (areaSize ≤ length (now area)) × (256 * n ≤ length (now codes)) × AllEnough steps from n ⌝ }
+    ensures { λ r. ⌜ AllCoded (now (codes .exit)) steps from (now (area .entry)) n ⌝ }
+{
+    let mut i: usize = 0;
+    while i < n {
+        let e = from[i];
+        note_from(area, steps, i, e, codes);
+        i += 1;
+    }
+}
+
 // Puts the symbols of station i that are on their way to station j after so many steps from t on.
-fn push_from(area: &mut [u8], j: usize, t: usize, steps: usize, i: usize, e: Emitter)
-    requires { ⌜ Pushes j t steps i e (now area) ⌝ }
+fn push_from(area: &mut [u8], j: usize, t: usize, steps: usize, i: usize, e: Emitter, codes: &[u8])
+    requires { ⌜ Pushes j t steps i e (now area) × (256 * i + 256 ≤ length (now codes)) × CodedFrom (now codes) steps i e (now area) ⌝ }
     ensures { λ r. ⌜ now (area .exit) ≡ pushedFrom j t steps i e (now (area .entry)) ⌝ }
 {
     if i == j {
@@ -82,11 +113,7 @@ fn push_from(area: &mut [u8], j: usize, t: usize, steps: usize, i: usize, e: Emi
     let p = area::read_position(area, i);
     let q = area::read_position(area, j);
     let d = area::apart(p, q) as usize;
-    if e.kind == 1 {
-        fast_line::push_bits(area, j, t, d, steps, i, e.octets as usize, e.bit as usize);
-        return;
-    }
-    fast_line::push_jam(area, j, t, d, steps);
+    fast_line::push_codes(area, j, t, d, steps, codes, 256 * i);
 }
 
 // Clears the places of so many steps from t on, all 256 at most. A line that holds nothing is left alone.
@@ -102,35 +129,74 @@ fn clear_line(area: &mut [u8], j: usize, t: usize, steps: usize)
 }
 
 // Puts the symbols of all stations that are on their way to station j.
-fn push_all(area: &mut [u8], n: usize, j: usize, t: usize, steps: usize, from: [Emitter; 16])
-    requires { ⌜ (j < n) × Settles n t steps from (now area) ⌝ }
+fn push_all(
+    area: &mut [u8],
+    n: usize,
+    j: usize,
+    t: usize,
+    steps: usize,
+    from: [Emitter; 16],
+    codes: &[u8],
+)
+    requires { ⌜ (j < n) × Settles n t steps from (now area) × (256 * n ≤ length (now codes)) × AllCoded (now codes) steps from (now area) n ⌝ }
     ensures { λ r. ⌜ now (area .exit) ≡ waysTo (now (area .entry)) (planBy (now (area .entry)) from) steps j n (now (area .entry)) ⌝ }
 {
     let mut i: usize = 0;
     while i < n {
         let e = from[i];
-        push_from(area, j, t, steps, i, e);
+        push_from(area, j, t, steps, i, e, codes);
         i += 1;
     }
 }
 
 // The line of station j.
-fn settle_line(area: &mut [u8], n: usize, j: usize, t: usize, steps: usize, from: [Emitter; 16])
-    requires { ⌜ (j < n) × Settles n t steps from (now area) ⌝ }
+fn settle_line(
+    area: &mut [u8],
+    n: usize,
+    j: usize,
+    t: usize,
+    steps: usize,
+    from: [Emitter; 16],
+    codes: &[u8],
+)
+    requires { ⌜ (j < n) × Settles n t steps from (now area) × (256 * n ≤ length (now codes)) × AllCoded (now codes) steps from (now area) n ⌝ }
     ensures { λ r. ⌜ now (area .exit) ≡ lineDone (now (area .entry)) (planBy (now (area .entry)) from) steps j (now (area .entry)) ⌝ }
 {
     clear_line(area, j, t, steps);
-    push_all(area, n, j, t, steps, from);
+    push_all(area, n, j, t, steps, from, codes);
 }
 
-// The lines of all n stations after so many steps from t on in which each emits what `from` says.
+// The lines of all n stations after so many steps from t on in which each emits what `from` says; `codes` has 256 places for
+// each of them.
+fn settle_with(
+    area: &mut [u8],
+    n: usize,
+    t: usize,
+    steps: usize,
+    from: [Emitter; 16],
+    codes: &mut [u8],
+)
+    requires { ⌜ Settles n t steps from (now area) × (256 * n ≤ length (now codes)) ⌝ }
+    ensures { λ r. ⌜ now (area .exit) ≡ linesDone (now (area .entry)) (planBy (now (area .entry)) from) steps n (now (area .entry)) ⌝ }
+{
+    note_all(area, n, steps, from, codes);
+    let mut j: usize = 0;
+    while j < n {
+        settle_line(area, n, j, t, steps, from, codes);
+        j += 1;
+    }
+}
+
+// The same, with places of its own: half as many where few stations are.
 pub fn settle_lines(area: &mut [u8], n: usize, t: usize, steps: usize, from: [Emitter; 16])
     requires { ⌜ Settles n t steps from (now area) ⌝ }
     ensures { λ r. ⌜ now (area .exit) ≡ linesDone (now (area .entry)) (planBy (now (area .entry)) from) steps n (now (area .entry)) ⌝ }
 {
-    let mut j: usize = 0;
-    while j < n {
-        settle_line(area, n, j, t, steps, from);
-        j += 1;
+    if n <= 8 {
+        let mut few = [0u8; 2048];
+        settle_with(area, n, t, steps, from, &mut few);
+        return;
     }
+    let mut all = [0u8; 4096];
+    settle_with(area, n, t, steps, from, &mut all);
 }

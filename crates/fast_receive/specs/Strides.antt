@@ -265,7 +265,7 @@ heard-same j e H G (suc m) p h =
     ∙ ap (λ (g : Heard). stepTaken j (receive [] [] (heardAll j e G m p .receiver) g e) (heardAll j e G m p .octets)) (h m (omega arith))
 
 -- eight bits collected from where an octet begins
-pub octet-heard : (j u : ℕ) (e : Bool) (c v : ℕ) (sp own o : Bool) (x y : List ℕ) → j < 16 → areaSize ≤ length x → c % 8 ≡ 0 → c ≤ 12136 → v ≤ 255
+pub octet-heard : (j u : ℕ) (e : Bool) (c v : ℕ) (sp own o : Bool) (x y : List ℕ) → j < 16 → areaSize ≤ length x → c % 8 ≤ 0 → c ≤ 12136 → v ≤ 255
     → (v < 256 → CleanBits x j u 8 v) → y ≡ withOctet x j (c / 8) v → o ≡ (own || e)
     → taken (Collecting (c + 8) sp o) y ≡ heardAll j e (lineFrom x j u) 8 (taken (Collecting c sp own) x)
 unfolding CleanBits lineFrom

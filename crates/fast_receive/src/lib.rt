@@ -13,6 +13,12 @@ ghost use Rattle.fast_receive.specs.Zeros.{lowKept, blanks, zeroedUpTo};
 ghost use Rattle.area.specs.Offsets.{areaSize};
 ghost use Rattle.frame_build.specs.Limits.{bufferOctets};
 
+// So many bits collected, and the buffer has room for eight more.
+const LAST_OCTET: u32 = 12136;
+
+// The row after a spoiled symbol: no symbol stands in it.
+const NO_ROW: u32 = 1;
+
 // A receiver after so many steps.
 struct Part {
     receiver: Receiver,
@@ -95,10 +101,10 @@ fn collect_eight(
     if m < 8 {
         return stay(bits, spoiled, own);
     }
-    if bits % 8 != 0 {
+    if 0 < bits % 8 {
         return stay(bits, spoiled, own);
     }
-    if 12136 < bits {
+    if LAST_OCTET < bits {
         return stay(bits, spoiled, own);
     }
     let v = line_octet(area, j, u);
@@ -486,12 +492,12 @@ pub fn hear_spoiled(area: &mut [u8], j: usize, e: bool, r: Receiver, m: u32) -> 
     }
     match r {
         Receiver::Listening => Receiver::Seeking {
-            row: 1,
+            row: NO_ROW,
             spoiled: true,
             own: e,
         },
         Receiver::Readable(_) => Receiver::Seeking {
-            row: 1,
+            row: NO_ROW,
             spoiled: true,
             own: e,
         },
@@ -500,7 +506,7 @@ pub fn hear_spoiled(area: &mut [u8], j: usize, e: bool, r: Receiver, m: u32) -> 
             spoiled: _,
             own,
         } => Receiver::Seeking {
-            row: 1,
+            row: NO_ROW,
             spoiled: true,
             own: octets::either(own, e),
         },

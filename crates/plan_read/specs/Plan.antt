@@ -17,7 +17,7 @@ use Rattle.plan_read.specs.declared.Plan.{Plan}
 use Rattle.plan_read.specs.declared.Offered.{Offered}
 use Rattle.sheet_layout.specs.Limits.{lastClock}
 
--- ---- D; the draws are in `draws`
+-- ---- D; the draws are in `plan_draws`
 
 -- "sheet; D": D, where it stands at u, just after the sheet
 abbrev pub depthIn : List ℕ → (u : ℕ) → ℕ

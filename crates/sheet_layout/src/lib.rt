@@ -1,4 +1,4 @@
-// The layout that a sheet describes: figures and stations. `checks` and `fit` judge it.
+// The layout that a sheet describes: figures and stations. `sheet_check` and `sheet_fit` judge it.
 
 ghost use mathlib.Core.Path.{_≡_};
 ghost use Prim.Native.Nat.{_<_, _≤_, min};

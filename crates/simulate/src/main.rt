@@ -1,4 +1,4 @@
-// The run program: a run input on standard input, what is printed for it on standard output. The pieces are made by `begin` and `plan`;
+// The run program: a run input on standard input, what is printed for it on standard output. The pieces are made by `report_begin` and `report_next`;
 // what is handed to the write calls here, one behind the other, is just what is printed.
 
 use libc::STDIN_FILENO;

@@ -1,51 +1,53 @@
--- `fast_lines::push_from` meets its contract. Assumes nothing.
+use Rattle.fast_lines.specs.LinesLaws.{push-own, push-silent, push-coded, push-near, push-close}
 use native.Mathlib.Omega.{arith}
-use Rattle.fast_lines.specs.LinesLaws.{push-own, push-silent, push-bits, push-jam, push-near, push-frame, push-enough}
 use borrow.Author.Needs.{needs}
 use Rattle.fast_lines.proofs.push_from.Statement.{statement}
 use Rattle.fast_lines.proofs.push_from.Tie as tie
+use Rattle.fast_lines.proofs.push_from.Reads as reads
+use Rattle.fast_lines.proofs.push_from.Lts as lts
+use Rattle.area.proofs.apart.Reads as apart-reads
+use Rattle.area.proofs.read_position.Reads as read-position-reads
+use Rattle.fast_line.proofs.push_codes.Reads as push-codes-reads
 
+-- src/lib.rt:106:9
 returns : tie.Need-returns
 returns c = search push-own
 
+-- src/lib.rt:109:9
 returns-2 : tie.Need-returns-2
 returns-2 c = search push-silent
 
+-- src/lib.rt:111:9
 read-position-requires : tie.Need-read-position-requires
 read-position-requires c κs = search needs
 
+-- src/lib.rt:112:9
 read-position-requires-2 : tie.Need-read-position-requires-2
 read-position-requires-2 c κs = search needs
 
+-- src/lib.rt:113:13
 apart-requires : tie.Need-apart-requires
 apart-requires c κs = search needs
 
+-- src/lib.rt:113:13
 cast-d : tie.Need-cast-d
 cast-d c = search needs
 
-cast-push-bits : tie.Need-cast-push-bits
-cast-push-bits c = search needs
+-- src/lib.rt:114:56
+mul-push-codes : tie.Need-mul-push-codes
+mul-push-codes c = search needs
 
-cast-push-bits-2 : tie.Need-cast-push-bits-2
-cast-push-bits-2 c = search needs
+-- src/lib.rt:114:5
+push-codes-requires : tie.Need-push-codes-requires
+push-codes-requires c κs = (omega arith, omega arith, search push-near, search push-close, omega arith)
 
-push-bits-requires : tie.Need-push-bits-requires
-push-bits-requires c κs = (omega arith, omega arith, search push-frame, omega arith, search push-near, search push-enough)
-
+-- src/lib.rt:101:1
 same-length : tie.Need-same-length
 same-length c = search needs
 
+-- src/lib.rt:101:1
 returns-3 : tie.Need-returns-3
-returns-3 c = search push-bits
-
-push-jam-requires : tie.Need-push-jam-requires
-push-jam-requires c κs = (omega arith, omega arith, search push-near)
-
-same-length-2 : tie.Need-same-length-2
-same-length-2 c = search needs
-
-returns-4 : tie.Need-returns-4
-returns-4 c = search push-jam
+returns-3 c = search push-coded
 
 pub push-from-spec : {M : Type 1} → statement M
 push-from-spec =
@@ -57,11 +59,7 @@ push-from-spec =
     read-position-requires-2
     apart-requires
     cast-d
-    cast-push-bits
-    cast-push-bits-2
-    push-bits-requires
+    mul-push-codes
+    push-codes-requires
     same-length
-    returns-3
-    push-jam-requires
-    same-length-2
-    returns-4)
+    returns-3)
