@@ -365,7 +365,8 @@ class Library:
         layout = buffer_of("sheet")
         self.call("read_sheet", sheet, layout)
         out = buffer_of("sheet")
-        return out.raw[:self.call("write_sheet", layout, out)]
+        size = self.call("write_sheet", layout.raw, out)
+        return out.raw[:size]
 
     def read_plan(self, plan):
         """What a run input says besides its offers."""
@@ -379,7 +380,8 @@ class Library:
         """The frame of these, with its check sequence."""
         out = buffer_of("frame")
         numbers = [int.from_bytes(address, "big") for address in (destination, source)]
-        return out.raw[:self.call("build", *numbers, value, data, out)]
+        size = self.call("build", *numbers, value, data, out)
+        return out.raw[:size]
 
     def print_run(self, plan):
         """All that is printed for a run input."""
@@ -423,11 +425,12 @@ class Library:
         """The frame that a station received and still holds, or None."""
         out = buffer_of("frame")
         try:
-            return out.raw[:self.call("read_frame", area, station, out)]
+            size = self.call("read_frame", area, station, out)
         except Refused as refusal:
             if refusal.number == 14:
                 return None
             raise
+        return out.raw[:size]
 
     def station(self, area, station):
         """A station's state. It is read by its offsets, until the library has a call for it."""
