@@ -13,20 +13,20 @@ from .table import as_csv, as_table
 SLOT_CLAUSE = "2 x S + G <= slot"
 JAM_CLAUSE = f"G <= {HEADER_BITS} + jam"
 
-HEADER = (
-    ["sheet", "stations"]
-    + [figure.name for figure in FIGURES]
-    + ["given", "S", "G", "slot-margin", "jam-margin", "longest-span", "fit", "why"]
-)
-
 HELP = """Says of each sheet whether it fits, why, and by how much. A sheet or plan is given as octets, as text (docs/RUN-INPUT.md), or as a
 drawing made by 'wisavulome draw'; '-' is standard input. A folder stands for all files in it.
 
 S is the last position less the first, G is gap1 + gap2. A layout fits if 2 x S + G <= slot and G <= 64 + jam. A margin is how much
 is left of the right side; below 0 the layout does not fit. The longest span is the one with the last tap as far out as it still
-fits; the library is asked about every moved sheet.
+fits; the library is asked about every moved sheet. In a table a default stands in parentheses.
 
 Exit status: 0 all fit, 1 one does not, 2 one is refused or the call is wrong, 3 the output could not be written."""
+
+
+def header_of(is_csv):
+    """The names of the columns."""
+    figures = [figure.name for figure in FIGURES] + (["given"] if is_csv else [])
+    return ["sheet", "stations", *figures, "S", "G", "slot-margin", "jam-margin", "longest-span", "fit", "why"]
 
 
 @dataclass(frozen=True)
@@ -144,18 +144,21 @@ def yes_or_no(layout):
     return "yes" if layout.fits else "no"
 
 
-def row_of(verdict):
-    """A sheet as a row."""
+def row_of(verdict, is_csv):
+    """A sheet as a row. In a table a default stands in parentheses, in CSV the given figures are listed."""
     layout = verdict.layout
     figures = [layout.figures[figure.name] for figure in FIGURES]
-    given = " ".join(figure.name for figure in FIGURES if figure.name in verdict.given)
+    if not is_csv:
+        figures = [number if figure.name in verdict.given else f"({number})" for figure, number in zip(FIGURES, figures)]
+    given = [" ".join(figure.name for figure in FIGURES if figure.name in verdict.given)] if is_csv else []
     why = "; ".join(f"not {clause}" for clause in verdict.failing)
     margins = [verdict.slot_margin, verdict.jam_margin, verdict.longest_span]
-    return [verdict.name, len(layout.taps), *figures, given, layout.span, layout.gap, *margins, yes_or_no(layout), why]
+    return [verdict.name, len(layout.taps), *figures, *given, layout.span, layout.gap, *margins, yes_or_no(layout), why]
 
 
 def collection(library, paths, is_csv, output):
     """Many sheets, a row each; what is refused is a row too."""
+    header = header_of(is_csv)
     rows = []
     status = GOOD
     with progress("sheet", len(paths)) as shown:
@@ -163,20 +166,20 @@ def collection(library, paths, is_csv, output):
             shown.at(count)
             try:
                 verdict = judge(library, path)
-                rows.append(row_of(verdict))
+                rows.append(row_of(verdict, is_csv))
                 status = max(status, GOOD if verdict.layout.fits else NO)
             except Failure as why:
-                rows.append(refused_row(path, str(why)))
+                rows.append(refused_row(path, str(why), len(header)))
                 status = REFUSED
-    output.write((as_csv if is_csv else as_table)(HEADER, rows))
+    output.write((as_csv if is_csv else as_table)(header, rows))
     return status
 
 
-def refused_row(path, why):
+def refused_row(path, why, columns):
     """The row of what is no sheet."""
     name = "standard input" if path == "-" else path
     reason = why[len(name) + 2:] if why.startswith(name + ": ") else why
-    return [name, *[None] * (len(HEADER) - 3), "refused", reason]
+    return [name, *[None] * (columns - 3), "refused", reason]
 
 
 def difference(library, arguments, output):

@@ -30,7 +30,7 @@ def line_of(line, widths, right):
 
 def is_number(value):
     """Whether a value is shown as a number."""
-    return value is None or isinstance(value, (int, float))
+    return value is None or str(value).strip("()").isdecimal() or isinstance(value, int)
 
 
 def shown(value):
