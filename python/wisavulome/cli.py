@@ -11,7 +11,7 @@ from .failure import REFUSED, UNWRITTEN, Failure, OutputClosed
 from .library import Library, LibraryMissing, Refused
 from .output import Standard, complain, hold_descriptors
 
-COMMANDS = ("fit", "run", "audit", "sweep", "write", "windows")
+COMMANDS = ("fit", "run", "audit", "sweep", "write", "draw", "capture", "wave", "windows")
 
 ABOUT = """A proved model of contention on one pair: CSMA/CD, bit time by bit time. A sheet says which station sits where, and the gap, slot
 and jam figures; a plan says who offers which frame when. Every answer is the library's. 'wisavulome COMMAND --help' says more."""

@@ -95,7 +95,11 @@ def files_of(given, pattern):
 
 def judge(library, path):
     """What is said of the sheet in a file."""
-    source = read_source(library, path)
+    return judge_source(library, read_source(library, path))
+
+
+def judge_source(library, source):
+    """What is said of a sheet that was read."""
     layout = read_layout(library, source)
     given = frozenset(text.decode(source.octets[:layout.used])[0].figures)
     verdict = Verdict(source.name, layout, given, library.farthest_last_tap(source.octets[:layout.used]))

@@ -24,13 +24,17 @@ def parse_row(line):
 
 
 def read_rows(path):
-    """The rows of a file. A last line without its end is left out: its writer was interrupted."""
+    """The rows of a file."""
     try:
         with open(path, "rb") as opened:
-            content = opened.read().decode("utf-8", "replace")
+            return parse_rows(path, opened.read())
     except OSError as why:
         raise Failure(f"{path} cannot be read: {why.strerror}") from why
-    lines = content.split("\n")[:-1]
+
+
+def parse_rows(path, content):
+    """The rows of a file's octets. A last line without its end is left out: its writer was interrupted."""
+    lines = content.decode("utf-8", "replace").split("\n")[:-1]
     if not lines or lines[0] + "\n" != HEADER:
         raise Failure(f"{path}: line 1: this is no file of rows, which begins with '{HEADER.strip()}'")
     rows = []

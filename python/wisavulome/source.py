@@ -55,9 +55,9 @@ def read_file(path):
     return octets
 
 
-def read_source(library, path):
-    """The sheet or plan in a file, whatever its form. A sheet or plan always has an octet that no text has, or is tried as both."""
-    given = read_file(path)
+def read_source(library, path, given=None):
+    """The sheet or plan in a file, whatever its form. A plan always has an octet that no text has; a sheet may be tried as both."""
+    given = read_file(path) if given is None else given
     name = shown(path)
     if DRAWING.search(given[:4096]):
         return Source(name, carried(name, given), "drawing")
@@ -116,7 +116,11 @@ def is_sheet_alone(source, layout):
 
 def read_plan_source(library, path):
     """The plan in a file, checked by the library."""
-    source = read_source(library, path)
+    return take_plan(library, read_source(library, path))
+
+
+def take_plan(library, source):
+    """The source, if it is a plan that the library takes."""
     layout = read_layout(library, source)
     if is_sheet_alone(source, layout):
         raise Failure(f"{source.name}: refused 9: this is a sheet alone; a plan has draws, offers and bit times after it "
