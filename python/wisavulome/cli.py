@@ -50,12 +50,13 @@ def module_of(command):
     return importlib.import_module(f".{command}", __package__)
 
 
-def build_parser():
-    """The parser of the command."""
+def build_parser(words):
+    """The parser of the command. Where the first word is a subcommand, only that one is loaded."""
     parser = Parser(prog="wisavulome", description=ABOUT, formatter_class=argparse.RawDescriptionHelpFormatter)
     parser.add_argument("--version", action="version", version=f"wisavulome {VERSION}")
     subparsers = Subparsers(parser)
-    for command in COMMANDS:
+    asked = words[:1] if words and words[0] in COMMANDS else COMMANDS
+    for command in asked:
         module_of(command).add_parser(subparsers)
     return parser
 
@@ -63,7 +64,7 @@ def build_parser():
 def perform(words, output):
     """Does what the words ask; answers the exit status."""
     try:
-        arguments = build_parser().parse_args(words)
+        arguments = build_parser(words).parse_args(words)
     except SystemExit as left:
         return left.code or 0
     return module_of(arguments.command).run(Library(), arguments, output)

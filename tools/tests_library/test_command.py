@@ -6,11 +6,13 @@ From the repository's root, with the shared library built: python3 -B -m unittes
 import random
 import unittest
 
-from common import ROOT, SHEET, TOOL, TWO, WORKED, CommandTest, call, stored, stored_cases
+from common import ROOT, SHEET, TWO, WORKED, CommandTest, call, stored, stored_cases
 
 from wisavulome import refusals
-from wisavulome.cli import COMMANDS
+from wisavulome.cli import COMMANDS, perform
+from wisavulome.failure import Failure
 from wisavulome.library import Refused
+from wisavulome.output import Standard
 
 PLAN = TWO + "offer at 0 station 0 to station 1 value length data 0102\nrun 900\n"
 
@@ -170,7 +172,7 @@ class Refusals(CommandTest):
     def test_places(self):
         worked = (ROOT / "crates" / "simulate" / "stdin").read_bytes()
         for octets, expected in [
-            (worked[:9], "refused 3: the sheet is too short (ends in station 1 (N is 2), at octet 9)"),
+            (worked[:9], "refused 3: the sheet is too short (ends before station 1 (N is 2), at octet 9)"),
             (b"\x40" + worked[1:], "refused 4: map bit 6 or 7 stands (map bit 6 stands, at octet 0)"),
             (b"\x01\x00\x3f" + worked[1:], "refused 5: a field is out of its range (slot is 63, outside 64..512, at octet 1)"),
             (b"\x04\x1f" + worked[1:], "refused 5: a field is out of its range (gap1 64 is over 2 x gap2 = 62, at octet 1)"),
@@ -229,19 +231,24 @@ class NoTraceback(CommandTest):
     def test_made_up(self):
         rng = random.Random(7)
         words = PLAN.split()
-        for at in range(40):
+        for at in range(400):
             if at % 2:
                 content = bytes(rng.randrange(256) for _ in range(rng.randrange(200)))
             else:
                 content = " ".join(rng.choice([*words, "\n", "<svg>", "99999999999"]) for _ in range(rng.randrange(60))).encode()
             path = self.file("x", content)
-            for name in ["fit", "run", "audit", "sweep", "draw", "capture", "wave", "windows"]:
-                status, _out, err = call(name, path, *(["--entries", "/dev/null"] if name == "windows" else []))
-                self.assertIn(status, (0, 1, 2), (name, content, err))
-                self.assertNotIn("Traceback", err, (name, content))
+            for name in COMMANDS:
+                self.assertIn(self.status(name, path), (0, 1, 2), (name, content))
 
-    def test_tool_is_there(self):
-        self.assertTrue(TOOL.is_file())
+    def status(self, name, path):
+        """The status of a command, here in this process: what is no failure of ours is raised."""
+        more = {"windows": ["--entries", "/dev/null"], "sweep": ["--sets", "2", "--jobs", "1"], "write": ["--as", "text"]}.get(name, [])
+        with open("/dev/null", "wb") as nothing:
+            output = Standard(nothing.fileno())
+            try:
+                return perform([name, str(path), *more], output)
+            except (Failure, Refused) as why:
+                return getattr(why, "status", 2)
 
 
 if __name__ == "__main__":

@@ -7,6 +7,7 @@ import json
 from common import STORED, TWO, WORKED, CommandTest, call, stored, stored_cases, taken_cases
 
 from wisavulome.course import follow
+from wisavulome.heard import Hearing
 from wisavulome.library import COUNTERS
 
 
@@ -35,10 +36,13 @@ class Run(CommandTest):
 
     def test_failed_reception_names_who_was_heard(self):
         course = follow(self.library, stored("case048"))
-        failed = [event for event in course.events if event.word == "got check"]
-        self.assertTrue(failed)
-        for event in failed:
-            self.assertGreater(len(event.offers), 0)
+        failed = [event for event in course.events if event.word.startswith("got") and event.word != "got ok"]
+        self.assertEqual([(event.line(), event.offers) for event in failed], [("1060 0 got alignment 110", (2, 3))])
+        begin = Hearing(course, 0).begin(1060)
+        heard = {attempt.offer for attempt in course.attempts if attempt.station != 0
+                 and attempt.start + course.layout.distance(0, attempt.station) < 1060
+                 and attempt.end + course.layout.distance(0, attempt.station) > begin}
+        self.assertEqual(heard, {2, 3})
 
     def test_every_event_names_offers(self):
         for name, octets in taken_cases(self.library):
