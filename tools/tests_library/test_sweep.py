@@ -3,7 +3,6 @@
 import csv
 import io
 import os
-import shutil
 import signal
 import subprocess
 import time
@@ -129,15 +128,6 @@ class Sweep(CommandTest):
         self.assertEqual(merged.read_bytes(), whole.read_bytes())
         status, _out, err = call("sweep", self.plan, "--sets", 30, "--merge", *parts[:2])
         self.assertEqual((status, err), (2, "wisavulome: set 10, offer 1 is in none of the files\n"))
-
-    def test_gnu_parallel(self):
-        """The real GNU parallel: the merged table is that of one process."""
-        if not shutil.which("parallel"):
-            self.skipTest("GNU parallel is not installed; tools/check-formats installs it and runs this")
-        expected = call("sweep", self.plan, "--sets", 40)
-        script = """seq 0 10 30 | parallel --will-cite '"$W" sweep plan.txt --sets 40 --jobs 1 --only {}:+10 --rows part{}.csv >/dev/null' &&
-            "$W" sweep plan.txt --sets 40 --merge part*.csv"""
-        self.assertEqual(self.shell(script), expected)
 
     def test_usage(self):
         for words in [["--sets", 0], ["--only", "5"], ["--only", "5:3"], ["--only", "0:2000"], ["--below", 2], ["--all", "--sets", 4],
