@@ -26,7 +26,7 @@ class Gate(unittest.TestCase):
     def run_gate(self, fails="none", kit="rt version"):
         with tempfile.TemporaryDirectory() as folder:
             root = Path(folder)
-            for name in [".ci/run", "bin/rt", "bin/cargo", "bin/python3", "tools/check-index"]:
+            for name in [".ci/run", "bin/rt", "bin/cargo", "bin/python3", "bin/make", "tools/check-index", "tools/check-interface", "tools/check-formats"]:
                 (root / name).parent.mkdir(parents=True, exist_ok=True)
                 (root / name).write_text(STAND_IN)
                 (root / name).chmod(0o755)
@@ -45,7 +45,9 @@ class Gate(unittest.TestCase):
         self.assertLess(lines.index("rt ci"), lines.index("rt staticlib capi"))
 
     def test_failures(self):
-        for part in ["rt fmt", "cargo fmt", "python3", "check-index", "rt ci", "rt staticlib", "cargo test"]:
+        parts = ["rt fmt", "cargo fmt", "python3", "check-index", "rt ci", "rt staticlib", "cargo test", "make --silent library", "check-interface"]
+        parts += ["python3 -B -m unittest discover -s tools/tests_library", "make --silent check-install", "check-formats"]
+        for part in parts:
             with self.subTest(part):
                 status, lines, left = self.run_gate(fails=part)
                 self.assertNotEqual(status, 0)
