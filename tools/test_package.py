@@ -70,14 +70,19 @@ class Places(unittest.TestCase):
 class Logs(unittest.TestCase):
     """The run program's text as a log (windows)."""
 
+    def entries(self, printed):
+        """The entries of a text, in hexadecimal; the same however it is cut into chunks of lines."""
+        made = windows.read_log("log", [printed.encode()])
+        self.assertEqual(windows.read_log("log", [line.encode() for line in printed.splitlines(keepends=True)]), made)
+        return [made[at:at + 6].hex() for at in range(0, len(made), 6)]
+
     def test_entries(self):
         printed = (ROOT / "crates" / "stored" / "data" / "worked.out").read_text()
-        entries = windows.read_log("log", printed)
-        self.assertEqual([entry.hex() for entry in entries], ["0000000a0001", "0000000a0101", "000003090003", "000003140105", "000005b30103", "000005be0005"])
+        self.assertEqual(self.entries(printed), ["0000000a0001", "0000000a0101", "000003090003", "000003140105", "000005b30103", "000005be0005"])
 
     def test_every_word(self):
         lines = "".join(f"{at} 1 {word} 7\n" for at, word in enumerate(EVENTS))
-        self.assertEqual([entry[5] for entry in windows.read_log("log", lines)], list(range(1, len(EVENTS) + 1)))
+        self.assertEqual([int(entry[-2:], 16) for entry in self.entries(lines)], list(range(1, len(EVENTS) + 1)))
 
     def test_stored_texts(self):
         """Every text that is stored can be read; as many entries as lines that are events."""
@@ -85,22 +90,35 @@ class Logs(unittest.TestCase):
             printed = path.read_text()
             if printed.startswith("refused"):
                 with self.assertRaises(Failure):
-                    windows.read_log("log", printed)
+                    self.entries(printed)
                 continue
             events = [line for line in printed.splitlines()[1:-1] if " refused " not in line]
-            self.assertEqual(len(windows.read_log("log", printed)), len(events), path.name)
+            self.assertEqual(len(self.entries(printed)), len(events), path.name)
 
     def test_no_event(self):
         for line in ["hello", "10 0 collision", "10 0 crash 3", "10  0 sent 1", "-1 0 sent 1", "10 0 sent 1 2", "", " 10 0 sent 1", "refused 3",
                      "10 0 got 3", "10 0 got bad 3", "1e3 0 sent 1"]:
             with self.assertRaises(Failure) as caught:
-                windows.read_log("log.txt", f"stations 2 fit yes\n{line}\nend 5\n")
+                windows.read_log("log.txt", [f"stations 2 fit yes\n{line}\nend 5\n".encode()])
             self.assertTrue(str(caught.exception).startswith(f"log.txt: line 2: '{line}' is no event"), line)
 
     def test_too_large(self):
         for line in ["4294967296 0 sent 1", "1 256 sent 1"]:
             with self.assertRaises(Failure):
-                windows.read_log("log", line + "\n")
+                windows.read_log("log", [line.encode() + b"\n"])
+
+    def test_file(self):
+        """A file of any length, with or without a last end of line, and a line number past the first chunk."""
+        with tempfile.TemporaryDirectory() as folder:
+            path = Path(folder, "log")
+            line = b"10 0 collision 11\n"
+            path.write_bytes(line * 200000 + b"11 1 sent 1")
+            made = windows.read_log("log", windows.chunks_of(str(path)))
+            self.assertEqual((len(made), made[-6:].hex()), (6 * 200001, "0000000b0103"))
+            path.write_bytes(line * 200000 + b"what\n" + line)
+            with self.assertRaises(Failure) as caught:
+                windows.read_log("log", windows.chunks_of(str(path)))
+            self.assertTrue(str(caught.exception).startswith("log: line 200001: 'what' is no event"))
 
     def test_windows(self):
         self.assertEqual(windows.read_windows("w", "0 5 9 # first\n\n1 0 4294967295\n"), [(0, 5, 9), (1, 0, 4294967295)])

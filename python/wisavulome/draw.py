@@ -6,7 +6,7 @@ from .draw_sheet import draw_sheet
 from .draw_sweep import draw_sweep
 from .failure import GOOD, Failure
 from .fit import judge_source
-from .output import write_whole
+from .output import printable, write_whole
 from .rows import HEADER as ROWS_HEADER
 from .rows import parse_rows
 from .source import is_sheet_alone, read_file, read_layout, read_source, shown, take_plan
@@ -55,18 +55,23 @@ def drawing(library, arguments):
         if not rows:
             raise Failure(f"{name}: it has no rows")
         sets = len({row[1] for row in rows})
-        return draw_sweep(rows, arguments.title or f"Sweep of {sets} sets of draws")
+        return draw_sweep(rows, title_of(arguments, f"Sweep of {sets} sets of draws"))
     source = read_source(library, arguments.file, given)
     layout = read_layout(library, source)
     if arguments.sheet or is_sheet_alone(source, layout):
         refuse_window(arguments, "a sheet")
         verdict = judge_source(library, source)
-        title = arguments.title or f"Sheet of {len(layout.taps)} stations"
+        title = title_of(arguments, f"Sheet of {len(layout.taps)} stations")
         return draw_sheet(verdict, source.octets[:layout.used], title)
     take_plan(library, source)
     course = follow(library, source.octets)
-    title = arguments.title or f"Run of {len(course.fates)} offers, {len(layout.taps)} stations"
+    title = title_of(arguments, f"Run of {len(course.fates)} offers, {len(layout.taps)} stations")
     return draw_run(course, window_of(arguments.window, course.clock), source.octets, title, arguments.height)
+
+
+def title_of(arguments, usual):
+    """The title that is asked for, as far as it can be printed."""
+    return printable(arguments.title) if arguments.title else usual
 
 
 def refuse_window(arguments, what):

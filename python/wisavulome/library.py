@@ -415,6 +415,10 @@ class Library:
             if got:
                 yield station, RECEIVE[got - 1], got_number
 
+    def run(self, area, count):
+        """A run of so many bit times; answers the steps made."""
+        return self.call("run", area, count, buffer_of("run"))
+
     def counters(self, area, station):
         """A station's counters, by name."""
         out = buffer_of("counters")

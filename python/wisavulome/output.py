@@ -13,6 +13,11 @@ FULL = 1 << 16  # octets kept before they are written
 PATIENCE = 2.0  # seconds before progress is shown
 
 
+def printable(words):
+    """Words for people: what cannot be printed is a question mark."""
+    return "".join(letter if letter.isprintable() else "?" for letter in words)
+
+
 def as_octets(content):
     """Text as UTF-8; octets as they are."""
     return content.encode("utf-8", "surrogateescape") if isinstance(content, str) else content
@@ -73,32 +78,26 @@ def hold_descriptors():
 
 
 def write_whole(path, content, standard):
-    """Writes a whole output to a file, or to standard output where the path is None or '-'.
+    """Writes a whole output, or its parts in turn, to a file, or to standard output where the path is None or '-'.
 
     A file is written beside its place and then moved there. A device or a pipe is written as it is.
     """
-    content = as_octets(content)
+    parts = map(as_octets, [content] if isinstance(content, (str, bytes)) else content)
     if path in (None, "-"):
-        standard.write(content)
+        for part in parts:
+            standard.write(part)
         standard.flush()
         return
     try:
         if is_special(path):
-            with open(path, "wb", buffering=0) as opened:
-                write_all(opened, content)
+            with open(path, "wb") as opened:
+                opened.writelines(parts)
         else:
-            replace_file(os.path.realpath(path), content)
+            replace_file(os.path.realpath(path), parts)
     except BrokenPipeError as why:
         raise OutputClosed from why
     except OSError as why:
         raise Failure(f"{path} could not be written: {why.strerror}", UNWRITTEN) from why
-
-
-def write_all(opened, content):
-    """Writes all octets to an unbuffered file."""
-    left = memoryview(content)
-    while left:
-        left = left[opened.write(left):]
 
 
 def is_special(path):
@@ -109,13 +108,13 @@ def is_special(path):
         return False
 
 
-def replace_file(path, content):
+def replace_file(path, parts):
     """Puts a new file in the place, all of it or nothing."""
     folder = os.path.dirname(path)
     descriptor, beside = tempfile.mkstemp(prefix=".wisavulome-", dir=folder)
     try:
-        with os.fdopen(descriptor, "wb", buffering=0) as opened:
-            write_all(opened, content)
+        with os.fdopen(descriptor, "wb") as opened:
+            opened.writelines(parts)
             os.fchmod(opened.fileno(), mode_for(path))
         os.replace(beside, path)
     except BaseException:

@@ -36,20 +36,27 @@ def shown(path):
     return "standard input" if path == "-" else str(path)
 
 
-def read_file(path):
-    """The octets of a file, or of standard input where the path is '-'."""
+def open_file(path):
+    """A file, or standard input where the path is '-', opened for reading octets."""
     try:
-        if path == "-":
-            if sys.stdin is None:
-                raise OSError(errno.EBADF, os.strerror(errno.EBADF))
-            octets = sys.stdin.buffer.read(MOST + 1)
-        else:
-            with open(path, "rb") as opened:
-                octets = opened.read(MOST + 1)
+        if path != "-":
+            return open(path, "rb")
+        if sys.stdin is None:
+            raise OSError(errno.EBADF, os.strerror(errno.EBADF))
+        return sys.stdin.buffer
     except OSError as why:
         raise Failure(f"{shown(path)} cannot be read: {why.strerror}") from why
     except ValueError as why:
         raise Failure(f"{shown(path)!r} is no file name") from why
+
+
+def read_file(path):
+    """The octets of a file, or of standard input where the path is '-'."""
+    with open_file(path) as opened:
+        try:
+            octets = opened.read(MOST + 1)
+        except OSError as why:
+            raise Failure(f"{shown(path)} cannot be read: {why.strerror}") from why
     if len(octets) > MOST:
         raise Failure(f"{shown(path)} has over {MOST} octets: it is no sheet and no plan")
     return octets

@@ -3,6 +3,8 @@
 import csv
 import io
 
+from .output import printable
+
 
 def as_csv(header, rows):
     """Rows as CSV, with a line of names; None is an empty field."""
@@ -35,4 +37,4 @@ def is_number(value):
 
 def shown(value):
     """A value as a table shows it."""
-    return "-" if value is None else str(value)
+    return "-" if value is None else printable(str(value))

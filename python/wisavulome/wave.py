@@ -58,10 +58,10 @@ def identifier(number):
 
 
 def wave(library, course, octets, window, with_vectors):
-    """The wave of a run's window."""
+    """The wave of a run's window, part by part."""
     names = [*WIRES, *(VECTORS if with_vectors else ())]
     stations = range(len(course.layout.taps))
-    parts = [head(stations, names), f"#{window[0]}\n$dumpvars\n"]
+    yield head(stations, names) + f"#{window[0]}\n$dumpvars\n"
     before = [[None] * len(names) for _station in stations]
     for time, states in steps(library, course, octets, window, with_vectors):
         changes = []
@@ -71,11 +71,10 @@ def wave(library, course, octets, window, with_vectors):
                     changes.append(shown(value, names[at], identifier(station * len(names) + at)))
             before[station] = state
         if time == window[0]:
-            parts.append("".join(changes) + "$end\n")
+            yield "".join(changes) + "$end\n"
         elif changes:
-            parts.append(f"#{time}\n" + "".join(changes))
-    parts.append(f"#{window[1]}\n")
-    return "".join(parts)
+            yield f"#{time}\n" + "".join(changes)
+    yield f"#{window[1]}\n"
 
 
 def shown(value, name, mark):
@@ -97,12 +96,13 @@ def head(stations, names):
 
 
 def steps(library, course, octets, window, with_vectors):
-    """Each step of the window with the values of all stations."""
+    """Each step of the window with the values of all stations. Steps in which all are quiet are made at once: no value changes."""
     area = advance_to(library, octets, window[0])
     emissions = Emissions(course, window)
     stations = range(len(course.layout.taps))
+    time = window[0]
     with progress("bit time", window[1] - window[0]) as meter:
-        for time in range(*window):
+        while time < window[1]:
             meter.at(time - window[0])
             make_due(library, area, course.plan, time)
             before = [library.station(area, station) for station in stations]
@@ -114,6 +114,22 @@ def steps(library, course, octets, window, with_vectors):
                 row = wires(before[station], after[station], symbol, [word for one, word in events if one == station])
                 values.append(row + (vectors(before[station], after[station], symbol) if with_vectors else []))
             yield time, values
+            time += 1
+            if not events and all(is_at_rest(each, with_vectors) for each in before + after):
+                time += library.run(area, max(0, min(next_change(course, time), window[1]) - time))
+
+
+def is_at_rest(state, with_vectors):
+    """Whether a station is quiet, emits nothing, and hears nothing next. A vector also shows the end of a backoff, so none may run."""
+    rests = state.deference == "quiet" and not state.emitted and state.hears == SILENCE
+    return rests and not (with_vectors and state.transmitter == "backing off")
+
+
+def next_change(course, time):
+    """The next step, from this one on, in which an offer is made or an attempt starts."""
+    starts = [attempt.start for attempt in course.attempts if attempt.start >= time]
+    offers = [offer.time for offer in course.plan.offers if offer.time >= time]
+    return min(starts + offers, default=course.clock)
 
 
 def wires(before, after, symbol, words):

@@ -4,12 +4,12 @@ An entry is six octets: time (4, high octet first), station, event (from 1 on, i
 """
 
 import re
+import struct
 
-from .course import parse_line
 from .failure import GOOD, Failure
 from .library import EVENTS
-from .output import write_whole
-from .source import read_file, shown
+from .output import printable, write_whole
+from .source import open_file, read_file, shown
 
 HELP = """Reads the text that the run program prints into the entries of a log. The lines 'stations', 'end' and those of refused offers
 are left out; a line that is none of these and no event is an error with its number. WINDOWS has a line for each window: station, first
@@ -20,8 +20,13 @@ unless --entries is given, which writes the entries, six octets each.
 
 Exit status: 0 good, 2 refused, the library cannot do it, or the call is wrong, 3 the output could not be written."""
 
-OTHER = re.compile(r"stations [0-9]+ fit (yes|no)|end [0-9]+|[0-9]+ [0-9]+ refused [0-9]+")
+PART = 1 << 20  # octets that are read at a time
 MOST_TIME, MOST_STATION = 2 ** 32 - 1, 255
+WORDS = "|".join(EVENTS).encode()
+# An event, with its time, station and word; or another line of the run program, with none.
+ENTRY = re.compile(rb"^(?:([0-9]{1,99}) ([0-9]{1,99}) (%s) [0-9]+|stations [0-9]+ fit (?:yes|no)|end [0-9]+|[0-9]+ [0-9]+ refused [0-9]+)\r?\n" % WORDS, re.M)
+ENTRY_FORM = struct.Struct(">IBB")
+NUMBERS = {word.encode(): number for number, word in enumerate(EVENTS, 1)}
 
 
 def add_parser(subparsers):
@@ -36,44 +41,69 @@ def run(_library, arguments, output):
     """The subcommand; answers the exit status."""
     if arguments.windows is None and arguments.entries is None:
         raise Failure("windows needs WINDOWS, or --entries")
-    entries = read_log(shown(arguments.log), read_text(arguments.log))
+    entries = read_log(shown(arguments.log), chunks_of(arguments.log))
     if arguments.windows is not None:
-        read_windows(shown(arguments.windows), read_text(arguments.windows))
+        read_windows(shown(arguments.windows), read_file(arguments.windows).decode("utf-8-sig", "replace"))
     if arguments.entries is not None:
-        write_whole(arguments.entries, b"".join(entries), output)
+        write_whole(arguments.entries, bytes(entries), output)
         return GOOD
     raise Failure("this library has no function for windows over a log yet; '--entries FILE' writes the log's entries")
 
 
-def read_text(path):
-    """A file as text."""
-    return read_file(path).decode("utf-8-sig", "replace")
+def chunks_of(path):
+    """The whole lines of a file, many at a time; a log may be long."""
+    kept = b""
+    with open_file(path) as opened:
+        for part in iter(lambda: read_part(path, opened), b""):
+            lines, end, kept_next = (kept + part).rpartition(b"\n")
+            yield lines + end
+            kept = kept_next
+    if kept:
+        yield kept + b"\n"
 
 
-def lines_of(content):
-    """The lines of a text with their numbers; the end of the last may be missing."""
-    return enumerate(content.removesuffix("\n").split("\n"), 1)
+def read_part(path, opened):
+    """The next octets of a file."""
+    try:
+        return opened.read(PART)
+    except OSError as why:
+        raise Failure(f"{shown(path)} cannot be read: {why.strerror}") from why
 
 
-def read_log(name, content):
-    """The entries of the run program's text."""
-    entries = []
-    for number, line in lines_of(content):
-        event = parse_line(line)
-        if event is None or event.word == "refused":
-            if not OTHER.fullmatch(line):
-                raise Failure(f"{name}: line {number}: '{clipped(line)}' is no event (time, station, word, number)")
-            continue
-        if event.time > MOST_TIME or event.station > MOST_STATION:
-            raise Failure(f"{name}: line {number}: the time or the station is too large for an entry")
-        entries.append(event.time.to_bytes(4, "big") + bytes([event.station, 1 + EVENTS.index(event.word)]))
+def read_log(name, chunks):
+    """The entries of the run program's text, one after the other."""
+    entries = bytearray()
+    number = 1
+    for chunk in chunks:
+        found = ENTRY.findall(chunk)
+        lines = chunk.count(b"\n")
+        if len(found) != lines:
+            refuse_line(name, number, chunk)
+        for time, station, word in found:
+            if word:
+                entries += entry(name, number, int(time), int(station), word)
+        number += lines
     return entries
+
+
+def entry(name, number, time, station, word):
+    """The six octets of an event."""
+    if time > MOST_TIME or station > MOST_STATION:
+        raise Failure(f"{name}: from line {number} on: time {time} or station {station} is too large for an entry")
+    return ENTRY_FORM.pack(time, station, NUMBERS[word])
+
+
+def refuse_line(name, first, chunk):
+    """The first line that is none of the run program's."""
+    for number, line in enumerate(chunk.split(b"\n"), first):
+        if not ENTRY.fullmatch(line + b"\n"):
+            raise Failure(f"{name}: line {number}: '{clipped(line.decode('utf-8', 'replace'))}' is no event (time, station, word, number)")
 
 
 def read_windows(name, content):
     """The windows: station, first time, time past the last."""
     windows = []
-    for number, line in lines_of(content):
+    for number, line in enumerate(content.removesuffix("\n").split("\n"), 1):
         words = line.partition("#")[0].split()
         if not words:
             continue
@@ -84,6 +114,6 @@ def read_windows(name, content):
 
 
 def clipped(line):
-    """A line for a message, not too long and with no control characters."""
-    shown_line = "".join(letter if letter.isprintable() else "?" for letter in line)
-    return shown_line if len(shown_line) <= 60 else shown_line[:57] + "..."
+    """A line for a message, not too long."""
+    line = printable(line)
+    return line if len(line) <= 60 else line[:57] + "..."

@@ -1,9 +1,11 @@
 """`wisavulome wave`: the wave, read back here."""
 
 import re
+from unittest import mock
 
 from common import WORKED, CommandTest, call, stored
 
+from wisavulome import wave as wave_module
 from wisavulome.course import follow
 from wisavulome.packet import octets_of_bits, packet_bits
 from wisavulome.wave import identifier, wave
@@ -41,7 +43,7 @@ class Wave(CommandTest):
         octets = stored(name)
         course = follow(self.library, octets)
         window = window or (0, course.clock)
-        return course, wave(self.library, course, octets, window, vectors)
+        return course, "".join(wave(self.library, course, octets, window, vectors))
 
     def test_bits_are_the_packet_s(self):
         """What is emitted, and what the other station hears that many bit times later, are the bits of the frame."""
@@ -72,6 +74,16 @@ class Wave(CommandTest):
             emits = [(attempt.station, time) for attempt in course.attempts for time in range(attempt.start, attempt.end)]
             shown = [(s, t) for s in range(len(course.layout.taps)) for t, v in enumerate(values(changes[f"s{s}_tx"], 0, end)) if v]
             self.assertEqual(sorted(emits), shown, name)
+
+    def test_rest_is_made_at_once(self):
+        """Steps in which all are quiet are not made one by one; the wave is the same as if they were."""
+        for vectors in (False, True):
+            made = self.whole("case003", None, vectors)[1]
+            with mock.patch.object(wave_module, "is_at_rest", lambda state, with_vectors: False):
+                self.assertEqual(self.whole("case003", None, vectors)[1], made)
+        plan = self.file("long.txt", WORKED.read_text().replace("run 1500", "run 16777216"))
+        self.assertEqual(call("wave", plan, "-o", self.folder / "long.vcd")[0], 0)
+        self.assertLess((self.folder / "long.vcd").stat().st_size, 100000)
 
     def test_names(self):
         _course, text = self.whole("case030", (0, 5))
