@@ -4,11 +4,13 @@ From the repository's root: python3 -m unittest discover -s tools -p 'test_*.py'
 """
 
 import os
+import re
 import subprocess
 import sys
 import tempfile
 import unittest
 from pathlib import Path
+from unittest import mock
 
 ROOT = Path(__file__).resolve().parent.parent
 sys.path.insert(0, str(ROOT / "python"))
@@ -16,7 +18,8 @@ sys.path.insert(0, str(ROOT / "python"))
 from wisavulome import output, packet, refusals, rows, svg, table, text, windows  # noqa: E402
 from wisavulome.course import parse_line  # noqa: E402
 from wisavulome.failure import Failure  # noqa: E402
-from wisavulome.library import CALLS, COUNTERS, EVENTS, FIGURES, REFUSALS, SIZES, Refused, declare  # noqa: E402
+from wisavulome.heard import collect  # noqa: E402
+from wisavulome.library import CALLS, COUNTERS, EVENTS, FIGURES, JAM, ONE, REFUSALS, SEVERAL, SIZES, ZERO, Refused, declare  # noqa: E402
 from wisavulome.window import window_of  # noqa: E402
 
 SHEET = "station at 0 02:00:00:00:00:01\nstation at 10 02-00-00-00-00-02\n"
@@ -54,6 +57,39 @@ class Table(unittest.TestCase):
             def __getitem__(self, name):
                 raise AttributeError(name)
         self.assertIsNone(declare(Empty(), "fits", CALLS["fits"]))
+
+
+class Calls(unittest.TestCase):
+    """Every call that the README lists is there in C, but the lookups."""
+
+    OTHER_NAMES = {"checks::refusal": "check_layout", "valid::refusal": "check_area", "bus::read_counters": "counters", "bus_run::run": "run_stepwise"}
+
+    def test_readme(self):
+        listed = (ROOT / "README.md").read_text().split("## Calling it\n")[1].split("\n\n")[0]
+        names = re.findall(r"^    (\S+)\(", listed, re.M)
+        self.assertGreater(len(names), 17)
+        header = (ROOT / "crates" / "capi" / "wisavulome.h").read_text()
+        for name in names:
+            if not name.startswith("log_"):
+                c_name = self.OTHER_NAMES.get(name, name.rpartition("::")[2])
+                self.assertIn(f"uint32_t wisavulome_{c_name}(", header)
+
+
+class Progress(unittest.TestCase):
+    """Progress on standard error, after some seconds, on a terminal alone."""
+
+    def shown(self, terminal, patience):
+        with mock.patch.object(output.os, "isatty", return_value=terminal), mock.patch.object(output, "PATIENCE", patience), \
+                mock.patch.object(output.os, "write") as written, output.progress("set", 10) as meter:
+            meter.shown -= 5
+            meter.at(3)
+            meter.at(4)
+        return [call.args[1] for call in written.call_args_list]
+
+    def test_progress(self):
+        self.assertEqual(self.shown(True, -1), [b"\rset 3 of 10", b"\r\x1b[K"])
+        self.assertEqual(self.shown(False, -1), [])
+        self.assertEqual(self.shown(True, 60), [])
 
 
 class Places(unittest.TestCase):
@@ -174,6 +210,17 @@ class Shown(unittest.TestCase):
         drawing = svg.Svg(10)
         drawing.text(1, 1, "a<b & \"c\"")
         self.assertIn("a&lt;b &amp;", drawing.finished(5, "<t>", b"\x00\xff", "sheet"))
+
+    def test_collect(self):
+        """Bits after the first 10101011; a spoiled symbol before it breaks the row, after it is a 0."""
+        start = [ONE, ZERO] * 3 + [ONE, ONE]
+        octet = [ONE, ZERO, ZERO, ONE, ZERO, ZERO, ZERO, ZERO]
+        self.assertEqual(collect(start + octet), b"\x09")
+        self.assertEqual(collect([ONE, ZERO, ZERO] + start + octet + [ONE]), b"\x09")
+        self.assertEqual(collect(start[:4] + [SEVERAL] + start[4:] + octet), b"")
+        self.assertEqual(collect(start[:4] + [JAM] + start + octet), b"\x09")
+        self.assertEqual(collect(start + [SEVERAL, ZERO, JAM] + octet[3:]), b"\x08")
+        self.assertEqual(collect([]), b"")
 
     def test_packet(self):
         bits = packet.packet_bits(b"\x01\x80")

@@ -4,9 +4,9 @@ import json
 
 from . import text
 from .course import addressees, follow
-from .failure import GOOD, NO
+from .failure import GOOD, NO, REFUSED
 from .library import REFUSALS
-from .source import read_plan_source
+from .source import each_plan
 from .table import as_csv, as_table
 
 HELP = """Says for each offer of a plan what came of it, and of each addressee of a sent frame whether it got the frame.
@@ -28,17 +28,30 @@ COUNTS = ["got", "lost", "on-its-way"]
 def add_parser(subparsers):
     """The arguments of the subcommand."""
     parser = subparsers.add("audit", "for each offer what came of it, and who got the frame", HELP)
-    parser.add_argument("file", metavar="PLAN", help="a plan as text or octets")
+    parser.add_argument("files", nargs="+", metavar="PLAN", help="a plan as text or octets; of several each has a heading")
     parser.add_argument("--format", choices=["table", "csv", "json"], default="table", help="json: a JSON object on each line")
 
 
 def run(library, arguments, output):
-    """The subcommand; answers the exit status."""
-    source = read_plan_source(library, arguments.file)
-    course = follow(library, source.octets)
-    writer = {"table": write_table, "csv": write_csv, "json": write_json}[arguments.format]
-    writer(course, output)
-    return status_of(course)
+    """The subcommand; answers the exit status, of several plans the highest."""
+    status = GOOD
+    rows = []
+    for source in each_plan(library, arguments.files):
+        if source is None:
+            status = REFUSED
+            continue
+        course = follow(library, source.octets)
+        status = max(status, status_of(course))
+        name = source.name if len(arguments.files) > 1 else None
+        if arguments.format == "table":
+            write_table(course, name, output)
+        elif arguments.format == "json":
+            write_json(course, name, output)
+        else:
+            rows += csv_rows(course, name)
+    if arguments.format == "csv":
+        output.write(as_csv((["plan"] if len(arguments.files) > 1 else []) + HEADER[:-1] + COUNTS + HEADER[-1:], rows))
+    return status
 
 
 def status_of(course):
@@ -71,8 +84,10 @@ def row_of(course, fate):
     return [fate.number, offer.time, offer.station, to, fate.outcome, tried, fate.delay, deliveries_words(course, fate)]
 
 
-def write_table(course, output):
-    """The offers as a table, and a last line that says how it went."""
+def write_table(course, name, output):
+    """The offers as a table, and a last line that says how it went; of several plans with a heading."""
+    if name:
+        output.write(f"==> {name} <==\n")
     fit = "yes" if course.layout.fits else "no"
     output.write(f"stations {len(course.layout.taps)} fit {fit} end {course.clock}\n")
     output.write(as_table(HEADER, [row_of(course, fate) for fate in course.fates]))
@@ -94,19 +109,18 @@ def summary(course):
     return "; ".join(parts) if parts else "nothing lost"
 
 
-def write_csv(course, output):
+def csv_rows(course, name):
     """A row for each offer; addressees by how many they are."""
-    rows = []
     for fate in course.fates:
         counts = [fate.count("got"), fate.count("lost"), fate.count("on its way")]
-        rows.append(row_of(course, fate)[:-1] + counts + [deliveries_words(course, fate)])
-    output.write(as_csv(HEADER[:-1] + COUNTS + HEADER[-1:], rows))
+        yield ([name] if name else []) + row_of(course, fate)[:-1] + counts + [deliveries_words(course, fate)]
 
 
-def write_json(course, output):
+def write_json(course, name, output):
     """An object for each offer."""
     for fate in course.fates:
-        record = dict(zip(HEADER[:-1], row_of(course, fate)))
+        record = {"plan": name} if name else {}
+        record.update(zip(HEADER[:-1], row_of(course, fate)))
         record["late"] = fate.late
         record["starts"] = [attempt.start for attempt in fate.attempts]
         record["addressees"] = [{"station": each.station, "state": each.state, "time": each.time} for each in fate.deliveries]

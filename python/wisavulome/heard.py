@@ -44,15 +44,18 @@ class Hearing:
 def collected(course, event):
     """The whole octets that a station collected in the reception that an event ends."""
     hearing = Hearing(course, event.station)
+    return collect(map(hearing.symbol, range(hearing.begin(event.time), event.time)))
+
+
+def collect(symbols):
+    """The whole octets that are collected of the symbols of a reception."""
     bits = None
     row = []
-    for time in range(hearing.begin(event.time), event.time):
-        symbol = hearing.symbol(time)
-        clean = symbol in (ZERO, ONE)
+    for symbol in symbols:
         if bits is not None:
             bits.append(int(symbol == ONE))
             continue
-        row = (row + [symbol - ZERO])[-8:] if clean else []
+        row = (row + [symbol - ZERO])[-8:] if symbol in (ZERO, ONE) else []
         if row == DELIMITER:
             bits = []
     return octets_of_bits(bits or [])

@@ -3,9 +3,9 @@
 import json
 
 from .course import follow
-from .failure import GOOD, NO
+from .failure import GOOD, NO, REFUSED
 from .library import COUNTERS, ENDS_RUN
-from .source import read_plan_source
+from .source import each_plan
 from .table import as_csv
 
 HELP = """Prints what the run program 'simulate' prints for a plan, given as octets or as text (docs/RUN-INPUT.md); '-' is standard input.
@@ -23,7 +23,7 @@ COLUMNS = ["kind", "time", "station", "word", "number", "offers"]
 def add_parser(subparsers):
     """The arguments of the subcommand."""
     parser = subparsers.add("run", "what the run program prints, from text or octets", HELP)
-    parser.add_argument("file", metavar="PLAN", help="a plan as text or octets")
+    parser.add_argument("files", nargs="+", metavar="PLAN", help="a plan as text or octets; of several each has a heading")
     parser.add_argument("--format", choices=["text", "csv", "json"], default="text", help="json: a JSON object on each line")
     parser.add_argument("--offers", action="store_true", help="in text: each line with the offers that it concerns")
     parser.add_argument("--counters", action="store_true", help="with the counters of each station")
@@ -31,13 +31,26 @@ def add_parser(subparsers):
 
 
 def run(library, arguments, output):
-    """The subcommand; answers the exit status."""
-    source = read_plan_source(library, arguments.file)
-    course = follow(library, source.octets)
-    records = list(records_of(library, course, arguments))
-    writer = {"text": write_text, "csv": write_csv, "json": write_json}[arguments.format]
-    writer(records, arguments, output)
-    return NO if any(event.word == ENDS_RUN for event in course.events) else GOOD
+    """The subcommand; answers the exit status, of several plans the highest."""
+    status = GOOD
+    rows = []
+    for source in each_plan(library, arguments.files):
+        if source is None:
+            status = REFUSED
+            continue
+        course = follow(library, source.octets)
+        status = max(status, NO if any(event.word == ENDS_RUN for event in course.events) else GOOD)
+        records = records_of(library, course, arguments)
+        named = {"plan": source.name} if len(arguments.files) > 1 else {}
+        if arguments.format == "text":
+            write_text(records, named, arguments, output)
+        elif arguments.format == "json":
+            write_json(records, named, output)
+        else:
+            rows += [{**named, **record} for record in records]
+    if arguments.format == "csv":
+        write_csv(rows, arguments, output)
+    return status
 
 
 def records_of(library, course, arguments):
@@ -88,21 +101,24 @@ def text_line(record, with_offers):
     return f"{line} offer {','.join(map(str, record['offers']))}" if with_offers and record["offers"] else line
 
 
-def write_text(records, arguments, output):
-    """The run as text."""
+def write_text(records, named, arguments, output):
+    """The run as text; of several plans with a heading."""
+    if named:
+        output.write(f"==> {named['plan']} <==\n")
     for record in records:
         output.write(text_line(record, arguments.offers) + "\n")
 
 
-def write_json(records, _arguments, output):
+def write_json(records, named, output):
     """The run as JSON lines."""
     for record in records:
-        output.write(json.dumps(record) + "\n")
+        output.write(json.dumps({**named, **record}) + "\n")
 
 
 def write_csv(records, arguments, output):
     """The run as CSV. Counters and frames have columns of their own, where they are asked for."""
-    names = COLUMNS + (["frame"] if arguments.held else []) + (list(COUNTERS) if arguments.counters else [])
+    names = (["plan"] if len(arguments.files) > 1 else []) + COLUMNS
+    names += (["frame"] if arguments.held else []) + (list(COUNTERS) if arguments.counters else [])
     rows = []
     for record in records:
         flat = {**record, **record.get("counters", {})}

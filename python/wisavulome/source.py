@@ -10,6 +10,7 @@ from pathlib import Path
 from . import text
 from .failure import Failure
 from .library import Refused
+from .output import complain
 from .refusals import InputRefused
 
 MOST = 1 << 24  # octets of a file that are read
@@ -137,6 +138,18 @@ def take_plan(library, source):
     except Refused as refusal:
         raise source.refuse(refusal) from refusal
     return source
+
+
+def each_plan(library, paths):
+    """The plan of each file. One that is refused is said, and the others go on; a single one is a failure."""
+    for path in paths:
+        try:
+            yield read_plan_source(library, path)
+        except Failure as why:
+            if len(paths) == 1:
+                raise
+            complain(f"wisavulome: {why}")
+            yield None
 
 
 def files_in(folder, pattern):

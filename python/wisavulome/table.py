@@ -2,8 +2,11 @@
 
 import csv
 import io
+import re
 
 from .output import printable
+
+NUMBER = re.compile(r"\(?[0-9]+(\.[0-9]+)?\)?")
 
 
 def as_csv(header, rows):
@@ -32,7 +35,7 @@ def line_of(line, widths, right):
 
 def is_number(value):
     """Whether a value is shown as a number."""
-    return value is None or str(value).strip("()").isdecimal() or isinstance(value, int)
+    return value is None or isinstance(value, int) or bool(NUMBER.fullmatch(str(value)))
 
 
 def shown(value):

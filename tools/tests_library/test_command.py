@@ -31,7 +31,7 @@ class Statuses(CommandTest):
         self.assertEqual(call("--version")[:2], (0, "wisavulome 0.1.0\n"))
 
     def test_usage(self):
-        for words in [[], ["fly"], ["run"], ["run", "a", "b"], ["fit"], ["run", "--format", "xml", WORKED], ["sweep", WORKED, "--sets", "x"]]:
+        for words in [[], ["fly"], ["run"], ["fit"], ["run", "--format", "xml", WORKED], ["sweep", WORKED, "--sets", "x"]]:
             status, out, err = call(*words)
             self.assertEqual((status, out), (2, ""), words)
             self.assertTrue(err.startswith("wisavulome"), err)

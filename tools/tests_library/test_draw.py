@@ -4,7 +4,7 @@ import os
 import struct
 import subprocess
 
-from common import STORED, TOOL, WORKED, CommandTest, call, stored, stored_cases, taken_cases
+from common import ROOT, STORED, TOOL, WORKED, CommandTest, call, stored, stored_cases, taken_cases
 from shapes import FAR_APART, ONE_APART, SVG, THREE, outside, overlaps, parsed, plan_text
 
 from wisavulome import library as table
@@ -191,6 +191,17 @@ class Runs(CommandTest):
             made = {subprocess.run([str(TOOL), name, str(WORKED)], env=dict(os.environ, PYTHONHASHSEED=str(seed)), capture_output=True, check=True).stdout
                     for seed in (1, 2, 3)}
             self.assertEqual(len(made), 1, name)
+
+
+class Pictures(CommandTest):
+    """The pictures of the README are what the command draws today."""
+
+    def test_current(self):
+        wing, pictures = ROOT / "docs" / "wing.txt", ROOT / "docs" / "pictures"
+        rows = self.folder / "rows.csv"
+        call("sweep", wing, "--rows", rows)
+        for name, words in [("sheet", ["--sheet", wing, "--title", "Wing 7"]), ("run", [wing, "--title", "Wing 7"]), ("sweep", [rows, "--title", "Wing 7"])]:
+            self.assertEqual(call("draw", *words)[1], (pictures / f"{name}.svg").read_text(), name)
 
 
 class Sweeps(CommandTest):

@@ -74,6 +74,28 @@ class Run(CommandTest):
         self.assertEqual(rows[-1]["frame"], frame.hex())
 
 
+class Several(CommandTest):
+    """Several plans: each with its heading or name, the highest status; a refused one is said and the others go on."""
+
+    def test_run(self):
+        status, out, err = call("run", WORKED, STORED / "case002.in", STORED / "slot-one-over.in")
+        self.assertEqual(status, 2)
+        self.assertEqual(out, f"==> {WORKED} <==\n{(STORED / 'worked.out').read_text()}==> {STORED / 'slot-one-over.in'} <==\n"
+                         f"{(STORED / 'slot-one-over.out').read_text()}")
+        self.assertTrue(err.startswith(f"wisavulome: {STORED / 'case002.in'}: refused 3"))
+        self.assertEqual(call("run", WORKED, STORED / "slot-one-over.in")[0], 1)
+        rows = list(csv.DictReader(io.StringIO(call("run", WORKED, WORKED, "--format", "csv")[1])))
+        self.assertEqual(({row["plan"] for row in rows}, len(rows)), ({str(WORKED)}, 16))
+
+    def test_audit(self):
+        rows = list(csv.DictReader(io.StringIO(call("audit", WORKED, STORED / "gap-one-over.in", "--format", "csv")[1])))
+        self.assertEqual([row["plan"] for row in rows], [str(WORKED)] * 2 + [str(STORED / "gap-one-over.in")] * 3)
+        status, out, _err = call("audit", WORKED, STORED / "gap-one-over.in")
+        self.assertEqual((status, out.count("==> ")), (1, 2))
+        objects = [json.loads(line) for line in call("audit", WORKED, WORKED, "--format", "json")[1].splitlines()]
+        self.assertEqual([each["plan"] for each in objects], [str(WORKED)] * 4)
+
+
 class Audit(CommandTest):
     def audit(self, name):
         return [json.loads(line) for line in call("audit", STORED / f"{name}.in", "--format", "json")[1].splitlines()]
