@@ -1,4 +1,5 @@
-# The shared library, the installation, and the examples. The static library comes from `rt staticlib capi`, which proves what it builds.
+# The shared library, the installation, and the examples. The static library comes from `rt staticlib capi`, which
+# proves what it builds.
 #
 #     make library                       target/libwisavulome.so.1, which tools/wisavulome finds
 #     make install PREFIX=/usr/local     libraries, header, pkg-config file, Rust declarations, Python module, command
@@ -14,7 +15,8 @@ ARCHIVE ?= target/staticlib/libcapi.a
 VERSION := $(shell sed -n 's/^VERSION = "\(.*\)"/\1/p' python/wisavulome/__init__.py)
 SONAME := libwisavulome.so.1
 SHARED := target/$(SONAME)
-PYTHON_FOLDER ?= $(PREFIX)/lib/$(shell $(PYTHON) -c 'import sys; print("python%d.%d" % sys.version_info[:2])')/site-packages
+PYTHON_VERSION := $(shell $(PYTHON) -c 'import sys; print("python%d.%d" % sys.version_info[:2])')
+PYTHON_FOLDER ?= $(PREFIX)/lib/$(PYTHON_VERSION)/site-packages
 TO = $(DESTDIR)$(PREFIX)
 TO_PYTHON = $(DESTDIR)$(PYTHON_FOLDER)/wisavulome
 
@@ -43,8 +45,9 @@ install: $(SHARED)
 	install -m 755 tools/wisavulome "$(TO)/bin/wisavulome"
 
 uninstall:
-	rm -f "$(TO)/lib/libwisavulome.a" "$(TO)/lib/libwisavulome.so" "$(TO)/lib/$(SONAME)" "$(TO)/lib/libwisavulome.so.$(VERSION)"
-	rm -f "$(TO)/include/wisavulome.h" "$(TO)/include/wisavulome.cdef" "$(TO)/lib/pkgconfig/wisavulome.pc" "$(TO)/bin/wisavulome"
+	rm -f "$(TO)/lib/libwisavulome.a" "$(TO)/lib/libwisavulome.so" "$(TO)/lib/$(SONAME)"
+	rm -f "$(TO)/lib/libwisavulome.so.$(VERSION)" "$(TO)/lib/pkgconfig/wisavulome.pc"
+	rm -f "$(TO)/include/wisavulome.h" "$(TO)/include/wisavulome.cdef" "$(TO)/bin/wisavulome"
 	rm -rf "$(TO)/share/wisavulome" "$(TO_PYTHON)"
 
 check-install: $(SHARED)

@@ -26,7 +26,9 @@ class Gate(unittest.TestCase):
     def run_gate(self, fails="none", kit="rt version"):
         with tempfile.TemporaryDirectory() as folder:
             root = Path(folder)
-            for name in [".ci/run", "bin/rt", "bin/cargo", "bin/python3", "bin/make", "tools/check-index", "tools/check-interface", "tools/check-formats"]:
+            programs = [f"bin/{name}" for name in ("rt", "cargo", "python3", "make")]
+            scripts = [f"tools/{name}" for name in ("check-index", "check-interface", "check-formats")]
+            for name in [".ci/run", *programs, *scripts]:
                 (root / name).parent.mkdir(parents=True, exist_ok=True)
                 (root / name).write_text(STAND_IN)
                 (root / name).chmod(0o755)
@@ -45,8 +47,9 @@ class Gate(unittest.TestCase):
         self.assertLess(lines.index("rt ci"), lines.index("rt staticlib capi"))
 
     def test_failures(self):
-        parts = ["rt fmt", "cargo fmt", "python3", "check-index", "rt ci", "rt staticlib", "cargo test", "make --silent library", "check-interface"]
-        parts += ["python3 -B -m unittest discover -s tools/tests_library", "make --silent check-install", "check-formats"]
+        parts = ["rt fmt", "cargo fmt", "python3", "check-index", "rt ci", "rt staticlib", "cargo test", "make --silent library"]
+        parts += ["check-interface", "python3 -B -m unittest discover -s tools/tests_library", "make --silent check-install"]
+        parts += ["check-formats"]
         for part in parts:
             with self.subTest(part):
                 status, lines, left = self.run_gate(fails=part)

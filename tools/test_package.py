@@ -1,4 +1,4 @@
-"""Tests of the Python package that need no library: text forms, places of refusals, rows, tables, logs, drawings' parts.
+"""Tests of the Python package that need no library: text forms, places of refusals, rows, tables, logs, drawings.
 
 From the repository's root: python3 -m unittest discover -s tools -p 'test_*.py'
 """
@@ -19,7 +19,20 @@ from wisavulome import output, packet, refusals, rows, svg, table, text, windows
 from wisavulome.course import parse_line  # noqa: E402
 from wisavulome.failure import Failure  # noqa: E402
 from wisavulome.heard import collect  # noqa: E402
-from wisavulome.library import CALLS, COUNTERS, EVENTS, FIGURES, JAM, ONE, REFUSALS, SEVERAL, SIZES, ZERO, Refused, declare  # noqa: E402
+from wisavulome.library import (
+    CALLS,
+    COUNTERS,
+    EVENTS,
+    FIGURES,
+    JAM,
+    ONE,
+    REFUSALS,
+    SEVERAL,
+    SIZES,
+    ZERO,
+    Refused,
+    declare,
+)  # noqa: E402
 from wisavulome.window import window_of  # noqa: E402
 
 SHEET = "station at 0 02:00:00:00:00:01\nstation at 10 02-00-00-00-00-02\n"
@@ -56,13 +69,19 @@ class Table(unittest.TestCase):
         class Empty(dict):
             def __getitem__(self, name):
                 raise AttributeError(name)
+
         self.assertIsNone(declare(Empty(), "fits", CALLS["fits"]))
 
 
 class Calls(unittest.TestCase):
     """Every call that the README lists is there in C, but the lookups."""
 
-    OTHER_NAMES = {"checks::refusal": "check_layout", "valid::refusal": "check_area", "bus::read_counters": "counters", "bus_run::run": "run_stepwise"}
+    OTHER_NAMES = {
+        "checks::refusal": "check_layout",
+        "valid::refusal": "check_area",
+        "bus::read_counters": "counters",
+        "bus_run::run": "run_stepwise",
+    }
 
     def test_readme(self):
         listed = (ROOT / "README.md").read_text().split("## Calling it\n")[1].split("\n\n")[0]
@@ -79,8 +98,9 @@ class Progress(unittest.TestCase):
     """Progress on standard error, after some seconds, on a terminal alone."""
 
     def shown(self, terminal, patience):
-        with mock.patch.object(output.os, "isatty", return_value=terminal), mock.patch.object(output, "PATIENCE", patience), \
-                mock.patch.object(output.os, "write") as written, output.progress("set", 10) as meter:
+        with mock.patch.object(output.os, "isatty", return_value=terminal), mock.patch.object(
+            output, "PATIENCE", patience
+        ), mock.patch.object(output.os, "write") as written, output.progress("set", 10) as meter:
             meter.shown -= 5
             meter.at(3)
             meter.at(4)
@@ -98,8 +118,13 @@ class Places(unittest.TestCase):
         self.assertIn("refused 99: a refusal that this version does not know", str(refusals.InputRefused("x", b"", 99)))
 
     def test_short(self):
-        for octets, words in [("", "ends before the map, at octet 0"), ("01", "ends before slot, at octet 1"), ("0102", "ends in slot, at octet 2"),
-                              ("00", "ends before N, at octet 1"), ("0002", "ends before station 0 (N is 2), at octet 2")]:
+        for octets, words in [
+            ("", "ends before the map, at octet 0"),
+            ("01", "ends before slot, at octet 1"),
+            ("0102", "ends in slot, at octet 2"),
+            ("00", "ends before N, at octet 1"),
+            ("0002", "ends before station 0 (N is 2), at octet 2"),
+        ]:
             self.assertEqual(refusals.place(bytes.fromhex(octets), 3), words)
 
 
@@ -110,11 +135,14 @@ class Logs(unittest.TestCase):
         """The entries of a text, in hexadecimal; the same however it is cut into chunks of lines."""
         made = windows.read_log("log", [printed.encode()])
         self.assertEqual(windows.read_log("log", [line.encode() for line in printed.splitlines(keepends=True)]), made)
-        return [made[at:at + 6].hex() for at in range(0, len(made), 6)]
+        return [made[at : at + 6].hex() for at in range(0, len(made), 6)]
 
     def test_entries(self):
         printed = (ROOT / "crates" / "stored" / "data" / "worked.out").read_text()
-        self.assertEqual(self.entries(printed), ["0000000a0001", "0000000a0101", "000003090003", "000003140105", "000005b30103", "000005be0005"])
+        self.assertEqual(
+            self.entries(printed),
+            ["0000000a0001", "0000000a0101", "000003090003", "000003140105", "000005b30103", "000005be0005"],
+        )
 
     def test_every_word(self):
         lines = "".join(f"{at} 1 {word} 7\n" for at, word in enumerate(EVENTS))
@@ -132,8 +160,20 @@ class Logs(unittest.TestCase):
             self.assertEqual(len(self.entries(printed)), len(events), path.name)
 
     def test_no_event(self):
-        for line in ["hello", "10 0 collision", "10 0 crash 3", "10  0 sent 1", "-1 0 sent 1", "10 0 sent 1 2", "", " 10 0 sent 1", "refused 3",
-                     "10 0 got 3", "10 0 got bad 3", "1e3 0 sent 1"]:
+        for line in [
+            "hello",
+            "10 0 collision",
+            "10 0 crash 3",
+            "10  0 sent 1",
+            "-1 0 sent 1",
+            "10 0 sent 1 2",
+            "",
+            " 10 0 sent 1",
+            "refused 3",
+            "10 0 got 3",
+            "10 0 got bad 3",
+            "1e3 0 sent 1",
+        ]:
             with self.assertRaises(Failure) as caught:
                 windows.read_log("log.txt", [f"stations 2 fit yes\n{line}\nend 5\n".encode()])
             self.assertTrue(str(caught.exception).startswith(f"log.txt: line 2: '{line}' is no event"), line)
@@ -157,7 +197,9 @@ class Logs(unittest.TestCase):
             self.assertTrue(str(caught.exception).startswith("log: line 200001: 'what' is no event"))
 
     def test_windows(self):
-        self.assertEqual(windows.read_windows("w", "0 5 9 # first\n\n1 0 4294967295\n"), [(0, 5, 9), (1, 0, 4294967295)])
+        self.assertEqual(
+            windows.read_windows("w", "0 5 9 # first\n\n1 0 4294967295\n"), [(0, 5, 9), (1, 0, 4294967295)]
+        )
         for line in ["1 2", "1 2 3 4", "a b c", "1 2 4294967296", "-1 2 3"]:
             with self.assertRaises(Failure) as caught:
                 windows.read_windows("w", f"0 1 2\n{line}\n")
@@ -186,12 +228,16 @@ class Rows(unittest.TestCase):
 
 class Shown(unittest.TestCase):
     def test_table(self):
-        self.assertEqual(table.as_table(["a", "word"], [[1, "x"], [None, "yy"], [22, None]]), " a  word\n 1  x\n -  yy\n22  -\n")
+        self.assertEqual(
+            table.as_table(["a", "word"], [[1, "x"], [None, "yy"], [22, None]]), " a  word\n 1  x\n -  yy\n22  -\n"
+        )
         self.assertEqual(table.as_csv(["a", "b"], [[None, "x,y"]]), 'a,b\n,"x,y"\n')
 
     def test_window(self):
-        self.assertEqual([window_of(words, 50) for words in (None, "5:9", "5:+9", "5:", ":7", "40:90")],
-                         [(0, 50), (5, 9), (5, 14), (5, 50), (0, 7), (40, 50)])
+        self.assertEqual(
+            [window_of(words, 50) for words in (None, "5:9", "5:+9", "5:", ":7", "40:90")],
+            [(0, 50), (5, 9), (5, 14), (5, 50), (0, 7), (40, 50)],
+        )
         for words in ["5:5", "9:5", "50:", "5", "x:y", "-1:5", "5:+0", "5:-9"]:
             with self.assertRaises(Failure):
                 window_of(words, 50)
@@ -204,11 +250,13 @@ class Shown(unittest.TestCase):
         self.assertTrue(places[0] - 5 >= -5 and places[-1] + 5 <= 105)
 
     def test_numbers(self):
-        self.assertEqual([svg.number(value) for value in (0, -0.001, 1.5, 2, 0.256, 1e6)], ["0", "0", "1.5", "2", "0.26", "1000000"])
+        self.assertEqual(
+            [svg.number(value) for value in (0, -0.001, 1.5, 2, 0.256, 1e6)], ["0", "0", "1.5", "2", "0.26", "1000000"]
+        )
 
     def test_escape(self):
         drawing = svg.Svg(10)
-        drawing.text(1, 1, "a<b & \"c\"")
+        drawing.text(1, 1, 'a<b & "c"')
         self.assertIn("a&lt;b &amp;", drawing.finished(5, "<t>", b"\x00\xff", "sheet"))
 
     def test_collect(self):
@@ -260,7 +308,11 @@ class Outputs(unittest.TestCase):
         worked = ROOT / "docs" / "worked.txt"
         for script, status, err in [
             (f"{tool} read x", 2, "usage: tools/runinput write"),
-            (f"{tool} write <{worked} >/dev/full", 3, "runinput: standard output could not be written: No space left on device\n"),
+            (
+                f"{tool} write <{worked} >/dev/full",
+                3,
+                "runinput: standard output could not be written: No space left on device\n",
+            ),
             (f"{tool} write <{worked} >&-", 3, "runinput: standard output is closed: the output was not written\n"),
             (f"{tool} read <&-", 2, "runinput: standard input cannot be read"),
             (f"{{ sleep 0.2; {tool} write <{worked}; }} | true", 0, ""),

@@ -9,17 +9,19 @@ from .library import REFUSALS
 from .source import each_plan
 from .table import as_csv, as_table
 
-HELP = """Says for each offer of a plan what came of it, and of each addressee of a sent frame whether it got the frame.
+HELP = """Says for each offer of a plan what came of it, and of each addressee of a sent frame
+whether it got the frame.
 
-outcome      sent, given-up, late (a late collision ended the run), held (not yet sent), refused N, not made (its step never ran)
+outcome      sent, given-up, late (a late collision ended the run), held (not yet sent), refused N,
+             not made (its step never ran)
 attempts     how often the frame started
 delay        bit times from the offer's step to the step that reports its end
-addressees   of each: got, lost, or on its way (the run ended before the frame could be there). A frame is lost where its sender
-             reports sent and the addressee, in the step in which it should report the frame, does not. On a sheet that fits nothing
-             is lost.
+addressees   of each: got, lost, or on its way (the run ended before the frame could be there). A
+             frame is lost where its sender reports sent and the addressee, in the step in which it
+             should report the frame, does not. On a sheet that fits nothing is lost.
 
-Exit status: 0 nothing lost, 1 a frame is lost or given up or a collision was late, 2 the plan is refused or the call is wrong, 3 the
-output could not be written."""
+Exit status: 0 nothing lost, 1 a frame is lost or given up or a collision was late, 2 the plan is
+refused or the call is wrong, 3 the output could not be written."""
 
 HEADER = ["offer", "time", "station", "destination", "outcome", "attempts", "delay", "addressees"]
 COUNTS = ["got", "lost", "on-its-way"]
@@ -28,8 +30,12 @@ COUNTS = ["got", "lost", "on-its-way"]
 def add_parser(subparsers):
     """The arguments of the subcommand."""
     parser = subparsers.add("audit", "for each offer what came of it, and who got the frame", HELP)
-    parser.add_argument("files", nargs="+", metavar="PLAN", help="a plan as text or octets; of several each has a heading")
-    parser.add_argument("--format", choices=["table", "csv", "json"], default="table", help="json: a JSON object on each line")
+    parser.add_argument(
+        "files", nargs="+", metavar="PLAN", help="a plan as text or octets; of several each has a heading"
+    )
+    parser.add_argument(
+        "--format", choices=["table", "csv", "json"], default="table", help="json: a JSON object on each line"
+    )
 
 
 def run(library, arguments, output):
@@ -123,5 +129,7 @@ def write_json(course, name, output):
         record.update(zip(HEADER[:-1], row_of(course, fate)))
         record["late"] = fate.late
         record["starts"] = [attempt.start for attempt in fate.attempts]
-        record["addressees"] = [{"station": each.station, "state": each.state, "time": each.time} for each in fate.deliveries]
+        record["addressees"] = [
+            {"station": each.station, "state": each.state, "time": each.time} for each in fate.deliveries
+        ]
         output.write(json.dumps(record) + "\n")

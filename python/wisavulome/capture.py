@@ -1,6 +1,7 @@
 """`wisavulome capture`: a run as pcapng, an interface for each station.
 
-Blocks and options are those of draft-ietf-opsawg-pcapng. A time stamp counts nanoseconds from 0 on, 100 for each bit time.
+Blocks and options are those of draft-ietf-opsawg-pcapng. A time stamp counts nanoseconds from 0 on, 100 for each
+bit time.
 """
 
 import os
@@ -16,12 +17,15 @@ from .source import read_plan_source
 from .window import HELP as WINDOW_HELP
 from .window import window_of
 
-HELP = """Writes a run as a pcapng capture, which Wireshark, tshark and capinfos read. Each station is an interface. A frame stands with its check
-sequence once where it was sent (outbound) and once where it was received (inbound); its time is the step that reports it, 100 ns a bit
-time. A reception that fails stands with the octets that were collected and with error flags. A comment tells offer, attempts, and where
-each attempt started and collided. A frame that was given up stands where that was reported, outbound, none of its octets captured.
+HELP = """Writes a run as a pcapng capture, which Wireshark, tshark and capinfos read. Each
+station is an interface. A frame stands with its check sequence once where it was sent (outbound)
+and once where it was received (inbound); its time is the step that reports it, 100 ns a bit time.
+A reception that fails stands with the octets that were collected and with error flags. A comment
+tells offer, attempts, and where each attempt started and collided. A frame that was given up
+stands where that was reported, outbound, none of its octets captured.
 
-Exit status: 0 written, 2 refused or usage, 3 the output could not be written; then no half file stays."""
+Exit status: 0 written, 2 refused or usage, 3 the output could not be written; then no half file
+stays."""
 
 SECTION, INTERFACE, PACKET = 0x0A0D0D0A, 1, 6
 MAGIC = 0x1A2B3C4D
@@ -125,7 +129,9 @@ def packets_of(course, event):
         return [packet(event.station, event.time, fate.frame, OUTBOUND | FCS_OCTETS << 5, attempts_words(fate))]
     if fate_ended(course, event):
         fate = course.fates[event.offers[0] - 1]
-        return [packet(event.station, event.time, b"", OUTBOUND, f"{event.word}; {attempts_words(fate)}", len(fate.frame))]
+        return [
+            packet(event.station, event.time, b"", OUTBOUND, f"{event.word}; {attempts_words(fate)}", len(fate.frame))
+        ]
     if not event.word.startswith("got"):
         return []
     words = f"{event.word} {event.number}; offer {', '.join(map(str, event.offers))}"

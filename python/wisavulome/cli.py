@@ -13,14 +13,18 @@ from .output import Standard, complain, hold_descriptors
 
 COMMANDS = ("fit", "run", "audit", "sweep", "write", "draw", "capture", "wave", "windows")
 
-ABOUT = """A proved model of contention on one pair: CSMA/CD, bit time by bit time. A sheet says which station sits where, and the gap, slot
-and jam figures; a plan says who offers which frame when. Every answer is the library's. 'wisavulome COMMAND --help' says more."""
+ABOUT = """A proved model of contention on one pair: CSMA/CD, bit time by bit time. A sheet says
+which station sits where, and the gap, slot and jam figures; a plan says who offers which frame
+when. Every answer is the library's. 'wisavulome COMMAND --help' says more."""
 
 
 class Parser(argparse.ArgumentParser):
     """A parser whose help goes through our standard output, so that a failure to write it shows up."""
 
     output = None
+
+    def __init__(self, *words, **more):
+        super().__init__(*words, allow_abbrev=False, **more)
 
     def _print_message(self, message, file=None):
         if file in (None, sys.stdout) and Parser.output is not None:
@@ -42,7 +46,9 @@ class Subparsers:
 
     def add(self, name, short, about):
         """A subcommand with its line in the list, and its help."""
-        return self.parsers.add_parser(name, help=short, description=about, formatter_class=argparse.RawDescriptionHelpFormatter)
+        return self.parsers.add_parser(
+            name, help=short, description=about, formatter_class=argparse.RawDescriptionHelpFormatter
+        )
 
 
 def module_of(command):

@@ -1,7 +1,8 @@
 """A run of a plan, followed by the library's own pieces: every event with the offer that it concerns.
 
-A transmit event concerns the frame of its station's last accepted offer (document 01, "Demand 3"). A `got ok` concerns the frame that
-was reported sent in the step that many bit times before. A `got` with an error concerns every offer that was heard in its reception.
+A transmit event concerns the frame of its station's last accepted offer (document 01, "Demand 3"). A `got ok`
+concerns the frame that was reported sent in the step that many bit times before. A `got` with an error concerns
+every offer that was heard in its reception.
 """
 
 import re
@@ -219,7 +220,9 @@ def finish(library, course, holder):
 def addressees(course, fate):
     """The stations that a frame is addressed to."""
     offer = fate.offer
-    wanted = [number for number, tap in enumerate(course.layout.taps) if offer.destination in (tap.address, text.BROADCAST)]
+    wanted = [
+        number for number, tap in enumerate(course.layout.taps) if offer.destination in (tap.address, text.BROADCAST)
+    ]
     return [number for number in wanted if number != offer.station]
 
 
@@ -261,7 +264,7 @@ def packet_of(fate):
 def advance_to(library, octets, clock):
     """The area of a plan's run after so many bit times; an early end stops it. Offers at that time are not made yet."""
     area = buffer_of("area")
-    shorter = octets[:-text.WIDTHS["bit times"]] + text.put("bit times", clock)
+    shorter = octets[: -text.WIDTHS["bit times"]] + text.put("bit times", clock)
     for _piece in library.pieces(shorter, area):
         pass
     return area

@@ -13,15 +13,17 @@ from .source import is_sheet_alone, read_file, read_layout, read_source, shown, 
 from .window import HELP as WINDOW_HELP
 from .window import window_of
 
-HELP = """Draws a sheet, a run or a sweep as SVG, by what FILE is: a sheet, a plan, or the rows of 'wisavulome sweep --rows'. With --sheet the
-sheet of a plan is drawn.
+HELP = """Draws a sheet, a run or a sweep as SVG, by what FILE is: a sheet, a plan, or the rows of
+'wisavulome sweep --rows'. With --sheet the sheet of a plan is drawn.
 
-Sheet: the pair with its taps, distances, addresses, figures given or default, both inequalities as bars with their margins. Run: position
-across, bit times down; packet and jam bits are slanted bands; collisions, late ones, sent, got, lost, given up are marked. Sweep: for
-each offer the distribution of its delays. The octets of sheet or plan stand in the drawing as data: 'wisavulome fit DRAWING' reads them.
-The same input gives the same drawing.
+Sheet: the pair with its taps, distances, addresses, figures given or default, both inequalities
+as bars with their margins. Run: position across, bit times down; packet and jam bits are slanted
+bands; collisions, late ones, sent, got, lost, given up are marked. Sweep: for each offer the
+distribution of its delays. The octets of sheet or plan stand in the drawing as data: 'wisavulome
+fit DRAWING' reads them. The same input gives the same drawing.
 
-Exit status: 0 drawn, 2 refused or usage, 3 the output could not be written; then no half file stays."""
+Exit status: 0 drawn, 2 refused or usage, 3 the output could not be written; then no half file
+stays."""
 
 MOST_HEIGHT = 100000
 
@@ -62,7 +64,7 @@ def drawing(library, arguments):
         refuse_window(arguments, "a sheet")
         verdict = judge_source(library, source)
         title = title_of(arguments, f"Sheet of {len(layout.taps)} stations")
-        return draw_sheet(verdict, source.octets[:layout.used], title)
+        return draw_sheet(verdict, source.octets[: layout.used], title)
     take_plan(library, source)
     course = follow(library, source.octets)
     title = title_of(arguments, f"Run of {len(course.fates)} offers, {len(layout.taps)} stations")

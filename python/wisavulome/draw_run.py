@@ -1,7 +1,7 @@
 """The drawing of a run: position across, bit times down.
 
-An attempt is a band that slants away from its station: at a place x bit times off, its bits pass x bit times later. Packet bits are
-light, jam bits dark. Nothing is drawn past the last step that was made.
+An attempt is a band that slants away from its station: at a place x bit times off, its bits pass x bit times later.
+Packet bits are light, jam bits dark. Nothing is drawn past the last step that was made.
 """
 
 from . import text
@@ -66,7 +66,9 @@ def draw_head(svg, course, title):
     layout = course.layout
     figures = layout.figures
     svg.text(LEFT, 24, title, 15, bold=True)
-    words = f"slot {figures['slot']}, gap {figures['gap1']} + {figures['gap2']}, jam {figures['jam']}, span {layout.span}: "
+    words = (
+        f"slot {figures['slot']}, gap {figures['gap1']} + {figures['gap2']}, jam {figures['jam']}, span {layout.span}: "
+    )
     svg.text(LEFT, 44, words + f"fit {'yes' if layout.fits else 'no'}", 12, fill="#000" if layout.fits else RED)
 
 
@@ -97,14 +99,22 @@ def draw_columns(svg, course, view):
     with_addresses = len(taps) <= AT_TAP
     labels = [f"{number} at {tap.position}" if with_addresses else str(number) for number, tap in enumerate(taps)]
     addresses = [text.render_address(tap.address) for tap in taps]
-    widths = [max(text_width(label, 11, True), text_width(address, 9, mono=True) if with_addresses else 0)
-              for label, address in zip(labels, addresses)]
+    widths = [
+        max(text_width(label, 11, True), text_width(address, 9, mono=True) if with_addresses else 0)
+        for label, address in zip(labels, addresses)
+    ]
     places = [view.x(tap.position) for tap in taps]
     for number, (x, place) in enumerate(zip(spread(places, widths, LEFT - 60, LEFT + ROOM + 60), places)):
         svg.text(x, 70, labels[number], 11, "middle", bold=True, fill=COLOURS[number])
         if with_addresses:
             svg.text(x, 83, addresses[number], 9, "middle", mono=True, fill="#555")
-        svg.add("path", d=f"M{x:.2f} 87V92L{place:.2f} {view.top - 8}V{view.top}", fill="none", stroke="#222", stroke_width=0.8)
+        svg.add(
+            "path",
+            d=f"M{x:.2f} 87V92L{place:.2f} {view.top - 8}V{view.top}",
+            fill="none",
+            stroke="#222",
+            stroke_width=0.8,
+        )
 
 
 # ---- bands
@@ -116,13 +126,26 @@ def draw_attempt(svg, view, attempt, number):
         return
     colour = COLOURS[attempt.station]
     parts = [(attempt.start, attempt.jam_start, 0.26), (attempt.jam_start, attempt.end, 0.6)]
-    shapes = [(shape, opacity) for begin, end, opacity in parts if begin < end for shape in band(view, attempt, begin, end)]
+    shapes = [
+        (shape, opacity) for begin, end, opacity in parts if begin < end for shape in band(view, attempt, begin, end)
+    ]
     if not shapes:
         return
-    svg.open("g", class_="attempt", data_number=number, data_station=attempt.station, data_offer=attempt.offer,
-             data_start=attempt.start, data_jam=attempt.jam_start, data_end=attempt.end)
-    svg.open("title", f"station {attempt.station}, offer {attempt.offer}: packet bits from {attempt.start} to {attempt.jam_start - 1}"
-             + (f", jam to {attempt.end - 1}" if attempt.end > attempt.jam_start else ""))
+    svg.open(
+        "g",
+        class_="attempt",
+        data_number=number,
+        data_station=attempt.station,
+        data_offer=attempt.offer,
+        data_start=attempt.start,
+        data_jam=attempt.jam_start,
+        data_end=attempt.end,
+    )
+    svg.open(
+        "title",
+        f"station {attempt.station}, offer {attempt.offer}: packet bits from {attempt.start} to {attempt.jam_start - 1}"
+        + (f", jam to {attempt.end - 1}" if attempt.end > attempt.jam_start else ""),
+    )
     for shape, opacity in shapes:
         points = " ".join(f"{view.x(place):.2f},{view.y(time):.2f}" for place, time in shape)
         svg.add("polygon", points=points, fill=colour, fill_opacity=opacity)
@@ -181,7 +204,11 @@ def marks_of(course, view):
         kind = kind_of(event.word)
         marks.append((event.time, event.station, kind, f"{event.word} {event.number}"))
     for fate in course.fates:
-        marks += [(each.time, each.station, "lost", f"lost, offer {fate.number}") for each in fate.deliveries if each.state == "lost"]
+        marks += [
+            (each.time, each.station, "lost", f"lost, offer {fate.number}")
+            for each in fate.deliveries
+            if each.state == "lost"
+        ]
     order = ["late", "lost", "given-up", "error", "sent", "got", "collision", "refused"]
     return sorted((mark for mark in marks if view.holds(mark[0])), key=lambda mark: (order.index(mark[2]), mark))
 
@@ -209,9 +236,14 @@ def draw_marks(svg, view, marks):
         x, y = view.x(view.layout.taps[station].position), view.y(time)
         own = COLOURS[station] if many else "#000"
         fill = {"late": RED, "lost": RED, "given-up": RED, "error": ORANGE}.get(kind, own)
-        candidates = [(x + side * 8, y + 4 + lift, "start" if side > 0 else "end")
-                      for lift in (0, -8, 9, -16, 18) for side in (1, -1)]
-        left_out += not svg.label(candidates, words, limits, fill=fill, stroke="#fff", stroke_width=3, paint_order="stroke")
+        candidates = [
+            (x + side * 8, y + 4 + lift, "start" if side > 0 else "end")
+            for lift in (0, -8, 9, -16, 18)
+            for side in (1, -1)
+        ]
+        left_out += not svg.label(
+            candidates, words, limits, fill=fill, stroke="#fff", stroke_width=3, paint_order="stroke"
+        )
     return left_out
 
 
@@ -219,16 +251,41 @@ def draw_mark(svg, kind, x, y, title):
     """The mark of a kind."""
     if kind in ("collision", "late"):
         colour, size = ("#000", 5) if kind == "collision" else (RED, 6)
-        svg.add("path", title, d=f"M{x - size:.2f} {y - size:.2f}l{2 * size} {2 * size}m{-2 * size} 0l{2 * size} {-2 * size}",
-                class_=kind, fill="none", stroke=colour, stroke_width=2)
+        svg.add(
+            "path",
+            title,
+            d=f"M{x - size:.2f} {y - size:.2f}l{2 * size} {2 * size}m{-2 * size} 0l{2 * size} {-2 * size}",
+            class_=kind,
+            fill="none",
+            stroke=colour,
+            stroke_width=2,
+        )
     elif kind == "sent":
         svg.add("circle", title, class_=kind, cx=x, cy=y, r=4.5, fill=GREEN)
     elif kind in ("got", "error", "lost"):
         fill = {"got": GREEN, "error": ORANGE, "lost": "#fff"}[kind]
-        svg.add("path", title, d=f"M{x - 5:.2f} {y - 4:.2f}h10l-5 9z", class_=kind, fill=fill, stroke=RED if kind == "lost" else fill, stroke_width=1.6)
+        svg.add(
+            "path",
+            title,
+            d=f"M{x - 5:.2f} {y - 4:.2f}h10l-5 9z",
+            class_=kind,
+            fill=fill,
+            stroke=RED if kind == "lost" else fill,
+            stroke_width=1.6,
+        )
     else:
         fill = RED if kind == "given-up" else "#fff"
-        svg.add("rect", title, class_=kind, x=x - 4, y=y - 4, width=8, height=8, fill=fill, stroke=RED if kind == "given-up" else GREY)
+        svg.add(
+            "rect",
+            title,
+            class_=kind,
+            x=x - 4,
+            y=y - 4,
+            width=8,
+            height=8,
+            fill=fill,
+            stroke=RED if kind == "given-up" else GREY,
+        )
 
 
 # ---- below the run
@@ -250,10 +307,22 @@ def draw_foot(svg, course, view, left_out):
     """How the run ended, what the marks mean, and the stations where they are many."""
     y = view.bottom + 26
     if ends_early(course, view):
-        svg.text(LEFT, y, f"ended early at {course.clock}, after a late collision; {course.asked} bit times were asked", 11, fill=RED)
+        svg.text(
+            LEFT,
+            y,
+            f"ended early at {course.clock}, after a late collision; {course.asked} bit times were asked",
+            11,
+            fill=RED,
+        )
         y += 20
     if left_out:
-        svg.text(LEFT, y, f"labels left out for want of room: {left_out}; a narrower --window or a larger --height shows them", 11, fill=GREY)
+        svg.text(
+            LEFT,
+            y,
+            f"labels left out for want of room: {left_out}; a narrower --window or a larger --height shows them",
+            11,
+            fill=GREY,
+        )
         y += 20
     y = draw_legend(svg, y)
     return draw_stations(svg, course.layout, y) + 8 if len(course.layout.taps) > AT_TAP else y
@@ -261,8 +330,16 @@ def draw_foot(svg, course, view, left_out):
 
 def draw_legend(svg, y):
     """What the marks mean, in rows."""
-    entries = [("collision", "collision"), ("late", "late collision"), ("sent", "sent"), ("got", "got ok"), ("error", "got, with an error"),
-               ("lost", "lost"), ("given-up", "given up"), ("refused", "offer refused")]
+    entries = [
+        ("collision", "collision"),
+        ("late", "late collision"),
+        ("sent", "sent"),
+        ("got", "got ok"),
+        ("error", "got, with an error"),
+        ("lost", "lost"),
+        ("given-up", "given up"),
+        ("refused", "offer refused"),
+    ]
     for at, (kind, words) in enumerate(entries):
         x = LEFT + 150 * (at % 4)
         draw_mark(svg, kind, x + 6, y + 20 * (at // 4) - 4, words)

@@ -1,4 +1,4 @@
-"""The drawing of a sheet: pair, taps, distances, addresses, figures, and both inequalities as bars with their margins."""
+"""The drawing of a sheet: pair, taps, distances, addresses, figures, and both inequalities as bars."""
 
 from . import text
 from .library import FIGURES, HEADER_BITS
@@ -31,8 +31,10 @@ def draw_pair(svg, layout, places):
     with_addresses = len(layout.taps) <= AT_TAP
     if not with_addresses:
         labels = [str(number) for number in range(len(layout.taps))]
-    widths = [max(text_width(label, 12, True), text_width(address, 10, mono=True) if with_addresses else 0)
-              for label, address in zip(labels, addresses)]
+    widths = [
+        max(text_width(label, 12, True), text_width(address, 10, mono=True) if with_addresses else 0)
+        for label, address in zip(labels, addresses)
+    ]
     tops = spread(places, widths, LEFT - 40, RIGHT + 40)
     wire = 144
     svg.line(LEFT, wire, RIGHT, wire, stroke=WIRE, stroke_width=5, stroke_linecap="round")
@@ -90,7 +92,8 @@ def draw_bars(svg, verdict, top):
     total = 2 * layout.span + layout.gap
     words = f"2 x S + G = 2 x {layout.span} + {layout.gap} = {total}, slot {slot}"
     bar(svg, top, words, [(2 * layout.span, DARK), (layout.gap, LIGHT)], slot, verdict.slot_margin)
-    words = f"G = {layout.figures['gap1']} + {layout.figures['gap2']} = {layout.gap}, {HEADER_BITS} + jam = {HEADER_BITS + jam}"
+    gap1, gap2 = layout.figures["gap1"], layout.figures["gap2"]
+    words = f"G = {gap1} + {gap2} = {layout.gap}, {HEADER_BITS} + jam = {HEADER_BITS + jam}"
     bar(svg, top + 74, words, [(layout.gap, LIGHT)], HEADER_BITS + jam, verdict.jam_margin)
     longest = "no span fits" if verdict.farthest is None else f"longest span {verdict.longest_span}"
     svg.text(380, top + 150, f"{longest}, with the last tap moved", 12)
@@ -111,7 +114,13 @@ def bar(svg, top, words, parts, limit, margin):
         x += part * scale
     svg.line(left + limit * scale, top + 5, left + limit * scale, top + 29, stroke=RED, stroke_width=2)
     good = margin >= 0
-    svg.text(left, top + 40, f"margin {margin}" if good else f"over by {-margin}: margin {margin}", 12, fill="#000" if good else RED)
+    svg.text(
+        left,
+        top + 40,
+        f"margin {margin}" if good else f"over by {-margin}: margin {margin}",
+        12,
+        fill="#000" if good else RED,
+    )
 
 
 def draw_stations(svg, layout, top):
@@ -130,5 +139,5 @@ def draw_octets(svg, octets, top):
     """The sheet's octets in hexadecimal."""
     shown = octets.hex()
     for row, at in enumerate(range(0, len(shown), 120)):
-        svg.text(LEFT, top + 14 * row, shown[at:at + 120], 10, mono=True, fill="#666")
+        svg.text(LEFT, top + 14 * row, shown[at : at + 120], 10, mono=True, fill="#666")
     return top + 14 * ((len(shown) + 119) // 120)

@@ -12,7 +12,10 @@ BLUE, RED, GREY = "#1b6ca8", "#cc0000", "#777777"
 def draw_sweep(rows, title):
     """The drawing of a sweep's rows as text."""
     offers = sorted({row[2] for row in rows})
-    delays = {offer: sorted(row[5] for row in rows if row[2] == offer and row[3] == "sent" and row[5] is not None) for offer in offers}
+    delays = {
+        offer: sorted(row[5] for row in rows if row[2] == offer and row[3] == "sent" and row[5] is not None)
+        for offer in offers
+    }
     longest = max((each[-1] for each in delays.values() if each), default=0)
     width = bin_width(longest)
     svg = Svg(WIDTH)
@@ -47,9 +50,19 @@ def draw_offer(svg, top, offer, rows, delays, scale):
     most = max(counts.values(), default=1)
     for place in sorted(counts):
         height = BAR * counts[place] / most
-        svg.add("rect", f"{place * width} to {(place + 1) * width - 1}: {counts[place]}", class_="bar", data_offer=offer, data_from=place * width,
-                data_count=counts[place], x=LEFT + ROOM * place * width / past, y=base - height,
-                width=max(ROOM * width / past - 0.5, 0.5), height=height, fill=BLUE)
+        svg.add(
+            "rect",
+            f"{place * width} to {(place + 1) * width - 1}: {counts[place]}",
+            class_="bar",
+            data_offer=offer,
+            data_from=place * width,
+            data_count=counts[place],
+            x=LEFT + ROOM * place * width / past,
+            y=base - height,
+            width=max(ROOM * width / past - 0.5, 0.5),
+            height=height,
+            fill=BLUE,
+        )
     svg.line(LEFT, base, LEFT + ROOM, base, stroke="#222")
     svg.text(LEFT, top + 12, outcome_words(rows, delays), 11, fill="#000")
     if delays:
@@ -76,7 +89,7 @@ def outcome_words(rows, delays):
 
 def draw_axis(svg, y, past):
     """Delays across, in bit times."""
-    step = next(step * 10 ** power for power in range(20) for step in STEPS if ROOM * step * 10 ** power / past >= 70)
+    step = next(step * 10**power for power in range(20) for step in STEPS if ROOM * step * 10**power / past >= 70)
     for delay in range(0, past + 1, step):
         x = LEFT + ROOM * delay / past
         svg.line(x, y, x, y + 5, stroke="#222")

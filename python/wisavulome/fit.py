@@ -13,14 +13,17 @@ from .table import as_csv, as_table
 SLOT_CLAUSE = "2 x S + G <= slot"
 JAM_CLAUSE = f"G <= {HEADER_BITS} + jam"
 
-HELP = """Says of each sheet whether it fits, why, and by how much. A sheet or plan is given as octets, as text (docs/RUN-INPUT.md), or as a
-drawing made by 'wisavulome draw'; '-' is standard input. A folder stands for all files in it.
+HELP = """Says of each sheet whether it fits, why, and by how much. A sheet or plan is given as
+octets, as text (docs/RUN-INPUT.md), or as a drawing made by 'wisavulome draw'; '-' is standard
+input. A folder stands for all files in it.
 
-S is the last position less the first, G is gap1 + gap2. A layout fits if 2 x S + G <= slot and G <= 64 + jam. A margin is how much
-is left of the right side; below 0 the layout does not fit. The longest span is the one with the last tap as far out as it still
-fits; the library is asked about every moved sheet. In a table a default stands in parentheses.
+S is the last position less the first, G is gap1 + gap2. A layout fits if 2 x S + G <= slot and G
+<= 64 + jam. A margin is how much is left of the right side; below 0 the layout does not fit. The
+longest span is the one with the last tap as far out as it still fits; the library is asked about
+every moved sheet. In a table a default stands in parentheses.
 
-Exit status: 0 all fit, 1 one does not, 2 one is refused or the call is wrong, 3 the output could not be written."""
+Exit status: 0 all fit, 1 one does not, 2 one is refused or the call is wrong, 3 the output could
+not be written."""
 
 
 def header_of(is_csv):
@@ -101,10 +104,13 @@ def judge(library, path):
 def judge_source(library, source):
     """What is said of a sheet that was read."""
     layout = read_layout(library, source)
-    given = frozenset(text.decode(source.octets[:layout.used])[0].figures)
-    verdict = Verdict(source.name, layout, given, library.farthest_last_tap(source.octets[:layout.used]))
+    given = frozenset(text.decode(source.octets[: layout.used])[0].figures)
+    verdict = Verdict(source.name, layout, given, library.farthest_last_tap(source.octets[: layout.used]))
     if layout.fits != (not verdict.failing):
-        raise Failure(f"{source.name}: the library's verdict and the margins of this command differ: they are of different versions")
+        raise Failure(
+            f"{source.name}: the library's verdict and the margins of this command differ: "
+            "they are of different versions"
+        )
     return verdict
 
 
@@ -153,7 +159,9 @@ def row_of(verdict, is_csv):
     layout = verdict.layout
     figures = [layout.figures[figure.name] for figure in FIGURES]
     if not is_csv:
-        figures = [number if figure.name in verdict.given else f"({number})" for figure, number in zip(FIGURES, figures)]
+        figures = [
+            number if figure.name in verdict.given else f"({number})" for figure, number in zip(FIGURES, figures)
+        ]
     given = [" ".join(figure.name for figure in FIGURES if figure.name in verdict.given)] if is_csv else []
     why = "; ".join(f"not {clause}" for clause in verdict.failing)
     margins = [verdict.slot_margin, verdict.jam_margin, verdict.longest_span]
@@ -182,7 +190,7 @@ def collection(library, paths, is_csv, output):
 def refused_row(path, why, columns):
     """The row of what is no sheet."""
     name = "standard input" if path == "-" else path
-    reason = why[len(name) + 2:] if why.startswith(name + ": ") else why
+    reason = why[len(name) + 2 :] if why.startswith(name + ": ") else why
     return [name, *[None] * (columns - 3), "refused", reason]
 
 
@@ -204,7 +212,10 @@ def compared(one, other):
     """What both sheets say, row by row. Stations are compared by their address."""
     for figure in FIGURES:
         yield [figure.name, *(figure_words(each, figure.name) for each in (one, other))]
-    seats = [{tap.address: f"station {number} at {tap.position}" for number, tap in enumerate(each.layout.taps)} for each in (one, other)]
+    seats = [
+        {tap.address: f"station {number} at {tap.position}" for number, tap in enumerate(each.layout.taps)}
+        for each in (one, other)
+    ]
     for address in dict.fromkeys([*seats[0], *seats[1]]):
         yield [text.render_address(address), seats[0].get(address), seats[1].get(address)]
     yield ["stations", len(one.layout.taps), len(other.layout.taps)]

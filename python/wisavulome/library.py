@@ -1,7 +1,7 @@
 """The calls of the shared library, and every number that they use.
 
-The table below is the only place with sizes, codes and words of the C interface (crates/capi/wisavulome.h). A request that adds an
-event word, a counter or a figure changes one line here.
+The table below is the only place with sizes, codes and words of the C interface (crates/capi/wisavulome.h). A
+request that adds an event word, a counter or a figure changes one line here.
 """
 
 import ctypes
@@ -112,7 +112,8 @@ REFUSALS = {
     13: f"the clock would pass {LAST_CLOCK}",
     14: "the station holds no readable frame",
     15: "the lent output is too short",
-    16: f"the plan is over {MAX_PLAN} octets, is short, has octets left over, over {MAX_OFFERS} offers, or offer times that fall",
+    16: f"the plan is over {MAX_PLAN} octets, is short, has octets left over, "
+    f"over {MAX_OFFERS} offers, or offer times that fall",
     20: "a window's second time is below its first",
     21: "the times of the log's entries fall",
 }
@@ -144,7 +145,8 @@ CALLS = {
 # Calls that a later library has; what needs them says so where they are missing.
 LATER_CALLS = {"write_sheet": ("slice", "buffer")}
 
-# Where a station's state lies in a work area (crates/area/src/lib.rt, crates/record/src/lib.rt). Only `Library.station` uses it.
+# Where a station's state lies in a work area (crates/area/src/lib.rt, crates/record/src/lib.rt).
+# Only `Library.station` uses it.
 RECORD_AT, RECORD_OCTETS, RECORD_WORDS = 2048, 64, 14
 LINE_AT, LINE_PLACES = 4096, 256
 DEFERENCE = ("quiet", "busy", "gap")
@@ -292,11 +294,11 @@ class StationState:
 
 def layout_of(octets, used):
     """The layout that wisavulome_read_sheet wrote."""
-    words = words_of(octets[:WORD * (len(FIGURES) + 2)])
+    words = words_of(octets[: WORD * (len(FIGURES) + 2)])
     figures = {figure.name: words[at] for at, figure in enumerate(FIGURES)}
-    count, fits = words[len(FIGURES):len(FIGURES) + 2]
+    count, fits = words[len(FIGURES) : len(FIGURES) + 2]
     first = WORD * 8
-    places = [octets[first + 10 * i:first + 10 * i + 10] for i in range(count)]
+    places = [octets[first + 10 * i : first + 10 * i + 10] for i in range(count)]
     taps = tuple(Tap(int.from_bytes(place[:WORD], "big"), place[WORD:]) for place in places)
     return Layout(figures, taps, bool(fits), used)
 
@@ -344,11 +346,12 @@ class Library:
     def farthest_last_tap(self, sheet):
         """The largest position of the last tap with which the layout fits, or None.
 
-        The library is asked about moved sheets, so nothing is decided here. Farther taps never fit where nearer ones do not.
+        The library is asked about moved sheets, so nothing is decided here. Farther taps never fit where
+        nearer ones do not.
         """
         layout = self.read_sheet(sheet)
-        head = sheet[:layout.used - 7]
-        tail = sheet[layout.used - 6:layout.used]
+        head = sheet[: layout.used - 7]
+        tail = sheet[layout.used - 6 : layout.used]
         low, high = layout.taps[-2].position + 1, MAX_POSITION
         if not self.fits(head + bytes([low]) + tail):
             return None
@@ -409,7 +412,7 @@ class Library:
         self.call("step", area, out)
         words = words_of(out.raw)
         for station in range(MAX_STATIONS):
-            sent, sent_number, got, got_number = words[4 * station:4 * station + 4]
+            sent, sent_number, got, got_number = words[4 * station : 4 * station + 4]
             if sent:
                 yield station, TRANSMIT[sent - 1], sent_number
             if got:

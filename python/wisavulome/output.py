@@ -43,7 +43,7 @@ class Standard:
         if kept and self.closed:
             raise Failure("standard output is closed: the output was not written", UNWRITTEN)
         while kept:
-            kept = kept[self.put(kept):]
+            kept = kept[self.put(kept) :]
 
     def put(self, octets):
         """Writes some octets and answers how many."""

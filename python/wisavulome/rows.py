@@ -64,7 +64,7 @@ class Rows:
             raise Failure(f"{path}: offer {row[2]} is not in the plan")
 
     def open(self, path):
-        """The file for new rows. What is there of this sweep stays, in `there`; a set that is not whole is made again."""
+        """The file for new rows. What it has of this sweep stays, in `there`; a set that is not whole is made again."""
         try:
             opened = open(path, "a+b", buffering=0)
         except OSError as why:
@@ -87,10 +87,12 @@ class Rows:
         for row, pair in zip(rows, wanted):
             self.belongs(path, row)
             if (row[1], row[2]) != pair:
-                raise Failure(f"{path}: set {row[1]}, offer {row[2]} stands where set {pair[0]}, offer {pair[1]} should")
+                raise Failure(
+                    f"{path}: set {row[1]}, offer {row[2]} stands where set {pair[0]}, offer {pair[1]} should"
+                )
         if len(rows) > (self.past - self.first) * self.offers:
             raise Failure(f"{path} has more sets than are asked for")
-        self.there = rows[:len(rows) - len(rows) % self.offers]
+        self.there = rows[: len(rows) - len(rows) % self.offers]
 
     def merged(self, paths):
         """The rows of many files, in order; each set once, or several times the same."""

@@ -8,14 +8,17 @@ from .library import COUNTERS, ENDS_RUN
 from .source import each_plan
 from .table import as_csv
 
-HELP = """Prints what the run program 'simulate' prints for a plan, given as octets or as text (docs/RUN-INPUT.md); '-' is standard input.
+HELP = """Prints what the run program 'simulate' prints for a plan, given as octets or as text
+(docs/RUN-INPUT.md); '-' is standard input.
 
-With --offers each line ends in the offers that it concerns, counted from 1. CSV and JSON lines always have them. --counters and --held
-add, after the run, a line for each station's counters, and a line for each frame that a station holds: 'held S to-send OFFER' (accepted,
-not yet sent or given up) and 'held S received OCTETS' (received, and still readable, whole with its check sequence).
+With --offers each line ends in the offers that it concerns, counted from 1. CSV and JSON lines
+always have them. --counters and --held add, after the run, a line for each station's counters,
+and a line for each frame that a station holds: 'held S to-send OFFER' (accepted, not yet sent or
+given up) and 'held S received OCTETS' (received, and still readable, whole with its check
+sequence).
 
-Exit status: 0 the run was made, 1 a late collision ended it early, 2 the plan is refused or the call is wrong, 3 the output could not
-be written."""
+Exit status: 0 the run was made, 1 a late collision ended it early, 2 the plan is refused or the
+call is wrong, 3 the output could not be written."""
 
 COLUMNS = ["kind", "time", "station", "word", "number", "offers"]
 
@@ -23,8 +26,12 @@ COLUMNS = ["kind", "time", "station", "word", "number", "offers"]
 def add_parser(subparsers):
     """The arguments of the subcommand."""
     parser = subparsers.add("run", "what the run program prints, from text or octets", HELP)
-    parser.add_argument("files", nargs="+", metavar="PLAN", help="a plan as text or octets; of several each has a heading")
-    parser.add_argument("--format", choices=["text", "csv", "json"], default="text", help="json: a JSON object on each line")
+    parser.add_argument(
+        "files", nargs="+", metavar="PLAN", help="a plan as text or octets; of several each has a heading"
+    )
+    parser.add_argument(
+        "--format", choices=["text", "csv", "json"], default="text", help="json: a JSON object on each line"
+    )
     parser.add_argument("--offers", action="store_true", help="in text: each line with the offers that it concerns")
     parser.add_argument("--counters", action="store_true", help="with the counters of each station")
     parser.add_argument("--held", action="store_true", help="with the frames that stations hold at the end")
@@ -79,7 +86,13 @@ def held(library, course):
     for station in range(len(course.layout.taps)):
         for fate in course.fates:
             if fate.offer.station == station and fate.made and fate.refusal is None and not fate.ending:
-                yield {"kind": "held", "station": station, "word": "to-send", "offers": [fate.number], "frame": fate.frame.hex()}
+                yield {
+                    "kind": "held",
+                    "station": station,
+                    "word": "to-send",
+                    "offers": [fate.number],
+                    "frame": fate.frame.hex(),
+                }
         frame = library.read_frame(course.area, station)
         if frame is not None:
             yield {"kind": "held", "station": station, "word": "received", "frame": frame.hex()}

@@ -64,7 +64,10 @@ def read_file(path):
 
 
 def read_source(library, path, given=None):
-    """The sheet or plan in a file, whatever its form. A plan always has an octet that no text has; a sheet may be tried as both."""
+    """The sheet or plan in a file, whatever its form.
+
+    A plan always has an octet that no text has. A sheet that could be a text is tried as both.
+    """
     given = read_file(path) if given is None else given
     name = shown(path)
     if DRAWING.search(given[:4096]):
@@ -131,8 +134,10 @@ def take_plan(library, source):
     """The source, if it is a plan that the library takes."""
     layout = read_layout(library, source)
     if is_sheet_alone(source, layout):
-        raise Failure(f"{source.name}: refused 9: this is a sheet alone; a plan has draws, offers and bit times after it "
-                      f"(it ends before D, at octet {layout.used})")
+        raise Failure(
+            f"{source.name}: refused 9: this is a sheet alone; a plan has draws, offers and bit times after it "
+            f"(it ends before D, at octet {layout.used})"
+        )
     try:
         library.read_plan(source.octets)
     except Refused as refusal:

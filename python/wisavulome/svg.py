@@ -43,11 +43,18 @@ class Box:
 
     def meets(self, other):
         """Whether two rectangles lie on each other."""
-        return self.left < other.right and other.left < self.right and self.top < other.bottom and other.top < self.bottom
+        return (
+            self.left < other.right and other.left < self.right and self.top < other.bottom and other.top < self.bottom
+        )
 
     def within(self, other):
         """Whether this one lies inside another."""
-        return other.left <= self.left and self.right <= other.right and other.top <= self.top and self.bottom <= other.bottom
+        return (
+            other.left <= self.left
+            and self.right <= other.right
+            and other.top <= self.top
+            and self.bottom <= other.bottom
+        )
 
 
 def text_box(x, y, content, size, anchor="start", bold=False, mono=False):
@@ -83,7 +90,9 @@ class Svg:
 
     def open(self, tag, content=None, **attributes):
         """An element that stays open, or one with content."""
-        shown = "".join(f" {name.rstrip('_').replace('_', '-')}={quoteattr(as_text(value))}" for name, value in attributes.items())
+        shown = "".join(
+            f" {name.rstrip('_').replace('_', '-')}={quoteattr(as_text(value))}" for name, value in attributes.items()
+        )
         if content is None:
             self.parts.append(f"{'  ' * self.depth}<{tag}{shown}>")
             self.depth += 1
@@ -97,7 +106,9 @@ class Svg:
 
     def add(self, tag, title=None, **attributes):
         """An empty element, or one with a title that viewers show on pointing."""
-        shown = "".join(f" {name.rstrip('_').replace('_', '-')}={quoteattr(as_text(value))}" for name, value in attributes.items())
+        shown = "".join(
+            f" {name.rstrip('_').replace('_', '-')}={quoteattr(as_text(value))}" for name, value in attributes.items()
+        )
         inner = f"><title>{escape(title)}</title></{tag}>" if title else "/>"
         self.parts.append(f"{'  ' * self.depth}<{tag}{shown}{inner}")
 
@@ -122,7 +133,7 @@ class Svg:
         return not any(box.meets(other) for other in self.taken)
 
     def label(self, candidates, content, limits, size=10, **attributes):
-        """A text at the first of the candidates (x, y, anchor) where it lies on nothing; answers whether there was one."""
+        """A text at the first candidate (x, y, anchor) where it lies on nothing; answers whether there was one."""
         for x, y, anchor in candidates:
             box = text_box(x, y, content, size, anchor)
             if box.within(limits) and self.is_free(box):

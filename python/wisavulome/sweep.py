@@ -1,7 +1,7 @@
 """`wisavulome sweep`: one sheet and plan, many sets of draws.
 
-Set k of a sweep is a pure function of the plan, the seed and k, so every row is the same whoever makes it. Rows are CSV, a line for
-each set and offer; the table is made of rows alone.
+Set k of a sweep is a pure function of the plan, the seed and k, so every row is the same whoever makes it. Rows are
+CSV, a line for each set and offer; the table is made of rows alone.
 """
 
 import hashlib
@@ -20,23 +20,27 @@ from .rows import Rows, row_line
 from .source import read_plan_source
 from .table import as_csv, as_table
 
-HELP = """Runs a plan with many sets of draws, and says of each offer how often it was sent, given up or lost, its attempts and its delays.
+HELP = """Runs a plan with many sets of draws, and says of each offer how often it was sent, given
+up or lost, its attempts and its delays.
 
-The sets come from a seed (--seed, --sets), or are all there are (--all): every draw below 2^min(attempt limit - 1, backoff limit), or
-below --below. Made draws are --draws for each station: 16 if absent, with --all the plan's own number.
+The sets come from a seed (--seed, --sets), or are all there are (--all): every draw below
+2^min(attempt limit - 1, backoff limit), or below --below. Made draws are --draws for each
+station: 16 if absent, with --all the plan's own number.
 
---rows FILE keeps a CSV line for each set and offer. An interrupted sweep with --rows goes on where it stopped. --only A:B makes the sets
-from A to B - 1 alone; --merge makes the table of rows that were made elsewhere:
+--rows FILE keeps a CSV line for each set and offer. An interrupted sweep with --rows goes on
+where it stopped. --only A:B makes the sets from A to B - 1 alone; --merge makes the table of rows
+that were made elsewhere:
 
     seq 0 1000 9000 | parallel 'wisavulome sweep plan.txt --sets 10000 --only {}:+1000 --rows part{}.csv >part{}.txt'
     wisavulome sweep plan.txt --sets 10000 --merge part*.csv
 
---worst FILE writes the plan of the worst set as text, --plan-of K the plan of any: 'wisavulome run' runs it again. A set is worse that
-has more lost frames, then more late collisions, then more frames given up, then more still held at the end, then the longer longest
-delay; of equals the first.
+--worst FILE writes the plan of the worst set as text, --plan-of K the plan of any: 'wisavulome
+run' runs it again. A set is worse that has more lost frames, then more late collisions, then more
+frames given up, then more still held at the end, then the longer longest delay; of equals the
+first.
 
-Exit status: 0 nothing lost in any set, 1 a frame is lost or given up or a collision was late, 2 refused or usage, 3 the output could not
-be written."""
+Exit status: 0 nothing lost in any set, 1 a frame is lost or given up or a collision was late, 2
+refused or usage, 3 the output could not be written."""
 
 MOST_SETS = 1 << 32
 FEW = 1 << 20  # sets that --all makes without --below
@@ -91,8 +95,10 @@ class Sweep:
         sets = self.below ** (len(self.plan.stations) * self.depth) if self.every else arguments.sets
         sets = 1000 if sets is None else sets
         if not 1 <= sets <= (FEW if self.every and arguments.below is None else MOST_SETS):
-            known = str(sets) if sets < 10 ** 18 else f"over 10^{len(str(sets)) - 1}"
-            raise Failure(f"{known} sets are not between 1 and what can be made; --below and --draws make --all smaller")
+            known = str(sets) if sets < 10**18 else f"over 10^{len(str(sets)) - 1}"
+            raise Failure(
+                f"{known} sets are not between 1 and what can be made; --below and --draws make --all smaller"
+            )
         return sets
 
     def key_of(self):
@@ -110,16 +116,16 @@ class Sweep:
         """The draws of a set, station by station."""
         total = len(self.plan.stations) * self.depth
         if self.every:
-            return [number // self.below ** place % self.below for place in range(total)]
+            return [number // self.below**place % self.below for place in range(total)]
         made = hashlib.shake_128(f"wisavulome {self.seed} {number}".encode()).digest(2 * total)
-        return [int.from_bytes(made[at:at + 2], "big") for at in range(0, 2 * total, 2)]
+        return [int.from_bytes(made[at : at + 2], "big") for at in range(0, 2 * total, 2)]
 
     def plan_of(self, number):
         """The plan with the draws of a set."""
         draws = self.draws(number)
         plan = text.Plan(self.plan.figures, [], self.depth, self.plan.offers, self.plan.run)
         for at, station in enumerate(self.plan.stations):
-            own = draws[self.depth * at:self.depth * (at + 1)]
+            own = draws[self.depth * at : self.depth * (at + 1)]
             plan.stations.append(text.Station(station.position, station.address, own))
         return plan
 
@@ -169,7 +175,9 @@ def check_longest(library, sweep):
     try:
         library.read_plan(text.encode(sweep.plan_of(0)))
     except Refused as refusal:
-        raise Failure(f"with {sweep.depth} draws for each station the plan is {refusal}; --draws makes it shorter") from refusal
+        raise Failure(
+            f"with {sweep.depth} draws for each station the plan is {refusal}; --draws makes it shorter"
+        ) from refusal
 
 
 def print_plan(sweep, number, output):
@@ -225,7 +233,7 @@ def make_rows(sweep, rows, arguments, summary):
     for row in rows.there:
         summary.add(row)
     numbers = range(rows.first + len(rows.there) // rows.offers, rows.past)
-    chunks = [numbers[at:at + CHUNK] for at in range(0, len(numbers), CHUNK)]
+    chunks = [numbers[at : at + CHUNK] for at in range(0, len(numbers), CHUNK)]
     with progress("set", len(numbers)) as shown:
         try:
             for at, made in enumerate(all_chunks(sweep, chunks, arguments.jobs)):

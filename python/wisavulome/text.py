@@ -1,16 +1,16 @@
 """Run inputs and sheets as text, and back.
 
-A run input is what the run program reads: sheet, draws, offers, bit times. The text has one line for each thing; '#' begins a
-comment, blank lines do not count (docs/RUN-INPUT.md has the table):
+A run input is what the run program reads: sheet, draws, offers, bit times. The text has one line for each thing;
+'#' begins a comment, blank lines do not count (docs/RUN-INPUT.md has the table):
 
-    slot 512                                    also gap1, gap2, jam, attempt-limit, backoff-limit: in the sheet where written
+    slot 512                                    also gap1, gap2, jam, attempt-limit, backoff-limit
     station at 0  02:00:00:00:00:01 draws 0     position, address, draws; stations are numbered from 0 as they stand
     station at 10 02:00:00:00:00:02 draws 1
     offer at 0 station 0 to station 1 value 0x0800 data 46 zeros
     run 1500                                    bit times
 
-The text of a sheet alone has no draws, no offers and no 'run' line. Any numbers that fit their fields are written, also those that
-the model refuses.
+The text of a sheet alone has no draws, no offers and no 'run' line. Any numbers that fit their fields are written,
+also those that the model refuses.
 """
 
 import re
@@ -354,7 +354,7 @@ class Octets:
 
     def ahead(self, count):
         """The next octets without taking them; fewer where they end."""
-        return self.octets[self.place:self.place + count]
+        return self.octets[self.place : self.place + count]
 
     def take(self, count):
         """The next octets, as many as asked or else Short."""

@@ -3,25 +3,46 @@
 from . import VERSION
 from .course import advance_to, follow, make_due, packet_of
 from .failure import GOOD
-from .library import BIT_TIME_NS, COLLISIONS, DEFERENCE, ENDS_RUN, JAM, ONE, RECEIVER, SEVERAL, SILENCE, TRANSMITTER, ZERO
+from .library import (
+    BIT_TIME_NS,
+    COLLISIONS,
+    DEFERENCE,
+    ENDS_RUN,
+    JAM,
+    ONE,
+    RECEIVER,
+    SEVERAL,
+    SILENCE,
+    TRANSMITTER,
+    ZERO,
+)
 from .output import progress, write_whole
 from .source import read_plan_source
 from .window import HELP as WINDOW_HELP
 from .window import window_of
 
-HELP = """Writes a run as a VCD wave, which GTKWave (vcd2fst), sigrok-cli and PulseView read. A unit of time is a bit time, 100 ns. Of each station K
-these one-bit wires stand, each for the step that begins there:
+HELP = """Writes a run as a VCD wave, which GTKWave (vcd2fst), sigrok-cli and PulseView read. A
+unit of time is a bit time, 100 ns. Of each station K these one-bit wires stand, each for the step
+that begins there:
 
-sK_tx        it emits                             sK_tx_bit    the packet bit that it emits      sK_tx_jam   it emits jam
-sK_rx        it hears another                     sK_rx_bit    the bit that it hears, alone      sK_rx_jam   it hears jam, alone
-sK_rx_many   it hears two or more                 sK_carrier   busy: it hears another, or emitted in the step before
-sK_collision its collision is in this step        sK_late      and it is late
+sK_tx          it emits
+sK_tx_bit      the packet bit that it emits
+sK_tx_jam      it emits jam
+sK_rx          it hears another
+sK_rx_bit      the bit that it hears, from one alone
+sK_rx_jam      it hears jam, from one alone
+sK_rx_many     it hears two or more
+sK_carrier     busy: it hears another, or emitted in the step before
+sK_collision   its collision is in this step
+sK_late        and it is late
 sK_quiet, sK_busy, sK_gap   its deference at the end of the step
 
---vectors adds sK_tx_symbol and sK_rx_symbol (0 silence, 1 a zero, 2 a one, 3 jam, 4 several), sK_gap_count, sK_attempts, sK_transmitter (0 no
-frame, 1 waiting, 2 backing off, 3 sending, 4 heading, 5 jamming) and sK_receiver (0 listening, 1 readable, 2 seeking, 3 collecting).
+--vectors adds sK_tx_symbol and sK_rx_symbol (0 silence, 1 a zero, 2 a one, 3 jam, 4 several),
+sK_gap_count, sK_attempts, sK_transmitter (0 no frame, 1 waiting, 2 backing off, 3 sending, 4
+heading, 5 jamming) and sK_receiver (0 listening, 1 readable, 2 seeking, 3 collecting).
 
-Exit status: 0 written, 2 refused or usage, 3 the output could not be written; then no half file stays."""
+Exit status: 0 written, 2 refused or usage, 3 the output could not be written; then no half file
+stays."""
 
 WIRES = ("tx", "tx_bit", "tx_jam", "rx", "rx_bit", "rx_jam", "rx_many", "carrier", "collision", "late", *DEFERENCE)
 VECTORS = {"tx_symbol": 3, "rx_symbol": 3, "gap_count": 9, "attempts": 5, "transmitter": 3, "receiver": 2}
@@ -96,7 +117,10 @@ def head(stations, names):
 
 
 def steps(library, course, octets, window, with_vectors):
-    """Each step of the window with the values of all stations. Steps in which all are quiet are made at once: no value changes."""
+    """Each step of the window with the values of all stations.
+
+    Steps in which all are quiet are made at once: no value changes in them.
+    """
     area = advance_to(library, octets, window[0])
     emissions = Emissions(course, window)
     stations = range(len(course.layout.taps))
@@ -120,7 +144,10 @@ def steps(library, course, octets, window, with_vectors):
 
 
 def is_at_rest(state, with_vectors):
-    """Whether a station is quiet, emits nothing, and hears nothing next. A vector also shows the end of a backoff, so none may run."""
+    """Whether a station is quiet, emits nothing, and hears nothing next.
+
+    A vector also shows the end of a backoff, so with vectors none may run.
+    """
     rests = state.deference == "quiet" and not state.emitted and state.hears == SILENCE
     return rests and not (with_vectors and state.transmitter == "backing off")
 

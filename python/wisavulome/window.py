@@ -18,5 +18,9 @@ def window_of(words, clock):
     if not colon or begin < 0:
         raise Failure(f"--window {words}: it is A:B, A:+n or A:, in bit times from 0 on")
     if begin >= min(end, clock):
-        raise Failure(f"--window {words} is empty: the run has the steps 0 to {clock - 1}" if clock else "no step was made: there is nothing to show")
+        raise Failure(
+            f"--window {words} is empty: the run has the steps 0 to {clock - 1}"
+            if clock
+            else "no step was made: there is nothing to show"
+        )
     return begin, min(end, clock)

@@ -11,20 +11,28 @@ from .library import EVENTS
 from .output import printable, write_whole
 from .source import open_file, read_file, shown
 
-HELP = """Reads the text that the run program prints into the entries of a log. The lines 'stations', 'end' and those of refused offers
-are left out; a line that is none of these and no event is an error with its number. WINDOWS has a line for each window: station, first
-time, time past the last; '#' begins a comment.
+HELP = """Reads the text that the run program prints into the entries of a log. The lines
+'stations', 'end' and those of refused offers are left out; a line that is none of these and no
+event is an error with its number. WINDOWS has a line for each window: station, first time, time
+past the last; '#' begins a comment.
 
-How many of every event word each window holds is the library's to answer; this library has no function for it yet, so the status is 2
-unless --entries is given, which writes the entries, six octets each.
+How many of every event word each window holds is the library's to answer; this library has no
+function for it yet, so the status is 2 unless --entries is given, which writes the entries, six
+octets each.
 
-Exit status: 0 good, 2 refused, the library cannot do it, or the call is wrong, 3 the output could not be written."""
+Exit status: 0 good, 2 refused, the library cannot do it, or the call is wrong, 3 the output could
+not be written."""
 
 PART = 1 << 20  # octets that are read at a time
-MOST_TIME, MOST_STATION = 2 ** 32 - 1, 255
+MOST_TIME, MOST_STATION = 2**32 - 1, 255
 WORDS = "|".join(EVENTS).encode()
 # An event, with its time, station and word; or another line of the run program, with none.
-ENTRY = re.compile(rb"^(?:([0-9]{1,99}) ([0-9]{1,99}) (%s) [0-9]+|stations [0-9]+ fit (?:yes|no)|end [0-9]+|[0-9]+ [0-9]+ refused [0-9]+)\r?\n" % WORDS, re.M)
+ENTRY = re.compile(
+    rb"^(?:([0-9]{1,99}) ([0-9]{1,99}) (%s) [0-9]+"
+    rb"|stations [0-9]+ fit (?:yes|no)|end [0-9]+|[0-9]+ [0-9]+ refused [0-9]+)\r?\n"
+    % WORDS,
+    re.M,
+)
 ENTRY_FORM = struct.Struct(">IBB")
 NUMBERS = {word.encode(): number for number, word in enumerate(EVENTS, 1)}
 
@@ -97,7 +105,8 @@ def refuse_line(name, first, chunk):
     """The first line that is none of the run program's."""
     for number, line in enumerate(chunk.split(b"\n"), first):
         if not ENTRY.fullmatch(line + b"\n"):
-            raise Failure(f"{name}: line {number}: '{clipped(line.decode('utf-8', 'replace'))}' is no event (time, station, word, number)")
+            shown_line = clipped(line.decode("utf-8", "replace"))
+            raise Failure(f"{name}: line {number}: '{shown_line}' is no event (time, station, word, number)")
 
 
 def read_windows(name, content):
@@ -108,7 +117,9 @@ def read_windows(name, content):
         if not words:
             continue
         if len(words) != 3 or not all(re.fullmatch(r"[0-9]{1,10}", word) and int(word) <= MOST_TIME for word in words):
-            raise Failure(f"{name}: line {number}: '{clipped(line)}' is no window (station, first time, time past the last)")
+            raise Failure(
+                f"{name}: line {number}: '{clipped(line)}' is no window (station, first time, time past the last)"
+            )
         windows.append(tuple(map(int, words)))
     return windows
 

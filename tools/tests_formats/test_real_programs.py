@@ -1,7 +1,8 @@
-"""Drawings, captures and waves, read by the real programs: tshark, capinfos, vcd2fst, sigrok-cli, xmllint, rsvg-convert.
+"""Drawings, captures and waves, read by the real programs: tshark, capinfos, vcd2fst, sigrok-cli, xmllint,
+rsvg-convert.
 
-tools/check-formats installs them and runs these tests. A program that is missing fails its test where WISAVULOME_FORMATS is 'all', and
-is said and left out where it is not.
+tools/check-formats installs them and runs these tests. A program that is missing fails its test where
+WISAVULOME_FORMATS is 'all', and is said and left out where it is not.
 """
 
 import os
@@ -48,8 +49,15 @@ class RealTest(CommandTest):
 
 
 class Captures(RealTest):
-    FIELDS = ["frame.interface_id", "frame.time_epoch", "eth.fcs.status", "frame.packet_flags_direction", "frame.packet_flags_crc_error",
-              "frame.packet_flags_unaligned_frame_error", "frame.len"]
+    FIELDS = [
+        "frame.interface_id",
+        "frame.time_epoch",
+        "eth.fcs.status",
+        "frame.packet_flags_direction",
+        "frame.packet_flags_crc_error",
+        "frame.packet_flags_unaligned_frame_error",
+        "frame.len",
+    ]
 
     def fields(self, path):
         """Each frame as tshark reads it, by the names of its fields."""
@@ -62,22 +70,28 @@ class Captures(RealTest):
         self.need("tshark")
         for name, octets in taken_cases(self.library):
             course = follow(self.library, octets)
-            told = [event for event in course.events if event.word in ("sent", "given-up") or event.word.startswith("got")]
+            told = [
+                event for event in course.events if event.word in ("sent", "given-up") or event.word.startswith("got")
+            ]
             if not told:
                 continue
             found = self.fields(self.made("capture", octets, "c.pcapng"))
             self.assertEqual(len(found), len(told), name)
             for event, frame in zip(told, found):
                 self.assertEqual(int(frame["frame.interface_id"]), event.station, name)
-                self.assertEqual(round(float(frame["frame.time_epoch"]) * 10 ** 7), event.time, name)
-                self.assertEqual(int(frame["frame.packet_flags_direction"], 0), 1 if event.word.startswith("got") else 2)
+                self.assertEqual(round(float(frame["frame.time_epoch"]) * 10**7), event.time, name)
+                self.assertEqual(
+                    int(frame["frame.packet_flags_direction"], 0), 1 if event.word.startswith("got") else 2
+                )
                 if event.word in ("sent", "got ok"):
                     self.assertEqual(frame["eth.fcs.status"], "1", (name, event))
 
     def test_tshark_errors(self):
         self.need("tshark")
         course = follow(self.library, (STORED / "case048.in").read_bytes())
-        words = [event.word for event in course.events if event.word in ("sent", "given-up") or event.word.startswith("got")]
+        words = [
+            event.word for event in course.events if event.word in ("sent", "given-up") or event.word.startswith("got")
+        ]
         found = self.fields(self.made("capture", STORED / "case048.in", "c.pcapng"))[words.index("got alignment")]
         self.assertIn(found["frame.packet_flags_crc_error"], ("1", "True"))
         self.assertIn(found["frame.packet_flags_unaligned_frame_error"], ("1", "True"))
@@ -98,7 +112,10 @@ class Captures(RealTest):
     def test_comments(self):
         self.need("tshark")
         out = self.real("tshark", "-r", self.made("capture", WORKED, "c.pcapng"), "-T", "fields", "-e", "frame.comment")
-        self.assertEqual(out.splitlines()[0], "offer 1; attempt 1 started in step 0, collision at bit 11 in step 10; attempt 2 started in step 202")
+        self.assertEqual(
+            out.splitlines()[0],
+            "offer 1; attempt 1 started in step 0, collision at bit 11 in step 10; attempt 2 started in step 202",
+        )
 
     def test_capinfos(self):
         self.need("capinfos")
@@ -148,11 +165,21 @@ class Waves(RealTest):
         """The wave by sigrok: the rate is 10 MHz, and the bits are the packet's."""
         self.need("sigrok-cli")
         path = self.made("wave", WORKED, "w.vcd")
-        out = self.real("sigrok-cli", "-I", "vcd", "-i", path, "-C", "s0_tx_bit,s1_rx_bit", "-O", "csv:label=false:header=false:dedup=false")
+        out = self.real(
+            "sigrok-cli",
+            "-I",
+            "vcd",
+            "-i",
+            path,
+            "-C",
+            "s0_tx_bit,s1_rx_bit",
+            "-O",
+            "csv:label=false:header=false:dedup=false",
+        )
         rows = [line.split(",") for line in out.splitlines() if re.fullmatch(r"[01],[01]", line)]
         start, bits = self.start()
-        self.assertEqual([int(row[0]) for row in rows[start:start + len(bits)]], list(bits))
-        self.assertEqual([int(row[1]) for row in rows[start + 10:start + 10 + len(bits)]], list(bits))
+        self.assertEqual([int(row[0]) for row in rows[start : start + len(bits)]], list(bits))
+        self.assertEqual([int(row[1]) for row in rows[start + 10 : start + 10 + len(bits)]], list(bits))
         self.assertIn("Samplerate: 10000000", self.real("sigrok-cli", "-I", "vcd", "-i", path, "--show"))
 
 
@@ -160,8 +187,13 @@ class Drawings(RealTest):
     def drawings(self):
         """Drawings of all kinds."""
         yield self.made("draw", WORKED, "sheet.svg", "--sheet")
-        for name, content in [("three", THREE), ("one", ONE_APART), ("far", FAR_APART), ("late", STORED / "slot-one-over.in"),
-                              ("lost", STORED / "gap-one-over.in")]:
+        for name, content in [
+            ("three", THREE),
+            ("one", ONE_APART),
+            ("far", FAR_APART),
+            ("late", STORED / "slot-one-over.in"),
+            ("lost", STORED / "gap-one-over.in"),
+        ]:
             yield self.made("draw", content, f"{name}.svg")
             yield self.made("draw", content, f"{name}-sheet.svg", "--sheet")
         call("sweep", WORKED, "--sets", 30, "--rows", self.folder / "rows.csv")
@@ -171,7 +203,9 @@ class Drawings(RealTest):
         self.need("xmllint")
         for path in self.drawings():
             self.real("xmllint", "--noout", "--nonet", path)
-        root = self.real("xmllint", "--xpath", "string(//*[local-name()='octets'])", self.made("draw", WORKED, "s.svg", "--sheet"))
+        root = self.real(
+            "xmllint", "--xpath", "string(//*[local-name()='octets'])", self.made("draw", WORKED, "s.svg", "--sheet")
+        )
         self.assertEqual(root.strip(), "0002000200000000010a020000000002")
 
     def test_rsvg(self):
@@ -192,9 +226,8 @@ class Parallel(RealTest):
         self.need("parallel")
         self.file("plan.txt", THREE)
         expected = call("sweep", self.folder / "plan.txt", "--sets", 40)
-        script = """seq 0 10 30 | parallel --will-cite '"$W" sweep plan.txt --sets 40 --jobs 1 --only {}:+10 --rows part{}.csv >/dev/null' ||
-            [ $? = 4 ] || true
-            "$W" sweep plan.txt --sets 40 --merge part*.csv"""
+        part = '"$W" sweep plan.txt --sets 40 --jobs 1 --only {}:+10 --rows part{}.csv >/dev/null'
+        script = f"seq 0 10 30 | parallel --will-cite '{part}'; \"$W\" sweep plan.txt --sets 40 --merge part*.csv"
         self.assertEqual(self.shell(script), expected)
 
 

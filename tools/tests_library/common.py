@@ -67,6 +67,7 @@ class CommandTest(unittest.TestCase):
 
     def shell(self, script):
         """A shell script with the command as $W, in the test's folder."""
-        done = subprocess.run(["bash", "-c", script], cwd=self.folder, capture_output=True, check=False,
-                              env=dict(os.environ, W=str(TOOL)))
+        done = subprocess.run(
+            ["bash", "-c", script], cwd=self.folder, capture_output=True, check=False, env=dict(os.environ, W=str(TOOL))
+        )
         return done.returncode, done.stdout.decode(), done.stderr.decode()

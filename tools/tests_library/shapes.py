@@ -18,7 +18,9 @@ def plan_text(positions, offers, times, draws=(3, 1, 2, 0)):
 
 
 ONE_APART = plan_text(range(16), [(2 * i, i, f"station {(i + 1) % 16}") for i in range(16)], 9000)
-FAR_APART = plan_text([0, 1, 2, 3, 60, 61, 62, 63, 120, 121, 180, 181, 200, 253, 254, 255], [(0, i, "broadcast") for i in range(16)], 6000)
+FAR_APART = plan_text(
+    [0, 1, 2, 3, 60, 61, 62, 63, 120, 121, 180, 181, 200, 253, 254, 255], [(0, i, "broadcast") for i in range(16)], 6000
+)
 THREE = plan_text([0, 120, 200], [(0, 0, "station 1"), (100, 1, "broadcast"), (150, 2, "station 0")], 3000)
 
 
@@ -37,8 +39,15 @@ def overlaps(root):
     boxes = []
     for each in texts(root):
         mono = "Mono" in each.get("font-family", "")
-        box = text_box(float(each.get("x")), float(each.get("y")), each.text or "", float(each.get("font-size")),
-                       each.get("text-anchor", "start"), each.get("font-weight") == "bold", mono)
+        box = text_box(
+            float(each.get("x")),
+            float(each.get("y")),
+            each.text or "",
+            float(each.get("font-size")),
+            each.get("text-anchor", "start"),
+            each.get("font-weight") == "bold",
+            mono,
+        )
         boxes.append((each.text, box))
     return [(one[0], other[0]) for at, one in enumerate(boxes) for other in boxes[:at] if one[1].meets(other[1])]
 
@@ -46,4 +55,8 @@ def overlaps(root):
 def outside(root):
     """Texts that do not lie within the drawing."""
     width, height = float(root.get("width")), float(root.get("height"))
-    return [each.text for each in texts(root) if not (0 <= float(each.get("x")) <= width and 0 <= float(each.get("y")) <= height)]
+    return [
+        each.text
+        for each in texts(root)
+        if not (0 <= float(each.get("x")) <= width and 0 <= float(each.get("y")) <= height)
+    ]

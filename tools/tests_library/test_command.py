@@ -1,6 +1,7 @@
 """The command as a whole: forms of input, refusals, exit statuses, and that nothing ends in a traceback.
 
-From the repository's root, with the shared library built: python3 -B -m unittest discover -s tools/tests_library -p 'test_*.py'
+From the repository's root, with the shared library built: python3 -B -m unittest discover -s tools/tests_library -p
+'test_*.py'
 """
 
 import random
@@ -31,7 +32,14 @@ class Statuses(CommandTest):
         self.assertEqual(call("--version")[:2], (0, "wisavulome 0.1.0\n"))
 
     def test_usage(self):
-        for words in [[], ["fly"], ["run"], ["fit"], ["run", "--format", "xml", WORKED], ["sweep", WORKED, "--sets", "x"]]:
+        for words in [
+            [],
+            ["fly"],
+            ["run"],
+            ["fit"],
+            ["run", "--format", "xml", WORKED],
+            ["sweep", WORKED, "--sets", "x"],
+        ]:
             status, out, err = call(*words)
             self.assertEqual((status, out), (2, ""), words)
             self.assertTrue(err.startswith("wisavulome"), err)
@@ -53,7 +61,9 @@ class Statuses(CommandTest):
                 status, out, err = call(name, path, *more)
                 self.assertEqual((status, out, err), (2, "", f"wisavulome: {path} cannot be read: {why}\n"), name)
         status, out, err = self.shell('"$W" run - <&-')
-        self.assertEqual((status, out, err), (2, "", "wisavulome: standard input cannot be read: Bad file descriptor\n"))
+        self.assertEqual(
+            (status, out, err), (2, "", "wisavulome: standard input cannot be read: Bad file descriptor\n")
+        )
 
     def test_endless_input(self):
         status, out, err = call("run", "/dev/zero")
@@ -61,9 +71,22 @@ class Statuses(CommandTest):
         self.assertIn("/dev/zero has over 16777216 octets", err)
 
     def test_full_disk(self):
-        for words in ["run", "audit", "fit", "write --as text", "sweep --sets 3", "--help", "run --help", "draw", "capture", "wave"]:
+        for words in [
+            "run",
+            "audit",
+            "fit",
+            "write --as text",
+            "sweep --sets 3",
+            "--help",
+            "run --help",
+            "draw",
+            "capture",
+            "wave",
+        ]:
             status, _out, err = self.shell(f'"$W" {words} {"" if "help" in words else WORKED} >/dev/full')
-            self.assertEqual((status, err), (3, "wisavulome: standard output could not be written: No space left on device\n"), words)
+            self.assertEqual(
+                (status, err), (3, "wisavulome: standard output could not be written: No space left on device\n"), words
+            )
 
     def test_closed_output(self):
         status, _out, err = self.shell(f'"$W" run {WORKED} >&-')
@@ -72,16 +95,22 @@ class Statuses(CommandTest):
     def test_closed_pipe(self):
         """Nobody reads: no traceback, status 3."""
         for words in [f"run {WORKED}", f"fit {WORKED}", f"draw {WORKED}", "--help"]:
-            script = f'{{ sleep 0.3; "$W" {words}; echo $? >status; }} | true; sleep 0.1; while [ ! -s status ]; do sleep 0.1; done; cat status'
+            script = f'{{ sleep 0.3; "$W" {words}; echo $? >status; }} | true; '
+            script += "while [ ! -s status ]; do sleep 0.1; done; cat status"
             _status, out, err = self.shell(script)
             self.assertEqual((out, err), ("3\n", ""), words)
 
     def test_runinput(self):
         """The older script: a closed pipe, a full disk and a closed output end in no traceback either."""
         old = ROOT / "tools" / "runinput"
-        _status, out, err = self.shell(f'{{ sleep 0.3; {old} write <{WORKED}; echo $? >status; }} | true; sleep 0.3; cat status')
+        _status, out, err = self.shell(
+            f"{{ sleep 0.3; {old} write <{WORKED}; echo $? >status; }} | true; sleep 0.3; cat status"
+        )
         self.assertEqual((out, err), ("3\n", ""))
-        for way, why in [("/dev/full", "could not be written: No space left on device"), ("&-", "is closed: the output was not written")]:
+        for way, why in [
+            ("/dev/full", "could not be written: No space left on device"),
+            ("&-", "is closed: the output was not written"),
+        ]:
             status, _out, err = self.shell(f"{old} write <{WORKED} >{way}")
             self.assertEqual((status, err), (3, f"runinput: standard output {why}\n"))
 
@@ -144,7 +173,9 @@ class Forms(CommandTest):
         self.assertEqual(call("write", "--as", "octets", self.file("p.txt", as_text), "-o", back)[0], 0)
         self.assertEqual(back.read_bytes(), octets)
         sheet = call("write", "--as", "text", self.file("s.txt", SHEET))[1]
-        self.assertEqual(sheet, "station at 0   02:00:00:00:00:01  # station 0\nstation at 10  02:00:00:00:00:02  # station 1\n")
+        self.assertEqual(
+            sheet, "station at 0   02:00:00:00:00:01  # station 0\nstation at 10  02:00:00:00:00:02  # station 1\n"
+        )
 
     def test_shortest_sheet(self):
         """The library's to write: where it has no call for it, that is said."""
@@ -174,15 +205,40 @@ class Refusals(CommandTest):
         for octets, expected in [
             (worked[:9], "refused 3: the sheet is too short (ends before station 1 (N is 2), at octet 9)"),
             (b"\x40" + worked[1:], "refused 4: map bit 6 or 7 stands (map bit 6 stands, at octet 0)"),
-            (b"\x01\x00\x3f" + worked[1:], "refused 5: a field is out of its range (slot is 63, outside 64..512, at octet 1)"),
-            (b"\x04\x1f" + worked[1:], "refused 5: a field is out of its range (gap1 64 is over 2 x gap2 = 62, at octet 1)"),
+            (
+                b"\x01\x00\x3f" + worked[1:],
+                "refused 5: a field is out of its range (slot is 63, outside 64..512, at octet 1)",
+            ),
+            (
+                b"\x04\x1f" + worked[1:],
+                "refused 5: a field is out of its range (gap1 64 is over 2 x gap2 = 62, at octet 1)",
+            ),
             (b"\x00\x01" + worked[2:], "refused 6: the number of stations is outside 2..16 (N is 1, at octet 1)"),
-            (worked[:9] + b"\x00" + worked[10:], "refused 7: positions do not strictly rise (station 1 is at 0, not above 0, at octet 9)"),
-            (worked[:10] + b"\x03" + worked[11:], "refused 8: an address is a group's or repeats (the address of station 1 is a group's, at octet 10)"),
-            (worked[:15] + b"\x01" + worked[16:], "refused 8: an address is a group's or repeats (station 1 has the address of station 0, at octet 10)"),
-            (worked[:16] + b"\x11" + worked[17:], "refused 9: D is outside 1..16, or the draws are not N x D numbers (D is 17, at octet 16)"),
-            (worked[:20], "refused 9: D is outside 1..16, or the draws are not N x D numbers (ends in the draws of station 1 (D is 1), at octet 20)"),
-            (worked[:-4] + b"\xff" * 4, "refused 13: the clock would pass 16777216 (the bit times are 4294967295, at octet 145)"),
+            (
+                worked[:9] + b"\x00" + worked[10:],
+                "refused 7: positions do not strictly rise (station 1 is at 0, not above 0, at octet 9)",
+            ),
+            (
+                worked[:10] + b"\x03" + worked[11:],
+                "refused 8: an address is a group's or repeats (the address of station 1 is a group's, at octet 10)",
+            ),
+            (
+                worked[:15] + b"\x01" + worked[16:],
+                "refused 8: an address is a group's or repeats (station 1 has the address of station 0, at octet 10)",
+            ),
+            (
+                worked[:16] + b"\x11" + worked[17:],
+                "refused 9: D is outside 1..16, or the draws are not N x D numbers (D is 17, at octet 16)",
+            ),
+            (
+                worked[:20],
+                "refused 9: D is outside 1..16, or the draws are not N x D numbers "
+                "(ends in the draws of station 1 (D is 1), at octet 20)",
+            ),
+            (
+                worked[:-4] + b"\xff" * 4,
+                "refused 13: the clock would pass 16777216 (the bit times are 4294967295, at octet 145)",
+            ),
         ]:
             with self.subTest(expected):
                 self.assertEqual(self.refused(octets), expected)
@@ -208,7 +264,7 @@ class Refusals(CommandTest):
             octets = bytearray(worked)
             for _ in range(rng.randrange(1, 4)):
                 octets[rng.randrange(24)] = rng.choice([0, 1, 2, 17, 64, 128, 255])
-            inputs.append(bytes(octets[:rng.choice([len(octets), rng.randrange(len(octets))])]))
+            inputs.append(bytes(octets[: rng.choice([len(octets), rng.randrange(len(octets))])]))
         seen = set()
         for octets in inputs:
             try:
@@ -219,9 +275,14 @@ class Refusals(CommandTest):
         self.assertTrue(seen >= {3, 4, 5, 6, 7, 8, 9, 16}, seen)
 
     def test_text_lines(self):
-        self.assertEqual(self.refused("slot 70000\n" + PLAN), "line 1: slot 70000 is too wide for its field (at most 65535)")
-        self.assertEqual(self.refused("hello\n"), "line 1: 'hello' is no word that begins a line (slot, gap1, gap2, jam, "
-                         "attempt-limit, backoff-limit, D, station, offer, run)")
+        self.assertEqual(
+            self.refused("slot 70000\n" + PLAN), "line 1: slot 70000 is too wide for its field (at most 65535)"
+        )
+        self.assertEqual(
+            self.refused("hello\n"),
+            "line 1: 'hello' is no word that begins a line (slot, gap1, gap2, jam, "
+            "attempt-limit, backoff-limit, D, station, offer, run)",
+        )
         self.assertEqual(self.refused(TWO), "it has draws or offers but no 'run' line")
 
 
@@ -235,14 +296,20 @@ class NoTraceback(CommandTest):
             if at % 2:
                 content = bytes(rng.randrange(256) for _ in range(rng.randrange(200)))
             else:
-                content = " ".join(rng.choice([*words, "\n", "<svg>", "99999999999"]) for _ in range(rng.randrange(60))).encode()
+                content = " ".join(
+                    rng.choice([*words, "\n", "<svg>", "99999999999"]) for _ in range(rng.randrange(60))
+                ).encode()
             path = self.file("x", content)
             for name in COMMANDS:
                 self.assertIn(self.status(name, path), (0, 1, 2), (name, content))
 
     def status(self, name, path):
         """The status of a command, here in this process: what is no failure of ours is raised."""
-        more = {"windows": ["--entries", "/dev/null"], "sweep": ["--sets", "2", "--jobs", "1"], "write": ["--as", "text"]}.get(name, [])
+        more = {
+            "windows": ["--entries", "/dev/null"],
+            "sweep": ["--sets", "2", "--jobs", "1"],
+            "write": ["--as", "text"],
+        }.get(name, [])
         with open("/dev/null", "wb") as nothing:
             output = Standard(nothing.fileno())
             try:

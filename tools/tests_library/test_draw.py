@@ -38,13 +38,36 @@ class Sheets(CommandTest):
         self.assertGreater(seen, 40)
 
     def test_what_it_shows(self):
-        words = [each.text for each in parsed(call("draw", "--sheet", self.file("p", "jam 40\n" + THREE))[1]).iter(SVG + "text")]
-        for expected in ["at 0", "at 120", "at 200", "120", "80", "span S = 200 bit times", "02:00:00:00:00:02", "given", "default",
-                         "2 x S + G = 2 x 200 + 96 = 496, slot 512", "margin 16", "G = 64 + 32 = 96, 64 + jam = 104", "margin 8", "fit yes"]:
+        words = [
+            each.text
+            for each in parsed(call("draw", "--sheet", self.file("p", "jam 40\n" + THREE))[1]).iter(SVG + "text")
+        ]
+        for expected in [
+            "at 0",
+            "at 120",
+            "at 200",
+            "120",
+            "80",
+            "span S = 200 bit times",
+            "02:00:00:00:00:02",
+            "given",
+            "default",
+            "2 x S + G = 2 x 200 + 96 = 496, slot 512",
+            "margin 16",
+            "G = 64 + 32 = 96, 64 + jam = 104",
+            "margin 8",
+            "fit yes",
+        ]:
             self.assertIn(expected, words)
 
     def test_no_label_on_another(self):
-        positions = [range(16), range(240, 256), [0, 1, 2, 3, 60, 61, 62, 63, 120, 121, 180, 181, 200, 253, 254, 255], [0, 255], [0, 1]]
+        positions = [
+            range(16),
+            range(240, 256),
+            [0, 1, 2, 3, 60, 61, 62, 63, 120, 121, 180, 181, 200, 253, 254, 255],
+            [0, 255],
+            [0, 1],
+        ]
         positions += [[0, 1, 2, 3, 4, 5], [0, 1, 2, 3, 4, 5, 6], [0, 120, 121, 122, 255]]
         for each in positions:
             root = parsed(call("draw", "--sheet", self.file("p", plan_text(each, [], 10)))[1])
@@ -52,8 +75,13 @@ class Sheets(CommandTest):
 
     def test_damaged_drawing(self):
         drawing = call("draw", "--sheet", WORKED)[1]
-        for broken, why in [(drawing.replace("w:octets", "w:other"), "the drawing carries no sheet or plan of ours"),
-                            (drawing.replace("urn:wisavulome:octets\" form=\"sheet\">00", "urn:wisavulome:octets\" form=\"sheet\">0"), "are damaged")]:
+        for broken, why in [
+            (drawing.replace("w:octets", "w:other"), "the drawing carries no sheet or plan of ours"),
+            (
+                drawing.replace('urn:wisavulome:octets" form="sheet">00', 'urn:wisavulome:octets" form="sheet">0'),
+                "are damaged",
+            ),
+        ]:
             status, out, err = call("fit", self.file("d.svg", broken))
             self.assertEqual((status, out), (2, ""))
             self.assertIn(why, err)
@@ -67,10 +95,13 @@ class Runs(CommandTest):
     def attempts(self, root):
         """The bands of a drawing: station, first step, first jam step, step past the last."""
         groups = [each for each in root.iter(SVG + "g") if each.get("class") == "attempt"]
-        return [tuple(int(each.get(name)) for name in ("data-station", "data-start", "data-jam", "data-end")) for each in groups]
+        return [
+            tuple(int(each.get(name)) for name in ("data-station", "data-start", "data-jam", "data-end"))
+            for each in groups
+        ]
 
     def test_bands_are_what_is_emitted(self):
-        """On every stored case: the bands of the drawing against the library, step by step. Whoever emitted, and what reaches whom."""
+        """On every stored case the bands of the drawing against the library's steps: who emitted, what reaches whom."""
         seen = 0
         for name, octets in taken_cases(self.library):
             course, drawn = self.drawing(octets)
@@ -116,7 +147,9 @@ class Runs(CommandTest):
             for time in range(course.clock):
                 make_due(self.library, area, course.plan, time)
                 for station, hearing in enumerate(hearings):
-                    self.assertEqual(hearing.symbol(time), self.library.station(area, station).hears, (name, time, station))
+                    self.assertEqual(
+                        hearing.symbol(time), self.library.station(area, station).hears, (name, time, station)
+                    )
                 list(self.library.step(area))
 
     def test_shapes_are_the_bands(self):
@@ -128,7 +161,11 @@ class Runs(CommandTest):
         for group in parsed(drawn).iter(SVG + "g"):
             own = course.layout.taps[int(group.get("data-station"))].position
             start, end = int(group.get("data-start")), int(group.get("data-end"))
-            points = [tuple(map(float, each.split(","))) for shape in group.iter(SVG + "polygon") for each in shape.get("points").split()]
+            points = [
+                tuple(map(float, each.split(",")))
+                for shape in group.iter(SVG + "polygon")
+                for each in shape.get("points").split()
+            ]
             for x, y in points:
                 place = (x - LEFT) / ROOM * course.layout.span
                 time = (y - view.top) / view.scale - abs(place - own)
@@ -140,11 +177,18 @@ class Runs(CommandTest):
         self.assertTrue(course.ended_early)
         root = parsed(drawn)
         view = View(course.layout, 0, course.clock, None)
-        lowest = max(float(point.split(",")[1]) for each in root.iter(SVG + "polygon") for point in each.get("points").split())
+        lowest = max(
+            float(point.split(",")[1]) for each in root.iter(SVG + "polygon") for point in each.get("points").split()
+        )
         self.assertLessEqual(lowest, view.bottom + 0.01)
         self.assertTrue(all(end <= course.clock for _station, _start, _jam, end in self.attempts(root)))
-        self.assertIn(f"ended early at {course.clock}, after a late collision; 3000 bit times were asked", [each.text for each in root.iter(SVG + "text")])
-        self.assertEqual(sum(each.get("class") == "late" for each in root.iter(SVG + "path")), 2)  # the collision, and its place in the legend
+        self.assertIn(
+            f"ended early at {course.clock}, after a late collision; 3000 bit times were asked",
+            [each.text for each in root.iter(SVG + "text")],
+        )
+        self.assertEqual(
+            sum(each.get("class") == "late" for each in root.iter(SVG + "path")), 2
+        )  # the collision, and its place in the legend
 
     def test_marks(self):
         """Every event of the window has its mark, on every stored case."""
@@ -153,7 +197,9 @@ class Runs(CommandTest):
             course, drawn = self.drawing(octets)
             found = [each.get("class") for each in parsed(drawn).iter() if each.get("class")]
             for word, kind in classes.items():
-                self.assertEqual(found.count(kind), 1 + sum(event.word == word for event in course.events), (name, word))
+                self.assertEqual(
+                    found.count(kind), 1 + sum(event.word == word for event in course.events), (name, word)
+                )
 
     def test_lost_frame(self):
         course, drawn = self.drawing(stored("gap-one-over"))
@@ -163,7 +209,9 @@ class Runs(CommandTest):
     def test_no_label_on_another(self):
         for name, octets in [*taken_cases(self.library), ("one apart", ONE_APART), ("far apart", FAR_APART)]:
             if isinstance(octets, str):
-                octets = subprocess.run([str(TOOL), "write", "--as", "octets", "-"], input=octets.encode(), capture_output=True, check=True).stdout
+                octets = subprocess.run(
+                    [str(TOOL), "write", "--as", "octets", "-"], input=octets.encode(), capture_output=True, check=True
+                ).stdout
             root = parsed(self.drawing(octets)[1])
             self.assertEqual((overlaps(root), outside(root)), ([], []), name)
 
@@ -171,7 +219,9 @@ class Runs(CommandTest):
         octets = stored("case003")
         course, drawn = self.drawing(octets, "100:+300")
         for station, start, _jam, end in self.attempts(parsed(drawn)):
-            reach = max(course.layout.distance(station, 0), course.layout.distance(station, len(course.layout.taps) - 1))
+            reach = max(
+                course.layout.distance(station, 0), course.layout.distance(station, len(course.layout.taps) - 1)
+            )
             self.assertTrue(start < 400 and end + reach > 100)
         for words in ["5:5", "9:3", "99999999:", "x", "-5:9", "1", ":0", "5:x"]:
             status, out, err = call("draw", f"--window={words}", "-o", self.folder / "x.svg", STORED / "case003.in")
@@ -188,8 +238,15 @@ class Runs(CommandTest):
 
     def test_same_input_same_octets(self):
         for name in ["draw", "capture", "wave"]:
-            made = {subprocess.run([str(TOOL), name, str(WORKED)], env=dict(os.environ, PYTHONHASHSEED=str(seed)), capture_output=True, check=True).stdout
-                    for seed in (1, 2, 3)}
+            made = {
+                subprocess.run(
+                    [str(TOOL), name, str(WORKED)],
+                    env=dict(os.environ, PYTHONHASHSEED=str(seed)),
+                    capture_output=True,
+                    check=True,
+                ).stdout
+                for seed in (1, 2, 3)
+            }
             self.assertEqual(len(made), 1, name)
 
 
@@ -200,7 +257,11 @@ class Pictures(CommandTest):
         wing, pictures = ROOT / "docs" / "wing.txt", ROOT / "docs" / "pictures"
         rows = self.folder / "rows.csv"
         call("sweep", wing, "--rows", rows)
-        for name, words in [("sheet", ["--sheet", wing, "--title", "Wing 7"]), ("run", [wing, "--title", "Wing 7"]), ("sweep", [rows, "--title", "Wing 7"])]:
+        for name, words in [
+            ("sheet", ["--sheet", wing, "--title", "Wing 7"]),
+            ("run", [wing, "--title", "Wing 7", "--height", 900]),
+            ("sweep", [rows, "--title", "Wing 7"]),
+        ]:
             self.assertEqual(call("draw", *words)[1], (pictures / f"{name}.svg").read_text(), name)
 
 
@@ -216,8 +277,12 @@ class Sweeps(CommandTest):
             self.assertEqual(sum(int(each.get("data-count")) for each in bars), sent)
 
     def test_no_rows(self):
-        self.assertEqual(call("draw", self.file("r.csv", "sweep,set,offer,outcome,attempts,delay,got,lost,on-its-way\n"))[0], 2)
-        self.assertEqual(call("draw", self.file("r.csv", "sweep,set,offer,outcome,attempts,delay,got,lost,on-its-way\nx\n"))[0], 2)
+        self.assertEqual(
+            call("draw", self.file("r.csv", "sweep,set,offer,outcome,attempts,delay,got,lost,on-its-way\n"))[0], 2
+        )
+        self.assertEqual(
+            call("draw", self.file("r.csv", "sweep,set,offer,outcome,attempts,delay,got,lost,on-its-way\nx\n"))[0], 2
+        )
 
 
 STEP_OUT = table.buffer_of("step")

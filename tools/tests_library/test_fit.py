@@ -42,7 +42,10 @@ class Fit(CommandTest):
 
     def test_end_of_the_sheet(self):
         out = call("fit", self.sheet("gap1 0\ngap2 1\n", 200))[1]
-        self.assertIn("longest span: 255 (last tap at 255, the last position that a sheet can hold; it may move outward by 55)", out)
+        self.assertIn(
+            "longest span: 255 (last tap at 255, the last position that a sheet can hold; it may move outward by 55)",
+            out,
+        )
 
     def test_longest_span_is_the_library_s(self):
         """It fits exactly up to there, on every stored sheet."""
@@ -52,7 +55,7 @@ class Fit(CommandTest):
                 layout = self.library.read_sheet(octets)
             except Refused:
                 continue
-            sheet = octets[:layout.used]
+            sheet = octets[: layout.used]
             farthest = self.library.farthest_last_tap(sheet)
             for last in range(layout.taps[-2].position + 1, 256):
                 moved = sheet[:-7] + bytes([last]) + sheet[-6:]
@@ -97,7 +100,9 @@ class Fit(CommandTest):
         status, out, _err = call("fit", "--difference", one, other, "--csv")
         self.assertEqual(status, 1)
         table = [row[0] for row in csv.reader(io.StringIO(out))]
-        self.assertEqual(table, ["what", "jam", "02:00:00:00:00:02", "S", "slot-margin", "jam-margin", "longest-span", "fit"])
+        self.assertEqual(
+            table, ["what", "jam", "02:00:00:00:00:02", "S", "slot-margin", "jam-margin", "longest-span", "fit"]
+        )
         self.assertIn("jam,32 default,31 given\n", out)
         self.assertEqual(call("fit", "--difference", one, one)[:2], (0, f"{one} and {one} say the same\n"))
         self.assertEqual(call("fit", "--difference", one)[0], 2)

@@ -12,7 +12,11 @@ from common import STORED, TOOL, TWO, WORKED, CommandTest, call
 from wisavulome.sweep import hundredths, quantile
 
 OFFERS = [(0, 0), (0, 1), (9000, 0), (9005, 1)]
-PLAN = TWO + "".join(f"offer at {t} station {i} to station {1 - i} value length data 01\n" for t, i in OFFERS) + "run 40000\n"
+PLAN = (
+    TWO
+    + "".join(f"offer at {t} station {i} to station {1 - i} value length data 01\n" for t, i in OFFERS)
+    + "run 40000\n"
+)
 
 
 class Sweep(CommandTest):
@@ -62,7 +66,9 @@ class Sweep(CommandTest):
         self.assertRegex(last, rf"worst set \d+: 0 lost, 0 late, 0 given up, {held} held, longest delay {longest}$")
 
     def test_lost(self):
-        status, out, _err = call("sweep", STORED / "gap-one-over.in", "--all", "--below", 2, "--rows", self.folder / "rows.csv")
+        status, out, _err = call(
+            "sweep", STORED / "gap-one-over.in", "--all", "--below", 2, "--rows", self.folder / "rows.csv"
+        )
         self.assertEqual(status, 1)
         self.assertIn("worst set", out)
         self.assertTrue(any(int(row["lost"]) for row in self.rows()))
@@ -130,8 +136,17 @@ class Sweep(CommandTest):
         self.assertEqual((status, err), (2, "wisavulome: set 10, offer 1 is in none of the files\n"))
 
     def test_usage(self):
-        for words in [["--sets", 0], ["--only", "5"], ["--only", "5:3"], ["--only", "0:2000"], ["--below", 2], ["--all", "--sets", 4],
-                      ["--draws", 17], ["--jobs", -1], ["--plan-of", 1000]]:
+        for words in [
+            ["--sets", 0],
+            ["--only", "5"],
+            ["--only", "5:3"],
+            ["--only", "0:2000"],
+            ["--below", 2],
+            ["--all", "--sets", 4],
+            ["--draws", 17],
+            ["--jobs", -1],
+            ["--plan-of", 1000],
+        ]:
             status, out, err = call("sweep", self.plan, *words)
             self.assertEqual((status, out), (2, ""), words)
             self.assertTrue(err.startswith("wisavulome: "), err)
@@ -143,4 +158,6 @@ class Sweep(CommandTest):
     def test_numbers(self):
         self.assertEqual([quantile({1: 1, 5: 2, 9: 1}, part) for part in (0, 25, 50, 75, 76, 100)], [1, 1, 5, 5, 9, 9])
         self.assertIsNone(quantile({}, 50))
-        self.assertEqual([hundredths(1, 3), hundredths(2, 3), hundredths(5, 2), hundredths(0, 4)], ["0.33", "0.67", "2.50", "0.00"])
+        self.assertEqual(
+            [hundredths(1, 3), hundredths(2, 3), hundredths(5, 2), hundredths(0, 4)], ["0.33", "0.67", "2.50", "0.00"]
+        )

@@ -54,25 +54,55 @@ class Wave(CommandTest):
             own = fate.offer.station
             start = fate.attempts[-1].start
             bits = packet_bits(fate.frame)
-            self.assertEqual(values(changes[f"s{own}_tx_bit"], 0, end)[start:start + len(bits)], list(bits))
-            self.assertEqual(values(changes[f"s{other}_rx_bit"], 0, end)[start + 10:start + 10 + len(bits)], list(bits))
-            self.assertEqual(octets_of_bits(values(changes[f"s{other}_rx_bit"], 0, end)[start + 74:start + 10 + len(bits)]), fate.frame)
+            self.assertEqual(values(changes[f"s{own}_tx_bit"], 0, end)[start : start + len(bits)], list(bits))
+            self.assertEqual(
+                values(changes[f"s{other}_rx_bit"], 0, end)[start + 10 : start + 10 + len(bits)], list(bits)
+            )
+            self.assertEqual(
+                octets_of_bits(values(changes[f"s{other}_rx_bit"], 0, end)[start + 74 : start + 10 + len(bits)]),
+                fate.frame,
+            )
 
     def test_events_and_phases(self):
         for name in ["worked", "slot-one-over", "gap-one-over", "case048"]:
             course, text = self.whole(name)
             changes, end = read_wave(text)
             for station in range(len(course.layout.taps)):
-                own = {wire: values(changes[f"s{station}_{wire}"], 0, end) for wire in
-                       ("tx", "tx_bit", "tx_jam", "rx", "rx_many", "carrier", "collision", "late", "quiet", "busy", "gap")}
-                hits = [event.time for event in course.events if event.station == station and event.word in ("collision", "late")]
+                own = {
+                    wire: values(changes[f"s{station}_{wire}"], 0, end)
+                    for wire in (
+                        "tx",
+                        "tx_bit",
+                        "tx_jam",
+                        "rx",
+                        "rx_many",
+                        "carrier",
+                        "collision",
+                        "late",
+                        "quiet",
+                        "busy",
+                        "gap",
+                    )
+                }
+                hits = [
+                    event.time
+                    for event in course.events
+                    if event.station == station and event.word in ("collision", "late")
+                ]
                 self.assertEqual([time for time in range(end) if own["collision"][time]], hits, name)
                 for time in range(end):
                     self.assertEqual(own["quiet"][time] + own["busy"][time] + own["gap"][time], 1)
                     self.assertEqual(own["carrier"][time], int(own["rx"][time] or (time > 0 and own["tx"][time - 1])))
                     self.assertFalse((own["tx_bit"][time] or own["tx_jam"][time]) and not own["tx"][time], (name, time))
-            emits = [(attempt.station, time) for attempt in course.attempts for time in range(attempt.start, attempt.end)]
-            shown = [(s, t) for s in range(len(course.layout.taps)) for t, v in enumerate(values(changes[f"s{s}_tx"], 0, end)) if v]
+            emits = [
+                (attempt.station, time) for attempt in course.attempts for time in range(attempt.start, attempt.end)
+            ]
+            shown = [
+                (s, t)
+                for s in range(len(course.layout.taps))
+                for t, v in enumerate(values(changes[f"s{s}_tx"], 0, end))
+                if v
+            ]
             self.assertEqual(sorted(emits), shown, name)
 
     def test_rest_is_made_at_once(self):
