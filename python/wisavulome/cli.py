@@ -80,6 +80,7 @@ def main(words=None):
     """The command. Whatever happens it ends in one of the four statuses, and with no traceback."""
     output = Parser.output = Standard()
     hold_descriptors()
+    signal.signal(signal.SIGTERM, terminate)
     try:
         status = perform(sys.argv[1:] if words is None else words, output)
         output.flush()
@@ -93,7 +94,9 @@ def main(words=None):
     except MemoryError:
         return fail(output, "there is not enough memory", REFUSED)
     except KeyboardInterrupt:
-        return interrupted(output)
+        return end_by(signal.SIGINT, output)
+    except Terminated:
+        return end_by(signal.SIGTERM, output)
 
 
 def fail(output, message, status):
@@ -109,9 +112,18 @@ def fail(output, message, status):
     return status
 
 
-def interrupted(output):
+class Terminated(BaseException):
+    """The command is asked to end; files that are half written are taken away first."""
+
+
+def terminate(_number, _frame):
+    """The handler of that signal."""
+    raise Terminated
+
+
+def end_by(number, output):
     """Ends by the signal itself, as a shell expects."""
     output.kept.clear()
-    signal.signal(signal.SIGINT, signal.SIG_DFL)
-    os.kill(os.getpid(), signal.SIGINT)
+    signal.signal(number, signal.SIG_DFL)
+    os.kill(os.getpid(), number)
     return REFUSED

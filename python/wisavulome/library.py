@@ -48,24 +48,29 @@ BIT_TIME_NS = 100
 
 @dataclass(frozen=True)
 class Figure:
-    """An optional field of a sheet: its octets, its range, and what it is where it is absent."""
+    """An optional field of a sheet: its octets, its range, what it is where it is absent, and where
+    wisavulome_read_sheet writes it."""
 
     name: str
     octets: int
     least: int
     most: int
     absent: int
+    out_at: int
 
 
-# The one at place i follows if bit i of the map stands. wisavulome_read_sheet writes them in this order.
+# The one at place i follows if bit i of the map stands.
 FIGURES = (
-    Figure("slot", 2, 64, 512, 512),
-    Figure("gap1", 1, 0, 255, 64),
-    Figure("gap2", 1, 1, 255, 32),
-    Figure("jam", 1, 1, 64, 32),
-    Figure("attempt-limit", 1, 1, 16, 16),
-    Figure("backoff-limit", 1, 1, 10, 10),
+    Figure("slot", 2, 64, 512, 512, 0),
+    Figure("gap1", 1, 0, 255, 64, 4),
+    Figure("gap2", 1, 1, 255, 32, 8),
+    Figure("jam", 1, 1, 64, 32, 12),
+    Figure("attempt-limit", 1, 1, 16, 16, 16),
+    Figure("backoff-limit", 1, 1, 10, 10, 20),
 )
+
+# Where wisavulome_read_sheet writes N, whether the layout fits, and the stations: position, then address.
+COUNT_AT, FITS_AT, TAPS_AT, TAP_OCTETS = 24, 28, 32, 10
 
 # Event words by their code in a step's output; code 0 is no event.
 TRANSMIT = ("collision", "late", "sent", "given-up")
@@ -229,6 +234,11 @@ def words_of(octets):
     return struct.unpack(f">{len(octets) // WORD}I", octets)
 
 
+def word_at(octets, at):
+    """The number of an output that begins at an octet."""
+    return struct.unpack_from(">I", octets, at)[0]
+
+
 # ---- what calls answer
 
 
@@ -294,13 +304,10 @@ class StationState:
 
 def layout_of(octets, used):
     """The layout that wisavulome_read_sheet wrote."""
-    words = words_of(octets[: WORD * (len(FIGURES) + 2)])
-    figures = {figure.name: words[at] for at, figure in enumerate(FIGURES)}
-    count, fits = words[len(FIGURES) : len(FIGURES) + 2]
-    first = WORD * 8
-    places = [octets[first + 10 * i : first + 10 * i + 10] for i in range(count)]
-    taps = tuple(Tap(int.from_bytes(place[:WORD], "big"), place[WORD:]) for place in places)
-    return Layout(figures, taps, bool(fits), used)
+    figures = {figure.name: word_at(octets, figure.out_at) for figure in FIGURES}
+    places = [TAPS_AT + TAP_OCTETS * number for number in range(word_at(octets, COUNT_AT))]
+    taps = tuple(Tap(word_at(octets, at), octets[at + WORD : at + TAP_OCTETS]) for at in places)
+    return Layout(figures, taps, bool(word_at(octets, FITS_AT)), used)
 
 
 class Library:

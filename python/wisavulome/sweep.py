@@ -9,7 +9,7 @@ import multiprocessing
 import os
 import signal
 from collections import Counter
-from contextlib import closing
+from contextlib import suppress
 
 from . import text
 from .course import follow
@@ -47,8 +47,9 @@ FEW = 1 << 20  # sets that --all makes without --below
 GIVEN_UP = tuple(word for word in ENDINGS if word != "sent")
 CHUNK = 64  # sets that a process makes at a time
 QUANTILES = (("min", 0), ("median", 50), ("p95", 95), ("max", 100))
+OUTCOMES = (*ENDINGS, ENDS_RUN, "held", "refused", "not made")
 HEADER = (
-    ["offer", "time", "station", "to", "sent", "given-up", "late", "held", "refused", "not-made", "lost"]
+    ["offer", "time", "station", "to", *OUTCOMES, "lost"]
     + ["attempts-mean", "attempts-max"]
     + [f"delay-{name}" for name, _part in QUANTILES]
 )
@@ -205,19 +206,6 @@ def only_of(words, count):
 
 # ---- making rows
 
-WORKER = {}
-
-
-def begin_worker(sweep):
-    """Each process has its own library."""
-    signal.signal(signal.SIGINT, signal.SIG_IGN)
-    WORKER.update(sweep=sweep, library=Library())
-
-
-def make_chunk(numbers):
-    """The rows of some sets."""
-    return [row for number in numbers for row in rows_of(WORKER["library"], WORKER["sweep"], number)]
-
 
 def rows_of(library, sweep, number):
     """The rows of a set: one for each offer."""
@@ -257,17 +245,58 @@ def keep_rows(opened, path, made):
 
 
 def all_chunks(sweep, chunks, jobs):
-    """The rows of all chunks, in order, by one process or several."""
+    """The rows of all chunks, in order, by this process or by several. Process k makes the chunks k, k + jobs, ..."""
     if jobs < 0:
         raise Failure("--jobs is below 0")
     jobs = min(jobs or len(os.sched_getaffinity(0)), len(chunks))
     if jobs <= 1:
-        WORKER.update(sweep=sweep, library=Library())
-        yield from map(make_chunk, chunks)
+        library = Library()
+        yield from (chunk_rows(library, sweep, chunk) for chunk in chunks)
         return
-    pool = multiprocessing.get_context("fork").Pool(jobs, begin_worker, (sweep,))
-    with closing(pool), pool:
-        yield from pool.imap(make_chunk, chunks)
+    workers = [begin_worker(sweep, chunks[at::jobs]) for at in range(jobs)]
+    try:
+        for at in range(len(chunks)):
+            yield receive(workers[at % jobs][1])
+    finally:
+        for process, _end in workers:
+            process.terminate()
+        for process, _end in workers:
+            process.join()
+
+
+def chunk_rows(library, sweep, numbers):
+    """The rows of some sets."""
+    return [row for number in numbers for row in rows_of(library, sweep, number)]
+
+
+def begin_worker(sweep, chunks):
+    """A process that makes the rows of some chunks, and the end at which they are received."""
+    context = multiprocessing.get_context("fork")
+    here, there = context.Pipe(duplex=False)
+    process = context.Process(target=work, args=(sweep, chunks, there), daemon=True)
+    process.start()
+    there.close()
+    return process, here
+
+
+def work(sweep, chunks, there):
+    """What such a process does. An interrupt is for the first process, which ends this one."""
+    signal.signal(signal.SIGINT, signal.SIG_IGN)
+    signal.signal(signal.SIGTERM, signal.SIG_DFL)
+    library = Library()
+    with suppress(BrokenPipeError):
+        for chunk in chunks:
+            there.send(chunk_rows(library, sweep, chunk))
+
+
+def receive(end):
+    """The next rows of a process."""
+    try:
+        return end.recv()
+    except EOFError as why:
+        raise Failure(
+            "a process of the sweep was killed; with --rows the same command goes on where it stopped"
+        ) from why
 
 
 # ---- the table
@@ -345,10 +374,15 @@ class Tally:
 
     def columns(self):
         """The numbers of the table."""
-        words = ["sent", "given-up", "late", "held", "refused", "not made"]
         quantiles = [quantile(self.delays, part) for _name, part in QUANTILES]
         mean = hundredths(sum(n * times for n, times in self.attempts.items()), sum(self.attempts.values()))
-        return [*(self.outcomes[word] for word in words), self.lost, mean, max(self.attempts, default=None), *quantiles]
+        return [
+            *(self.outcomes[word] for word in OUTCOMES),
+            self.lost,
+            mean,
+            max(self.attempts, default=None),
+            *quantiles,
+        ]
 
     def is_bad(self):
         """Whether the offer came to a bad end in some set."""

@@ -29,8 +29,7 @@ WORDS = "|".join(EVENTS).encode()
 # An event, with its time, station and word; or another line of the run program, with none.
 ENTRY = re.compile(
     rb"^(?:([0-9]{1,99}) ([0-9]{1,99}) (%s) [0-9]+"
-    rb"|stations [0-9]+ fit (?:yes|no)|end [0-9]+|[0-9]+ [0-9]+ refused [0-9]+)\r?\n"
-    % WORDS,
+    rb"|stations [0-9]+ fit (?:yes|no)|end [0-9]+|[0-9]+ [0-9]+ refused [0-9]+)\r?\n" % WORDS,
     re.M,
 )
 ENTRY_FORM = struct.Struct(">IBB")

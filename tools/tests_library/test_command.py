@@ -132,6 +132,14 @@ class Statuses(CommandTest):
         self.assertEqual([path.name for path in self.folder.iterdir()], ["kept.svg"])
         self.assertEqual(target.read_text(), "before")
 
+    def test_terminated(self):
+        """Asked to end in the middle of writing: it ends by the signal, and no half file stays."""
+        offer = "offer at {} station 0 to station 1 value length data 1500 of 5a\n"
+        plan = self.file("p", TWO + "".join(offer.format(13000 * i) for i in range(9)) + "run 120000\n")
+        script = f"""timeout -s TERM 0.7 "$W" wave {plan} --vectors -o w.vcd; echo $?; ls -A"""
+        _status, out, err = self.shell(script)
+        self.assertEqual((out, err), ("124\np\n", ""))
+
     def test_missing_library(self):
         status, out, err = self.shell(f'WISAVULOME_LIBRARY=none "$W" run {WORKED}')
         self.assertEqual((status, out), (2, ""))

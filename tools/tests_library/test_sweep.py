@@ -107,12 +107,29 @@ class Sweep(CommandTest):
             while time.time() < until and not (rows.exists() and rows.stat().st_size > 5000):
                 time.sleep(0.01)
             os.killpg(running.pid, signal.SIGINT)
-            _out, err = running.communicate()
+            _out, err = running.communicate(timeout=60)
         self.assertEqual((running.returncode, err), (-signal.SIGINT, b""))
         begun = rows.stat().st_size
         done = call(*words[1:])
         self.assertGreater(rows.stat().st_size, begun)
         self.assertEqual(done, call("sweep", self.plan, "--sets", 4000))
+
+    def test_killed_worker(self):
+        """A process of the sweep is killed: that is said, nothing hangs, and the sweep goes on afterwards."""
+        rows = self.folder / "rows.csv"
+        words = [str(TOOL), "sweep", str(self.plan), "--sets", "4000", "--jobs", "2", "--rows", str(rows)]
+        with subprocess.Popen(words, stdout=subprocess.PIPE, stderr=subprocess.PIPE) as running:
+            until = time.time() + 30
+            while time.time() < until and not (rows.exists() and rows.stat().st_size > 5000):
+                time.sleep(0.01)
+            children = subprocess.run(
+                ["ps", "-o", "pid=", "--ppid", str(running.pid)], capture_output=True, check=True
+            ).stdout
+            os.kill(int(children.split()[0]), signal.SIGKILL)
+            _out, err = running.communicate(timeout=60)
+        self.assertEqual(running.returncode, 2)
+        self.assertIn(b"a process of the sweep was killed", err)
+        self.assertEqual(call(*words[1:]), call("sweep", self.plan, "--sets", 4000))
 
     def test_rows_of_another_sweep(self):
         rows = self.folder / "rows.csv"
