@@ -15,6 +15,7 @@ COLOURS = (
     "#6b8e23", "#a0522d", "#4169e1", "#b03060", "#20855a", "#7d3c98", "#cd6600", "#2f4f4f",
 )  # fmt: skip
 STEPS = (1, 2, 5)
+CLOSE = 90  # points between two stations
 AT_TAP = 5  # up to this many stations have their addresses above their lines
 
 
@@ -222,6 +223,12 @@ def kind_of(word):
     return {"sent": "sent", "refused": "refused"}.get(word, "given-up")
 
 
+def is_crowded(view):
+    """Whether a label alone does not show whose it is: many stations, or two close to each other."""
+    places = [view.x(tap.position) for tap in view.layout.taps]
+    return len(places) > AT_TAP or min(b - a for a, b in zip(places, places[1:])) < CLOSE
+
+
 def draw_marks(svg, view, marks):
     """All marks, then their labels where there is room; answers how many labels were left out."""
     for time, station, kind, words in marks:
@@ -230,7 +237,7 @@ def draw_marks(svg, view, marks):
         svg.taken.append(Box(x - 5, y - 5, x + 5, y + 5))
     limits = Box(4, view.top - 6, svg.width - 4, view.bottom + 10)
     left_out = 0
-    many = len(view.layout.taps) > AT_TAP  # then a label tells its station, and has its colour
+    many = is_crowded(view)  # then a label tells its station, and has its colour
     for time, station, kind, words in marks:
         words = f"{time} {station} {words}" if many else f"{time} {words}"
         x, y = view.x(view.layout.taps[station].position), view.y(time)

@@ -203,7 +203,7 @@ class Runs(CommandTest):
 
     def test_lost_frame(self):
         course, drawn = self.drawing(stored("gap-one-over"))
-        self.assertIn("709 lost, offer 2", [each.text for each in parsed(drawn).iter(SVG + "text")])
+        self.assertIn("709 0 lost, offer 2", [each.text for each in parsed(drawn).iter(SVG + "text")])
         self.assertEqual(len(course.fates), 3)
 
     def test_no_label_on_another(self):
