@@ -34,7 +34,7 @@ class Source:
 
 def shown(path):
     """A file's name for people."""
-    return "standard input" if path == "-" else str(path)
+    return "standard input" if path == "-" else str(path) or "''"
 
 
 def open_file(path):

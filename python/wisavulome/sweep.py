@@ -95,11 +95,11 @@ class Sweep:
             raise Failure("--all and --sets exclude each other")
         sets = self.below ** (len(self.plan.stations) * self.depth) if self.every else arguments.sets
         sets = 1000 if sets is None else sets
-        if not 1 <= sets <= (FEW if self.every and arguments.below is None else MOST_SETS):
+        most = FEW if self.every and arguments.below is None else MOST_SETS
+        if not 1 <= sets <= most:
             known = str(sets) if sets < 10**18 else f"over 10^{len(str(sets)) - 1}"
-            raise Failure(
-                f"{known} sets are not between 1 and what can be made; --below and --draws make --all smaller"
-            )
+            smaller = "; --below and --draws make them fewer" if self.every else ""
+            raise Failure(f"there are {known} sets, and must be 1 to {most}{smaller}")
         return sets
 
     def key_of(self):
