@@ -15,6 +15,7 @@ from pathlib import Path
 SONAME = "libwisavulome.so.1"
 VARIABLE = "WISAVULOME_LIBRARY"
 
+AREA_FORMAT = 1
 REFUSAL = 0x80000000
 WORD = 4  # octets of a number in an output
 
@@ -218,7 +219,7 @@ def as_arguments(kinds, values):
     """The C arguments for values: octets and buffers with their lengths."""
     for kind, value in zip(kinds, values):
         if kind in ("slice", "buffer"):
-            yield ctypes.cast(value, ctypes.c_char_p) if kind == "buffer" else value
+            yield ctypes.cast(value, ctypes.c_char_p) if kind == "buffer" else bytes(value)
             yield len(value)
         else:
             yield value

@@ -221,10 +221,9 @@ def make_rows(sweep, rows, arguments, summary):
     for row in rows.there:
         summary.add(row)
     numbers = range(rows.first + len(rows.there) // rows.offers, rows.past)
-    chunks = [numbers[at : at + CHUNK] for at in range(0, len(numbers), CHUNK)]
     with progress("set", len(numbers)) as shown:
         try:
-            for at, made in enumerate(all_chunks(sweep, chunks, arguments.jobs)):
+            for at, made in enumerate(all_chunks(sweep, numbers, arguments.jobs)):
                 shown.at(at * CHUNK)
                 keep_rows(opened, arguments.rows, made)
                 for row in made:
@@ -244,18 +243,22 @@ def keep_rows(opened, path, made):
         raise Failure(f"{path} could not be written: {why.strerror}", UNWRITTEN) from why
 
 
-def all_chunks(sweep, chunks, jobs):
-    """The rows of all chunks, in order, by this process or by several. Process k makes the chunks k, k + jobs, ..."""
+def all_chunks(sweep, numbers, jobs):
+    """The rows of all sets, chunk by chunk, in order, by this process or by several.
+
+    Process k makes the chunks k, k + jobs, ... A chunk is known by its first set.
+    """
     if jobs < 0:
         raise Failure("--jobs is below 0")
-    jobs = min(jobs or len(os.sched_getaffinity(0)), len(chunks))
+    starts = numbers[::CHUNK]
+    jobs = min(jobs or len(os.sched_getaffinity(0)), len(starts))
     if jobs <= 1:
         library = Library()
-        yield from (chunk_rows(library, sweep, chunk) for chunk in chunks)
+        yield from (chunk_rows(library, sweep, start, numbers.stop) for start in starts)
         return
-    workers = [begin_worker(sweep, chunks[at::jobs]) for at in range(jobs)]
+    workers = [begin_worker(sweep, starts[at::jobs], numbers.stop) for at in range(jobs)]
     try:
-        for at in range(len(chunks)):
+        for at in range(len(starts)):
             yield receive(workers[at % jobs][1])
     finally:
         for process, _end in workers:
@@ -264,29 +267,29 @@ def all_chunks(sweep, chunks, jobs):
             process.join()
 
 
-def chunk_rows(library, sweep, numbers):
-    """The rows of some sets."""
-    return [row for number in numbers for row in rows_of(library, sweep, number)]
+def chunk_rows(library, sweep, start, past):
+    """The rows of the sets of a chunk."""
+    return [row for number in range(start, min(start + CHUNK, past)) for row in rows_of(library, sweep, number)]
 
 
-def begin_worker(sweep, chunks):
+def begin_worker(sweep, starts, past):
     """A process that makes the rows of some chunks, and the end at which they are received."""
     context = multiprocessing.get_context("fork")
     here, there = context.Pipe(duplex=False)
-    process = context.Process(target=work, args=(sweep, chunks, there), daemon=True)
+    process = context.Process(target=work, args=(sweep, starts, past, there), daemon=True)
     process.start()
     there.close()
     return process, here
 
 
-def work(sweep, chunks, there):
+def work(sweep, starts, past, there):
     """What such a process does. An interrupt is for the first process, which ends this one."""
     signal.signal(signal.SIGINT, signal.SIG_IGN)
     signal.signal(signal.SIGTERM, signal.SIG_DFL)
     library = Library()
     with suppress(BrokenPipeError):
-        for chunk in chunks:
-            there.send(chunk_rows(library, sweep, chunk))
+        for start in starts:
+            there.send(chunk_rows(library, sweep, start, past))
 
 
 def receive(end):
