@@ -1,6 +1,7 @@
 """`wisavulome draw`: structure of the drawings; bands held against stepped emissions."""
 
 import os
+import random
 import struct
 import subprocess
 
@@ -8,6 +9,7 @@ from common import ROOT, STORED, TOOL, WORKED, CommandTest, call, stored, stored
 from shapes import FAR_APART, ONE_APART, SVG, THREE, outside, overlaps, parsed, plan_text
 
 from wisavulome import library as table
+from wisavulome import text
 from wisavulome.course import advance_to, follow, make_due
 from wisavulome.draw_run import LEFT, ROOM, View, draw_run
 from wisavulome.heard import Hearing
@@ -113,6 +115,44 @@ class Runs(CommandTest):
             self.assertTrue(self.stepped(course, octets, emits), name)
             seen += 1
         self.assertGreater(seen, 40)
+
+    def test_bands_of_made_up_plans(self):
+        """The same on plans made up here, on pairs that fit or not, cut off at any step."""
+        rng = random.Random(11)
+        words = set()
+        for _ in range(150):
+            plan = text.Plan(self.some_figures(rng))
+            positions = sorted(rng.sample(range(256), rng.randrange(2, 6)))
+            for number, position in enumerate(positions):
+                draws = [rng.randrange(8) for _ in range(3)]
+                plan.stations.append(text.Station(position, bytes([2, 0, 0, 0, 0, number + 1]), draws))
+            plan.depth = 3
+            for time in sorted(rng.randrange(400) for _ in range(rng.randrange(2, 8))):
+                data = bytes(rng.randrange(256) for _ in range(rng.randrange(60)))
+                station = rng.randrange(len(positions))
+                plan.offers.append(text.Offer(time, station, text.BROADCAST, len(data), len(data), data))
+            plan.run = rng.randrange(200, 3000)
+            octets = text.encode(plan)
+            course, drawn = self.drawing(octets)
+            words.update(event.word for event in course.events)
+            emits = [bytearray(course.clock) for _tap in course.layout.taps]
+            for station, start, jam, end in self.attempts(parsed(drawn)):
+                for time in range(start, end):
+                    emits[station][time] = 1 if time < jam else 2
+            self.assertTrue(self.stepped(course, octets, emits), octets.hex())
+        self.assertTrue(words >= {"collision", "late", "sent", "got ok"}, words)
+
+    def some_figures(self, rng):
+        """Figures within their ranges."""
+        gap2 = rng.randrange(1, 60)
+        return {
+            "slot": rng.randrange(64, 513),
+            "gap1": rng.randrange(2 * gap2),
+            "gap2": gap2,
+            "jam": rng.randrange(1, 65),
+            "attempt-limit": rng.randrange(1, 5),
+            "backoff-limit": rng.randrange(1, 4),
+        }
 
     def stepped(self, course, octets, emits):
         """Steps the plan: 'emitted' of each station, and jam or packet bits where one alone is heard."""
