@@ -257,7 +257,10 @@ class Shown(unittest.TestCase):
     def test_escape(self):
         drawing = svg.Svg(10)
         drawing.text(1, 1, 'a<b & "c"')
-        self.assertIn("a&lt;b &amp;", drawing.finished(5, "<t>", b"\x00\xff", "sheet"))
+        made = drawing.finished(5, "<t>", b"\x00\xff", "sheet")
+        self.assertIn("a&lt;b &amp;", made)
+        self.assertIn("<title>&lt;t&gt;</title>", made)
+        self.assertIn(">00ff</w:octets>", made)
 
     def test_collect(self):
         """Bits after the first 10101011; a spoiled symbol before it breaks the row, after it is a 0."""

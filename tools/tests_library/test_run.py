@@ -106,6 +106,11 @@ class Several(CommandTest):
         rows = list(csv.DictReader(io.StringIO(call("run", WORKED, WORKED, "--format", "csv")[1])))
         self.assertEqual(({row["plan"] for row in rows}, len(rows)), ({str(WORKED)}, 16))
 
+    def test_one_refused_prints_nothing(self):
+        for words in [["run", "--format", "csv"], ["audit", "--format", "csv"], ["run"], ["audit"]]:
+            status, out, err = call(*words, STORED / "case002.in")
+            self.assertEqual((status, out, err.count("refused 3")), (2, "", 1), words)
+
     def test_audit(self):
         rows = list(
             csv.DictReader(io.StringIO(call("audit", WORKED, STORED / "gap-one-over.in", "--format", "csv")[1]))

@@ -28,11 +28,12 @@ class Sweep(CommandTest):
         return list(csv.DictReader(io.StringIO((self.folder / name).read_text())))
 
     def test_reproducible(self):
-        first = call("sweep", self.plan, "--sets", 50, "--rows", self.folder / "a.csv", "--jobs", 1)
-        again = call("sweep", self.plan, "--sets", 50, "--rows", self.folder / "b.csv", "--jobs", 3)
+        first = call("sweep", self.plan, "--sets", 500, "--rows", self.folder / "a.csv", "--jobs", 1)
+        again = call("sweep", self.plan, "--sets", 500, "--rows", self.folder / "b.csv", "--jobs", 3)
         self.assertEqual(first, again)
+        self.assertEqual((first[0], first[1].splitlines()[0]), (0, "sets 500"))
         self.assertEqual((self.folder / "a.csv").read_bytes(), (self.folder / "b.csv").read_bytes())
-        other = call("sweep", self.plan, "--sets", 50, "--seed", 2, "--rows", self.folder / "c.csv")
+        other = call("sweep", self.plan, "--sets", 500, "--seed", 2, "--rows", self.folder / "c.csv")
         self.assertNotEqual(first[1], other[1])
 
     def test_rows_are_runs(self):
