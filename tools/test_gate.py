@@ -26,7 +26,9 @@ class Gate(unittest.TestCase):
     def run_gate(self, fails="none", kit="rt version"):
         with tempfile.TemporaryDirectory() as folder:
             root = Path(folder)
-            for name in [".ci/run", "bin/rt", "bin/cargo", "bin/python3", "tools/check-index"]:
+            programs = [f"bin/{name}" for name in ("rt", "cargo", "python3", "make")]
+            scripts = [f"tools/{name}" for name in ("check-index", "check-interface")]
+            for name in [".ci/run", *programs, *scripts]:
                 (root / name).parent.mkdir(parents=True, exist_ok=True)
                 (root / name).write_text(STAND_IN)
                 (root / name).chmod(0o755)
@@ -45,7 +47,9 @@ class Gate(unittest.TestCase):
         self.assertLess(lines.index("rt ci"), lines.index("rt staticlib capi"))
 
     def test_failures(self):
-        for part in ["rt fmt", "cargo fmt", "python3", "check-index", "rt ci", "rt staticlib", "cargo test"]:
+        parts = ["rt fmt", "cargo fmt", "python3", "check-index", "rt ci", "rt staticlib", "cargo test", "make --silent library"]
+        parts += ["check-interface", "python3 -B -m unittest discover -s tools/tests_library", "make --silent check-install"]
+        for part in parts:
             with self.subTest(part):
                 status, lines, left = self.run_gate(fails=part)
                 self.assertNotEqual(status, 0)

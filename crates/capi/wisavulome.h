@@ -1,7 +1,10 @@
 /* Wisavulome: a proved model of contention on one pair (CSMA/CD, bit time by bit time). The C interface.
  *
- * Link with libcapi.a (`rt staticlib capi` writes target/staticlib/libcapi.a). wisavulome.rs, beside this file, declares the same
- * functions for Rust: a change to one is made in both.
+ * Link with libwisavulome (`make install`), or with libcapi.a (`rt staticlib capi` writes target/staticlib/libcapi.a). wisavulome.rs, beside
+ * this file, declares the same functions for Rust: a change to one is made in both, and tools/check-interface compares them.
+ *
+ * C89, C++17 and later take this file. Between the two lines "declarations" stand only numbers and prototypes: cffi's parser takes that
+ * part, which `make install` puts beside this file as wisavulome.cdef.
  *
  * Every function returns one number of 32 bits. 0x80000000 + n is refusal n, anything below is the answer (wisavulome_crc32: all 32 bits
  * are the answer). With a refusal every lent buffer keeps what it held. No call keeps a pointer, allocates or fails in any other way: any
@@ -26,6 +29,14 @@
 #ifdef __cplusplus
 extern "C" {
 #endif
+
+/* ---- declarations begin */
+
+/* the version of this interface; the area format changes where a work area of one version is not one of the other */
+#define WISAVULOME_VERSION_MAJOR 0
+#define WISAVULOME_VERSION_MINOR 1
+#define WISAVULOME_VERSION_PATCH 0
+#define WISAVULOME_AREA_FORMAT 1
 
 /* set in a reply that is a refusal; the other bits are its number */
 #define WISAVULOME_REFUSAL 0x80000000u
@@ -155,6 +166,8 @@ uint32_t wisavulome_print(const uint8_t *input, size_t input_len, uint8_t *area,
 
 /* The CRC-32 of octets: all 32 bits are the answer. That of "123456789" is 0xCBF43926. */
 uint32_t wisavulome_crc32(const uint8_t *payload, size_t payload_len);
+
+/* ---- declarations end */
 
 #ifdef __cplusplus
 }

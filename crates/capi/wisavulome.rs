@@ -1,15 +1,57 @@
 // Wisavulome: a proved model of contention on one pair (CSMA/CD, bit time by bit time). The C interface, declared for Rust.
 //
 // wisavulome.h, beside this file, declares the same functions for C and says what each answers, refuses and writes: a change to one is made
-// in both. Link with libcapi.a (`rt staticlib capi`). A slice is a pointer, never null, and its length in octets.
+// in both, and tools/check-interface compares them. Link with libwisavulome (`make install`) or libcapi.a (`rt staticlib capi`). A slice is
+// a pointer, never null, and its length in octets.
+//
+// Take it in with `#[path = "wisavulome.rs"] mod wisavulome;`. Editions 2021 and 2024, Rust 1.82 or later, with or without std. The safe
+// functions over slices stand at the end: `Ok` is the answer, `Err` the number of the refusal.
+
+// The version of this interface; the area format changes where a work area of one version is not one of the other.
+pub const VERSION_MAJOR: u32 = 0;
+pub const VERSION_MINOR: u32 = 1;
+pub const VERSION_PATCH: u32 = 0;
+pub const AREA_FORMAT: u32 = 1;
 
 // Set in a reply that is a refusal; the other bits are its number.
 pub const REFUSAL: u32 = 0x8000_0000;
 
-// The octets of a work area.
+// The octets of a work area, of what the calls write into `out`, and of where a run stands.
 pub const AREA: usize = 57344;
+pub const SHEET_OUT: usize = 192;
+pub const CLIENT_OUT: usize = 8;
+pub const STEP_OUT: usize = 256;
+pub const RUN_OUT: usize = 48;
+pub const COUNTERS_OUT: usize = 64;
+pub const FRAME_OUT: usize = 1518;
+pub const PLAN_OUT: usize = 212;
+pub const PIECE_OUT: usize = 2048;
+pub const PROGRESS: usize = 16;
 
-extern "C" {
+// The statuses of a frame.
+pub const FRAGMENT: u32 = 0;
+pub const FRAME_TOO_LONG: u32 = 1;
+pub const FRAME_CHECK_ERROR: u32 = 2;
+pub const ALIGNMENT_ERROR: u32 = 3;
+pub const LENGTH_ERROR: u32 = 4;
+pub const RECEIVE_OK: u32 = 5;
+
+// Transmit events: collision and late with the bit, sent and given-up with the attempts.
+pub const NO_TRANSMIT: u32 = 0;
+pub const COLLISION: u32 = 1;
+pub const LATE: u32 = 2;
+pub const SENT: u32 = 3;
+pub const GIVEN_UP: u32 = 4;
+
+// Receive events: ok with the octets of client data, the others with the whole octets collected.
+pub const NO_RECEIVE: u32 = 0;
+pub const GOT_OK: u32 = 1;
+pub const GOT_TOO_LONG: u32 = 2;
+pub const GOT_ALIGNMENT: u32 = 3;
+pub const GOT_CHECK: u32 = 4;
+pub const GOT_LENGTH: u32 = 5;
+
+unsafe extern "C" {
     // The octets used; refusals 3 to 8, 15. out: 8 words, then 16 places of 10 octets.
     pub fn wisavulome_read_sheet(sheet: *const u8, sheet_len: usize, out: *mut u8, out_len: usize) -> u32;
 
@@ -119,4 +161,128 @@ extern "C" {
 
     // The CRC-32, all 32 bits.
     pub fn wisavulome_crc32(payload: *const u8, payload_len: usize) -> u32;
+}
+
+// The safe functions. SAFETY, for every call below: pointer and length come from one live slice, `&mut` for what the callee writes, and
+// the callee keeps neither past its return.
+
+/// The answer of a reply, or the number of the refusal.
+pub type Answer = Result<u32, u32>;
+
+fn answer(reply: u32) -> Answer {
+    if reply < REFUSAL {
+        Ok(reply)
+    } else {
+        Err(reply - REFUSAL)
+    }
+}
+
+pub fn read_sheet(sheet: &[u8], out: &mut [u8]) -> Answer {
+    answer(unsafe { wisavulome_read_sheet(sheet.as_ptr(), sheet.len(), out.as_mut_ptr(), out.len()) })
+}
+
+pub fn fits(sheet: &[u8]) -> Answer {
+    answer(unsafe { wisavulome_fits(sheet.as_ptr(), sheet.len()) })
+}
+
+pub fn check_layout(layout: &[u8]) -> Answer {
+    answer(unsafe { wisavulome_check_layout(layout.as_ptr(), layout.len()) })
+}
+
+pub fn read_plan(input: &[u8], out: &mut [u8]) -> Answer {
+    answer(unsafe { wisavulome_read_plan(input.as_ptr(), input.len(), out.as_mut_ptr(), out.len()) })
+}
+
+pub fn build(destination: u64, source: u64, value: u16, payload: &[u8], out: &mut [u8]) -> Answer {
+    answer(unsafe {
+        wisavulome_build(destination, source, value, payload.as_ptr(), payload.len(), out.as_mut_ptr(), out.len())
+    })
+}
+
+pub fn status(frame: &[u8], excess: u32) -> Answer {
+    answer(unsafe { wisavulome_status(frame.as_ptr(), frame.len(), excess) })
+}
+
+pub fn reception_status(frame: &[u8], excess: u32, spoiled: u32) -> Answer {
+    answer(unsafe { wisavulome_reception_status(frame.as_ptr(), frame.len(), excess, spoiled) })
+}
+
+pub fn client_data(frame: &[u8], excess: u32, out: &mut [u8]) -> Answer {
+    answer(unsafe { wisavulome_client_data(frame.as_ptr(), frame.len(), excess, out.as_mut_ptr(), out.len()) })
+}
+
+pub fn start(area: &mut [u8], sheet: &[u8], depth: u32, draws: &[u8]) -> Answer {
+    answer(unsafe {
+        wisavulome_start(area.as_mut_ptr(), area.len(), sheet.as_ptr(), sheet.len(), depth, draws.as_ptr(), draws.len())
+    })
+}
+
+pub fn check_area(area: &[u8]) -> Answer {
+    answer(unsafe { wisavulome_check_area(area.as_ptr(), area.len()) })
+}
+
+pub fn offer(area: &mut [u8], station: u32, destination: u64, value: u16, payload: &[u8]) -> Answer {
+    answer(unsafe {
+        wisavulome_offer(area.as_mut_ptr(), area.len(), station, destination, value, payload.as_ptr(), payload.len())
+    })
+}
+
+pub fn step(area: &mut [u8], out: &mut [u8]) -> Answer {
+    answer(unsafe { wisavulome_step(area.as_mut_ptr(), area.len(), out.as_mut_ptr(), out.len()) })
+}
+
+pub fn run(area: &mut [u8], n: u32, out: &mut [u8]) -> Answer {
+    answer(unsafe { wisavulome_run(area.as_mut_ptr(), area.len(), n, out.as_mut_ptr(), out.len()) })
+}
+
+pub fn run_stepwise(area: &mut [u8], n: u32, out: &mut [u8]) -> Answer {
+    answer(unsafe { wisavulome_run_stepwise(area.as_mut_ptr(), area.len(), n, out.as_mut_ptr(), out.len()) })
+}
+
+pub fn read_frame(area: &[u8], station: u32, out: &mut [u8]) -> Answer {
+    answer(unsafe { wisavulome_read_frame(area.as_ptr(), area.len(), station, out.as_mut_ptr(), out.len()) })
+}
+
+pub fn counters(area: &[u8], station: u32, out: &mut [u8]) -> Answer {
+    answer(unsafe { wisavulome_counters(area.as_ptr(), area.len(), station, out.as_mut_ptr(), out.len()) })
+}
+
+pub fn begin(input: &[u8], area: &mut [u8], progress: &mut [u8], out: &mut [u8]) -> Answer {
+    answer(unsafe {
+        wisavulome_begin(
+            input.as_ptr(),
+            input.len(),
+            area.as_mut_ptr(),
+            area.len(),
+            progress.as_mut_ptr(),
+            progress.len(),
+            out.as_mut_ptr(),
+            out.len(),
+        )
+    })
+}
+
+pub fn advance(input: &[u8], area: &mut [u8], progress: &mut [u8], out: &mut [u8]) -> Answer {
+    answer(unsafe {
+        wisavulome_advance(
+            input.as_ptr(),
+            input.len(),
+            area.as_mut_ptr(),
+            area.len(),
+            progress.as_mut_ptr(),
+            progress.len(),
+            out.as_mut_ptr(),
+            out.len(),
+        )
+    })
+}
+
+pub fn print(input: &[u8], area: &mut [u8], out: &mut [u8]) -> Answer {
+    answer(unsafe {
+        wisavulome_print(input.as_ptr(), input.len(), area.as_mut_ptr(), area.len(), out.as_mut_ptr(), out.len())
+    })
+}
+
+pub fn crc32(payload: &[u8]) -> u32 {
+    unsafe { wisavulome_crc32(payload.as_ptr(), payload.len()) }
 }

@@ -179,8 +179,8 @@ fn bit_code(frame: &[u8], k: usize) -> u8
 
 // ---- symbols put: codes are noted once for an emitter, and put on each line that they are on their way to
 
-// The codes of the last of `steps` bits, 256 at most, of the packet that carries the frame of station i, from bit k on; they
-// end at place `at` + 256.
+// The codes of the last of `steps` bits, 256 at most, of the packet that carries the frame of station i, from bit k on.
+// They end at place `at` + 256.
 pub fn note_bits(
     area: &[u8],
     i: usize,
@@ -240,7 +240,7 @@ fn put_row(area: &mut [u8], j: usize, u: usize, codes: &[u8], at: usize, n: usiz
     }
 }
 
-// A station at distance d emits in `steps` steps from t on what the codes say that end at place `at` + 256: those symbols
+// A station at distance d emits in `steps` steps from t on what the codes say that end at place `at` + 256: the symbols
 // that are still on their way then are put on the line of station j.
 pub fn push_codes(
     area: &mut [u8],

@@ -166,8 +166,8 @@ fn settle_line(
     push_all(area, n, j, t, steps, from, codes);
 }
 
-// The lines of all n stations after so many steps from t on in which each emits what `from` says; `codes` has 256 places for
-// each of them.
+// The lines of all n stations after so many steps from t on in which each emits what `from` says; `codes` has 256
+// places for each of them.
 fn settle_with(
     area: &mut [u8],
     n: usize,

@@ -82,8 +82,7 @@ fn line_octet(area: &[u8], j: usize, u: usize) -> u32
     low + 16 * high
 }
 
-// Station j, which collects, hears eight clean bits of its line from step u on, where an octet begins; else no step, and at
-// most m.
+// Station j, which collects, hears eight clean bits of its line from step u on, of m, where an octet begins; else none.
 fn collect_eight(
     area: &mut [u8],
     j: usize,
