@@ -37,9 +37,9 @@ use Rattle.fast_plan.specs.Plan.{hears}
 use Rattle.fast_plan.specs.Goes.{wentTo}
 use Rattle.fast_plan.specs.Calm.{Calm, calm-none, calm-then}
 use Rattle.fast_silence.specs.Rested.{restedDeference, restedTransmitter, Lasts, Idle}
-use Rattle.fast_station.specs.Forms.{made, heardDeference, heardRest, hearOn, calmed, restOn, emittedAt, emitsFor, emitOn}
+use Rattle.fast_station.specs.Forms.{made, heardDeference, heardRest, hearOn, restOn, emittedAt, emitsFor, emitOn}
 use Rattle.fast_station.specs.FormLaws.{hear-address}
-use Rattle.fast_receive.specs.Received.{receivedBy, keptBy, AllHeard, mayReport}
+use Rattle.fast_receive.specs.Received.{receivedBy, keptBy, AllHeard, mayReport, calmed}
 use Rattle.fast_receive.specs.ReceivedLaws.{received-none, received-step, kept-by, received-range, received-fits}
 use Rattle.fast_receive.specs.EndLaws.{may-few, silent-ends, silent-still}
 use Rattle.fast_segment.specs.Alone.{Moves, itself-moves}

@@ -32,8 +32,8 @@ use Rattle.fast_plan.specs.Own.{byItself}
 use Rattle.fast_plan.specs.Goes.{storedAll, wentTo}
 use Rattle.fast_silence.specs.Rested.{Lasts, Idle}
 use Rattle.fast_silence.specs.Bound.{framesRest, idle, frames-last}
-use Rattle.fast_station.specs.Forms.{heardRest, hearOn, calmed, restOn, emitsFor, emitOn}
-use Rattle.fast_receive.specs.Received.{receivedBy, keptBy, spoils, lineFrom, bitsFrom, AllHeard, mayReport}
+use Rattle.fast_station.specs.Forms.{heardRest, hearOn, restOn, emitsFor, emitOn}
+use Rattle.fast_receive.specs.Received.{receivedBy, keptBy, spoils, lineFrom, bitsFrom, AllHeard, mayReport, calmed}
 use Rattle.fast_receive.specs.ReceivedLaws.{received-none, received-step, kept-by, received-range, received-fits, spoils-heard, bits-heard}
 use Rattle.fast_receive.specs.EndLaws.{silent-ends}
 use Rattle.fast_heard.specs.declared.Kind.{Kind}

@@ -26,8 +26,7 @@ use Rattle.station_receive.specs.Receive.{rowIn, bitsIn, nextRow, storedBit, se
 use Rattle.area.specs.Area.{bufferAt, withBit, addressAt}
 use Rattle.bus_spec.specs.BitTime.{withStored}
 use Rattle.fast_plan.specs.Goes.{storedAll, length-all}
-use Rattle.fast_station.specs.Forms.{calmed}
-use Rattle.fast_receive.specs.Received.{receivedBy, keptBy, AllHeard, mayReport}
+use Rattle.fast_receive.specs.Received.{receivedBy, keptBy, AllHeard, mayReport, calmed}
 use Rattle.fast_receive.specs.ReceivedLaws.{received-range}
 use Rattle.area.specs.Offsets.{areaSize}
 use Rattle.frame_build.specs.Limits.{bufferOctets, bufferBits}

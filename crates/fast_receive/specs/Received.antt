@@ -4,8 +4,9 @@ use Prim.Native.Nat.{ℕ, _+_, _<_}
 use mathlib.Core.Path.{_≡_}
 use mathlib.Core.Bool.{Bool, true, not, _||_, _&&_}
 use mathlib.Core.List.{List, []}
-use lib.Dec.{leb, ltb}
+use lib.Dec.{eqb, leb, ltb}
 use lib.ListN.{getD}
+use Rattle.octets.specs.Base.{pick}
 use Rattle.octets.specs.Turns.{turns}
 use Rattle.station_symbols.specs.declared.Heard.{Heard}
 use Rattle.station_symbols.specs.declared.Heard.the-variants.{Clean, Several}
@@ -77,3 +78,12 @@ mayReport address buffer more Listening = leb 512 more
 mayReport address buffer more (Readable n) = leb 512 more
 mayReport address buffer more (Seeking row spoiled own) = leb 512 more && not own
 mayReport address buffer more (Collecting n spoiled own) = leb 512 (n + more) && (not own && (ltb n 48 || addressed address buffer))
+
+-- ---- nothing is heard
+
+-- "The step after the stretch decides": a reception that reports nothing
+unfoldable pub calmed : (m : ℕ) → Receiver → Receiver
+calmed m Listening = Listening
+calmed m (Readable n) = Readable n
+calmed m (Seeking row sp own) = pick (eqb m 0) (Seeking row sp own) Listening
+calmed m (Collecting n sp own) = pick (eqb m 0) (Collecting n sp own) Listening

@@ -40,11 +40,12 @@ use Rattle.fast_plan.specs.Goes.{wentTo, goes-on, goes-there, goes-act, goes-sy
 use Rattle.fast_plan.specs.NoEvents.{quiet-events, rest-symbol}
 use Rattle.fast_plan.specs.Calm.{Calm}
 use Rattle.fast_silence.specs.Rested.{Lasts}
-use Rattle.fast_station.specs.Forms.{heardRest, hearOn, calmed, restOn, emittedAt, emitsFor, emitOn}
+use Rattle.fast_station.specs.Forms.{heardRest, hearOn, restOn, emittedAt, emitsFor, emitOn}
 use Rattle.fast_station.specs.FormLaws.{hear-step, hear-none, hear-address, hear-fit, rest-step, rest-none, rest-address, rest-fit, emit-step, emit-none, emit-address, emit-held, emit-fit}
 use Rattle.fast_segment.specs.Alone.{Moves, address-in}
 use Rattle.area.specs.Offsets.{areaSize}
 use Rattle.frame_build.specs.Limits.{bufferOctets}
+use Rattle.fast_receive.specs.Received.{calmed}
 
 -- what a segment comes to: K turns by itself leave the station q, and the bits st; it emits Q and has no event
 pub record Segment (f : Figures) (D i : ℕ) (H : ℕ → Heard) (Q : ℕ → Symbol) (K : ℕ) (x : List ℕ) (st : ℕ → Stored) (q : Station) : Type 0 where

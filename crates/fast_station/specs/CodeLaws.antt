@@ -17,7 +17,8 @@ use Rattle.station_state.specs.declared.Station.{Station}
 use Rattle.station_state.specs.State.{numberIn}
 use Rattle.station_defer.specs.Defer.{goesBack}
 use Rattle.fast_silence.specs.Rested.{restedTransmitter, hasWaited, rested}
-use Rattle.fast_station.specs.Forms.{made, deferredBy, heardGap, heardDeference, heardFor, heardRest, hearOn, calmed, restOn, emitsOn, emitsFor, emitOn}
+use Rattle.fast_station.specs.Forms.{made, deferredBy, heardGap, heardDeference, heardFor, heardRest, hearOn, restOn, emitsOn, emitsFor, emitOn}
+use Rattle.fast_receive.specs.Received.{calmed}
 
 -- ---- others are heard
 

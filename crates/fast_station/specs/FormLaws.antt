@@ -37,7 +37,8 @@ use Rattle.area_record.specs.CodecLaws.{Fit}
 use Rattle.bus_spec.specs.Range.{Fine}
 use Rattle.bus_quick.specs.Quick.{quietly}
 use Rattle.fast_silence.specs.Rested.{restedDeference, restedTransmitter, hasWaited, Lasts, NoneOut, defer-goes, waits-rests, lasts-none, transmit-goes, waited-more, deferred-more, rested-gap, rested-frame, none-waited, as-was, count-small, number-less}
-use Rattle.fast_station.specs.Forms.{made, deferredBy, heardGap, heardDeference, heardFor, heardRest, hearOn, calmed, restOn, emitsOn, emittedAt, emitsFor, emitOn}
+use Rattle.fast_station.specs.Forms.{made, deferredBy, heardGap, heardDeference, heardFor, heardRest, hearOn, restOn, emitsOn, emittedAt, emitsFor, emitOn}
+use Rattle.fast_receive.specs.Received.{calmed}
 
 -- ---- a step from its parts
 

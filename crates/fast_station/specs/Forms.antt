@@ -13,11 +13,11 @@ use Rattle.station_state.specs.declared.Deference.the-variants.{Quiet, Busy, Ga
 use Rattle.station_state.specs.declared.Transmitter.{Transmitter}
 use Rattle.station_state.specs.declared.Transmitter.the-variants.{NoFrame, Waiting, BackingOff, Sending, Heading, Jamming}
 use Rattle.station_state.specs.declared.Receiver.{Receiver}
-use Rattle.station_state.specs.declared.Receiver.the-variants.{Listening, Readable, Seeking, Collecting}
 use Rattle.station_state.specs.declared.Station.{Station}
 use Rattle.station_defer.specs.Defer.{goesBack}
 use Rattle.station_transmit.specs.Transmit.{packetLength}
 use Rattle.fast_silence.specs.Rested.{restedDeference, restedTransmitter, hasWaited}
+use Rattle.fast_receive.specs.Received.{calmed}
 
 -- a station whose deference, transmitter, receiver and flags have changed
 unfoldable pub made : Station → Deference → Transmitter → Receiver → (deferred emitted : Bool) → Station
@@ -71,13 +71,6 @@ unfoldable pub hearOn : Figures → (m : ℕ) → Receiver → Station → Stati
 hearOn f m r s = made s (heardDeference f m (s .deference)) (restedTransmitter m (s .transmitter)) r (deferredBy m s) false
 
 -- ---- nothing is heard in each of m steps, and the station emits nothing
-
--- "The step after the stretch decides": a reception that reports nothing
-unfoldable pub calmed : (m : ℕ) → Receiver → Receiver
-calmed m Listening = Listening
-calmed m (Readable n) = Readable n
-calmed m (Seeking row sp own) = pick (eqb m 0) (Seeking row sp own) Listening
-calmed m (Collecting n sp own) = pick (eqb m 0) (Collecting n sp own) Listening
 
 unfoldable pub restOn : Figures → (m : ℕ) → Station → Station
 restOn f m s = made s (restedDeference f m (s .deference)) (restedTransmitter m (s .transmitter)) (calmed m (s .receiver)) (deferredBy m s) false

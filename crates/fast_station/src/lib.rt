@@ -8,7 +8,8 @@ use station_state::Transmitter;
 ghost use mathlib.Core.Path.{_≡_};
 ghost use Prim.Native.Nat.{_+_, _-_, _<_};
 ghost use Rattle.station_state.specs.State.{numberIn};
-ghost use Rattle.fast_station.specs.Forms.{heardGap, heardDeference, heardFor, heardRest, hearOn, calmed, restOn, emitsOn, emitsFor, emitOn};
+ghost use Rattle.fast_station.specs.Forms.{heardGap, heardDeference, heardFor, heardRest, hearOn, restOn, emitsOn, emitsFor, emitOn};
+ghost use Rattle.fast_receive.specs.Received.{calmed};
 
 // ---- others are heard, and it emits nothing
 

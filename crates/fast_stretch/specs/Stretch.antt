@@ -13,8 +13,8 @@ use Rattle.station_receive.specs.declared.Stored.the-variants.{NoStore}
 use Rattle.station_receive.specs.Receive.{rowIn, bitsIn}
 use Rattle.area.specs.Area.{stationAt}
 use Rattle.fast_plan.specs.Goes.{wentTo}
-use Rattle.fast_station.specs.Forms.{hearOn, calmed, restOn, emitOn}
-use Rattle.fast_receive.specs.Received.{receivedBy, keptBy}
+use Rattle.fast_station.specs.Forms.{hearOn, restOn, emitOn}
+use Rattle.fast_receive.specs.Received.{receivedBy, keptBy, calmed}
 
 -- ---- others are heard in each of m steps; e: whether the station emits in them
 

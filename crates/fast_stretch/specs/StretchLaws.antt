@@ -20,8 +20,8 @@ use Rattle.station_receive.specs.Receive.{rowIn, bitsIn}
 use Rattle.area.specs.Area.{stationAt, withStation}
 use Rattle.bus_spec.specs.Range.{Fine, NumberIn, FrameIn, ReceiverIn}
 use Rattle.fast_plan.specs.Goes.{storedAll, wentTo, station-all}
-use Rattle.fast_station.specs.Forms.{hearOn, calmed, restOn, emitOn}
-use Rattle.fast_receive.specs.Received.{taken, heardAll, receivedBy, keptBy}
+use Rattle.fast_station.specs.Forms.{hearOn, restOn, emitOn}
+use Rattle.fast_receive.specs.Received.{taken, heardAll, receivedBy, keptBy, calmed}
 use Rattle.fast_receive.specs.ReceivedLaws.{heard-receiver, heard-octets}
 use Rattle.fast_stretch.specs.Stretch.{movedOn, heardStretch, quietOn, quietStretch, Room, Movable}
 use Rattle.sheet_layout.specs.Limits.{lastClock}
