@@ -31,6 +31,7 @@ fn run() -> Result<String, u32> {
                 wisavulome::LATE => "late",
                 wisavulome::SENT => "sent",
                 wisavulome::GIVEN_UP => "given-up",
+                wisavulome::LATE_END => "late-end",
                 _ => "",
             };
             if !sent.is_empty() {

@@ -29,6 +29,7 @@ pub enum Ended {
 pub(crate) fn double(n: u32) -> u32
 """,
     "crates/one/must-fail/wrong.edit": "file: src/lib.rt\n",
+    "crates/one/must-fail/more/wrong_too.edit": "file: src/lib.rt\n",
 }
 
 PAGE = """# Index
@@ -67,6 +68,7 @@ class CheckIndex(unittest.TestCase):
     def test_what_is_there(self):
         rows = [
             "| a | `one/Laws`: `doubled`, `doubled-even`, `Pair.second`, `Row.build`, `Row`, `two` | `one/wrong.edit` |",
+            "| b | `one/wrong_too.edit` |",
             "- `one/lib.rt`: `TOP`, `Ended::Late`, `double`, then `crates/one/src/lib.rt` and code, `&x[0..2]`",
         ]
         self.assertEqual(self.faults("\n".join(rows)), [])
@@ -76,6 +78,7 @@ class CheckIndex(unittest.TestCase):
             "`one/Gone`",
             "`one/gone.rt`",
             "`one/gone.edit`",
+            "`two/wrong_too.edit`",
             "`docs/GONE.md`",
             "`one/Laws`: `double`",
             "`one/Laws`: `Pair.third`",

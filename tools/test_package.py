@@ -59,7 +59,7 @@ class Table(unittest.TestCase):
         self.assertEqual(SIZES["counters"], 4 * len(COUNTERS))
         self.assertEqual(SIZES["run"], 4 * (len(EVENTS) + 3))
         self.assertEqual(SIZES["plan"], SIZES["sheet"] + 20)
-        self.assertEqual([figure.absent for figure in FIGURES], [512, 64, 32, 32, 16, 10])
+        self.assertEqual([figure.absent for figure in FIGURES], [512, 64, 32, 32, 16, 10, 0])
 
     def test_refusal_words(self):
         self.assertTrue(str(Refused(7)).startswith("refused 7: positions"))
@@ -140,10 +140,10 @@ class Logs(unittest.TestCase):
         return [made[at : at + 6].hex() for at in range(0, len(made), 6)]
 
     def test_entries(self):
-        printed = (ROOT / "crates" / "stored" / "data" / "worked.out").read_text()
+        printed = (ROOT / "stored" / "level00" / "worked.out").read_text()
         self.assertEqual(
             self.entries(printed),
-            ["0000000a0001", "0000000a0101", "000003090003", "000003140105", "000005b30103", "000005be0005"],
+            ["0000000a0001", "0000000a0101", "000003090003", "000003140106", "000005b30103", "000005be0006"],
         )
 
     def test_every_word(self):
@@ -152,7 +152,9 @@ class Logs(unittest.TestCase):
 
     def test_stored_texts(self):
         """Every text that is stored can be read; as many entries as lines that are events."""
-        for path in sorted((ROOT / "crates" / "stored" / "data").glob("*.out")):
+        for path in sorted((ROOT / "stored").glob("level*/*.out")):
+            if path.name.startswith(("sheet", "owner")):
+                continue  # what other programs print
             printed = path.read_text()
             if printed.startswith("refused"):
                 with self.assertRaises(Failure):

@@ -6,28 +6,34 @@
 //! |---|---|
 //! | 0 | the clock |
 //! | 4 | D |
-//! | 8 | slot, gap1, gap2, jam, attempt limit, backoff limit, N |
+//! | 8 | slot, gap1, gap2, jam, attempt limit, backoff limit, N, late-end |
 //! | 64 + 16 i | station i: position, then its address of six octets |
 //! | 320 + 32 i + 2 k | draw k of station i, 2 octets |
-//! | 1024 + 64 i | the sixteen counters of station i |
+//! | 832 + 68 i | the seventeen counters of station i |
 //! | 2048 + 64 i | the record of station i, fourteen words |
-//! | 4096 + 256 i + u % 256 | what reaches station i in step u: 0 nothing, 1 a zero, 2 a one, 3 jam, 4 several |
+//! | 4096 + 256 i + u % 256 | what reaches station i in step u: 0 nothing, 1 a zero, 2 a one, 3 jam or several |
 //! | 8192 + 1536 i | the frame of station i |
 //! | 32768 + 1536 i | what station i collected |
 //!
 //! Record words: 0, 1, 2 deference (quiet, busy, gap), own emission, gap count; 3, 4 transmitter (no frame, waiting, backing off, sending,
-//! heading, jamming) and its number; 5, 6, 7, 8 receiver (listening, readable, seeking, collecting), its number, spoiled, own emission;
-//! 9 frame octets; 10 attempts; 11 draw place; 12 deferred; 13 emitted. Words that a state does not use are 0.
+//! heading, jamming, jamming with the frame's end after it) and its number; 5, 6, 7, 8 receiver (listening, readable, seeking, collecting),
+//! its number, spoiled, own emission; 9 frame octets; 10 attempts; 11 draw place; 12 deferred; 13 emitted. Words that a state does not use
+//! are 0.
 
 use std::array;
 
 use crate::events::{Event, Events, Ran, Word, WORDS};
 use crate::frame::{self, Status, HEADER, LARGEST_FRAME};
 use crate::layout::{self, Address, Layout, Place};
-use crate::plain::{Counters, Deference, Heard, Receiver, Row, Station, Symbol, Transmitter, World, AHEAD};
+use crate::plain::{Counters, Deference, Heard, Receiver, Row, Station, Symbol, Transmitter, World, AHEAD, COUNTERS};
 use crate::{program, Refusal, LAST_CLOCK, STATIONS};
 
 pub const AREA: usize = 57_344;
+/// Octets of what the calls write into an output.
+pub const SHEET_OUT: usize = 196;
+pub const PLAN_OUT: usize = SHEET_OUT + 20;
+pub const RUN_OUT: usize = 4 * (WORDS + 3);
+pub const COUNTERS_OUT: usize = 4 * COUNTERS;
 
 const CLOCK: usize = 0;
 const DEPTH: usize = 4;
@@ -40,7 +46,7 @@ const fn draw_at(i: usize, k: usize) -> usize {
     320 + 32 * i + 2 * k
 }
 const fn counter_at(i: usize, counter: usize) -> usize {
-    1024 + 64 * i + 4 * counter
+    832 + 4 * COUNTERS * i + 4 * counter
 }
 const fn record_at(i: usize, word: usize) -> usize {
     2048 + 64 * i + 4 * word
@@ -69,12 +75,13 @@ pub fn address(number: u64) -> Address {
 }
 
 fn layout_of(area: &[u8]) -> Layout {
-    let [slot, gap1, gap2, jam, attempt_limit, backoff_limit, n] = array::from_fn(|k| word(area, FIGURES + 4 * k));
+    let [slot, gap1, gap2, jam, attempt_limit, backoff_limit, n, late_end] =
+        array::from_fn(|k| word(area, FIGURES + 4 * k));
     // One place more than there can be keeps an N out of range out of range.
     let places = (0..(n as usize).min(STATIONS + 1))
         .map(|i| Place { position: word(area, place_at(i)), address: array::from_fn(|k| area[place_at(i) + 4 + k]) })
         .collect();
-    Layout { slot, gap1, gap2, jam, attempt_limit, backoff_limit, places }
+    Layout { slot, gap1, gap2, jam, attempt_limit, backoff_limit, late_end, places }
 }
 
 // ---- checks 1 and 2
@@ -99,8 +106,24 @@ fn holds_wrong_values(area: &[u8]) -> bool {
         || clock > LAST_CLOCK
         || (0..layout.places.len()).any(|i| {
             let line = &area[line_at(i, 0)..][..256];
-            Record::of(area, i).wrong(&layout, clock, depth) || line.iter().any(|&code| code > 4)
+            Record::of(area, i).wrong(&layout, clock, depth)
+                || sizes_wrong(area, i)
+                || line.iter().any(|&code| code > 3)
         })
+}
+
+/// The length/type value in the octets of a frame at this place.
+fn value_at(area: &[u8], at: usize) -> u16 {
+    u16::from_be_bytes([area[at + 12], area[at + 13]])
+}
+
+/// "The frame range in the work area, which reach 1522 for that value alone": of a held frame and of a readable one, by the value in
+/// the stored octets.
+fn sizes_wrong(area: &[u8], i: usize) -> bool {
+    let record = Record::of(area, i);
+    let long = |octets: u32, at: usize| octets as usize > frame::largest_frame(value_at(area, at));
+    record.transmitter != 0 && long(record.frame, frame_at(i))
+        || record.receiver == 1 && long(record.receiver_number, collected_at(i))
 }
 
 /// The words of a station's record.
@@ -168,7 +191,7 @@ impl Record {
     /// carries it stands. A flag is 0 or 1.
     fn wrong(&self, layout: &Layout, clock: u32, depth: u32) -> bool {
         let flag = |word: u32| word <= 1;
-        let frame_size = |octets: u32| (64..=1518).contains(&octets);
+        let frame_size = |octets: u32| (64..=LARGEST_FRAME as u32).contains(&octets);
         let deference_right = match self.deference {
             0 => true,
             1 => flag(self.stretch_own),
@@ -190,6 +213,7 @@ impl Record {
                 2 => (1..=layout.slot * 1023).contains(&number),
                 3 | 4 => (1..=64 + 8 * self.frame).contains(&number),
                 5 => (1..=layout.jam).contains(&number),
+                6 => layout.late_end == 1 && (1..=layout.jam).contains(&number),
                 _ => false,
             };
         let reception_flags = flag(self.spoiled) && flag(self.reception_own);
@@ -211,7 +235,6 @@ fn heard_of(code: u8) -> Heard {
         0 => Heard::Nothing,
         1 => Heard::One(Symbol::Bit(false)),
         2 => Heard::One(Symbol::Bit(true)),
-        3 => Heard::One(Symbol::Jam),
         _ => Heard::Several,
     }
 }
@@ -221,8 +244,7 @@ fn code_of(heard: Heard) -> u8 {
         Heard::Nothing => 0,
         Heard::One(Symbol::Bit(false)) => 1,
         Heard::One(Symbol::Bit(true)) => 2,
-        Heard::One(Symbol::Jam) => 3,
-        Heard::Several => 4,
+        Heard::One(Symbol::Jam) | Heard::Several => 3,
     }
 }
 
@@ -243,7 +265,8 @@ fn station_of(area: &[u8], i: usize) -> Station {
             2 => Transmitter::BackingOff { left: number },
             3 => Transmitter::Sending { bit: number },
             4 => Transmitter::Heading { bit: number },
-            _ => Transmitter::Jamming { left: number },
+            5 => Transmitter::Jamming { left: number },
+            _ => Transmitter::Ending { left: number },
         },
         receiver: match record.receiver {
             0 => Receiver::Listening,
@@ -289,6 +312,7 @@ fn put_station(area: &mut [u8], i: usize, station: &Station) {
         Transmitter::Sending { bit } => (3, bit),
         Transmitter::Heading { bit } => (4, bit),
         Transmitter::Jamming { left } => (5, left),
+        Transmitter::Ending { left } => (6, left),
     };
     let (receiver, receiver_number, spoiled, reception_own) = match station.receiver {
         Receiver::Listening => (0, 0, false, false),
@@ -337,7 +361,8 @@ pub fn encode_start(world: &World, area: &mut [u8]) {
     let layout = &world.layout;
     let depth = world.draws[0].len() as u32;
     let n = layout.places.len() as u32;
-    let figures = [layout.slot, layout.gap1, layout.gap2, layout.jam, layout.attempt_limit, layout.backoff_limit, n];
+    let Layout { slot, gap1, gap2, jam, attempt_limit, backoff_limit, late_end, .. } = *layout;
+    let figures = [slot, gap1, gap2, jam, attempt_limit, backoff_limit, n, late_end];
     put_word(area, DEPTH, depth);
     for (k, value) in figures.into_iter().enumerate() {
         put_word(area, FIGURES + 4 * k, value);
@@ -380,21 +405,22 @@ fn put_words(out: &mut [u8], words: &[u32]) {
 
 pub fn read_sheet(sheet: &[u8], out: &mut [u8]) -> Answer {
     let (layout, used) = layout::read_sheet(sheet)?;
-    room(out, 192)?;
-    out[..192].fill(0);
-    let Layout { slot, gap1, gap2, jam, attempt_limit, backoff_limit, ref places } = layout;
+    room(out, SHEET_OUT)?;
+    out[..SHEET_OUT].fill(0);
+    let Layout { slot, gap1, gap2, jam, attempt_limit, backoff_limit, late_end, ref places } = layout;
     let n = places.len() as u32;
     put_words(out, &[slot, gap1, gap2, jam, attempt_limit, backoff_limit, n, layout.fits().into()]);
     for (place, out) in places.iter().zip(out[32..192].chunks_exact_mut(10)) {
         put_word(out, 0, place.position);
         out[4..].copy_from_slice(&place.address);
     }
+    put_word(out, 192, late_end);
     Ok(used as u32)
 }
 
 /// The layout as [`read_sheet`] writes it.
 pub fn check_layout(octets: &[u8]) -> Answer {
-    if octets.len() < 192 {
+    if octets.len() < SHEET_OUT {
         return Err(3);
     }
     let n = word(octets, 24);
@@ -406,6 +432,7 @@ pub fn check_layout(octets: &[u8]) -> Answer {
         jam: word(octets, 12),
         attempt_limit: word(octets, 16),
         backoff_limit: word(octets, 20),
+        late_end: word(octets, 192),
         places: places
             .map(|place| Place { position: word(place, 0), address: place[4..].try_into().expect("six") })
             .collect(),
@@ -420,9 +447,9 @@ pub fn check_layout(octets: &[u8]) -> Answer {
 /// The layout as [`read_sheet`] writes it, then D, where the draws begin, the number of offers, where the first begins, the bit times.
 pub fn read_plan(input: &[u8], out: &mut [u8]) -> Answer {
     let numbers = program::numbers(input)?;
-    room(out, 212)?;
-    read_sheet(input, &mut out[..192])?;
-    put_words(&mut out[192..], &numbers);
+    room(out, PLAN_OUT)?;
+    read_sheet(input, &mut out[..SHEET_OUT])?;
+    put_words(&mut out[SHEET_OUT..], &numbers);
     Ok(0)
 }
 
@@ -526,7 +553,7 @@ pub fn run(area: &mut [u8], n: u32, out: &mut [u8]) -> Answer {
     if u64::from(world.clock) + u64::from(n) > u64::from(LAST_CLOCK) {
         return Err(13);
     }
-    room(out, 48)?;
+    room(out, RUN_OUT)?;
     let ran = world.run(n)?;
     if ran.steps > 0 {
         encode(&world, area);
@@ -546,7 +573,7 @@ pub fn read_frame(area: &[u8], station: u32, out: &mut [u8]) -> Answer {
 pub fn counters(area: &[u8], station: u32, out: &mut [u8]) -> Answer {
     let world = decoded(area)?;
     let counters = world.counters(station)?;
-    room(out, 64)?;
+    room(out, COUNTERS_OUT)?;
     put_words(out, counters);
     Ok(0)
 }

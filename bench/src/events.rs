@@ -1,6 +1,6 @@
 //! What stations report in a step (document 01, "The run program").
 
-/// The nine event words; `got` with each status is a word of its own. Their order is that of the C interface's counts.
+/// The ten event words; `got` with each status is a word of its own. Their order is that of the C interface's counts.
 #[derive(Clone, Copy, Debug, PartialEq, Eq)]
 #[repr(u8)]
 pub enum Word {
@@ -8,6 +8,7 @@ pub enum Word {
     Late,
     Sent,
     GivenUp,
+    LateEnd,
     GotOk,
     GotTooLong,
     GotAlignment,
@@ -16,7 +17,7 @@ pub enum Word {
 }
 
 /// How many words there are.
-pub const WORDS: usize = 9;
+pub const WORDS: usize = 10;
 
 impl Word {
     /// As the run program prints it.
@@ -26,6 +27,7 @@ impl Word {
             Word::Late => "late",
             Word::Sent => "sent",
             Word::GivenUp => "given-up",
+            Word::LateEnd => "late-end",
             Word::GotOk => "got ok",
             Word::GotTooLong => "got too-long",
             Word::GotAlignment => "got alignment",
@@ -56,6 +58,6 @@ pub struct Ran {
     pub steps: u32,
     /// Events of each word, in the order of [`Word`].
     pub counts: [u32; WORDS],
-    /// The step of the run, counted from 0, with the late collision that ended it, and the lowest station that had one.
+    /// Where a late collision ended the run: its step, counted from 0, and the lowest station that had one.
     pub late: Option<(u32, u32)>,
 }

@@ -50,6 +50,8 @@ enum Transmitter {
     Sending,
     Heading,
     Jamming,
+    /// Jamming after a late collision that closes the frame.
+    Ending,
 }
 
 #[derive(Clone, Copy, PartialEq, Eq)]
@@ -110,7 +112,7 @@ struct Station {
 struct Store {
     address: Address,
     draws: [u16; 16],
-    counters: [u32; 16],
+    counters: [u32; COUNTERS],
     packet: [u8; PACKET_HEADER.len() + LARGEST_FRAME],
     /// One octet more takes the bits past the largest frame.
     collected: [u8; LARGEST_FRAME + 1],
@@ -133,12 +135,14 @@ const TOO_LONG: usize = 12;
 const CHECK_WRONG: usize = 13;
 const ALIGNMENT: usize = 14;
 const LENGTH: usize = 15;
+const LATE_ENDED: usize = 16;
+const COUNTERS: usize = 17;
 
 impl Store {
     const EMPTY: Store = Store {
         address: [0; 6],
         draws: [0; 16],
-        counters: [0; 16],
+        counters: [0; COUNTERS],
         packet: [0; PACKET_HEADER.len() + LARGEST_FRAME],
         collected: [0; LARGEST_FRAME + 1],
     };
@@ -157,6 +161,8 @@ struct Figures {
     jam: u32,
     attempt_limit: u8,
     backoff_limit: u8,
+    /// A late collision closes the frame, and ends no run.
+    late_end: bool,
     depth: u8,
 }
 
@@ -206,6 +212,7 @@ impl Fast {
             jam: layout.jam,
             attempt_limit: layout.attempt_limit as u8,
             backoff_limit: layout.backoff_limit as u8,
+            late_end: layout.late_end == 1,
             depth: draws[0].len() as u8,
         };
         Fast {
@@ -250,17 +257,18 @@ impl Fast {
         Ok(())
     }
 
-    /// Up to `n` bit times, ending early after a step with a late collision. Refusal 13.
+    /// Up to `n` bit times, ending early after a step with a late collision that closes no frame. Refusal 13.
     pub fn run(&mut self, n: u32) -> Result<Ran, Refusal> {
         if u64::from(self.clock) + u64::from(n) > u64::from(LAST_CLOCK) {
             return Err(13);
         }
         let mut counts = [0; WORDS];
         let mut late = None;
+        let ends_run = !self.figures.late_end;
         for made in 0..n {
             self.step_reporting(&mut |station, event| {
                 counts[event.word as usize] += 1;
-                if event.word == Word::Late && late.is_none() {
+                if event.word == Word::Late && ends_run && late.is_none() {
                     late = Some((made, station as u32));
                 }
             });
@@ -280,7 +288,7 @@ impl Fast {
     }
 
     /// A station's counters. Refusal 10.
-    pub fn counters(&self, station: u32) -> Result<&[u32; 16], Refusal> {
+    pub fn counters(&self, station: u32) -> Result<&[u32; COUNTERS], Refusal> {
         self.stores[..self.n].get(station as usize).map(|store| &store.counters).ok_or(10)
     }
 
@@ -345,6 +353,15 @@ impl Fast {
                 s.number -= 1;
                 if s.number == 0 {
                     s.end_attempt(store, &self.figures, i, report);
+                }
+                JAM
+            }
+            Transmitter::Ending => {
+                s.number -= 1;
+                if s.number == 0 {
+                    s.transmitter = Transmitter::NoFrame;
+                    store.add(LATE_ENDED, 1);
+                    report(i, Event { word: Word::LateEnd, number: s.attempts.into() });
                 }
                 JAM
             }
@@ -432,6 +449,9 @@ impl Station {
             let late = bit > figures.slot;
             store.add(LATE, late.into());
             self.after_collision(figures);
+            if late && figures.late_end {
+                self.transmitter = Transmitter::Ending;
+            }
             report(i, Event { word: if late { Word::Late } else { Word::Collision }, number: bit });
         } else if bit == self.last_bit {
             self.transmitter = Transmitter::NoFrame;
@@ -439,7 +459,7 @@ impl Station {
             store.add(SENT_AFTER_ONE, (self.attempts == 2).into());
             store.add(SENT_AFTER_SEVERAL, (self.attempts > 2).into());
             store.add(OCTETS_SENT, (bit - HEADER_BITS) / 8 - 18);
-            store.add(DEFERRED, self.deferred.into());
+            store.add(DEFERRED, (self.deferred && self.attempts == 1).into());
             report(i, Event { word: Word::Sent, number: self.attempts.into() });
         } else {
             self.number = bit + 1;
@@ -523,11 +543,12 @@ impl Station {
         }
         let octets = self.collected_bits / 8;
         let aligned = self.collected_bits.is_multiple_of(8);
-        let (counter, word, number) = if octets > LARGEST_FRAME as u32 {
+        let value = u16::from_be_bytes([store.collected[12], store.collected[13]]);
+        let (counter, word, number) = if octets as usize > frame::largest_frame(value) {
             (TOO_LONG, Word::GotTooLong, octets)
         } else {
             let (covered, check) = store.collected[..octets as usize].split_at(octets as usize - CHECK);
-            let value = u32::from(covered[12]) << 8 | u32::from(covered[13]);
+            let value = u32::from(value);
             let data = octets - 18;
             if self.spoiled || crc::table_driven(covered).to_le_bytes() != *check {
                 if aligned {

@@ -5,18 +5,29 @@ use crate::layout::Address;
 use crate::Refusal;
 
 pub const SMALLEST_FRAME: usize = 64;
-pub const LARGEST_FRAME: usize = 1518;
+/// Of all values; the largest by value: `largest_frame`.
+pub const LARGEST_FRAME: usize = 1522;
 pub const SMALLEST_DATA: usize = 46;
-pub const LARGEST_DATA: usize = 1500;
 /// Destination, source and length/type.
 pub const HEADER: usize = 14;
 pub const CHECK: usize = 4;
 /// Preamble and delimiter.
 pub const HEADER_BITS: u32 = 64;
+/// The length/type value of the 802.1Q tag.
+pub const TAG: u16 = 0x8100;
 
-/// Refusal 11: "Data over 1500 octets, a value up to 1500 other than the data's size, or a value 1501..1535."
+/// "A frame whose length/type value is 8100 hexadecimal may have 1522 octets; every other value keeps 1518."
+pub fn largest_frame(value: u16) -> usize {
+    if value == TAG {
+        1522
+    } else {
+        1518
+    }
+}
+
+/// Refusal 11: "data over 1504 with the tag value, and over 1500 otherwise"; "a value up to 1500 other than the data's size, or a value 1501..1535."
 pub fn check_data(value: u16, size: usize) -> Result<(), Refusal> {
-    let wrong = size > LARGEST_DATA
+    let wrong = size > if value == TAG { 1504 } else { 1500 }
         || match value {
             0..=1500 => usize::from(value) != size,
             1501..=1535 => true,
@@ -68,7 +79,7 @@ pub fn opened(kept: &[u8], octets: usize, excess: u32, spoiled: bool) -> Status<
     if octets < SMALLEST_FRAME {
         return Status::Fragment;
     }
-    if octets > LARGEST_FRAME {
+    if octets > largest_frame(u16::from_be_bytes([kept[12], kept[13]])) {
         return Status::FrameTooLong;
     }
     let (covered, check) = kept[..octets].split_at(octets - CHECK);
@@ -110,6 +121,9 @@ mod tests {
         assert_eq!(built(1501, 1500), Err(11));
         assert_eq!(built(1535, 1500), Err(11));
         assert!(built(1536, 1500).is_ok());
+        assert_eq!(built(TAG, 1504).unwrap().len(), 1522);
+        assert_eq!(built(TAG, 1505), Err(11));
+        assert_eq!(built(TAG + 1, 1501), Err(11));
     }
 
     #[test]

@@ -22,6 +22,8 @@ pub struct Layout {
     pub jam: u32,
     pub attempt_limit: u32,
     pub backoff_limit: u32,
+    /// 0: a late collision is retried; 1: it closes the frame.
+    pub late_end: u32,
     pub places: Vec<Place>,
 }
 
@@ -34,6 +36,11 @@ impl Layout {
     /// The bit times that a symbol takes between two stations.
     pub fn distance(&self, i: usize, j: usize) -> u32 {
         self.places[i].position.abs_diff(self.places[j].position)
+    }
+
+    /// "A run ends early after the first step in which any station has a late collision"; "with 1, a run no longer ends early".
+    pub fn late_ends_run(&self) -> bool {
+        self.late_end == 0
     }
 
     /// "A layout fits if 2 × S + G ≤ slot and G ≤ 64 + jam."
@@ -51,6 +58,7 @@ impl Layout {
             && (1..=64).contains(&self.jam)
             && (1..=16).contains(&self.attempt_limit)
             && (1..=10).contains(&self.backoff_limit)
+            && self.late_end <= 1
             && self.places.iter().all(|place| place.position <= 255);
         if !in_range {
             return Err(5);
@@ -72,9 +80,9 @@ impl Layout {
 }
 
 /// Octets of each optional field, by map bit.
-const FIELD_OCTETS: [usize; 6] = [2, 1, 1, 1, 1, 1];
+const FIELD_OCTETS: [usize; 7] = [2, 1, 1, 1, 1, 1, 1];
 /// The value of each if absent.
-const DEFAULTS: [u32; 6] = [512, 64, 32, 32, 16, 10];
+const DEFAULTS: [u32; 7] = [512, 64, 32, 32, 16, 10, 0];
 /// Octets of a station: position and address.
 const STATION_OCTETS: usize = 7;
 
@@ -92,15 +100,15 @@ pub fn read_sheet(octets: &[u8]) -> Result<(Layout, usize), Refusal> {
     }
     let (&count, after_count) = rest.split_first().ok_or(3u32)?;
     let (stations, after) = after_count.split_at_checked(STATION_OCTETS * usize::from(count)).ok_or(3u32)?;
-    if map & 0xC0 != 0 {
+    if map & 0x80 != 0 {
         return Err(4);
     }
-    let [slot, gap1, gap2, jam, attempt_limit, backoff_limit] = fields;
+    let [slot, gap1, gap2, jam, attempt_limit, backoff_limit, late_end] = fields;
     let places = stations
         .chunks_exact(STATION_OCTETS)
         .map(|station| Place { position: u32::from(station[0]), address: station[1..].try_into().expect("six octets") })
         .collect();
-    let layout = Layout { slot, gap1, gap2, jam, attempt_limit, backoff_limit, places };
+    let layout = Layout { slot, gap1, gap2, jam, attempt_limit, backoff_limit, late_end, places };
     layout.check()?;
     Ok((layout, octets.len() - after.len()))
 }
@@ -129,12 +137,28 @@ mod tests {
     }
 
     #[test]
+    fn late_end() {
+        let read = |fields: &[u8]| read_sheet(&sheet(fields, 10)).map(|(layout, used)| (layout.late_end, used));
+        assert_eq!(read(&[0]), Ok((0, 16)));
+        assert_eq!(read(&[0x40, 0]), Ok((0, 17)));
+        assert_eq!(read(&[0x40, 1]), Ok((1, 17)));
+        assert_eq!(read(&[0x40, 2]), Err(5));
+        assert_eq!(read(&[0x40, 255]), Err(5));
+        assert_eq!(read(&[0x60, 10, 1]), Ok((1, 18)));
+    }
+
+    #[test]
     fn refusals() {
         assert_eq!(fits(&[]), Err(3));
         assert_eq!(fits(&[0x40]), Err(3));
         assert_eq!(fits(&[0, 200]), Err(3));
         assert_eq!(fits(&[0, 0]), Err(6));
-        assert_eq!(fits(&[0x40, 0]), Err(4));
+        assert_eq!(fits(&[0x40, 0]), Err(3));
+        assert_eq!(fits(&[0x40, 1, 0]), Err(6));
+        assert_eq!(fits(&[0x40, 2, 0]), Err(5));
+        assert_eq!(fits(&[0x80, 0]), Err(4));
+        assert_eq!(fits(&[0xC0, 2]), Err(3));
+        assert_eq!(fits(&[0xC0, 2, 0]), Err(4));
         assert_eq!(fits(&sheet(&[4, 31], 10)), Err(5));
         assert_eq!(fits(&sheet(&[4, 32], 0)), Err(7));
     }

@@ -1,4 +1,4 @@
-//! The plain engine: document 01's "One bit time", sentence by sentence.
+//! The plain engine: document 01's "One bit time", sentence by sentence, with request N1 of document 02.
 //!
 //! It keeps every emission of every station and looks back by distance. What other stations emitted before the world was set up from a
 //! work area (see [`crate::area`]) is known only by its arrival; such arrivals are kept apart.
@@ -91,6 +91,10 @@ pub enum Transmitter {
     Jamming {
         left: u32,
     },
+    /// The same after a late collision that closes the frame.
+    Ending {
+        left: u32,
+    },
 }
 
 /// Within a reception, `spoiled`: a jam bit or several symbols at once were heard; `own`: the station emitted during it.
@@ -127,7 +131,7 @@ impl Row {
     }
 }
 
-/// The counters, in document 01's order; the receive errors in READINGS' order.
+/// The counters, in document 01's order, late-ended last; the receive errors in READINGS' order.
 #[derive(Clone, Copy)]
 enum Counter {
     Offered,
@@ -146,10 +150,14 @@ enum Counter {
     Check,
     Alignment,
     Length,
+    LateEnded,
 }
 
+/// How many counters a station has.
+pub const COUNTERS: usize = 17;
+
 #[derive(Clone, Debug, Default, PartialEq, Eq)]
-pub struct Counters(pub [u32; 16]);
+pub struct Counters(pub [u32; COUNTERS]);
 
 impl Counters {
     /// "A counter that would pass its top stops at it."
@@ -261,6 +269,11 @@ impl Station {
                 (Some(Symbol::Jam), None)
             }
             Transmitter::Jamming { .. } => (Some(Symbol::Jam), self.end_attempt(layout, draws)),
+            Transmitter::Ending { left } if left > 1 => {
+                self.transmitter = Transmitter::Ending { left: left - 1 };
+                (Some(Symbol::Jam), None)
+            }
+            Transmitter::Ending { .. } => (Some(Symbol::Jam), Some(self.late_ended())),
         }
     }
 
@@ -270,13 +283,15 @@ impl Station {
         if others {
             self.counters.count(Counter::Collisions);
             self.transmitter = self.after_collision(layout, bit);
-            let word = if bit > layout.slot {
-                self.counters.count(Counter::Late);
-                Word::Late
-            } else {
-                Word::Collision
-            };
-            (symbol, Some(Event { word, number: bit }))
+            if bit <= layout.slot {
+                return (symbol, Some(Event { word: Word::Collision, number: bit }));
+            }
+            self.counters.count(Counter::Late);
+            if layout.late_end == 1 {
+                // A late collision lies past the header, so jam follows at once.
+                self.transmitter = Transmitter::Ending { left: layout.jam };
+            }
+            (symbol, Some(Event { word: Word::Late, number: bit }))
         } else if bit == HEADER_BITS + 8 * self.frame_octets {
             (symbol, Some(self.sent()))
         } else {
@@ -304,7 +319,8 @@ impl Station {
             3.. => self.counters.count(Counter::SentAfterSeveral),
         }
         self.counters.add(Counter::OctetsSent, self.frame_octets - 18);
-        if self.deferred {
+        // N2: "a frame counts as deferred if it did not start in its first step and was sent on its first attempt".
+        if self.deferred && self.attempts == 1 {
             self.counters.count(Counter::Deferred);
         }
         Event { word: Word::Sent, number: self.attempts }
@@ -323,6 +339,13 @@ impl Station {
         self.draw_place = (self.draw_place + 1) % draws.len() as u32;
         self.transmitter = if left == 0 { Transmitter::Waiting } else { Transmitter::BackingOff { left } };
         None
+    }
+
+    /// "1 reports lateCollisionError at the last jam bit, before the attempt limit is looked at."
+    fn late_ended(&mut self) -> Event {
+        self.transmitter = Transmitter::NoFrame;
+        self.counters.count(Counter::LateEnded);
+        Event { word: Word::LateEnd, number: self.attempts }
     }
 
     /// The receiver; `emits`: the station emits in this very step.
@@ -482,7 +505,8 @@ impl World {
         Ok(answer)
     }
 
-    /// "A run of n bit times ends early after the first step in which any station has a late collision." Refusal 13.
+    /// "A run of n bit times ends early after the first step in which any station has a late collision", unless late-end is 1.
+    /// Refusal 13.
     pub fn run(&mut self, n: u32) -> Result<Ran, Refusal> {
         if u64::from(self.clock) + u64::from(n) > u64::from(LAST_CLOCK) {
             return Err(13);
@@ -492,7 +516,7 @@ impl World {
             for (i, events) in self.step()?.into_iter().enumerate() {
                 for event in [events.transmit, events.receive].into_iter().flatten() {
                     ran.counts[event.word as usize] += 1;
-                    if event.word == Word::Late && ran.late.is_none() {
+                    if event.word == Word::Late && self.layout.late_ends_run() && ran.late.is_none() {
                         ran.late = Some((ran.steps, i as u32));
                     }
                 }
@@ -512,7 +536,7 @@ impl World {
     }
 
     /// A station's counters. Refusal 10.
-    pub fn counters(&self, station: u32) -> Result<&[u32; 16], Refusal> {
+    pub fn counters(&self, station: u32) -> Result<&[u32; COUNTERS], Refusal> {
         self.stations.get(station as usize).map(|station| &station.counters.0).ok_or(10)
     }
 }

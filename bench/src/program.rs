@@ -139,7 +139,7 @@ fn report<E: Engine>(plan: &Plan) -> String {
         }
         let stepped = engine.step(&mut |station, event| {
             line(format_args!("{clock} {station} {} {}", event.word.text(), event.number));
-            late |= event.word == Word::Late;
+            late |= event.word == Word::Late && plan.layout.late_ends_run();
         });
         stepped.expect("the bit times asked end by the last clock");
         clock += 1;

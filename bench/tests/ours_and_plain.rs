@@ -8,7 +8,8 @@ use common::{
     by_station, cases, damaged, damaged_sheet, draws, made_up_area, offer, run_input, same_area, setting, sheet, Rng,
     Setting,
 };
-use wisavulome_bench::area::{self, AREA};
+use wisavulome_bench::area::{self, AREA, COUNTERS_OUT, PLAN_OUT, RUN_OUT, SHEET_OUT};
+use wisavulome_bench::events::WORDS;
 use wisavulome_bench::plain::World;
 use wisavulome_bench::{crc, frame, layout, ours, program};
 
@@ -70,7 +71,7 @@ fn sheets() {
     for case in 0..cases(60_000) {
         let rng = &mut Rng::new(10, case);
         let sheet = if rng.one_in(3) { sheet(rng) } else { damaged_sheet(rng) };
-        let out = lent(rng, 192);
+        let out = lent(rng, SHEET_OUT);
         let context = || format!("case {case}, sheet {sheet:02X?}");
         let read = |out: &mut [u8]| ours::read_sheet(&sheet, out);
         tally.note(same_out(&out, &context, read, |out| area::read_sheet(&sheet, out)));
@@ -85,16 +86,17 @@ fn layouts() {
     let mut tally = Tally::default();
     for case in 0..cases(20_000) {
         let rng = &mut Rng::new(15, case);
-        let mut octets = vec![0; 192];
+        let mut octets = vec![0; SHEET_OUT];
         area::read_sheet(&sheet(rng), &mut octets).expect("a sheet that is not refused");
         for _ in 0..rng.range(0, 2) {
-            let word = rng.pick(&[0, 1, 2, 3, 4, 5, 6, 8]);
+            // The figures, N, a station, late-end.
+            let word = rng.pick(&[0, 1, 2, 3, 4, 5, 6, 8, 48]);
             let at = if word == 8 { 32 + rng.below(150) as usize } else { 4 * word + 2 };
             octets[at] = rng.pick(&[0, 1, 2, 255]);
             octets[at + 1] = rng.next() as u8;
         }
         if rng.one_in(20) {
-            octets.truncate(rng.range(0, 191) as usize);
+            octets.truncate(rng.below(SHEET_OUT as u64) as usize);
         }
         let checked = ours::check_layout(&octets);
         assert_eq!(checked, area::check_layout(&octets), "case {case}, layout {octets:02X?}");
@@ -111,7 +113,7 @@ fn run_inputs() {
         let rng = &mut Rng::new(16, case);
         let Some(input) = run_input(rng) else { continue };
         let context = || format!("case {case}");
-        let out = lent(rng, 212);
+        let out = lent(rng, PLAN_OUT);
         let read = |out: &mut [u8]| ours::read_plan(&input, out);
         tally.note(same_out(&out, &context, read, |out| area::read_plan(&input, out)));
 
@@ -283,7 +285,7 @@ fn fresh_starts() {
 #[test]
 fn lists_of_calls() {
     let mut tally = Tally::default();
-    let mut words = [0u64; 9];
+    let mut words = [0u64; WORDS];
     for case in 0..cases(1_500) {
         let rng = &mut Rng::new(13, case);
         let Setting { sheet, layout, depth, draws } = setting(rng);
@@ -324,7 +326,7 @@ fn lists_of_calls() {
                     tally.note(answer);
                 }
                 6 | 7 => {
-                    let out = lent(rng, 48);
+                    let out = lent(rng, RUN_OUT);
                     let mut ours_out = out.clone();
                     let mut plain_out = out.clone();
                     let bit_times = match rng.below(16) {
@@ -337,7 +339,7 @@ fn lists_of_calls() {
                     let context = context();
                     if bit_times > 16_000_000 {
                         assert_eq!(answer, Err(13), "{context}, run");
-                    } else if out.len() < 48 {
+                    } else if out.len() < RUN_OUT {
                         assert_eq!(answer, Err(15), "{context}, run");
                     } else {
                         let ran = world.run(bit_times).expect("the clock does not run out");
@@ -366,7 +368,7 @@ fn lists_of_calls() {
                     tally.note(answer);
                 }
                 _ => {
-                    let out = lent(rng, 64);
+                    let out = lent(rng, COUNTERS_OUT);
                     let answer = same_out(
                         &out,
                         &context,
@@ -381,13 +383,13 @@ fn lists_of_calls() {
         }
     }
     tally.demand(&[0, 10, 11, 12, 13, 14, 15]);
-    assert!(words[..5].iter().all(|&count| count > 0), "an event never came: {words:?}");
+    assert!(words[..6].iter().all(|&count| count > 0), "an event never came: {words:?}");
 }
 
 /// Most stations offer at about the same time, again and again, with runs of a few bit times to a few packets in between.
 #[test]
 fn contention() {
-    let mut words = [0u64; 9];
+    let mut words = [0u64; WORDS];
     for case in 0..cases(400) {
         let rng = &mut Rng::new(15, case);
         let Setting { sheet, layout, depth, draws } = setting(rng);
@@ -413,7 +415,7 @@ fn contention() {
                 _ => rng.range(1, 2000),
             };
             let ran = world.run(bit_times).expect("the clock does not run out");
-            let (mut ours_out, mut plain_out) = ([0; 48], [0; 48]);
+            let (mut ours_out, mut plain_out) = ([0; RUN_OUT], [0; RUN_OUT]);
             area::put_ran(&ran, &mut plain_out);
             let context = || format!("case {case}, turn {turn}");
             assert_eq!(run_both(&mut area, bit_times, &mut ours_out, &context), Ok(ran.steps), "{}", context());
@@ -425,7 +427,7 @@ fn contention() {
             }
         }
     }
-    assert!(words[..5].iter().all(|&count| count > 0), "an event never came: {words:?}");
+    assert!(words[..6].iter().all(|&count| count > 0), "an event never came: {words:?}");
 }
 
 /// A call on two copies of a work area with a buffer lent beside it.
@@ -454,7 +456,7 @@ fn readable_octets(area: &[u8], station: u32) -> usize {
 #[test]
 fn made_up_areas() {
     let mut tally = Tally::default();
-    let mut words = [0u64; 9];
+    let mut words = [0u64; WORDS];
     for case in 0..cases(20_000) {
         let rng = &mut Rng::new(14, case);
         let mut ours_area = made_up_area(rng);
@@ -478,7 +480,7 @@ fn made_up_areas() {
                     same_call(areas, &out, &context, ours::step, area::step)
                 }
                 3 | 4 => {
-                    let out = lent(rng, 48);
+                    let out = lent(rng, RUN_OUT);
                     let bit_times = match rng.below(8) {
                         0 if spent => rng.pick(&[0, u32::MAX, 16_777_216]),
                         1..=4 => rng.range(0, 40),
@@ -532,7 +534,7 @@ fn made_up_areas() {
                     )
                 }
                 _ => {
-                    let out = lent(rng, 64);
+                    let out = lent(rng, COUNTERS_OUT);
                     let context = || format!("case {case}, call {call}, check {check}: counters at {station}");
                     same_call(
                         areas,

@@ -1,19 +1,29 @@
-//! Both engines print every stored vector octet for octet.
+//! Both engines print every stored case of every level octet for octet.
 
 use std::fs;
-use std::path::PathBuf;
+use std::path::{Path, PathBuf};
 
 use wisavulome_bench::{fast, plain};
 
+fn sorted(folder: &Path) -> Vec<PathBuf> {
+    let entries = fs::read_dir(folder).unwrap_or_else(|error| panic!("{}: {error}", folder.display()));
+    let mut paths: Vec<PathBuf> = entries.map(|entry| entry.expect("a readable folder").path()).collect();
+    paths.sort();
+    paths
+}
+
+/// The run inputs of every folder `stored/levelNN`.
 fn vectors() -> Vec<PathBuf> {
-    let folder = PathBuf::from(env!("CARGO_MANIFEST_DIR")).join("../crates/stored/data");
-    let entries = fs::read_dir(&folder).unwrap_or_else(|error| panic!("{}: {error}", folder.display()));
-    let mut inputs: Vec<PathBuf> = entries
-        .map(|entry| entry.expect("a readable folder").path())
-        .filter(|path| path.extension().is_some_and(|extension| extension == "in"))
-        .collect();
-    inputs.sort();
-    assert!(inputs.len() >= 64, "{} holds {} vectors", folder.display(), inputs.len());
+    let stored = PathBuf::from(env!("CARGO_MANIFEST_DIR")).join("../stored");
+    let folders: Vec<PathBuf> = sorted(&stored).into_iter().filter(|path| path.is_dir()).collect();
+    assert!(folders.len() >= 2, "{} holds {} levels", stored.display(), folders.len());
+    let mut inputs = Vec::new();
+    for folder in folders {
+        let mut own = sorted(&folder);
+        own.retain(|path| path.extension().is_some_and(|extension| extension == "in"));
+        assert!(own.len() >= 20, "{} holds {} vectors", folder.display(), own.len());
+        inputs.append(&mut own);
+    }
     inputs
 }
 

@@ -14,9 +14,9 @@
  * What is written into `out` are numbers of four octets, high octet first, unless it says otherwise. Octets past what is written stay.
  * An address is the low 48 bits of its number: 0x020000000001 is 02-00-00-00-00-01.
  *
- * Refusals: 1 the work area is too short; 2 it holds what no call would leave; 3 the sheet is too short; 4 map bit 6 or 7 stands; 5 a field
- * is out of range, or the excess bits are over 7; 6 N is outside 2..16; 7 positions do not rise; 8 an address is a group's or repeats; 9 D
- * or the draws; 10 no such station; 11 the data or the length/type value; 12 the station still has a frame; 13 the clock would pass
+ * Refusals: 1 the work area is too short; 2 it holds what no call would leave; 3 the sheet is too short; 4 map bit 7 stands; 5 a field is
+ * out of range, or the excess bits are over 7; 6 N is outside 2..16; 7 positions do not rise; 8 an address is a group's or repeats; 9 D or
+ * the draws; 10 no such station; 11 the data or the length/type value; 12 the station still has a frame; 13 the clock would pass
  * 16,777,216; 14 no readable frame; 15 the lent output is too short; 16 the plan is over 16,384 octets, is short, has octets left over,
  * over 64 offers, or offer times that fall. They are checked in this order (a run input makes check 13 last).
  */
@@ -36,20 +36,20 @@ extern "C" {
 #define WISAVULOME_VERSION_MAJOR 0
 #define WISAVULOME_VERSION_MINOR 1
 #define WISAVULOME_VERSION_PATCH 0
-#define WISAVULOME_AREA_FORMAT 1
+#define WISAVULOME_AREA_FORMAT 2
 
 /* set in a reply that is a refusal; the other bits are its number */
 #define WISAVULOME_REFUSAL 0x80000000u
 
 /* the octets of a work area, and of what the calls write into `out` */
 #define WISAVULOME_AREA 57344
-#define WISAVULOME_SHEET_OUT 192
+#define WISAVULOME_SHEET_OUT 196
 #define WISAVULOME_CLIENT_OUT 8
 #define WISAVULOME_STEP_OUT 256
-#define WISAVULOME_RUN_OUT 48
-#define WISAVULOME_COUNTERS_OUT 64
-#define WISAVULOME_FRAME_OUT 1518
-#define WISAVULOME_PLAN_OUT 212
+#define WISAVULOME_RUN_OUT 52
+#define WISAVULOME_COUNTERS_OUT 68
+#define WISAVULOME_FRAME_OUT 1522
+#define WISAVULOME_PLAN_OUT 216
 #define WISAVULOME_PIECE_OUT 2048
 
 /* the octets of where a run stands */
@@ -63,12 +63,13 @@ extern "C" {
 #define WISAVULOME_LENGTH_ERROR 4
 #define WISAVULOME_RECEIVE_OK 5
 
-/* transmit events: collision and late with the bit, sent and given-up with the attempts */
+/* transmit events: collision and late with the bit, sent, given-up and late-end with the attempts */
 #define WISAVULOME_NO_TRANSMIT 0
 #define WISAVULOME_COLLISION 1
 #define WISAVULOME_LATE 2
 #define WISAVULOME_SENT 3
 #define WISAVULOME_GIVEN_UP 4
+#define WISAVULOME_LATE_END 5
 
 /* receive events: ok with the octets of client data, the others with the whole octets collected */
 #define WISAVULOME_NO_RECEIVE 0
@@ -78,24 +79,25 @@ extern "C" {
 #define WISAVULOME_GOT_CHECK 4
 #define WISAVULOME_GOT_LENGTH 5
 
-/* Reads a sheet. Answer: the octets used; more may follow. Refusals 3 to 8, 15 (under 192 octets).
+/* Reads a sheet. Answer: the octets used; more may follow. Refusals 3 to 8, 15 (under 196 octets).
  * out: slot, gap1, gap2, jam, attempt limit, backoff limit, N, fits (0 or 1); then for each of 16 places position (4 octets) and address
- * (6 octets), from octet 32 + 10 i on; places N and up are zeros. */
+ * (6 octets), from octet 32 + 10 i on; places N and up are zeros; then, at octet 192, late-end: 0 where a late collision is retried, 1
+ * where it closes the frame. */
 uint32_t wisavulome_read_sheet(const uint8_t *sheet, size_t sheet_len, uint8_t *out, size_t out_len);
 
 /* Whether the layout of a sheet fits. Answer: 0 or 1. Refusals 3 to 8. */
 uint32_t wisavulome_fits(const uint8_t *sheet, size_t sheet_len);
 
-/* Checks a layout, given as the octets that wisavulome_read_sheet writes. Answer: 0. Refusals 3 (under 192 octets), 5 to 8. Whether it fits
+/* Checks a layout, given as the octets that wisavulome_read_sheet writes. Answer: 0. Refusals 3 (under 196 octets), 5 to 8. Whether it fits
  * (the eighth word) is not looked at. */
 uint32_t wisavulome_check_layout(const uint8_t *layout, size_t layout_len);
 
-/* Reads a run input: sheet, draws, offers, bit times. Answer: 0. Refusals 3 to 9, 13, 16, and after them 15 (under 212 octets).
- * out: the layout as wisavulome_read_sheet writes it, 192 octets; then D, the octet at which the draws begin, the number of offers, the octet
+/* Reads a run input: sheet, draws, offers, bit times. Answer: 0. Refusals 3 to 9, 13, 16, and after them 15 (under 216 octets).
+ * out: the layout as wisavulome_read_sheet writes it, 196 octets; then D, the octet at which the draws begin, the number of offers, the octet
  * at which the first offer begins, the bit times. */
 uint32_t wisavulome_read_plan(const uint8_t *input, size_t input_len, uint8_t *out, size_t out_len);
 
-/* Builds a frame from destination, source, length/type value and data. Answer: the octets of the frame, 64 to 1518. Refusals 11, 15.
+/* Builds a frame from destination, source, length/type value and data. Answer: the octets of the frame, 64 to 1522. Refusals 11, 15.
  * out: the frame with its check sequence. */
 uint32_t wisavulome_build(uint64_t destination, uint64_t source, uint16_t value, const uint8_t *payload, size_t payload_len,
                           uint8_t *out, size_t out_len);
@@ -129,23 +131,23 @@ uint32_t wisavulome_offer(uint8_t *area, size_t area_len, uint32_t station, uint
  * out: for each of 16 stations, from octet 16 i on: transmit event, its number, receive event, its number. */
 uint32_t wisavulome_step(uint8_t *area, size_t area_len, uint8_t *out, size_t out_len);
 
-/* A run of n bit times, which ends early after the first step in which a station has a late collision. Answer: the steps made.
- * Refusals 1, 2, 13, 15 (under 48 octets).
- * out: how many events of each word came (collision, late, sent, given-up, got ok, got too-long, got alignment, got check, got length);
- * then 0 where all steps were made, or 1 where the run ended early; the step of the run (counted from 0) with the late collision; its
- * station. The last two are 0 where all steps were made. */
+/* A run of n bit times. Where late-end is 0 it ends early after the first step in which a station has a late collision; where it is 1 all
+ * steps are made. Answer: the steps made. Refusals 1, 2, 13, 15 (under 52 octets).
+ * out: how many events of each word came (collision, late, sent, given-up, late-end, got ok, got too-long, got alignment, got check, got
+ * length); then 0 where all steps were made, or 1 where the run ended early; the step of the run (counted from 0) with the late collision;
+ * its station. The last two are 0 where all steps were made. */
 uint32_t wisavulome_run(uint8_t *area, size_t area_len, uint32_t n, uint8_t *out, size_t out_len);
 
 /* The same run, made step by step: the reference, which is slower. It answers, refuses and writes what wisavulome_run does. */
 uint32_t wisavulome_run_stepwise(uint8_t *area, size_t area_len, uint32_t n, uint8_t *out, size_t out_len);
 
-/* Reads the frame that a station received, whole with its check sequence. Answer: its octets, 64 to 1518. Refusals 1, 2, 10, 14, 15.
+/* Reads the frame that a station received, whole with its check sequence. Answer: its octets, 64 to 1522. Refusals 1, 2, 10, 14, 15.
  * out: the frame. */
 uint32_t wisavulome_read_frame(const uint8_t *area, size_t area_len, uint32_t station, uint8_t *out, size_t out_len);
 
-/* The counters of a station. Answer: 0. Refusals 1, 2, 10, 15 (under 64 octets).
+/* The counters of a station. Answer: 0. Refusals 1, 2, 10, 15 (under 68 octets).
  * out: offered, attempts, collisions, late, sent, sent after one collision, sent after several, octets sent, deferred, excessive, received,
- * octets received, too-long, check, alignment, length. */
+ * octets received, too-long, check, alignment, length, late-ended. */
 uint32_t wisavulome_counters(const uint8_t *area, size_t area_len, uint32_t station, uint8_t *out, size_t out_len);
 
 /* What is printed for a run input, piece by piece: wisavulome_begin makes a fresh start and hands out the first piece, wisavulome_advance each

@@ -11,20 +11,20 @@
 pub const VERSION_MAJOR: u32 = 0;
 pub const VERSION_MINOR: u32 = 1;
 pub const VERSION_PATCH: u32 = 0;
-pub const AREA_FORMAT: u32 = 1;
+pub const AREA_FORMAT: u32 = 2;
 
 // Set in a reply that is a refusal; the other bits are its number.
 pub const REFUSAL: u32 = 0x8000_0000;
 
 // The octets of a work area, of what the calls write into `out`, and of where a run stands.
 pub const AREA: usize = 57344;
-pub const SHEET_OUT: usize = 192;
+pub const SHEET_OUT: usize = 196;
 pub const CLIENT_OUT: usize = 8;
 pub const STEP_OUT: usize = 256;
-pub const RUN_OUT: usize = 48;
-pub const COUNTERS_OUT: usize = 64;
-pub const FRAME_OUT: usize = 1518;
-pub const PLAN_OUT: usize = 212;
+pub const RUN_OUT: usize = 52;
+pub const COUNTERS_OUT: usize = 68;
+pub const FRAME_OUT: usize = 1522;
+pub const PLAN_OUT: usize = 216;
 pub const PIECE_OUT: usize = 2048;
 pub const PROGRESS: usize = 16;
 
@@ -36,12 +36,13 @@ pub const ALIGNMENT_ERROR: u32 = 3;
 pub const LENGTH_ERROR: u32 = 4;
 pub const RECEIVE_OK: u32 = 5;
 
-// Transmit events: collision and late with the bit, sent and given-up with the attempts.
+// Transmit events: collision and late with the bit, sent, given-up and late-end with the attempts.
 pub const NO_TRANSMIT: u32 = 0;
 pub const COLLISION: u32 = 1;
 pub const LATE: u32 = 2;
 pub const SENT: u32 = 3;
 pub const GIVEN_UP: u32 = 4;
+pub const LATE_END: u32 = 5;
 
 // Receive events: ok with the octets of client data, the others with the whole octets collected.
 pub const NO_RECEIVE: u32 = 0;
@@ -52,16 +53,16 @@ pub const GOT_CHECK: u32 = 4;
 pub const GOT_LENGTH: u32 = 5;
 
 unsafe extern "C" {
-    // The octets used; refusals 3 to 8, 15. out: 8 words, then 16 places of 10 octets.
+    // The octets used; refusals 3 to 8, 15. out: 8 words, 16 places of 10 octets, late-end.
     pub fn wisavulome_read_sheet(sheet: *const u8, sheet_len: usize, out: *mut u8, out_len: usize) -> u32;
 
     // 0 or 1; refusals 3 to 8.
     pub fn wisavulome_fits(sheet: *const u8, sheet_len: usize) -> u32;
 
-    // 0; refusals 3, 5 to 8. layout: 192 octets, as wisavulome_read_sheet writes them.
+    // 0; refusals 3, 5 to 8. layout: 196 octets, as wisavulome_read_sheet writes them.
     pub fn wisavulome_check_layout(layout: *const u8, layout_len: usize) -> u32;
 
-    // 0; refusals 3 to 9, 13, 15, 16. out: the layout's 192 octets, then 5 words.
+    // 0; refusals 3 to 9, 13, 15, 16. out: the layout's 196 octets, then 5 words.
     pub fn wisavulome_read_plan(input: *const u8, input_len: usize, out: *mut u8, out_len: usize) -> u32;
 
     // The octets of the frame; refusals 11, 15. out: the frame.
@@ -113,7 +114,7 @@ unsafe extern "C" {
     // 0; refusals 1, 2, 13, 15. out: 4 words for each of 16 stations.
     pub fn wisavulome_step(area: *mut u8, area_len: usize, out: *mut u8, out_len: usize) -> u32;
 
-    // The steps made; refusals 1, 2, 13, 15. out: the 9 words, and how the run ended in 3.
+    // The steps made; refusals 1, 2, 13, 15. out: the 10 words, and how the run ended in 3.
     pub fn wisavulome_run(area: *mut u8, area_len: usize, n: u32, out: *mut u8, out_len: usize) -> u32;
 
     // The same run, made step by step.
@@ -122,7 +123,7 @@ unsafe extern "C" {
     // The octets of the frame; refusals 1, 2, 10, 14, 15. out: the frame.
     pub fn wisavulome_read_frame(area: *const u8, area_len: usize, station: u32, out: *mut u8, out_len: usize) -> u32;
 
-    // 0; refusals 1, 2, 10, 15. out: the sixteen counters.
+    // 0; refusals 1, 2, 10, 15. out: the seventeen counters.
     pub fn wisavulome_counters(area: *const u8, area_len: usize, station: u32, out: *mut u8, out_len: usize) -> u32;
 
     // The octets of the first piece; refusals 1, 15. progress: 4 words, written; out: the piece.

@@ -12,16 +12,17 @@ from .table import as_csv, as_table
 HELP = """Says for each offer of a plan what came of it, and of each addressee of a sent frame
 whether it got the frame.
 
-outcome      sent, given-up, late (a late collision ended the run), held (not yet sent), refused N,
-             not made (its step never ran)
+outcome      sent, given-up, late-end (a late collision closed the frame), late (its collision was
+             late, and the run ended before the frame did), held (not yet sent), refused N, not made
+             (its step never ran)
 attempts     how often the frame started
 delay        bit times from the offer's step to the step that reports its end
 addressees   of each: got, lost, or on its way (the run ended before the frame could be there). A
              frame is lost where its sender reports sent and the addressee, in the step in which it
              should report the frame, does not. On a sheet that fits nothing is lost.
 
-Exit status: 0 nothing lost, 1 a frame is lost or given up or a collision was late, 2 the plan is
-refused or the call is wrong, 3 the output could not be written."""
+Exit status: 0 nothing lost, 1 a frame is lost, given up or late-ended or a collision was late, 2
+the plan is refused or the call is wrong, 3 the output could not be written."""
 
 HEADER = ["offer", "time", "station", "destination", "outcome", "attempts", "delay", "addressees"]
 COUNTS = ["got", "lost", "on-its-way"]
@@ -61,7 +62,7 @@ def run(library, arguments, output):
 
 
 def status_of(course):
-    """1 where a frame is lost or given up, or a collision was late."""
+    """1 where a frame is lost, given up or late-ended, or a collision was late."""
     return NO if any(is_bad(fate) for fate in course.fates) else GOOD
 
 

@@ -21,8 +21,8 @@ HELP = """Writes a run as a pcapng capture, which Wireshark, tshark and capinfos
 station is an interface. A frame stands with its check sequence once where it was sent (outbound)
 and once where it was received (inbound); its time is the step that reports it, 100 ns a bit time.
 A reception that fails stands with the octets that were collected and with error flags. A comment
-tells offer, attempts, and where each attempt started and collided. A frame that was given up
-stands where that was reported, outbound, none of its octets captured.
+tells offer, attempts, and where each attempt started and collided. A frame that was given up or
+late-ended stands where that was reported, outbound, none of its octets captured.
 
 Exit status: 0 written, 2 refused or usage, 3 the output could not be written; then no half file
 stays."""

@@ -10,7 +10,7 @@ from dataclasses import dataclass, field
 from typing import Optional
 
 from . import text
-from .library import COLLISIONS, ENDINGS, ENDS_RUN, EVENTS, HEADER_BITS, Refused, buffer_of
+from .library import COLLISIONS, ENDINGS, EVENTS, HEADER_BITS, LATE, Refused, buffer_of
 from .packet import packet_bits
 
 GOT_OK = "got ok"
@@ -80,7 +80,7 @@ class Fate:
     @property
     def late(self):
         """Whether an attempt had a late collision."""
-        return any(attempt.collision and attempt.collision.word == ENDS_RUN for attempt in self.attempts)
+        return any(attempt.collision and attempt.collision.word == LATE for attempt in self.attempts)
 
     @property
     def outcome(self):
@@ -91,7 +91,7 @@ class Fate:
             return f"refused {self.refusal}"
         if self.ending:
             return self.ending.word
-        return "late" if self.late else "held"
+        return LATE if self.late else "held"
 
     @property
     def delay(self):

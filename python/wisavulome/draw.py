@@ -18,9 +18,9 @@ HELP = """Draws a sheet, a run or a sweep as SVG, by what FILE is: a sheet, a pl
 
 Sheet: the pair with its taps, distances, addresses, figures given or default, both inequalities
 as bars with their margins. Run: position across, bit times down; packet and jam bits are slanted
-bands; collisions, late ones, sent, got, lost, given up are marked. Sweep: for each offer the
-distribution of its delays. The octets of sheet or plan stand in the drawing as data: 'wisavulome
-fit DRAWING' reads them. The same input gives the same drawing.
+bands; collisions, late ones, sent, got, lost, given up, late-end are marked. Sweep: for each
+offer the distribution of its delays. The octets of sheet or plan stand in the drawing as data:
+'wisavulome fit DRAWING' reads them. The same input gives the same drawing.
 
 Exit status: 0 drawn, 2 refused or usage, 3 the output could not be written; then no half file
 stays."""

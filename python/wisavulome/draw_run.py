@@ -5,7 +5,7 @@ Packet bits are light, jam bits dark. Nothing is drawn past the last step that w
 """
 
 from . import text
-from .library import COLLISIONS, ENDS_RUN
+from .library import COLLISIONS, LATE
 from .svg import Box, Svg, spread, text_width
 
 LEFT, ROOM, MARGIN = 96, 640, 170
@@ -217,7 +217,7 @@ def marks_of(course, view):
 def kind_of(word):
     """The kind of mark for an event word."""
     if word in COLLISIONS:
-        return "late" if word == ENDS_RUN else "collision"
+        return "late" if word == LATE else "collision"
     if word.startswith("got"):
         return "got" if word == "got ok" else "error"
     return {"sent": "sent", "refused": "refused"}.get(word, "given-up")
@@ -344,7 +344,7 @@ def draw_legend(svg, y):
         ("got", "got ok"),
         ("error", "got, with an error"),
         ("lost", "lost"),
-        ("given-up", "given up"),
+        ("given-up", "given up, late-end"),
         ("refused", "offer refused"),
     ]
     for at, (kind, words) in enumerate(entries):

@@ -15,20 +15,20 @@ from pathlib import Path
 SONAME = "libwisavulome.so.1"
 VARIABLE = "WISAVULOME_LIBRARY"
 
-AREA_FORMAT = 1
+AREA_FORMAT = 2
 REFUSAL = 0x80000000
 WORD = 4  # octets of a number in an output
 
 # The octets that each call asks of what is lent to it.
 SIZES = {
     "area": 57344,
-    "sheet": 192,
+    "sheet": 196,
     "client": 8,
     "step": 256,
-    "run": 48,
-    "counters": 64,
-    "frame": 1518,
-    "plan": 212,
+    "run": 52,
+    "counters": 68,
+    "frame": 1522,
+    "plan": 216,
     "piece": 2048,
     "progress": 16,
 }
@@ -39,7 +39,7 @@ MAX_OFFERS = 64
 MAX_PLAN = 16384  # octets of a run input
 LAST_CLOCK = 16777216
 MAX_POSITION = 255
-MAX_DATA = 1500  # octets of client data; a value up to this is a length
+MAX_LENGTH = 1500  # the largest length/type value that is a length
 MIN_TYPE = 1536  # a value from this on is a type
 MIN_FRAME = 64  # octets
 FRAME_OVERHEAD = 18  # octets of a frame besides data and pad
@@ -68,20 +68,22 @@ FIGURES = (
     Figure("jam", 1, 1, 64, 32, 12),
     Figure("attempt-limit", 1, 1, 16, 16, 16),
     Figure("backoff-limit", 1, 1, 10, 10, 20),
+    Figure("late-end", 1, 0, 1, 0, 192),  # 0: a late collision is retried; 1: it closes the frame
 )
 
 # Where wisavulome_read_sheet writes N, whether the layout fits, and the stations: position, then address.
 COUNT_AT, FITS_AT, TAPS_AT, TAP_OCTETS = 24, 28, 32, 10
 
 # Event words by their code in a step's output; code 0 is no event.
-TRANSMIT = ("collision", "late", "sent", "given-up")
+TRANSMIT = ("collision", "late", "sent", "given-up", "late-end")
 RECEIVE = ("got ok", "got too-long", "got alignment", "got check", "got length")
 EVENTS = TRANSMIT + RECEIVE  # the order of a run's tallies, and of a log's event numbers, which begin at 1
 COLLISIONS = ("collision", "late")
-ENDINGS = ("sent", "given-up")  # the words after which a station has no frame
-ENDS_RUN = "late"
+ENDINGS = ("sent", "given-up", "late-end")  # the words after which a station has no frame
+LATE = "late"  # it ends a run where late-end is 0 (Layout.late_ends_run)
 
 STATUSES = ("fragment", "frameTooLong", "frameCheckError", "alignmentError", "lengthError", "receiveOK")
+RECEIVE_OK = STATUSES[-1]
 
 COUNTERS = (
     "offered",
@@ -100,20 +102,21 @@ COUNTERS = (
     "check",
     "alignment",
     "length",
+    "late-ended",
 )
 
 REFUSALS = {
     1: "the work area is too short",
     2: "the work area holds what no call would leave",
     3: "the sheet is too short",
-    4: "map bit 6 or 7 stands",
+    4: "map bit 7 stands",
     5: "a field is out of its range",
     6: f"the number of stations is outside 2..{MAX_STATIONS}",
     7: "positions do not strictly rise",
     8: "an address is a group's or repeats",
     9: f"D is outside 1..{MAX_DRAWS}, or the draws are not N x D numbers",
     10: "no such station",
-    11: f"data over {MAX_DATA} octets, or a value that is neither their size nor a type",
+    11: "data over 1500 octets (1504 with the value 8100 hexadecimal), or a value that is neither their size nor a type",
     12: "the station still has a frame",
     13: f"the clock would pass {LAST_CLOCK}",
     14: "the station holds no readable frame",
@@ -152,13 +155,16 @@ CALLS = {
 LATER_CALLS = {"write_sheet": ("slice", "buffer")}
 
 # Where a station's state lies in a work area (crates/area/src/lib.rt, crates/area_record/src/lib.rt).
-# Only `Library.station` uses it.
+# Only `Library.station` and `Library.clock` use it.
+CLOCK_AT = 0
 RECORD_AT, RECORD_OCTETS, RECORD_WORDS = 2048, 64, 14
 LINE_AT, LINE_PLACES = 4096, 256
 DEFERENCE = ("quiet", "busy", "gap")
-TRANSMITTER = ("no frame", "waiting", "backing off", "sending", "heading", "jamming")
+# ending: it jams after a late collision that closes the frame
+TRANSMITTER = ("no frame", "waiting", "backing off", "sending", "heading", "jamming", "ending")
 RECEIVER = ("listening", "readable", "seeking", "collecting")
-SILENCE, ZERO, ONE, JAM, SEVERAL = range(5)
+SILENCE, ZERO, ONE, JAM, SEVERAL = range(5)  # what a station hears, as heard.py and the waves number it
+SPOILED = 3  # in a delay line: jam, or several at once; the other places hold SILENCE, ZERO or ONE
 
 # ---- failures
 
@@ -270,6 +276,11 @@ class Layout:
         """G, gap1 + gap2."""
         return self.figures["gap1"] + self.figures["gap2"]
 
+    @property
+    def late_ends_run(self):
+        """Whether a run ends early after a late collision."""
+        return self.figures["late-end"] == 0
+
     def distance(self, one, other):
         """The bit times between two stations."""
         return abs(self.taps[one].position - self.taps[other].position)
@@ -289,7 +300,7 @@ class PlanHead:
 
 @dataclass(frozen=True)
 class StationState:
-    """A station's state in numbers. `hears` is what reaches it in the next step."""
+    """A station's state in numbers. `hears` is the place of its delay line for the next step."""
 
     deference: str
     gap_count: int
@@ -394,9 +405,26 @@ class Library:
         size = self.call("build", *numbers, value, data, out)
         return out.raw[:size]
 
+    def opened(self, frame, excess):
+        """The status of a frame with its excess bits, and the client data, None unless it is receiveOK."""
+        status = STATUSES[self.call("status", frame, excess)]
+        if status != RECEIVE_OK:
+            return status, None
+        out = buffer_of("client")
+        self.call("client_data", frame, excess, out)
+        at, size = words_of(out.raw)
+        return status, frame[at : at + size]
+
     def print_run(self, plan):
         """All that is printed for a run input."""
         return b"".join(text for text, _progress in self.pieces(plan, buffer_of("area")))
+
+    def print_whole(self, plan, room):
+        """All that is printed for a run input by one call, into an output of so many octets, and the area after it."""
+        area = buffer_of("area")
+        out = ctypes.create_string_buffer(room)
+        size = self.call("print", plan, area, out)
+        return out.raw[:size], area
 
     def pieces(self, plan, area):
         """What is printed for a run input, piece by piece: the text, and what is left (offers, bit times)."""
@@ -428,7 +456,18 @@ class Library:
 
     def run(self, area, count):
         """A run of so many bit times; answers the steps made."""
-        return self.call("run", area, count, buffer_of("run"))
+        return self.run_counted(area, count)[0]
+
+    def run_counted(self, area, count):
+        """A run of so many bit times: the steps made, and by word how many events came."""
+        out = buffer_of("run")
+        steps = self.call("run", area, count, out)
+        return steps, dict(zip(EVENTS, words_of(out.raw)))
+
+    def clock(self, area):
+        """The clock of a work area. It is read by its offset, after checks 1 and 2."""
+        self.call("check_area", area)
+        return word_at(area, CLOCK_AT)
 
     def counters(self, area, station):
         """A station's counters, by name."""
@@ -450,7 +489,7 @@ class Library:
     def station(self, area, station):
         """A station's state. It is read by its offsets, until the library has a call for it."""
         word = struct.unpack_from(f">{RECORD_WORDS}I", area, RECORD_AT + RECORD_OCTETS * station)
-        clock = struct.unpack_from(">I", area)[0]
+        clock = word_at(area, CLOCK_AT)
         hears = struct.unpack_from("B", area, LINE_AT + LINE_PLACES * station + clock % LINE_PLACES)[0]
         return StationState(
             deference=DEFERENCE[word[0]],

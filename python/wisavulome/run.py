@@ -4,7 +4,7 @@ import json
 
 from .course import follow
 from .failure import GOOD, NO, REFUSED
-from .library import COUNTERS, ENDS_RUN
+from .library import COUNTERS, LATE
 from .source import each_plan
 from .table import as_csv
 
@@ -13,12 +13,12 @@ HELP = """Prints what the run program 'simulate' prints for a plan, given as oct
 
 With --offers each line ends in the offers that it concerns, counted from 1. CSV and JSON lines
 always have them. --counters and --held add, after the run, a line for each station's counters,
-and a line for each frame that a station holds: 'held S to-send OFFER' (accepted, not yet sent or
-given up) and 'held S received OCTETS' (received, and still readable, whole with its check
-sequence).
+and a line for each frame that a station holds: 'held S to-send OFFER' (accepted, not yet sent,
+given up or late-ended) and 'held S received OCTETS' (received, and still readable, whole with its
+check sequence).
 
-Exit status: 0 the run was made, 1 a late collision ended it early, 2 the plan is refused or the
-call is wrong, 3 the output could not be written."""
+Exit status: 0 the run was made, 1 a late collision ended it early (on a sheet with late-end 1 none
+does), 2 the plan is refused or the call is wrong, 3 the output could not be written."""
 
 COLUMNS = ["kind", "time", "station", "word", "number", "offers"]
 
@@ -46,7 +46,7 @@ def run(library, arguments, output):
             status = REFUSED
             continue
         course = follow(library, source.octets)
-        status = max(status, NO if any(event.word == ENDS_RUN for event in course.events) else GOOD)
+        status = max(status, NO if ended_by_late(course) else GOOD)
         records = records_of(library, course, arguments)
         named = {"plan": source.name} if len(arguments.files) > 1 else {}
         if arguments.format == "text":
@@ -58,6 +58,11 @@ def run(library, arguments, output):
     if arguments.format == "csv":
         write_csv(rows, arguments, output)
     return status
+
+
+def ended_by_late(course):
+    """Whether a late collision ended the run; it may have done so in the last step that was asked."""
+    return course.layout.late_ends_run and any(event.word == LATE for event in course.events)
 
 
 def records_of(library, course, arguments):

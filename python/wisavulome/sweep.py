@@ -14,7 +14,7 @@ from contextlib import suppress
 from . import text
 from .course import follow
 from .failure import GOOD, NO, UNWRITTEN, Failure
-from .library import ENDINGS, ENDS_RUN, MAX_DRAWS, Library, Refused
+from .library import ENDINGS, LATE, MAX_DRAWS, Library, Refused
 from .output import progress, write_whole
 from .rows import Rows, row_line
 from .source import read_plan_source
@@ -35,19 +35,20 @@ that were made elsewhere:
     wisavulome sweep plan.txt --sets 10000 --merge part*.csv
 
 --worst FILE writes the plan of the worst set as text, --plan-of K the plan of any: 'wisavulome
-run' runs it again. A set is worse that has more lost frames, then more late collisions, then more
-frames given up, then more still held at the end, then the longer longest delay; of equals the
-first.
+run' runs it again. A set is worse that has more lost frames, then more with a late collision (late,
+late-end), then more frames given up, then more still held at the end, then the longer longest
+delay; of equals the first.
 
 Exit status: 0 nothing lost in any set, 1 a frame is lost or given up or a collision was late, 2
 refused or usage, 3 the output could not be written."""
 
 MOST_SETS = 1 << 32
 FEW = 1 << 20  # sets that --all makes without --below
-GIVEN_UP = tuple(word for word in ENDINGS if word != "sent")
+LATES = (LATE, "late-end")  # outcomes after a late collision
+GIVEN_UP = tuple(word for word in ENDINGS if word not in ("sent", *LATES))
 CHUNK = 64  # sets that a process makes at a time
 QUANTILES = (("min", 0), ("median", 50), ("p95", 95), ("max", 100))
-OUTCOMES = (*ENDINGS, ENDS_RUN, "held", "refused", "not made")
+OUTCOMES = (*ENDINGS, LATE, "held", "refused", "not made")
 HEADER = (
     ["offer", "time", "station", "to", *OUTCOMES, "lost"]
     + ["attempts-mean", "attempts-max"]
@@ -321,7 +322,7 @@ class Summary:
         if self.current is None or self.current[1] != -number:
             self.settle()
             self.current = ((0, 0, 0, 0, -1), -number)
-        worse = (lost, outcome == ENDS_RUN, outcome in GIVEN_UP, outcome == "held")
+        worse = (lost, outcome in LATES, outcome in GIVEN_UP, outcome == "held")
         longest = max(self.current[0][-1], -1 if delay is None else delay)
         self.current = ((*map(sum, zip(self.current[0], worse)), longest), -number)
 
@@ -389,7 +390,7 @@ class Tally:
 
     def is_bad(self):
         """Whether the offer came to a bad end in some set."""
-        return bool(self.lost or any(self.outcomes[word] for word in (ENDS_RUN, *GIVEN_UP)))
+        return bool(self.lost or any(self.outcomes[word] for word in (*LATES, *GIVEN_UP)))
 
 
 def quantile(counts, part):

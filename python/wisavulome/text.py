@@ -3,7 +3,7 @@
 A run input is what the run program reads: sheet, draws, offers, bit times. The text has one line for each thing;
 '#' begins a comment, blank lines do not count (docs/RUN-INPUT.md has the table):
 
-    slot 512                                    also gap1, gap2, jam, attempt-limit, backoff-limit
+    slot 512                                    also gap1, gap2, jam, attempt-limit, backoff-limit, late-end
     station at 0  02:00:00:00:00:01 draws 0     position, address, draws; stations are numbered from 0 as they stand
     station at 10 02:00:00:00:00:02 draws 1
     offer at 0 station 0 to station 1 value 0x0800 data 46 zeros
@@ -493,7 +493,7 @@ def render_destination(plan, destination):
 
 def render_value(value, size):
     """length, a type in hexadecimal, or what else it may be in decimal."""
-    if value == size and value <= library.MAX_DATA:
+    if value == size and value <= library.MAX_LENGTH:
         return "length"
     return f"0x{value:04x}" if value >= library.MIN_TYPE else str(value)
 

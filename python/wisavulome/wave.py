@@ -3,16 +3,18 @@
 from . import VERSION
 from .course import advance_to, follow, make_due, packet_of
 from .failure import GOOD
+from .heard import Hearing
 from .library import (
     BIT_TIME_NS,
     COLLISIONS,
     DEFERENCE,
-    ENDS_RUN,
     JAM,
+    LATE,
     ONE,
     RECEIVER,
     SEVERAL,
     SILENCE,
+    SPOILED,
     TRANSMITTER,
     ZERO,
 )
@@ -39,7 +41,8 @@ sK_quiet, sK_busy, sK_gap   its deference at the end of the step
 
 --vectors adds sK_tx_symbol and sK_rx_symbol (0 silence, 1 a zero, 2 a one, 3 jam, 4 several),
 sK_gap_count, sK_attempts, sK_transmitter (0 no frame, 1 waiting, 2 backing off, 3 sending, 4
-heading, 5 jamming) and sK_receiver (0 listening, 1 readable, 2 seeking, 3 collecting).
+heading, 5 jamming, 6 jamming with the frame's end after it) and sK_receiver (0 listening, 1
+readable, 2 seeking, 3 collecting).
 
 Exit status: 0 written, 2 refused or usage, 3 the output could not be written; then no half file
 stays."""
@@ -123,6 +126,7 @@ def steps(library, course, octets, window, with_vectors):
     """
     area = advance_to(library, octets, window[0])
     emissions = Emissions(course, window)
+    symbols = Symbols(course)
     stations = range(len(course.layout.taps))
     time = window[0]
     with progress("bit time", window[1] - window[0]) as meter:
@@ -134,9 +138,10 @@ def steps(library, course, octets, window, with_vectors):
             after = [library.station(area, station) for station in stations]
             values = []
             for station in stations:
-                symbol = emissions.symbol(station, time)
-                row = wires(before[station], after[station], symbol, [word for one, word in events if one == station])
-                values.append(row + (vectors(before[station], after[station], symbol) if with_vectors else []))
+                sides = before[station], after[station]
+                pair = emissions.symbol(station, time), symbols.heard(station, time, before[station].hears)
+                row = wires(*sides, *pair, [word for one, word in events if one == station])
+                values.append(row + (vectors(after[station], *pair) if with_vectors else []))
             yield time, values
             time += 1
             if not events and all(is_at_rest(each, with_vectors) for each in before + after):
@@ -159,23 +164,38 @@ def next_change(course, time):
     return min(starts + offers, default=course.clock)
 
 
-def wires(before, after, symbol, words):
+def wires(before, after, symbol, heard, words):
     """The one-bit values of a station in a step."""
-    heard = before.hears
     hit = [word for word in words if word in COLLISIONS]
     return [
         after.emitted, symbol == ONE, symbol == JAM,
         heard != SILENCE, heard == ONE, heard == JAM, heard == SEVERAL,
         heard != SILENCE or before.emitted,
-        bool(hit), ENDS_RUN in hit,
+        bool(hit), LATE in hit,
         *(after.deference == phase for phase in DEFERENCE),
     ]  # fmt: skip
 
 
-def vectors(before, after, symbol):
+def vectors(after, symbol, heard):
     """The vectors of a station in a step."""
     states = [TRANSMITTER.index(after.transmitter), RECEIVER.index(after.receiver)]
-    return [symbol, before.hears, after.gap_count, after.attempts, *states]
+    return [symbol, heard, after.gap_count, after.attempts, *states]
+
+
+class Symbols:
+    """What each station hears. A delay line does not tell jam from several at once: there it is derived, slowly."""
+
+    def __init__(self, course):
+        self.course = course
+        self.hearings = {}
+
+    def heard(self, station, time, place):
+        """The symbol that a station hears in a step, of the place of its delay line."""
+        if place != SPOILED:
+            return place
+        if station not in self.hearings:
+            self.hearings[station] = Hearing(self.course, station)
+        return self.hearings[station].symbol(time)
 
 
 class Emissions:

@@ -14,10 +14,11 @@ from pathlib import Path
 
 sys.path.insert(0, str(Path(__file__).resolve().parent.parent / "tests_library"))
 
-from common import STORED, WORKED, CommandTest, call, taken_cases  # noqa: E402
+from common import STORED, WORKED, CommandTest, call, stepped_cases  # noqa: E402
 from shapes import FAR_APART, ONE_APART, THREE  # noqa: E402
 
 from wisavulome.course import follow  # noqa: E402
+from wisavulome.library import ENDINGS  # noqa: E402
 from wisavulome.packet import packet_bits  # noqa: E402
 
 LEFT_OUT = set()
@@ -68,10 +69,10 @@ class Captures(RealTest):
     def test_tshark(self):
         """On every stored case: interface, time, direction, and a good check sequence on every frame that is whole."""
         self.need("tshark")
-        for name, octets in taken_cases(self.library):
+        for name, octets in stepped_cases(self.library):
             course = follow(self.library, octets)
             told = [
-                event for event in course.events if event.word in ("sent", "given-up") or event.word.startswith("got")
+                event for event in course.events if event.word in ENDINGS or event.word.startswith("got")
             ]
             if not told:
                 continue
@@ -90,7 +91,7 @@ class Captures(RealTest):
         self.need("tshark")
         course = follow(self.library, (STORED / "case048.in").read_bytes())
         words = [
-            event.word for event in course.events if event.word in ("sent", "given-up") or event.word.startswith("got")
+            event.word for event in course.events if event.word in ENDINGS or event.word.startswith("got")
         ]
         found = self.fields(self.made("capture", STORED / "case048.in", "c.pcapng"))[words.index("got alignment")]
         self.assertIn(found["frame.packet_flags_crc_error"], ("1", "True"))

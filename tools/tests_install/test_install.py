@@ -15,7 +15,7 @@ from importlib.machinery import SourceFileLoader
 from pathlib import Path
 
 ROOT = Path(__file__).resolve().parent.parent.parent
-WORKED = (ROOT / "crates" / "stored" / "data" / "worked.out").read_text()
+WORKED = (ROOT / "stored" / "level00" / "worked.out").read_text()
 STRICT = ["-Wall", "-Wextra", "-Werror", "-pedantic"]
 
 

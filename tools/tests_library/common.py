@@ -10,7 +10,7 @@ from pathlib import Path
 ROOT = Path(__file__).resolve().parent.parent.parent
 TOOL = ROOT / "tools" / "wisavulome"
 WORKED = ROOT / "docs" / "worked.txt"
-STORED = ROOT / "crates" / "stored" / "data"
+STORED = ROOT / "stored" / "level00"
 
 sys.path.insert(0, str(ROOT / "python"))
 
@@ -18,6 +18,14 @@ from wisavulome.library import Library, Refused  # noqa: E402
 
 TWO = "station at 0 02:00:00:00:00:01 draws 0\nstation at 10 02:00:00:00:00:02 draws 1\n"
 SHEET = TWO.replace(" draws 0", "").replace(" draws 1", "")
+OTHERS = ("sheet", "owner")  # the first letters of stored inputs that are no run inputs
+# Station 0 has a late collision in step 350; its last jam bit goes out in step 382. {} is late-end.
+LATE_PLAN = (
+    "slot 64\nlate-end {}\n"
+    + TWO.replace("at 10", "at 200")
+    + "offer at 0 station 0 to station 1 value length data 46 zeros\n"
+    + "offer at 150 station 1 to station 0 value length data 46 zeros\nrun 3000\n"
+)
 
 
 def stored(name):
@@ -25,10 +33,25 @@ def stored(name):
     return (STORED / f"{name}.in").read_bytes()
 
 
+def folders():
+    """The folders of stored cases, each with its level."""
+    for folder in sorted(STORED.parent.glob("level*")):
+        yield int(folder.name.removeprefix("level")), folder
+
+
+def run_inputs():
+    """The stored run inputs of every level, each with its level."""
+    for level, folder in folders():
+        for path in sorted(folder.glob("*.in")):
+            if not path.name.startswith(OTHERS):
+                yield level, path
+
+
 def stored_cases():
-    """Every stored case: its name, its octets, what is printed."""
-    for path in sorted(STORED.glob("*.in")):
-        yield path.stem, path.read_bytes(), path.with_suffix(".out").read_text()
+    """Every stored case of every level: its name (folder/file), its octets, what is printed."""
+    for _level, path in run_inputs():
+        name = f"{path.parent.name}/{path.stem}"
+        yield name, path.read_bytes(), path.with_suffix(".out").read_text()
 
 
 def taken_cases(library):
@@ -39,6 +62,13 @@ def taken_cases(library):
         except Refused:
             continue
         yield name, octets
+
+
+def stepped_cases(library):
+    """The stored cases that make a step: those of no bit times cannot be shown."""
+    for name, octets in taken_cases(library):
+        if library.read_plan(octets).times > 0:
+            yield name, octets
 
 
 def call(*words, given=b"", **more):

@@ -3,11 +3,12 @@
 import struct
 import zlib
 
-from common import STORED, TWO, WORKED, CommandTest, call, stored, taken_cases
+from common import LATE_PLAN, STORED, TWO, WORKED, CommandTest, call, stored, taken_cases
 
 from wisavulome.capture import capture
 from wisavulome.course import advance_to, follow, make_due
 from wisavulome.heard import collected
+from wisavulome.library import ENDINGS
 
 BUFFER_AT, BUFFER_OCTETS = 32768, 1536  # what a station collected, in a work area
 
@@ -68,7 +69,7 @@ class Capture(CommandTest):
         for name, octets in taken_cases(self.library):
             course = follow(self.library, octets)
             expected = [
-                event for event in course.events if event.word in ("sent", "given-up") or event.word.startswith("got")
+                event for event in course.events if event.word in ENDINGS or event.word.startswith("got")
             ]
             found = list(packets(capture(course, (0, 10**9))))
             self.assertEqual(
@@ -133,6 +134,13 @@ class Capture(CommandTest):
         found = list(packets((self.folder / "c.pcapng").read_bytes()))
         self.assertEqual([frame for _station, _time, frame, _flags, _comment in found], [b"", b""])
         self.assertTrue(found[0][4].startswith("given-up; offer 1; attempt 1 started in step 0"))
+
+    def test_late_end(self):
+        call("capture", self.file("p", LATE_PLAN.format(1)), "-o", self.folder / "c.pcapng")
+        station, time, frame, _flags, comment = next(packets((self.folder / "c.pcapng").read_bytes()))
+        self.assertEqual((station, time, frame), (0, 38200, b""))
+        expected = "late-end; offer 1; attempt 1 started in step 0, late at bit 351 in step 350"
+        self.assertEqual(comment, expected)
 
     def test_window(self):
         call("capture", WORKED, "--window", "780:800", "-o", self.folder / "c.pcapng")

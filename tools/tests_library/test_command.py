@@ -212,7 +212,12 @@ class Refusals(CommandTest):
         worked = (ROOT / "crates" / "simulate" / "stdin").read_bytes()
         for octets, expected in [
             (worked[:9], "refused 3: the sheet is too short (ends before station 1 (N is 2), at octet 9)"),
-            (b"\x40" + worked[1:], "refused 4: map bit 6 or 7 stands (map bit 6 stands, at octet 0)"),
+            (b"\x80" + worked[1:], "refused 4: map bit 7 stands (map bit 7 stands, at octet 0)"),
+            (b"\xc0\x01" + worked[1:], "refused 4: map bit 7 stands (map bit 7 stands, at octet 0)"),
+            (
+                b"\x40\x02" + worked[1:],
+                "refused 5: a field is out of its range (late-end is 2, outside 0..1, at octet 1)",
+            ),
             (
                 b"\x01\x00\x3f" + worked[1:],
                 "refused 5: a field is out of its range (slot is 63, outside 64..512, at octet 1)",
@@ -289,7 +294,7 @@ class Refusals(CommandTest):
         self.assertEqual(
             self.refused("hello\n"),
             "line 1: 'hello' is no word that begins a line (slot, gap1, gap2, jam, "
-            "attempt-limit, backoff-limit, D, station, offer, run)",
+            "attempt-limit, backoff-limit, late-end, D, station, offer, run)",
         )
         self.assertEqual(self.refused(TWO), "it has draws or offers but no 'run' line")
 

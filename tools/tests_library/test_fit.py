@@ -83,7 +83,7 @@ class Fit(CommandTest):
         self.assertEqual(len(rows(out)), len(list(STORED.glob("*.in"))))
         printed = {name: text for name, _octets, text in stored_cases()}
         for row in rows(out):
-            name = row["sheet"].rpartition("/")[2].removesuffix(".in")
+            name = f"{STORED.name}/{row['sheet'].rpartition('/')[2].removesuffix('.in')}"
             if not printed[name].startswith("refused"):
                 self.assertIn(f"fit {row['fit']}\n", printed[name], name)
         table = call("fit", WORKED, self.sheet(last=226))

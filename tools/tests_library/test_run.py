@@ -4,7 +4,7 @@ import csv
 import io
 import json
 
-from common import STORED, TWO, WORKED, CommandTest, call, stored, stored_cases, taken_cases
+from common import LATE_PLAN, STORED, TWO, WORKED, CommandTest, call, stored, stored_cases, taken_cases
 
 from wisavulome.course import follow
 from wisavulome.heard import Hearing
@@ -16,12 +16,13 @@ class Run(CommandTest):
         """What simulate prints, on every stored case; a refused one is refused by the same number."""
         for name, octets, printed in stored_cases():
             with self.subTest(name):
-                status, out, err = call("run", STORED / f"{name}.in")
+                status, out, err = call("run", STORED.parent / f"{name}.in")
                 if printed.startswith("refused"):
                     self.assertEqual((status, out), (2, ""))
                     self.assertIn(f": {printed.strip()}: ", err)
                 else:
-                    self.assertEqual((status, out), (1 if " late " in printed else 0, printed))
+                    ended = " late " in printed and self.library.read_plan(octets).layout.late_ends_run
+                    self.assertEqual((status, out), (1 if ended else 0, printed))
                     self.assertEqual(self.library.print_run(octets).decode(), printed)
 
     def test_two_offers_in_one_step(self):
@@ -72,10 +73,21 @@ class Run(CommandTest):
     def test_counters(self):
         out = call("run", WORKED, "--counters")[1].splitlines()
         self.assertEqual(
-            out[8:], ["counters 0 1 2 1 0 1 1 0 46 0 0 1 46 0 0 0 0", "counters 1 1 2 1 0 1 1 0 46 0 0 1 46 0 0 0 0"]
+            out[8:], [f"counters {station} 1 2 1 0 1 1 0 46 0 0 1 46 0 0 0 0 0" for station in (0, 1)]
         )
         objects = [json.loads(line) for line in call("run", WORKED, "--counters", "--format", "json")[1].splitlines()]
         self.assertEqual(list(objects[-1]["counters"]), list(COUNTERS))
+
+    def test_late_end(self):
+        """With late-end 1 the run goes on, and the frame is gone; with 0 or none it ends as before."""
+        for field, expected in [("0", 1), (None, 1), ("1", 0)]:
+            plan = LATE_PLAN.format(field) if field else LATE_PLAN.replace("late-end {}\n", "")
+            status, out, _err = call("run", "--offers", "--held", self.file("p", plan))
+            self.assertEqual(status, expected)
+            self.assertIn("350 0 late 351 offer 1\n", out)
+            self.assertEqual("382 0 late-end 1 offer 1\n" in out, not expected)
+            self.assertIn("\nend 351\n" if expected else "\nend 3000\n", out)
+            self.assertEqual("held 0 to-send 1\n" in out, bool(expected))
 
     def test_held(self):
         plan = (
@@ -160,6 +172,18 @@ class Audit(CommandTest):
         self.assertEqual(status, 1)
         self.assertIn("late collision: offer 1", out)
 
+    def test_late_end(self):
+        """A late-ended frame is lost; where the run ends before the last jam bit, the outcome is late."""
+        status, out, _err = call("audit", self.file("p", LATE_PLAN.format(1)))
+        self.assertEqual(status, 1)
+        self.assertIn("late collision: offer 1; not delivered: offer 1\n", out)
+        for times, outcome in [("382", "late"), ("383", "late-end")]:
+            plan = self.file("p", LATE_PLAN.format(1).replace("run 3000", f"run {times}"))
+            status, out, _err = call("audit", plan, "--format", "json")
+            fate = json.loads(out.splitlines()[0])
+            self.assertEqual((status, fate["outcome"], fate["attempts"], fate["late"]), (1, outcome, 1, True))
+            self.assertEqual(fate["delay"], 382 if outcome == "late-end" else None)
+
     def test_given_up(self):
         plan = "attempt-limit 1\n" + TWO + "offer at 0 station 0 to station 1 value length data 01\n"
         plan += "offer at 0 station 1 to station 0 value length data 01\nrun 900\n"
@@ -180,7 +204,11 @@ class Audit(CommandTest):
         self.assertIn("not made", out)
 
     def test_counts_agree_with_the_counters(self):
-        """Sent, excessive, attempts and received of the audit are the library's counters, on every stored case."""
+        """Endings, attempts and received of the audit are the library's counters, on every stored case.
+
+        Offered is sent plus excessive plus late-ended plus held.
+        """
+        ended = 0
         for name, octets in taken_cases(self.library):
             course = follow(self.library, octets)
             for station in range(len(course.layout.taps)):
@@ -194,10 +222,15 @@ class Audit(CommandTest):
                 self.assertEqual(counters["attempts"], sum(len(fate.attempts) for fate in own), name)
                 self.assertEqual(counters["sent"], sum(fate.outcome == "sent" for fate in own), name)
                 self.assertEqual(counters["excessive"], sum(fate.outcome == "given-up" for fate in own), name)
+                self.assertEqual(counters["late-ended"], sum(fate.outcome == "late-end" for fate in own), name)
+                over = counters["sent"] + counters["excessive"] + counters["late-ended"]
+                self.assertEqual(counters["offered"], over + sum(not fate.ending for fate in own), name)
+                ended += counters["late-ended"]
                 got = sum(
                     each.station == station and each.state == "got" for fate in course.fates for each in fate.deliveries
                 )
                 self.assertEqual(counters["received"], got, name)
+        self.assertGreater(ended, 0)
 
     def test_nothing_is_lost_on_a_sheet_that_fits(self):
         fitting = 0

@@ -7,7 +7,7 @@ import signal
 import subprocess
 import time
 
-from common import STORED, TOOL, TWO, WORKED, CommandTest, call
+from common import LATE_PLAN, STORED, TOOL, TWO, WORKED, CommandTest, call
 
 from wisavulome.sweep import hundredths, quantile
 
@@ -73,6 +73,14 @@ class Sweep(CommandTest):
         self.assertEqual(status, 1)
         self.assertIn("worst set", out)
         self.assertTrue(any(int(row["lost"]) for row in self.rows()))
+
+    def test_late_end(self):
+        """A late-ended frame has a column of its own, and counts as late in the worst set."""
+        plan = self.file("late.txt", LATE_PLAN.format(1))
+        status, out, _err = call("sweep", plan, "--sets", 5, "--csv")
+        row = next(csv.DictReader(io.StringIO(out)))
+        self.assertEqual((status, row["late-end"], row["late"], row["sent"]), (1, "5", "0", "0"))
+        self.assertIn("0 lost, 1 late, 0 given up", call("sweep", plan, "--sets", 5)[1].splitlines()[-1])
 
     def test_every_set(self):
         """All sets of two draws below 3 are nine, each of them once."""

@@ -3,11 +3,12 @@
 import re
 from unittest import mock
 
-from common import WORKED, CommandTest, call, stored
+from common import LATE_PLAN, WORKED, CommandTest, call, stored
 
 from wisavulome import wave as wave_module
 from wisavulome.course import follow
 from wisavulome.packet import octets_of_bits, packet_bits
+from wisavulome.text import write
 from wisavulome.wave import identifier, wave
 
 
@@ -104,6 +105,40 @@ class Wave(CommandTest):
                 if v
             ]
             self.assertEqual(sorted(emits), shown, name)
+
+    def test_jam_and_several(self):
+        """What spoils a symbol: jam from one alone, or several at once."""
+        seen = set()
+        for name in ["worked", "slot-one-over", "gap-one-over", "case048"]:
+            course, text = self.whole(name, None, True)
+            changes, end = read_wave(text)
+            for station in range(len(course.layout.taps)):
+                heard = [[] for _time in range(end)]
+                for attempt in course.attempts:
+                    away = course.layout.distance(attempt.station, station)
+                    for time in range(attempt.start + away, min(attempt.end + away, end)):
+                        if attempt.station != station:
+                            heard[time].append(time >= attempt.jam_start + away)
+                kinds = [4 if len(each) > 1 else 3 if each == [True] else 0 for each in heard]
+                wires = {wire: values(changes[f"s{station}_{wire}"], 0, end) for wire in ("rx_jam", "rx_many")}
+                self.assertEqual(wires["rx_jam"], [int(kind == 3) for kind in kinds], name)
+                self.assertEqual(wires["rx_many"], [int(kind == 4) for kind in kinds], name)
+                symbols = values(changes[f"s{station}_rx_symbol"], 0, end)
+                self.assertEqual([symbol if symbol > 2 else 0 for symbol in symbols], kinds, name)
+                seen.update(kinds)
+        self.assertEqual(seen, {0, 3, 4})
+
+    def test_late_end(self):
+        """After a late collision that closes the frame the transmitter is 6 up to the last jam bit, then 0."""
+        octets = write(LATE_PLAN.format(1))
+        course = follow(self.library, octets)
+        changes, end = read_wave("".join(wave(self.library, course, octets, (0, course.clock), True)))
+        states = values(changes["s0_transmitter"], 0, end)
+        self.assertEqual([time for time in range(end) if states[time] == 6], list(range(350, 382)))
+        self.assertEqual(states[382], 0)
+        self.assertEqual([time for time, late in enumerate(values(changes["s0_late"], 0, end)) if late], [350])
+        jam = values(changes["s0_tx_jam"], 0, end)
+        self.assertEqual([time for time in range(end) if jam[time]], list(range(351, 383)))
 
     def test_rest_is_made_at_once(self):
         """Steps in which all are quiet are not made one by one; the wave is the same as if they were."""

@@ -1,8 +1,9 @@
 //! The engines under the same calls: the library, its reference, and the fast engine.
 
-use wisavulome_bench::area::{self, AREA};
+use wisavulome_bench::area::{self, AREA, COUNTERS_OUT, RUN_OUT};
 use wisavulome_bench::events::{Event, Events, Ran, Word, WORDS};
 use wisavulome_bench::fast::Fast;
+use wisavulome_bench::plain::COUNTERS;
 use wisavulome_bench::program::Engine;
 use wisavulome_bench::{layout, ours, Refusal, STATIONS};
 
@@ -18,7 +19,7 @@ pub trait Pair {
     fn run(&mut self, n: u32) -> Ran;
     /// The answer of one step, where it has an event.
     fn step(&mut self) -> Option<Box<StepOut>>;
-    fn counters(&self, station: u32) -> [u32; 16];
+    fn counters(&self, station: u32) -> [u32; COUNTERS];
     fn frame(&self, station: u32) -> Option<Vec<u8>>;
 }
 
@@ -42,7 +43,7 @@ impl Pair for Fast {
         (!events.is_empty()).then(|| step_out(&events))
     }
 
-    fn counters(&self, station: u32) -> [u32; 16] {
+    fn counters(&self, station: u32) -> [u32; COUNTERS] {
         *Fast::counters(self, station).expect("a station")
     }
 
@@ -72,8 +73,8 @@ pub struct Area {
 
 impl Area {
     /// Up to `n` bit times: the steps made, and the output.
-    pub fn run(&mut self, n: u32) -> (u32, [u8; 48]) {
-        let mut out = [0; 48];
+    pub fn run(&mut self, n: u32) -> (u32, [u8; RUN_OUT]) {
+        let mut out = [0; RUN_OUT];
         ((self.run)(&mut self.octets, n, &mut out).expect(TIME), out)
     }
 }
@@ -96,14 +97,14 @@ impl Pair for Area {
         (out != [0; 16 * STATIONS]).then(|| Box::new(out))
     }
 
-    fn counters(&self, station: u32) -> [u32; 16] {
-        let mut out = [0; 64];
+    fn counters(&self, station: u32) -> [u32; COUNTERS] {
+        let mut out = [0; COUNTERS_OUT];
         ours::counters(&self.octets, station, &mut out).expect("a station");
         std::array::from_fn(|k| area::word(&out, 4 * k))
     }
 
     fn frame(&self, station: u32) -> Option<Vec<u8>> {
-        let mut out = vec![0; 1518];
+        let mut out = vec![0; wisavulome_bench::frame::LARGEST_FRAME];
         let octets = ours::read_frame(&self.octets, station, &mut out).ok()?;
         out.truncate(octets as usize);
         Some(out)
@@ -144,7 +145,7 @@ enum Said {
 #[derive(Debug, PartialEq)]
 pub struct Answers {
     said: Vec<(usize, Said)>,
-    counters: Vec<[u32; 16]>,
+    counters: Vec<[u32; COUNTERS]>,
     frames: Vec<Option<Vec<u8>>>,
 }
 

@@ -20,10 +20,11 @@ pub fn cases(usual: u64) -> u64 {
 
 /// A sheet of a layout, every field spelled out.
 fn spelled(layout: &Layout) -> Vec<u8> {
-    let mut sheet = vec![0x3F];
+    let mut sheet = vec![0x7F];
     sheet.extend((layout.slot as u16).to_be_bytes());
     sheet.extend(
-        [layout.gap1, layout.gap2, layout.jam, layout.attempt_limit, layout.backoff_limit].map(|field| field as u8),
+        [layout.gap1, layout.gap2, layout.jam, layout.attempt_limit, layout.backoff_limit, layout.late_end]
+            .map(|field| field as u8),
     );
     sheet.push(layout.places.len() as u8);
     for place in &layout.places {
@@ -74,6 +75,7 @@ pub fn sheet(rng: &mut Rng) -> Vec<u8> {
         jam: rng.edgy(1, 64),
         attempt_limit: rng.edgy(1, 16),
         backoff_limit: rng.edgy(1, 10),
+        late_end: rng.flag(),
         places: positions
             .into_iter()
             .zip(addresses(rng, n))
@@ -92,10 +94,10 @@ pub fn sheet(rng: &mut Rng) -> Vec<u8> {
     }
     let mut sheet = spelled(&layout);
     if rng.one_in(6) {
-        // Absent fields.
-        let n_at = 8;
-        sheet.drain(1..n_at);
-        sheet[0] = 0;
+        // Absent fields, late-end among them or not.
+        let (map, past) = rng.pick(&[(0, 9), (0x40, 8)]);
+        sheet.drain(1..past);
+        sheet[0] = map;
     }
     sheet
 }
@@ -125,7 +127,11 @@ pub fn damaged(rng: &mut Rng, octets: &[u8]) -> Vec<u8> {
 /// A sheet with a likely refusal: any octet damaged, the map, N, a position or an address changed.
 pub fn damaged_sheet(rng: &mut Rng) -> Vec<u8> {
     let mut sheet = sheet(rng);
-    let stations = if sheet[0] == 0 { 2 } else { 9 };
+    let stations = match sheet[0] {
+        0 => 2,
+        0x40 => 3,
+        _ => 10,
+    };
     let n = (sheet.len() - stations) / 7;
     let at = |i: u64| stations + 7 * i as usize;
     match rng.below(8) {
@@ -142,8 +148,8 @@ pub fn damaged_sheet(rng: &mut Rng) -> Vec<u8> {
             sheet[at(to) + 1..at(to) + 7].copy_from_slice(&address);
         }
         4 => sheet[at(rng.below(n as u64)) + 1] |= 1,
-        5 if stations == 9 => {
-            let field = rng.range(1, 7) as usize;
+        5 if stations > 2 => {
+            let field = rng.range(1, stations as u32 - 2) as usize;
             sheet[field] = rng.pick(&[0, 1, 2, 10, 11, 16, 17, 64, 65, 254, 255]);
         }
         _ => {}
@@ -203,11 +209,16 @@ pub fn number(address: [u8; 6]) -> u64 {
 pub fn offer(rng: &mut Rng, layout: &Layout, wild: bool) -> Offer {
     let n = layout.places.len() as u32;
     let size = match rng.below(12) {
-        0 | 1 => rng.edgy(0, 1500),
+        0 => rng.edgy(0, 1500),
+        1 => rng.edgy(0, 1504),
         2 => rng.range(46, 200),
         _ => rng.edgy(0, 60),
     };
-    let value = if rng.one_in(2) { size as u16 } else { rng.pick(&[1536, 0x0800, 0x8100, 0xFFFF]) };
+    let value = match size {
+        1501.. => frame::TAG,
+        _ if rng.one_in(2) => size as u16,
+        _ => rng.pick(&[1536, 0x0800, frame::TAG, 0xFFFF]),
+    };
     let destination = match rng.below(8) {
         0 => 0xFFFF_FFFF_FFFF,
         1 => rng.next(),
@@ -221,7 +232,7 @@ pub fn offer(rng: &mut Rng, layout: &Layout, wild: bool) -> Offer {
                 let size = rng.range(1501, 1600) as usize;
                 offer.data = rng.octets(size);
             }
-            2 => offer.value = rng.pick(&[0, 1499, 1500, 1501, 1535]),
+            2 => offer.value = rng.pick(&[0, 1499, 1500, 1501, 1535, 0x80FF, 0x8101, 0x88A8, frame::TAG]),
             3 => offer.value = offer.value.wrapping_add(1),
             _ => offer.value = rng.next() as u16,
         }
@@ -234,6 +245,15 @@ pub fn offer(rng: &mut Rng, layout: &Layout, wild: bool) -> Offer {
 }
 
 // ---- work areas that no fresh start made
+
+/// Where the frames and what was collected begin in an area.
+const FRAMES: usize = 8192;
+const COLLECTED: usize = 32768;
+
+/// The largest frame that the value in these octets allows.
+fn size_limit(area: &[u8], at: usize) -> u32 {
+    frame::largest_frame(u16::from_be_bytes([area[at + 12], area[at + 13]])) as u32
+}
 
 fn set(area: &mut [u8], station: usize, k: usize, value: u32) {
     put_word(area, 2048 + 64 * station + 4 * k, value);
@@ -269,17 +289,23 @@ fn record(rng: &mut Rng, area: &mut [u8], i: usize, layout: &Layout, clock: u32,
             _ => rng.edgy(1, layout.gap()),
         };
     }
-    words[3] = rng.range(0, 5);
+    words[3] = rng.range(0, 5 + layout.late_end);
     words[10] = match words[3] {
         0 => rng.edgy(0, limit),
         1 | 2 => rng.edgy(0, limit - 1),
         _ => rng.edgy(1, limit),
     };
+    for at in [FRAMES + 1536 * i, COLLECTED + 1536 * i] {
+        if rng.one_in(3) {
+            area[at + 12..at + 14].copy_from_slice(&rng.pick(&[frame::TAG, 0x8101, 0x0800]).to_be_bytes());
+        }
+    }
+    let held_limit = size_limit(area, FRAMES + 1536 * i);
     if words[3] != 0 || !junk || rng.one_in(2) {
-        words[9] = rng.edgy(64, 1518);
+        words[9] = rng.edgy(64, held_limit);
         words[12] = rng.flag();
     }
-    let last_bit = 64 + 8 * words[9].min(1518);
+    let last_bit = 64 + 8 * words[9].min(held_limit);
     match words[3] {
         2 => words[4] = if rng.one_in(2) { rng.range(1, 5) } else { rng.edgy(1, layout.slot * 1023) },
         3 | 4 => {
@@ -290,17 +316,17 @@ fn record(rng: &mut Rng, area: &mut [u8], i: usize, layout: &Layout, clock: u32,
                 _ => rng.edgy(1, last_bit),
             }
         }
-        5 => words[4] = rng.edgy(1, layout.jam),
+        5 | 6 => words[4] = rng.edgy(1, layout.jam),
         _ => {}
     }
     words[5] = rng.range(0, 3);
     match words[5] {
-        1 => words[6] = rng.edgy(64, 1518),
+        1 => words[6] = rng.edgy(64, size_limit(area, COLLECTED + 1536 * i)),
         2 => words[6] = if rng.one_in(3) { rng.pick(&[0xD5, 0x155, 0x1D5, 0xAB, 0x1AB]) } else { rng.edgy(1, 511) },
         3 => {
             let usual = match rng.below(4) {
                 0 => rng.range(508, 522),
-                1 => rng.range(12_140, 12_156),
+                1 => rng.range(12_140, 12_190),
                 _ => rng.edgy(0, clock),
             };
             words[6] = usual.min(clock);
@@ -318,7 +344,7 @@ fn record(rng: &mut Rng, area: &mut [u8], i: usize, layout: &Layout, clock: u32,
     }
     if words[5] == 3 && rng.one_in(2) {
         // Whatever was collected is for the station, or nearly.
-        let collected = &mut area[32768 + 1536 * i..][..6];
+        let collected = &mut area[COLLECTED + 1536 * i..][..6];
         collected.copy_from_slice(if rng.one_in(4) { &layout::BROADCAST } else { &layout.places[i].address });
         if rng.one_in(6) {
             collected[rng.below(6) as usize] ^= 1 << rng.below(8);
@@ -335,19 +361,26 @@ fn record(rng: &mut Rng, area: &mut [u8], i: usize, layout: &Layout, clock: u32,
 
 /// Puts a frame for the station into what it collected, with a good check, complete or nearly so.
 fn well_formed_frame(rng: &mut Rng, area: &mut [u8], i: usize, layout: &Layout, clock: u32) {
-    let size = rng.edgy(0, 1500) as usize;
-    let value = if rng.one_in(2) { 0x0800 } else { size as u16 };
+    let tagged = rng.one_in(3);
+    let size = rng.edgy(0, if tagged { 1504 } else { 1500 }) as usize;
+    let value = match tagged {
+        true => frame::TAG,
+        false if rng.one_in(2) => 0x0800,
+        false => size as u16,
+    };
     let destination = if rng.one_in(4) { layout::BROADCAST } else { layout.places[i].address };
     let data = rng.octets(size);
     let mut frame = frame::build(destination, [2; 6], value, &data).expect("a frame");
     if rng.one_in(3) {
         // Perhaps a length error.
         let end = frame.len() - 4;
-        frame[12..14].copy_from_slice(&rng.pick(&[0u16, 45, 46, 47, 1500, 1501, 1535, 1536]).to_be_bytes());
+        frame[12..14].copy_from_slice(
+            &rng.pick(&[0u16, 45, 46, 47, 1500, 1501, 1535, 1536, frame::TAG, frame::TAG + 1]).to_be_bytes(),
+        );
         let check = crc::table_driven(&frame[..end]);
         frame[end..].copy_from_slice(&check.to_le_bytes());
     }
-    area[32768 + 1536 * i..][..frame.len()].copy_from_slice(&frame);
+    area[COLLECTED + 1536 * i..][..frame.len()].copy_from_slice(&frame);
     let bits = 8 * frame.len() as u32 + if rng.one_in(2) { 0 } else { rng.range(0, 8) };
     if bits <= clock {
         set(area, i, 5, 3);
@@ -366,7 +399,7 @@ fn break_area(rng: &mut Rng, area: &mut [u8], layout: &Layout, clock: u32, depth
     let (transmitter, receiver, frame) = (field(3), field(5), field(9));
     let station_at = 64 + 16 * i;
     let other_at = 64 + 16 * rng.below(n as u64) as usize;
-    match rng.below(24) {
+    match rng.below(25) {
         0 => put_word(area, 0, beyond(rng, 0, LAST_CLOCK)),
         1 => put_word(area, 4, beyond(rng, 1, 16)),
         2 => put_word(area, 8, beyond(rng, 64, 512)),
@@ -389,19 +422,19 @@ fn break_area(rng: &mut Rng, area: &mut [u8], layout: &Layout, clock: u32, depth
         13 => set(area, i, 0, beyond(rng, 0, 2)),
         14 => set(area, i, 1, beyond(rng, 0, 1)),
         15 => set(area, i, 2, beyond(rng, 1, layout.gap())),
-        16 => set(area, i, 3, beyond(rng, 0, 5)),
+        16 => set(area, i, 3, beyond(rng, 0, 5 + layout.late_end)),
         17 => {
             let value = match transmitter {
                 2 => beyond(rng, 1, layout.slot * 1023),
-                5 => beyond(rng, 1, layout.jam),
-                _ => beyond(rng, 1, 64 + 8 * frame.min(1518)),
+                5 | 6 => beyond(rng, 1, layout.jam),
+                _ => beyond(rng, 1, 64 + 8 * frame.min(frame::LARGEST_FRAME as u32)),
             };
             set(area, i, 4, value);
         }
         18 => set(area, i, 5, beyond(rng, 0, 3)),
         19 => {
             let value = match receiver {
-                1 => beyond(rng, 64, 1518),
+                1 => beyond(rng, 64, size_limit(area, COLLECTED + 1536 * i)),
                 2 => beyond(rng, 1, 511),
                 _ => beyond(rng, 0, clock),
             };
@@ -409,7 +442,8 @@ fn break_area(rng: &mut Rng, area: &mut [u8], layout: &Layout, clock: u32, depth
         }
         20 => set(area, i, rng.clone().range(7, 8) as usize, beyond(rng, 0, 1)),
         21 => {
-            let (k, first, last) = rng.pick(&[(9, 64, 1518), (11, 0, depth - 1), (12, 0, 1), (13, 0, 1)]);
+            let (k, first, last) =
+                rng.pick(&[(9, 64, size_limit(area, FRAMES + 1536 * i)), (11, 0, depth - 1), (12, 0, 1), (13, 0, 1)]);
             set(area, i, k, beyond(rng, first, last));
         }
         22 => {
@@ -420,7 +454,9 @@ fn break_area(rng: &mut Rng, area: &mut [u8], layout: &Layout, clock: u32, depth
             };
             set(area, i, 10, value);
         }
-        _ => area[4096 + 256 * i + rng.below(256) as usize] = rng.pick(&[5, 6, 7, 128, 255]),
+        // Where it is 0, code 6 stands for nothing.
+        23 => put_word(area, 36, if rng.one_in(2) { 0 } else { beyond(rng, 0, 1) }),
+        _ => area[4096 + 256 * i + rng.below(256) as usize] = rng.pick(&[4, 5, 7, 128, 255]),
     }
 }
 
@@ -436,7 +472,7 @@ pub fn made_up_area(rng: &mut Rng) -> Vec<u8> {
 
     let mut area = vec![0; AREA];
     rng.fill(&mut area);
-    area[..36].copy_from_slice(&fresh[..36]);
+    area[..40].copy_from_slice(&fresh[..40]);
     let clock = match rng.below(4) {
         0 => rng.range(0, 2000),
         1 => LAST_CLOCK - rng.range(0, 40),
@@ -445,13 +481,13 @@ pub fn made_up_area(rng: &mut Rng) -> Vec<u8> {
     put_word(&mut area, 0, clock);
     let junk = rng.one_in(2);
     let density = rng.pick(&[0, 1, 4, 8]);
-    let mostly_one = rng.pick(&[0, 1, 2, 3, 4, 5]);
+    let mostly_one = rng.pick(&[0, 1, 2, 3, 4]);
     for i in 0..n {
         let place = 64 + 16 * i;
         area[place..place + 10].copy_from_slice(&fresh[place..place + 10]);
         let line = 4096 + 256 * i;
         for octet in &mut area[line..line + 256] {
-            let heard = if mostly_one < 5 && !rng.one_in(8) { mostly_one } else { rng.below(5) as u8 };
+            let heard = if mostly_one < 4 && !rng.one_in(8) { mostly_one } else { rng.below(4) as u8 };
             *octet = if rng.below(8) < density { heard } else { 0 };
         }
         if rng.one_in(4) {
@@ -465,9 +501,9 @@ pub fn made_up_area(rng: &mut Rng) -> Vec<u8> {
         record(rng, &mut area, i, &layout, clock, depth, junk);
         if rng.one_in(3) {
             // Counters at or near their top.
-            for counter in 0..16 {
+            for counter in 0..17 {
                 if rng.one_in(2) {
-                    put_word(&mut area, 1024 + 64 * i + 4 * counter, u32::MAX - rng.below(3) as u32);
+                    put_word(&mut area, 832 + 68 * i + 4 * counter, u32::MAX - rng.below(3) as u32);
                 }
             }
         }
@@ -489,8 +525,8 @@ pub fn place_name(at: usize) -> String {
     match at {
         0..64 => format!("head word {}", at / 4),
         64..320 => format!("place of station {}, octet {}", (at - 64) / 16, (at - 64) % 16),
-        320..1024 => format!("draws, octet {}", at - 320),
-        1024..2048 => format!("station {}, counter {}", (at - 1024) / 64, (at - 1024) % 64 / 4),
+        320..832 => format!("draws, octet {}", at - 320),
+        832..1920 => format!("station {}, counter {}", (at - 832) / 68, (at - 832) % 68 / 4),
         2048..3072 => format!("station {}, record word {}", (at - 2048) / 64, (at - 2048) % 64 / 4),
         4096..8192 => format!("station {}, line place {}", (at - 4096) / 256, (at - 4096) % 256),
         8192..32768 => format!("station {}, frame octet {}", (at - 8192) / 1536, (at - 8192) % 1536),

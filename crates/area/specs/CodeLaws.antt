@@ -27,18 +27,30 @@ use Rattle.sheet_layout.specs.declared.Figures.{Figures}
 use Rattle.sheet_layout.specs.declared.Tap.{Tap}
 use Rattle.sheet_layout.specs.Layout.{placesOf}
 use Rattle.station_symbols.specs.declared.Heard.{Heard}
-use Rattle.station_symbols.specs.declared.Heard.the-variants.{Nothing, Clean, Jammed, Several}
+use Rattle.station_symbols.specs.declared.Heard.the-variants.{Nothing, Clean, Spoiled}
 use Rattle.station_symbols.specs.declared.Symbol.{Symbol}
 use Rattle.station_symbols.specs.declared.Symbol.the-variants.{Silence, Bit, Jam}
 use Rattle.station_symbols.specs.declared.Emission.{Emission}
-use Rattle.station_symbols.specs.Packet.{symbolOf}
+use Rattle.station_symbols.specs.Packet.{symbolOf, hearsAny}
 use Rattle.station_state.specs.declared.Deference.{Deference}
 use Rattle.station_state.specs.declared.Transmitter.{Transmitter}
 use Rattle.station_state.specs.declared.Receiver.{Receiver}
 use Rattle.station_state.specs.declared.Station.{Station}
-use Rattle.area_record.specs.Codec.{deferenceOf, transmitterOf, receiverOf, decoded, encoded, recordWords}
-use Rattle.area.specs.Area.{clockAt, withClock, depthAt, drawAt, figuresAt, countAt, positionAt, addressAt, tapAt, layoutAt, distance, spaceAt, countersAt, withCounters, recordAt, stationAt, withStation, withWord, octetWith, withBit, withOctet, heardOf, heardCode, symbolAt, arrivalAt, withArrival, alone, overlaid, joined, withSymbol, withFrame, frameAt, bufferAt, frameBuilt}
-use Rattle.area.specs.Offsets.{areaSize, counterCount}
+use Rattle.area_record.specs.Codec.{deferenceOf, transmitterOf, receiverOf, decoded, encoded}
+use Rattle.area.specs.Area.{clockAt, withClock, depthAt, drawAt, figuresAt, countAt, positionAt, addressAt, tapAt}
+use Rattle.area.specs.Area.{layoutAt, distance, spaceAt, countersAt, withCounters, recordAt, stationAt}
+use Rattle.area.specs.Area.{withStation, withWord, octetWith, withBit, withOctet, heardOf, heardCode, symbolAt}
+use Rattle.area.specs.Area.{arrivalAt, withArrival, alone, joined, withSymbol, withFrame, frameAt, bufferAt}
+use Rattle.area.specs.Area.{frameBuilt, maxCode}
+use Rattle.area.specs.Offsets.{areaSize, from, theStation, theCounters, ring, theLine, addressFrom, drawFrom}
+use Rattle.area.specs.Offsets.{tapFrom}
+use Rattle.area.specs.Offsets.{theBuffer, theFrame}
+use Rattle.sheet_layout.specs.Limits.{maxStations}
+use Rattle.station_state.specs.State.{counterCount}
+use Rattle.area_record.specs.Words.{recordWords, deferenceWord, stretchWord, gapWord, phaseWord}
+use Rattle.area_record.specs.Words.{deferredWord, emittedWord}
+use Rattle.area_record.specs.Words.{receptionWord, frameWord, attemptsWord, drawWord}
+use Rattle.area_record.specs.Words.{phaseNumberWord, receiverWord, receiverNumberWord, spoiledWord}
 
 -- ---- numbers
 
@@ -55,7 +67,7 @@ module _ (a : List ℕ) where
   unfolding depthAt
   depth-is x p = p
 
-  pub draw-is : (i k x : ℕ) → x ≡ get 2 a (320 + 32 * i + 2 * k) → x ≡ drawAt a i k
+  pub draw-is : (i k x : ℕ) → x ≡ get 2 a (drawFrom i k) → x ≡ drawAt a i k
   unfolding drawAt
   draw-is i k x p = p
 
@@ -63,14 +75,17 @@ module _ (a : List ℕ) where
   unfolding countAt
   count-is x p = p
 
-  pub position-is : (i x : ℕ) → x ≡ get 4 a (64 + 16 * i) → x ≡ positionAt a i
+  pub position-is : (i x : ℕ) → x ≡ get 4 a (tapFrom i) → x ≡ positionAt a i
   unfolding positionAt
   position-is i x p = p
 
-  pub figures-are : (s g h j l b : ℕ) → b ≡ get 4 a 28 → l ≡ get 4 a 24 → j ≡ get 4 a 20 → h ≡ get 4 a 16 → g ≡ get 4 a 12 → s ≡ get 4 a 8
-      → record { slot = s; gap1 = g; gap2 = h; jam = j; limit = l; backoff = b } ≡ figuresAt a
+  pub figures-are : (s g h j l b e : ℕ) → e ≡ get 4 a 36 → b ≡ get 4 a 28 → l ≡ get 4 a 24 → j ≡ get 4 a 20
+      → h ≡ get 4 a 16
+      → g ≡ get 4 a 12 → s ≡ get 4 a 8
+      → record { slot = s; gap1 = g; gap2 = h; jam = j; limit = l; backoff = b; ends = e } ≡ figuresAt a
   unfolding figuresAt
-  figures-are s g h j l b pb pl pj ph pg ps = λ i. record { slot = ps i; gap1 = pg i; gap2 = ph i; jam = pj i; limit = pl i; backoff = pb i }
+  figures-are s g h j l b e pe pb pl pj ph pg ps =
+      λ i. record { slot = ps i; gap1 = pg i; gap2 = ph i; jam = pj i; limit = pl i; backoff = pb i; ends = pe i }
 
   pub space-is : (i j d p q : ℕ) → d ≡ distance p q → q ≡ positionAt a j → p ≡ positionAt a i → d ≡ spaceAt a i j
   unfolding spaceAt
@@ -82,68 +97,106 @@ apart-is p q x y e f = omega arith
 
 -- ---- an address, a record, counters
 
-pub address-is : (a r : List ℕ) (i : ℕ) → r ≡ part a (68 + 16 * i) 6 → r ≡ addressAt a i
+pub address-is : (a r : List ℕ) (i : ℕ) → r ≡ part a (addressFrom i) 6 → r ≡ addressAt a i
 unfolding addressAt
 address-is a r i p = p
 
-pub record-is : (a w : List ℕ) (i : ℕ) → w ≡ wordsAt recordWords a (2048 + 64 * i) → w ≡ recordAt a i
+pub record-is : (a w : List ℕ) (i : ℕ) → w ≡ wordsAt recordWords a (from (theStation i)) → w ≡ recordAt a i
 unfolding recordAt
 record-is a w i p = p
 
-pub word-is : (a : List ℕ) (i k x : ℕ) → x ≡ get 4 a (2048 + 64 * i + 4 * k) → k < recordWords → x ≡ getD (recordAt a i) k 0
+pub word-is : (a : List ℕ) (i k x : ℕ) → x ≡ get 4 a (from (theStation i) + 4 * k) → k < recordWords
+    → x ≡ getD (recordAt a i) k 0
 unfolding recordAt
-word-is a i k x p h = p ∙ sym (word-at recordWords a (2048 + 64 * i) k h)
+word-is a i k x p h = p ∙ sym (word-at recordWords a (from (theStation i)) k h)
 
-pub code-is : (a : List ℕ) (i k x : ℕ) → x ≡ getD a (2048 + 64 * i + 4 * k + 3) 0 → x < 256 → k < recordWords → x ≡ getD (recordAt a i) k 0 % 256
+pub code-is : (a : List ℕ) (i k x : ℕ) → x ≡ getD a (from (theStation i) + 4 * k + 3) 0 → x < 256 → k < recordWords
+    → x ≡ getD (recordAt a i) k 0 % 256
 unfolding recordAt get
 code-is a i k x p h g =
-    let e : getD (wordsAt recordWords a (2048 + 64 * i)) k 0 ≡ get 4 a (2048 + 64 * i + 4 * k) = word-at recordWords a (2048 + 64 * i) k g in
+    let e : getD (wordsAt recordWords a (from (theStation i))) k 0 ≡ get 4 a
+    (from (theStation i) + 4 * k) = word-at recordWords a (from (theStation i)) k g in
     rw e (omega (arith, p))
 
-pub with-word-is : (a b : List ℕ) (i k v : ℕ) → b ≡ put 4 a (2048 + 64 * i + 4 * k) v → b ≡ withWord a i k v
+pub with-word-is : (a b : List ℕ) (i k v : ℕ) → b ≡ put 4 a (from (theStation i) + 4 * k) v → b ≡ withWord a i k v
 unfolding withWord
 with-word-is a b i k v p = p
 
 module _ (a : List ℕ) (i : ℕ) where
-  pub deference-is : (c o n : ℕ) (d : Deference) → d ≡ deferenceOf c (eqb o 1) n → n ≡ getD (recordAt a i) 2 0 → c ≡ getD (recordAt a i) 0 0 → o ≡ getD (recordAt a i) 1 0 → d ≡ stationAt a i .deference
+  pub deference-is : (c o n : ℕ) (d : Deference) → d ≡ deferenceOf c (eqb o 1) n → n ≡ getD (recordAt a i) gapWord 0
+      → c ≡ getD (recordAt a i) deferenceWord 0 → o ≡ getD (recordAt a i) stretchWord 0 → d ≡ stationAt a i .deference
   unfolding stationAt decoded
   deference-is c o n d p q r s = p ∙ rw (q, r, s)
 
-  pub receiver-is : (c n s o : ℕ) (r : Receiver) → r ≡ receiverOf c n (eqb s 1) (eqb o 1) → n ≡ getD (recordAt a i) 6 0 → c ≡ getD (recordAt a i) 5 0 → o ≡ getD (recordAt a i) 8 0
-      → s ≡ getD (recordAt a i) 7 0 → r ≡ stationAt a i .receiver
+  pub receiver-is : (c n s o : ℕ) (r : Receiver) → r ≡ receiverOf c n (eqb s 1) (eqb o 1)
+      → n ≡ getD (recordAt a i) receiverNumberWord 0
+      → c ≡ getD (recordAt a i) receiverWord 0 → o ≡ getD (recordAt a i) receptionWord 0
+      → s ≡ getD (recordAt a i) spoiledWord 0 → r ≡ stationAt a i .receiver
   unfolding stationAt decoded
   receiver-is c n s o r p q w x y = p ∙ rw (q, w, x, y)
 
-  pub transmitter-is : (c n : ℕ) (t : Transmitter) → t ≡ transmitterOf c n → n ≡ getD (recordAt a i) 4 0 → c ≡ getD (recordAt a i) 3 0 → t ≡ stationAt a i .transmitter
+  pub transmitter-is : (c n : ℕ) (t : Transmitter) → t ≡ transmitterOf c n → n ≡ getD (recordAt a i) phaseNumberWord 0
+      → c ≡ getD (recordAt a i) phaseWord 0 → t ≡ stationAt a i .transmitter
   unfolding stationAt decoded
   transmitter-is c n t p q r = p ∙ rw (q, r)
 
   pub station-is : (d : List ℕ) (f : Deference) (t : Transmitter) (r : Receiver) (x y z v w : ℕ)
       → f ≡ stationAt a i .deference → r ≡ stationAt a i .receiver → t ≡ stationAt a i .transmitter → d ≡ addressAt a i
-      → x ≡ getD (recordAt a i) 9 0 → y ≡ getD (recordAt a i) 10 0 → z ≡ getD (recordAt a i) 11 0 → v ≡ getD (recordAt a i) 12 0 → w ≡ getD (recordAt a i) 13 0
-      → record { address = d; deference = f; transmitter = t; receiver = r; frame = x; attempts = y; draw = z; deferred = eqb v 1; emitted = eqb w 1 } ≡ stationAt a i
+      → x ≡ getD (recordAt a i) frameWord 0 → y ≡ getD (recordAt a i) attemptsWord 0
+      → z ≡ getD (recordAt a i) drawWord 0
+      → v ≡ getD (recordAt a i) deferredWord 0 → w ≡ getD (recordAt a i) emittedWord 0
+      → record {
+        address = d;
+        deference = f;
+        transmitter = t;
+        receiver = r;
+        frame = x;
+        attempts = y;
+        draw = z;
+        deferred = eqb v 1;
+        emitted = eqb w 1;
+      } ≡ stationAt a i
   unfolding stationAt decoded
   station-is d f t r x y z v w ef er et ed ex ey ez ev ew k =
-      record { address = ed k; deference = ef k; transmitter = et k; receiver = er k; frame = ex k; attempts = ey k; draw = ez k; deferred = eqb (ev k) 1; emitted = eqb (ew k) 1 }
+      record {
+        address = ed k;
+        deference = ef k;
+        transmitter = et k;
+        receiver = er k;
+        frame = ex k;
+        attempts = ey k;
+        draw = ez k;
+        deferred = eqb (ev k) 1;
+        emitted = eqb (ew k) 1;
+      }
 
-pub with-station-is : (a b w : List ℕ) (i : ℕ) (s : Station) → b ≡ putWords (length w) a (2048 + 64 * i) w → w ≡ encoded s → b ≡ withStation a i s
+pub with-station-is : (a b w : List ℕ) (i : ℕ) (s : Station) → b ≡ putWords (length w) a (from (theStation i)) w
+    → w ≡ encoded s → b ≡ withStation a i s
 unfolding withStation encoded
 with-station-is a b w i s p q = rw q at p
 
-pub counters-are : (a w : List ℕ) (i : ℕ) → w ≡ wordsAt counterCount a (1024 + 64 * i) → w ≡ countersAt a i
+pub counters-are : (a w : List ℕ) (i : ℕ) → w ≡ wordsAt counterCount a (from (theCounters i)) → w ≡ countersAt a i
 unfolding countersAt
 counters-are a w i p = p
 
-pub with-counters-is : (a b cs : List ℕ) (i : ℕ) → b ≡ putWords (length cs) a (1024 + 64 * i) cs → length cs ≡ counterCount → b ≡ withCounters a i cs
+pub with-counters-is : (a b cs : List ℕ) (i : ℕ) → b ≡ putWords (length cs) a (from (theCounters i)) cs
+    → length cs ≡ counterCount → b ≡ withCounters a i cs
 unfolding withCounters
 with-counters-is a b cs i p e = rw e at p
 
-pub layout-is : (a : List ℕ) (f : Figures) (n k : ℕ) (ts : List Tap) → ts ≡ placesOf (tapAt a) k → k ≡ min n 16 → n ≡ countAt a → f ≡ figuresAt a
+pub layout-is : (a : List ℕ) (f : Figures) (n k : ℕ) (ts : List Tap) → ts ≡ placesOf (tapAt a) k → k ≡ min n maxStations
+    → n ≡ countAt a → f ≡ figuresAt a
     → record { figures = f; count = n; stations = ts } ≡ layoutAt a
 unfolding layoutAt
-layout-is a f n k ts p q e g = λ i. record { figures = g i; count = e i; stations = (p ∙ ap (placesOf (tapAt a)) (q ∙ ap (λ (m : ℕ). min m 16) e)) i }
+layout-is a f n k ts p q e g =
+    λ i. record {
+      figures = g i;
+      count = e i;
+      stations = (p ∙ ap (placesOf (tapAt a)) (q ∙ ap (λ (m : ℕ). min m maxStations) e)) i;
+    }
 
-pub tap-is : (a d : List ℕ) (i x : ℕ) → x ≡ positionAt a i → d ≡ addressAt a i → record { position = x; address = d } ≡ tapAt a i
+pub tap-is : (a d : List ℕ) (i x : ℕ) → x ≡ positionAt a i → d ≡ addressAt a i
+    → record { position = x; address = d } ≡ tapAt a i
 tap-is a d i x p q = λ k. record { position = p k; address = q k }
 
 -- ---- delay lines
@@ -161,15 +214,11 @@ module _ (c : ℕ) where
   unfolding heardOf
   heard-one p q r = rw (ne-eqb c 0 p, ne-eqb c 1 q, eq-eqb c 2 r)
 
-  pub heard-jam : (c ≡ 0 → ⊥) → (c ≡ 1 → ⊥) → (c ≡ 2 → ⊥) → c ≡ 3 → Jammed ≡ heardOf c
+  pub heard-spoiled : (c ≡ 0 → ⊥) → (c ≡ 1 → ⊥) → (c ≡ 2 → ⊥) → Spoiled ≡ heardOf c
   unfolding heardOf
-  heard-jam p q r s = rw (ne-eqb c 0 p, ne-eqb c 1 q, ne-eqb c 2 r, eq-eqb c 3 s)
+  heard-spoiled p q r = rw (ne-eqb c 0 p, ne-eqb c 1 q, ne-eqb c 2 r)
 
-  pub heard-several : (c ≡ 0 → ⊥) → (c ≡ 1 → ⊥) → (c ≡ 2 → ⊥) → (c ≡ 3 → ⊥) → Several ≡ heardOf c
-  unfolding heardOf
-  heard-several p q r s = rw (ne-eqb c 0 p, ne-eqb c 1 q, ne-eqb c 2 r, ne-eqb c 3 s)
-
-pub symbol-is : (a : List ℕ) (i u : ℕ) → getD a (4096 + 256 * i + u % 256) 0 ≡ symbolAt a i u
+pub symbol-is : (a : List ℕ) (i u : ℕ) → getD a (from (theLine i) + u % ring) 0 ≡ symbolAt a i u
 unfolding symbolAt
 symbol-is a i u = refl
 
@@ -177,42 +226,44 @@ pub arrival-is : (a : List ℕ) (i u x : ℕ) (h : Heard) → h ≡ heardOf x �
 unfolding arrivalAt
 arrival-is a i u x h p q = p ∙ ap heardOf q
 
-pub with-arrival-is : (a : List ℕ) (i u x : ℕ) (h : Heard) → x ≡ heardCode h → set a (4096 + 256 * i + u % 256) x ≡ withArrival a i u h
+pub with-arrival-is : (a : List ℕ) (i u x : ℕ) (h : Heard) → x ≡ heardCode h
+    → set a (from (theLine i) + u % ring) x ≡ withArrival a i u h
 unfolding withArrival
 with-arrival-is a i u x h p = rw p
 
-pub mixed-none : (x c : ℕ) → x ≡ 0 → c ≡ pick (eqb x 0) c 4
+pub mixed-none : (x c : ℕ) → x ≡ 0 → c ≡ pick (eqb x 0) c maxCode
 mixed-none x c e = rw (eq-eqb x 0 e)
 
-pub mixed-some : (x c : ℕ) → (x ≡ 0 → ⊥) → 4 ≡ pick (eqb x 0) c 4
+pub mixed-some : (x c : ℕ) → (x ≡ 0 → ⊥) → maxCode ≡ pick (eqb x 0) c maxCode
 mixed-some x c e = rw (ne-eqb x 0 e)
 
-pub with-symbol-is : (a : List ℕ) (i u c x : ℕ) → x ≡ pick (eqb (getD a (4096 + 256 * i + u % 256) 0) 0) c 4 → set a (4096 + 256 * i + u % 256) x ≡ withSymbol a i u c
+pub with-symbol-is : (a : List ℕ) (i u c x : ℕ) → x ≡ pick (eqb (getD a (from (theLine i) + u % ring) 0) 0) c maxCode
+    → set a (from (theLine i) + u % ring) x ≡ withSymbol a i u c
 unfolding withSymbol symbolAt
 with-symbol-is a i u c x p = rw p
 
 -- a symbol that is not silence, joined to what is there, by its code
-pub joined-code : (a : List ℕ) (i u : ℕ) (s : Symbol) (c : ℕ) → c ≡ heardCode (alone s) → (c ≡ 0 → ⊥) → withSymbol a i u c ≡ withArrival a i u (joined (arrivalAt a i u) s)
+pub joined-code : (a : List ℕ) (i u : ℕ) (s : Symbol) (c : ℕ) → c ≡ heardCode (alone s) → (c ≡ 0 → ⊥)
+    → withSymbol a i u c ≡ withArrival a i u (joined (arrivalAt a i u) s)
 unfolding withSymbol withArrival arrivalAt heardOf
-joined-code a i u s c e ne = ap (set a (4096 + 256 * i + u % 256)) (go (symbolAt a i u))
+joined-code a i u s c e ne = ap (set a (from (theLine i) + u % ring)) (go (symbolAt a i u))
   where
-    over : (h : Heard) (y : Symbol) → (heardCode (alone y) ≡ 0 → ⊥) → 4 ≡ heardCode (overlaid h y)
-    over h Silence n = absurd (n refl)
-    over h (Bit b) n = refl
-    over h Jam n = refl
+    over : (h : Heard) (y : Symbol) → hearsAny h ≡ true → (heardCode (alone y) ≡ 0 → ⊥)
+        → maxCode ≡ heardCode (joined h y)
+    over h Silence p n = absurd (n refl)
+    over h (Bit b) p n = rw p
+    over h Jam p n = rw p
 
-    more : (h : Heard) → 4 ≡ heardCode (overlaid h s)
-    more h = over h s (λ z. ne (e ∙ z))
+    more : (h : Heard) → hearsAny h ≡ true → maxCode ≡ heardCode (joined h s)
+    more h p = over h s p (λ z. ne (e ∙ z))
 
-    go : (x : ℕ) → pick (eqb x 0) c 4 ≡ heardCode (joined (heardOf x) s)
+    go : (x : ℕ) → pick (eqb x 0) c maxCode ≡ heardCode (joined (heardOf x) s)
     go x =
         by-test (eqb x 0)
         (λ p. rw p e)
         (λ p. by-test (eqb x 1)
-        (λ q. rw (p, q) (more (Clean false)))
-        (λ q. by-test (eqb x 2)
-        (λ r. rw (p, q, r) (more (Clean true)))
-        (λ r. by-test (eqb x 3) (λ z. rw (p, q, r, z) (more Jammed)) (λ z. rw (p, q, r, z) (more Several)))))
+        (λ q. rw (p, q) (more (Clean false) refl))
+        (λ q. by-test (eqb x 2) (λ r. rw (p, q, r) (more (Clean true) refl)) (λ r. rw (p, q, r) (more Spoiled refl))))
 
 -- ---- a collected bit
 
@@ -245,16 +296,17 @@ raised-small p d b h e = rw e (go b)
     go true = power-small p h .1
     go false = omega arith
 
-pub octet-is : (x y z p u r : ℕ) (b : Bool) → r ≡ digit b * 2 ^ p → z ≡ y % u → y ≡ x → u ≡ 2 ^ p → z + r ≡ octetWith x p b
+pub octet-is : (x y z p u r : ℕ) (b : Bool) → r ≡ digit b * 2 ^ p → z ≡ y % u → y ≡ x → u ≡ 2 ^ p
+    → z + r ≡ octetWith x p b
 unfolding octetWith
 octet-is x y z p u r b e d f g = rw (d, e, f, g)
 
-pub with-bit-is : (a : List ℕ) (i k x : ℕ) (b : Bool) → x ≡ octetWith (getD a (32768 + 1536 * i + k / 8) 0) (k % 8) b
-    → set a (32768 + 1536 * i + k / 8) x ≡ withBit a i k b
+pub with-bit-is : (a : List ℕ) (i k x : ℕ) (b : Bool) → x ≡ octetWith (getD a (from (theBuffer i) + k / 8) 0) (k % 8) b
+    → set a (from (theBuffer i) + k / 8) x ≡ withBit a i k b
 unfolding withBit
 with-bit-is a i k x b p = rw p
 
-pub with-octet-is : (a : List ℕ) (i k v : ℕ) → set a (32768 + 1536 * i + k) v ≡ withOctet a i k v
+pub with-octet-is : (a : List ℕ) (i k v : ℕ) → set a (from (theBuffer i) + k) v ≡ withOctet a i k v
 unfolding withOctet
 with-octet-is a i k v = refl
 
@@ -265,51 +317,69 @@ after : ℕ → ℕ → List ℕ → Outcome → Outcome
 after b k a o = outcome (o .answer) (putMid b k a (o .octets))
 
 module _ (a d s : List ℕ) (v : ℕ) (x : List ℕ) (b : ℕ) where
-  lent-refused : refusesData v (length x) ≡ true → after b bufferOctets a (built (midOf b bufferOctets a) d s v x) ≡ outcome (refused 11) a
+  lent-refused : refusesData v (length x) ≡ true
+      → after b bufferOctets a (built (midOf b bufferOctets a) d s v x) ≡ outcome (refused 11) a
   unfolding after built
   lent-refused h = rw h (ap (outcome (refused 11)) (put-same b bufferOctets a))
 
   lent-built : refusesData v (length x) ≡ false → length d ≡ 6 → length s ≡ 6 → b + bufferOctets ≤ length a
-      → after b bufferOctets a (built (midOf b bufferOctets a) d s v x) ≡ outcome (accepted (length (frameOf d s v x) ∷ [])) (sets a b (frameOf d s v x))
+      → after b bufferOctets a (built (midOf b bufferOctets a) d s v x) ≡ outcome
+      (accepted (length (frameOf d s v x) ∷ [])) (sets a b (frameOf d s v x))
   unfolding after built
   lent-built h hd hs g =
-      let n : length (frameOf d s v x) ≤ bufferOctets = omega (arith, frame-size d s v x hd hs, data-within v (length x) h) in
-      rw (h, le-ltb (length (midOf b bufferOctets a)) (length (frameOf d s v x)) (omega (arith, length-part a b bufferOctets g)), lent-store (frameOf d s v x) b bufferOctets a n)
+      let n : length (frameOf d s v x) ≤ bufferOctets =
+      omega (arith, frame-size d s v x hd hs, data-within v (length x) h) in
+      rw (
+        h,
+        le-ltb (length (midOf b bufferOctets a)) (length (frameOf d s v x))
+            (omega (arith, length-part a b bufferOctets g)),
+        lent-store (frameOf d s v x) b bufferOctets a n,
+      )
 
-lent-frame : (a d s : List ℕ) (v : ℕ) (x : List ℕ) (i : ℕ) → s ≡ addressAt a i → length d ≡ 6 → length s ≡ 6 → i < 16 → areaSize ≤ length a
-    → after (8192 + 1536 * i) bufferOctets a (built (midOf (8192 + 1536 * i) bufferOctets a) d s v x) ≡ frameBuilt a i d v x
+lent-frame : (a d s : List ℕ) (v : ℕ) (x : List ℕ) (i : ℕ) → s ≡ addressAt a i → length d ≡ 6 → length s ≡ 6
+    → i < maxStations → areaSize ≤ length a
+    → after (from (theFrame i)) bufferOctets a (built (midOf (from (theFrame i)) bufferOctets a) d s v x)
+    ≡ frameBuilt a i d v x
 unfolding frameBuilt withFrame
 lent-frame a d s v x i es hd hs hi hl = go (refusesData v (length x)) refl
   where
     go : (t : Bool) → refusesData v (length x) ≡ t
-        → after (8192 + 1536 * i) bufferOctets a (built (midOf (8192 + 1536 * i) bufferOctets a) d s v x)
-        ≡ pick t (outcome (refused 11) a) (outcome (accepted (length (frameOf d (addressAt a i) v x) ∷ [])) (sets a (8192 + 1536 * i) (frameOf d (addressAt a i) v x)))
-    go true p = lent-refused a d s v x (8192 + 1536 * i) p
+        → after (from (theFrame i)) bufferOctets a (built (midOf (from (theFrame i)) bufferOctets a) d s v x)
+        ≡ pick t (outcome (refused 11) a)
+        (outcome (accepted (length (frameOf d (addressAt a i) v x) ∷ []))
+        (sets a (from (theFrame i)) (frameOf d (addressAt a i) v x)))
+    go true p = lent-refused a d s v x (from (theFrame i)) p
     go false p =
-        lent-built a d s v x (8192 + 1536 * i) p hd hs (omega arith)
-        ∙ ap (λ (q : List ℕ). outcome (accepted (length (frameOf d q v x) ∷ [])) (sets a (8192 + 1536 * i) (frameOf d q v x))) es
+        lent-built a d s v x (from (theFrame i)) p hd hs (omega arith)
+        ∙ ap (λ (q : List ℕ). outcome (accepted (length (frameOf d q v x) ∷ []))
+        (sets a (from (theFrame i)) (frameOf d q v x))) es
 
 pub built-is : (a d s : List ℕ) (v : ℕ) (x : List ℕ) (i : ℕ) (r : Answer) (m : List ℕ)
-    → outcome r m ≡ built (midOf (8192 + 1536 * i) (8192 + 1536 * i + bufferOctets - (8192 + 1536 * i)) a) d s v x → s ≡ addressAt a i
-    → length d ≡ 6 → length s ≡ 6 → i < 16 → areaSize ≤ length a
-    → outcome r (putMid (8192 + 1536 * i) (8192 + 1536 * i + bufferOctets - (8192 + 1536 * i)) a m) ≡ frameBuilt a i d v x
+    → outcome r m ≡ built (midOf (from (theFrame i)) (from (theFrame i) + bufferOctets - (from (theFrame i))) a) d s v x
+    → s ≡ addressAt a i
+    → length d ≡ 6 → length s ≡ 6 → i < maxStations → areaSize ≤ length a
+    → outcome r (putMid (from (theFrame i)) (from (theFrame i) + bufferOctets - (from (theFrame i))) a m)
+    ≡ frameBuilt a i d v x
 unfolding after
 built-is a d s v x i r m p es hd hs hi hl =
-    let k : 8192 + 1536 * i + bufferOctets - (8192 + 1536 * i) ≡ bufferOctets = omega arith in
-    let q : outcome r m ≡ built (midOf (8192 + 1536 * i) bufferOctets a) d s v x = rw k at p in
-    rw k (ap (after (8192 + 1536 * i) bufferOctets a) q ∙ lent-frame a d s v x i es hd hs hi hl)
+    let k : from (theFrame i) + bufferOctets - (from (theFrame i)) ≡ bufferOctets = omega arith in
+    let q : outcome r m ≡ built (midOf (from (theFrame i)) bufferOctets a) d s v x = rw k at p in
+    rw k (ap (after (from (theFrame i)) bufferOctets a) q ∙ lent-frame a d s v x i es hd hs hi hl)
 
 -- ---- parts
 
-pub buffer-is : (a : List ℕ) (i : ℕ) → take ((32768 + 1536 * i + bufferOctets) - (32768 + 1536 * i)) (drop (32768 + 1536 * i) a) ≡ bufferAt a i
+pub buffer-is : (a : List ℕ) (i : ℕ)
+    → take ((from (theBuffer i) + bufferOctets) - (from (theBuffer i))) (drop (from (theBuffer i)) a) ≡ bufferAt a i
 unfolding bufferAt
-buffer-is a i = let z : (32768 + 1536 * i + bufferOctets) - (32768 + 1536 * i) ≡ bufferOctets = omega arith in rw z
+buffer-is a i = let z : (from (theBuffer i) + bufferOctets) - (from (theBuffer i)) ≡ bufferOctets = omega arith in rw z
 
-pub frame-is : (a : List ℕ) (i n : ℕ) → take ((8192 + 1536 * i + n) - (8192 + 1536 * i)) (drop (8192 + 1536 * i) a) ≡ frameAt a i n
+pub frame-is : (a : List ℕ) (i n : ℕ)
+    → take ((from (theFrame i) + n) - (from (theFrame i))) (drop (from (theFrame i)) a) ≡ frameAt a i n
 unfolding frameAt
-frame-is a i n = let z : (8192 + 1536 * i + n) - (8192 + 1536 * i) ≡ n = omega arith in rw z
+frame-is a i n = let z : (from (theFrame i) + n) - (from (theFrame i)) ≡ n = omega arith in rw z
 
-pub emitted-is : (a : List ℕ) (r : Symbol) (i n e : ℕ) (m : Emission) → r ≡ symbolOf (take (e - (8192 + 1536 * i)) (drop (8192 + 1536 * i) a)) m → e ≡ 8192 + 1536 * i + n
+pub emitted-is : (a : List ℕ) (r : Symbol) (i n e : ℕ) (m : Emission)
+    → r ≡ symbolOf (take (e - (from (theFrame i))) (drop (from (theFrame i)) a)) m → e ≡ from (theFrame i) + n
     → r ≡ symbolOf (frameAt a i n) m
 unfolding frameAt
-emitted-is a r i n e m p q = let z : e - (8192 + 1536 * i) ≡ n = omega arith in p ∙ rw z
+emitted-is a r i n e m p q = let z : e - (from (theFrame i)) ≡ n = omega arith in p ∙ rw z

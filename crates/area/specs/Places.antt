@@ -1,11 +1,12 @@
--- Parts of the work area: pieces, which are regions of octets, and places of delay lines. How a place is kept is not said here: two areas
--- hold the same at a place where they have the same symbol there. Assumes nothing.
+-- Parts of the work area: pieces, which are regions of octets, and places of delay lines. How a place is kept is not
+-- said here: two areas hold the same at a place where they have the same symbol there. Assumes nothing.
 use Prim.Native.Nat.{ℕ, _+_, _*_, _%_}
 use mathlib.Core.Path.{_≡_}
 use mathlib.Core.List.{List}
 use Rattle.octets.specs.Store.{Apart}
 use Rattle.octets.specs.Region.{Same}
-use Rattle.area.specs.Offsets.{ring, Piece, theClock, theDepth, theLayout, theDraws, theCounters, theStation, theLine, theFrame, theBuffer, from, width}
+use Rattle.area.specs.Offsets.{ring, Piece, theClock, theDepth, theLayout, theDraws, theCounters, theStation}
+use Rattle.area.specs.Offsets.{theLine, theFrame, theBuffer, from, width}
 use Rattle.area.specs.Area.{symbolAt}
 
 -- a piece, or place u of the delay line of station i

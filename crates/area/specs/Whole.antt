@@ -1,5 +1,5 @@
--- The area as a whole: the octets that are none of the clock's and none of any station's, which no writer of these parts touches; and two
--- areas that hold the same in every part are one. Assumes nothing.
+-- The area as a whole: the octets that are none of the clock's and none of any station's, which no writer of these
+-- parts touches; and two areas that hold the same in every part are one. Assumes nothing.
 use Prim.Native.Nat.{ℕ, _+_, _-_, _*_, _/_, _%_, _≤_, _<_}
 use mathlib.Core.Path.{_≡_, sym, _∙_, ap}
 use mathlib.Core.Bool.{Bool}
@@ -16,12 +16,17 @@ use Rattle.octets.specs.NumberLaws.{length-spelled}
 use Rattle.octets.specs.Store.{Apart, octet-same}
 use Rattle.station_symbols.specs.declared.Heard.{Heard}
 use Rattle.station_state.specs.declared.Station.{Station}
-use Rattle.area_record.specs.Codec.{encoded, recordWords}
-use Rattle.area.specs.Offsets.{theClock, theCounters, theStation, theLine, theBuffer, from, width, areaSize, counterCount}
+use Rattle.area_record.specs.Codec.{encoded}
+use Rattle.area.specs.Offsets.{theClock, theCounters, theStation, theLine, theBuffer, from, width, areaSize}
+use Rattle.area.specs.Offsets.{ring, frameRoom}
 use Rattle.area.specs.Places.{clock, counters, station, buffer, place, Keeps}
 use Rattle.area.specs.Written.{words-over}
-use Rattle.area.specs.Area.{withClock, withCounters, withStation, octetWith, withBit, heardCode, symbolAt, withArrival}
+use Rattle.area.specs.Area.{withClock, withCounters, withStation, octetWith, withBit, heardCode, symbolAt}
+use Rattle.area.specs.Area.{withArrival}
 use Rattle.frame_build.specs.Limits.{bufferBits}
+use Rattle.sheet_layout.specs.Limits.{maxStations}
+use Rattle.station_state.specs.State.{counterCount}
+use Rattle.area_record.specs.Words.{recordWords}
 
 -- an octet that is neither the clock's nor any station's, of n stations; frames are only written by offers
 pub record Still (n k : ℕ) : Type 0 where
@@ -39,24 +44,27 @@ module _ (n k : ℕ) (still : Still n k) (x : List ℕ) where
   pub station-still : (i : ℕ) (s : Station) → i < n → getD (withStation x i s) k 0 ≡ getD x k 0
   unfolding withStation Same
   station-still i s hi =
-      words-leave k 1 recordWords (2048 + 64 * i) x (encoded s) (λ p q. still .station i hi (omega arith) (omega arith)) k
+      words-leave k 1 recordWords (from (theStation i)) x (encoded s)
+      (λ p q. still .station i hi (omega arith) (omega arith)) k
       (omega arith) (omega arith)
 
   pub counters-still : (i : ℕ) (cs : List ℕ) → i < n → getD (withCounters x i cs) k 0 ≡ getD x k 0
   unfolding withCounters Same
   counters-still i cs hi =
-      words-leave k 1 counterCount (1024 + 64 * i) x cs (λ p q. still .counters i hi (omega arith) (omega arith)) k (omega arith)
+      words-leave k 1 counterCount (from (theCounters i)) x cs
+      (λ p q. still .counters i hi (omega arith) (omega arith)) k (omega arith)
       (omega arith)
 
   pub bit-still : (i m : ℕ) (b : Bool) → i < n → m < bufferBits → getD (withBit x i m b) k 0 ≡ getD x k 0
   unfolding withBit
   bit-still i m b hi h =
-      getD-set-other x (32768 + 1536 * i + m / 8) k _ 0 (λ z. still .buffer i hi (omega arith) (omega arith))
+      getD-set-other x (from (theBuffer i) + m / 8) k _ 0 (λ z. still .buffer i hi (omega arith) (omega arith))
 
   pub arrival-still : (i u : ℕ) (h : Heard) → i < n → getD (withArrival x i u h) k 0 ≡ getD x k 0
   unfolding withArrival
   arrival-still i u h hi =
-      getD-set-other x (4096 + 256 * i + u % 256) k (heardCode h) 0 (λ z. still .line i hi (omega arith) (omega arith))
+      getD-set-other x (from (theLine i) + u % ring) k (heardCode h) 0
+      (λ z. still .line i hi (omega arith) (omega arith))
 
 -- ---- parts written over parts that are the same
 
@@ -65,27 +73,30 @@ front v l k h g =
     let z : k ≡ 0 + k = omega arith in ap (λ (i : ℕ). getD (sets l 0 v) i 0) z ∙ octet-same v l 0 k h (omega arith)
 
 -- the clock's octets go by the clock alone
-pub clock-on : (x y : List ℕ) (c : ℕ) → areaSize ≤ length x → areaSize ≤ length y → Keeps clock (withClock x c) (withClock y c)
+pub clock-on : (x y : List ℕ) (c : ℕ) → areaSize ≤ length x → areaSize ≤ length y
+    → Keeps clock (withClock x c) (withClock y c)
 unfolding withClock put Same Keeps
 clock-on x y c lx ly k lo up =
     let m : length (spelled 4 c) ≡ 4 = length-spelled 4 c in
     front (spelled 4 c) x k (omega arith) (omega arith) ∙ sym (front (spelled 4 c) y k (omega arith) (omega arith))
 
-module _ (i : ℕ) (hi : i < 16) (x y : List ℕ) (lx : areaSize ≤ length x) (ly : areaSize ≤ length y) where
+module _ (i : ℕ) (hi : i < maxStations) (x y : List ℕ) (lx : areaSize ≤ length x) (ly : areaSize ≤ length y) where
   pub station-on : (s : Station) → Keeps (station i) x y → Keeps (station i) (withStation x i s) (withStation y i s)
   unfolding Keeps Same withStation
-  station-on s e k lo up = words-over recordWords x y (2048 + 64 * i) (encoded s) k (omega arith) (omega arith) (λ o. e k lo up)
+  station-on s e k lo up =
+      words-over recordWords x y (from (theStation i)) (encoded s) k (omega arith) (omega arith) (λ o. e k lo up)
 
   pub counters-on : (cs : List ℕ) → Keeps (counters i) x y
       → Keeps (counters i) (withCounters x i cs) (withCounters y i cs)
   unfolding withCounters Keeps Same
-  counters-on cs e k lo up = words-over counterCount x y (1024 + 64 * i) cs k (omega arith) (omega arith) (λ a. e k lo up)
+  counters-on cs e k lo up =
+      words-over counterCount x y (from (theCounters i)) cs k (omega arith) (omega arith) (λ a. e k lo up)
 
   pub bit-on : (m : ℕ) (b : Bool) → m < bufferBits → Keeps (buffer i) x y
       → Keeps (buffer i) (withBit x i m b) (withBit y i m b)
   unfolding Keeps Same withBit
   bit-on m b h e k lo up =
-      let at = 32768 + 1536 * i + m / 8 in
+      let at = from (theBuffer i) + m / 8 in
       by-eq k at
       (λ z. rw (
         z,
@@ -101,47 +112,48 @@ by-lt : {C : Type 0} (m n : ℕ) → (m < n → C) → (n ≤ m → C) → C
 by-lt m n f g = by-test (ltb m n) (λ c. f (ltb-true m n c)) (λ c. g (ltb-false m n c))
 
 -- where an octet lies
-by-part : {C : Type 0} (n k : ℕ) → n ≤ 16 → (k < 4 → C)
-    → ((i : ℕ) → i < n → 1024 + 64 * i ≤ k → k < 1024 + 64 * i + 64 → C)
-    → ((i : ℕ) → i < n → 2048 + 64 * i ≤ k → k < 2048 + 64 * i + 64 → C)
-    → ((i : ℕ) → i < n → 4096 + 256 * i ≤ k → k < 4096 + 256 * i + 256 → C)
-    → ((i : ℕ) → i < n → 32768 + 1536 * i ≤ k → k < 32768 + 1536 * i + 1536 → C)
+by-part : {C : Type 0} (n k : ℕ) → n ≤ maxStations → (k < 4 → C)
+    → ((i : ℕ) → i < n → from (theCounters i) ≤ k → k < from (theCounters i) + 68 → C)
+    → ((i : ℕ) → i < n → from (theStation i) ≤ k → k < from (theStation i) + 64 → C)
+    → ((i : ℕ) → i < n → from (theLine i) ≤ k → k < from (theLine i) + 256 → C)
+    → ((i : ℕ) → i < n → from (theBuffer i) ≤ k → k < from (theBuffer i) + frameRoom → C)
     → (Still n k → C) → C
 by-part n k few t c s l b r =
     by-lt k 4 t
-    (λ h₀. by-lt k 1024 (λ h. r
+    (λ h₀. by-lt k 832 (λ h. r
     (still h₀ (λ i hi p q. omega arith) (λ i hi p q. omega arith) (λ i hi p q. omega arith)
     (λ i hi p q. omega arith)))
-    (λ h₁. by-lt k (1024 + 64 * n) (λ h. c ((k - 1024) / 64) (omega arith) (omega arith) (omega arith))
+    (λ h₁. by-lt k (from (theCounters n)) (λ h. c ((k - 832) / 68) (omega arith) (omega arith) (omega arith))
     (λ h₂. by-lt k 2048 (λ h. r
     (still h₀ (λ i hi p q. omega arith) (λ i hi p q. omega arith) (λ i hi p q. omega arith)
     (λ i hi p q. omega arith)))
-    (λ h₃. by-lt k (2048 + 64 * n) (λ h. s ((k - 2048) / 64) (omega arith) (omega arith) (omega arith))
+    (λ h₃. by-lt k (from (theStation n)) (λ h. s ((k - 2048) / 64) (omega arith) (omega arith) (omega arith))
     (λ h₄. by-lt k 4096 (λ h. r
     (still h₀ (λ i hi p q. omega arith) (λ i hi p q. omega arith) (λ i hi p q. omega arith)
     (λ i hi p q. omega arith)))
-    (λ h₅. by-lt k (4096 + 256 * n) (λ h. l ((k - 4096) / 256) (omega arith) (omega arith) (omega arith))
+    (λ h₅. by-lt k (from (theLine n)) (λ h. l ((k - 4096) / 256) (omega arith) (omega arith) (omega arith))
     (λ h₆. by-lt k 32768
     (λ h. r (still h₀ (λ i hi p q. omega arith) (λ i hi p q. omega arith) (λ i hi p q. omega arith)
     (λ i hi p q. omega arith)))
-    (λ h₇. by-lt k (32768 + 1536 * n) (λ h. b ((k - 32768) / 1536) (omega arith) (omega arith) (omega arith))
+    (λ h₇. by-lt k (from (theBuffer n)) (λ h. b ((k - 32768) / frameRoom) (omega arith) (omega arith) (omega arith))
     (λ h. r (still h₀ (λ i hi p q. omega arith) (λ i hi p q. omega arith) (λ i hi p q. omega arith)
     (λ i hi p q. omega arith)))))))))))
   where
-    still : 4 ≤ k → ((i : ℕ) → i < n → Apart k 1 (2048 + 64 * i) 64) → ((i : ℕ) → i < n → Apart k 1 (1024 + 64 * i) 64)
-        → ((i : ℕ) → i < n → Apart k 1 (32768 + 1536 * i) 1536)
-        → ((i : ℕ) → i < n → Apart k 1 (4096 + 256 * i) 256) → Still n k
+    still : 4 ≤ k → ((i : ℕ) → i < n → Apart k 1 (from (theStation i)) 64)
+        → ((i : ℕ) → i < n → Apart k 1 (from (theCounters i)) 68)
+        → ((i : ℕ) → i < n → Apart k 1 (from (theBuffer i)) frameRoom)
+        → ((i : ℕ) → i < n → Apart k 1 (from (theLine i)) 256) → Still n k
     still p q u v w = record { clock = p; station = q; counters = u; buffer = v; line = w }
 
 -- a line's octets, by its places
-line-octet : (i k : ℕ) (x y : List ℕ) → ((u : ℕ) → symbolAt x i u ≡ symbolAt y i u) → 4096 + 256 * i ≤ k
-    → k < 4096 + 256 * i + 256 → getD x k 0 ≡ getD y k 0
+line-octet : (i k : ℕ) (x y : List ℕ) → ((u : ℕ) → symbolAt x i u ≡ symbolAt y i u) → from (theLine i) ≤ k
+    → k < from (theLine i) + 256 → getD x k 0 ≡ getD y k 0
 unfolding symbolAt
 line-octet i k x y e lo up =
-    let z : 4096 + 256 * i + (k - (4096 + 256 * i)) % 256 ≡ k = omega arith in
-    ap (λ (m : ℕ). getD x m 0) (sym z) ∙ e (k - (4096 + 256 * i)) ∙ ap (λ (m : ℕ). getD y m 0) z
+    let z : from (theLine i) + (k - (from (theLine i))) % ring ≡ k = omega arith in
+    ap (λ (m : ℕ). getD x m 0) (sym z) ∙ e (k - (from (theLine i))) ∙ ap (λ (m : ℕ). getD y m 0) z
 
-pub area-same : (n : ℕ) (x y : List ℕ) → n ≤ 16 → length x ≡ length y → Keeps clock x y
+pub area-same : (n : ℕ) (x y : List ℕ) → n ≤ maxStations → length x ≡ length y → Keeps clock x y
     → ((i : ℕ) → i < n → Keeps (station i) x y) → ((i : ℕ) → i < n → Keeps (counters i) x y)
     → ((i : ℕ) → i < n → Keeps (buffer i) x y) → ((i u : ℕ) → i < n → Keeps (place i u) x y)
     → ((k : ℕ) → Still n k → getD x k 0 ≡ getD y k 0) → x ≡ y

@@ -11,8 +11,9 @@ ghost use Rattle.octets.specs.Base.{outcome};
 ghost use Rattle.octets.specs.Bits.{digit};
 ghost use Rattle.station_symbols.specs.Packet.{symbolOf};
 ghost use Rattle.frame_build.specs.Build.{builtAnswer};
-ghost use Rattle.area.specs.Offsets.{areaSize};
+ghost use Rattle.area.specs.Offsets.{areaSize, frameRoom};
 ghost use Rattle.frame_build.specs.Limits.{bufferOctets, bufferBits};
+ghost use Rattle.sheet_layout.specs.Limits.{maxStations};
 
 pub fn power(p: usize) -> u32
     requires { ⌜ p < 8 ⌝ }
@@ -61,52 +62,53 @@ fn octet_with(x: u8, p: usize, one: bool) -> u8
 
 // Stores collected bit k of station i.
 pub fn store_bit(area: &mut [u8], i: usize, k: usize, one: bool)
-    requires { ⌜ (i < 16) × (k < bufferBits) × (areaSize ≤ length (now area)) ⌝ }
+    requires { ⌜ (i < maxStations) × (k < bufferBits) × (areaSize ≤ length (now area)) ⌝ }
     ensures { λ r. ⌜ now (area .exit) ≡ withBit (now (area .entry)) i k one ⌝ }
 {
-    let at = 32768 + 1536 * i + k / 8;
+    let at = area::BUFFERS_AT + area::FRAME_ROOM * i + k / 8;
     area[at] = octet_with(area[at], k % 8, one);
 }
 
 // Writes octet k of what station i collected.
 pub fn write_octet(area: &mut [u8], i: usize, k: usize, v: u8)
-    requires { ⌜ (i < 16) × (k < bufferOctets) × (areaSize ≤ length (now area)) ⌝ }
+    requires { ⌜ (i < maxStations) × (k < bufferOctets) × (areaSize ≤ length (now area)) ⌝ }
     ensures { λ r. ⌜ now (area .exit) ≡ withOctet (now (area .entry)) i k v ⌝ }
 {
-    area[32768 + 1536 * i + k] = v;
+    area[area::BUFFERS_AT + area::FRAME_ROOM * i + k] = v;
 }
 
 // What station i collected.
 pub fn buffer(area: &[u8], i: usize) -> &[u8]
-    requires { ⌜ (i < 16) × (areaSize ≤ length (now area)) ⌝ }
+    requires { ⌜ (i < maxStations) × (areaSize ≤ length (now area)) ⌝ }
     ensures { λ r. ⌜ now r ≡ bufferAt (now (area .entry)) i ⌝ }
 {
-    let at = 32768 + 1536 * i;
+    let at = area::BUFFERS_AT + area::FRAME_ROOM * i;
     let end = at + frame_build::limits::BUFFER;
     &area[at..end]
 }
 
 // The n octets of the frame of station i.
 pub fn frame(area: &[u8], i: usize, n: usize) -> &[u8]
-    requires { ⌜ (i < 16) × (n ≤ 1536) × (areaSize ≤ length (now area)) ⌝ }
+    requires { ⌜ (i < maxStations) × (n ≤ frameRoom) × (areaSize ≤ length (now area)) ⌝ }
     ensures { λ r. ⌜ now r ≡ frameAt (now (area .entry)) i n ⌝ }
 {
-    let at = 8192 + 1536 * i;
+    let at = area::FRAMES_AT + area::FRAME_ROOM * i;
     let end = at + n;
     &area[at..end]
 }
 
 // The symbol that an emission of station i is, whose frame has n octets.
 pub fn symbol(area: &[u8], i: usize, n: usize, e: Emission) -> Symbol
-    requires { ⌜ (i < 16) × (n ≤ 1536) × (areaSize ≤ length (now area)) ⌝ }
+    requires { ⌜ (i < maxStations) × (n ≤ frameRoom) × (areaSize ≤ length (now area)) ⌝ }
     ensures { λ r. ⌜ r ≡ symbolOf (frameAt (now (area .entry)) i n) e ⌝ }
 {
-    let at = 8192 + 1536 * i;
+    let at = area::FRAMES_AT + area::FRAME_ROOM * i;
     let end = at + n;
     station_symbols::symbol_of(&area[at..end], e)
 }
 
-// Builds a frame of station i, with its own address as source, at its place, or refuses (11) and leaves the area as it was.
+// Builds a frame of station i, with its own address as source, at its place, or refuses (11) and leaves the area as it
+// was.
 pub fn build_frame(
     area: &mut [u8],
     i: usize,
@@ -114,11 +116,12 @@ pub fn build_frame(
     value: u16,
     payload: &[u8],
 ) -> Built
-    requires { ⌜ (i < 16) × (areaSize ≤ length (now area)) ⌝ }
-    ensures { λ r. ⌜ outcome (builtAnswer r) (now (area .exit)) ≡ frameBuilt (now (area .entry)) i destination value (now (payload .entry)) ⌝ }
+    requires { ⌜ (i < maxStations) × (areaSize ≤ length (now area)) ⌝ }
+    ensures { λ r. ⌜ outcome (builtAnswer r) (now (area .exit))
+        ≡ frameBuilt (now (area .entry)) i destination value (now (payload .entry)) ⌝ }
 {
     let source = area::read_address(area, i);
-    let at = 8192 + 1536 * i;
+    let at = area::FRAMES_AT + area::FRAME_ROOM * i;
     let end = at + frame_build::limits::BUFFER;
     frame_build::builder::build(&mut area[at..end], destination, source, value, payload)
 }

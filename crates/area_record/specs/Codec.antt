@@ -1,6 +1,7 @@
--- A station's record: fourteen words for its state (the table is in src/lib.rt). The laws are in CodecLaws. Assumes nothing.
+-- A station's record: fourteen words for its state (the table is in src/lib.rt). The laws are in CodecLaws. Assumes
+-- nothing.
 use Prim.Native.Nat.{ℕ}
-use mathlib.Core.Bool.{Bool, true, false}
+use mathlib.Core.Bool.{Bool, true, false, not}
 use mathlib.Core.List.{List, [], _∷_}
 use lib.Dec.{eqb}
 use lib.ListN.{getD}
@@ -8,15 +9,15 @@ use Rattle.octets.specs.Base.{pick}
 use Rattle.station_state.specs.declared.Deference.{Deference}
 use Rattle.station_state.specs.declared.Deference.the-variants.{Quiet, Busy, Gap}
 use Rattle.station_state.specs.declared.Transmitter.{Transmitter}
-use Rattle.station_state.specs.declared.Transmitter.the-variants.{NoFrame, Waiting, BackingOff, Sending, Heading, Jamming}
+use Rattle.station_state.specs.declared.Transmitter.the-variants.{NoFrame, Waiting, BackingOff, Sending, Heading}
+use Rattle.station_state.specs.declared.Transmitter.the-variants.{Jamming}
 use Rattle.station_state.specs.State.{numberIn}
 use Rattle.station_state.specs.declared.Receiver.{Receiver}
 use Rattle.station_state.specs.declared.Receiver.the-variants.{Listening, Readable, Seeking, Collecting}
 use Rattle.station_state.specs.declared.Station.{Station}
-
--- the words of a record
-abbrev pub recordWords : ℕ
-recordWords = 14
+use Rattle.area_record.specs.Words.{deferenceWord, stretchWord, gapWord, phaseWord, deferredWord, emittedWord}
+use Rattle.area_record.specs.Words.{receptionWord, frameWord, attemptsWord, drawWord}
+use Rattle.area_record.specs.Words.{phaseNumberWord, receiverWord, receiverNumberWord, spoiledWord}
 
 abbrev pub flag : Bool → ℕ
 flag true = 1
@@ -51,7 +52,7 @@ transmitterOf code n =
     (pick (eqb code 2) (BackingOff n)
     (pick (eqb code 3) (Sending n)
     (pick (eqb code 4) (Heading n)
-    (Jamming n)))))
+    (Jamming n (not (eqb code 5)))))))
 
 abbrev pub transmitterCode : Transmitter → ℕ
 transmitterCode NoFrame = 0
@@ -59,7 +60,8 @@ transmitterCode Waiting = 1
 transmitterCode (BackingOff n) = 2
 transmitterCode (Sending n) = 3
 transmitterCode (Heading n) = 4
-transmitterCode (Jamming n) = 5
+transmitterCode (Jamming n false) = 5
+transmitterCode (Jamming n true) = 6
 
 -- ---- receiver
 
@@ -100,14 +102,16 @@ unfoldable pub decoded : List ℕ → List ℕ → Station
 decoded w address =
     record {
       address = address;
-      deference = deferenceOf (getD w 0 0) (eqb (getD w 1 0) 1) (getD w 2 0);
-      transmitter = transmitterOf (getD w 3 0) (getD w 4 0);
-      receiver = receiverOf (getD w 5 0) (getD w 6 0) (eqb (getD w 7 0) 1) (eqb (getD w 8 0) 1);
-      frame = getD w 9 0;
-      attempts = getD w 10 0;
-      draw = getD w 11 0;
-      deferred = eqb (getD w 12 0) 1;
-      emitted = eqb (getD w 13 0) 1;
+      deference = deferenceOf (getD w deferenceWord 0) (eqb (getD w stretchWord 0) 1) (getD w gapWord 0);
+      transmitter = transmitterOf (getD w phaseWord 0) (getD w phaseNumberWord 0);
+      receiver =
+          receiverOf (getD w receiverWord 0) (getD w receiverNumberWord 0) (eqb (getD w spoiledWord 0) 1)
+          (eqb (getD w receptionWord 0) 1);
+      frame = getD w frameWord 0;
+      attempts = getD w attemptsWord 0;
+      draw = getD w drawWord 0;
+      deferred = eqb (getD w deferredWord 0) 1;
+      emitted = eqb (getD w emittedWord 0) 1;
     }
 
 unfoldable pub encoded : Station → List ℕ

@@ -1,20 +1,25 @@
-// A station's record: the fourteen 32-bit words that stand for its state in a work area. Its address stands with the layout.
+// A station's record: the fourteen 32-bit words that stand for its state in a work area. Its address stands with the
+// layout.
 //
 // | word | holds |
 // |---|---|
 // | 0, 1, 2 | deference: 0 quiet, 1 busy, 2 gap; own emission; gap count |
-// | 3, 4 | transmitter: 0 no frame, 1 waiting, 2 backing off, 3 sending, 4 heading, 5 jamming; its number |
+// | 3, 4 | transmitter: 0 no frame, 1 waiting, 2 backing off, 3 sending, 4 heading, 5 jamming, 6 jamming before the end; its number |
 // | 5, 6, 7, 8 | receiver: 0 listening, 1 readable, 2 seeking, 3 collecting; its number; spoiled; own emission |
 // | 9, 10, 11, 12, 13 | frame; attempts; draw place; deferred; emitted |
 //
 // A flag is 0 or 1. Words that a state does not use are 0.
+
+pub mod words;
 
 use station_state::Deference;
 use station_state::Receiver;
 use station_state::Station;
 use station_state::Transmitter;
 ghost use mathlib.Core.Path.{_≡_};
-ghost use Rattle.area_record.specs.Codec.{flag, deferenceOf, deferenceCode, deferenceOwn, deferenceCount, transmitterOf, transmitterCode, receiverOf, receiverCode, receiverNumber, receiverSpoiled, receiverOwn, encoded};
+ghost use Rattle.area_record.specs.Codec.{flag, deferenceOf, deferenceCode, deferenceOwn, deferenceCount};
+ghost use Rattle.area_record.specs.Codec.{transmitterOf, transmitterCode, receiverOf, receiverCode};
+ghost use Rattle.area_record.specs.Codec.{receiverNumber, receiverSpoiled, receiverOwn, encoded};
 ghost use Rattle.station_state.specs.State.{numberIn};
 
 fn flag_of(b: bool) -> u32
@@ -66,7 +71,7 @@ fn deference_count(d: Deference) -> u32
     }
 }
 
-// The phase that a code stands for. A code over 4 reads as jamming.
+// The phase that a code stands for. A code over 5 reads as jamming before the frame's end.
 pub fn transmitter_of(code: u32, number: u32) -> Transmitter
     ensures { λ r. ⌜ r ≡ transmitterOf code number ⌝ }
 {
@@ -85,7 +90,10 @@ pub fn transmitter_of(code: u32, number: u32) -> Transmitter
     if code == 4 {
         return Transmitter::Heading(number);
     }
-    Transmitter::Jamming(number)
+    Transmitter::Jamming {
+        left: number,
+        ends: code != 5,
+    }
 }
 
 fn transmitter_code(t: Transmitter) -> u32
@@ -97,7 +105,7 @@ fn transmitter_code(t: Transmitter) -> u32
         Transmitter::BackingOff(_) => 2,
         Transmitter::Sending(_) => 3,
         Transmitter::Heading(_) => 4,
-        Transmitter::Jamming(_) => 5,
+        Transmitter::Jamming { left: _, ends } => { if ends { 6 } else { 5 } }
     }
 }
 
@@ -110,7 +118,7 @@ fn transmitter_number(t: Transmitter) -> u32
         Transmitter::BackingOff(n) => n,
         Transmitter::Sending(n) => n,
         Transmitter::Heading(n) => n,
-        Transmitter::Jamming(n) => n,
+        Transmitter::Jamming { left, ends: _ } => left,
     }
 }
 
@@ -215,7 +223,7 @@ fn receiver_own(r: Receiver) -> bool
 }
 
 // The words that stand for a state.
-pub fn encode(s: Station) -> [u32; 14]
+pub fn encode(s: Station) -> [u32; words::WORDS]
     ensures { λ r. ⌜ r ≡ encoded s ⌝ }
 {
     let d = s.deference;

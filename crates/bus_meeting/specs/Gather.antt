@@ -5,7 +5,7 @@ use mathlib.Core.Bool.{Bool, true, false, true≢false}
 use native.Mathlib.Omega.{arith}
 use Rattle.octets.specs.BaseLaws.{by-eq}
 use Rattle.station_symbols.specs.declared.Heard.{Heard}
-use Rattle.station_symbols.specs.declared.Heard.the-variants.{Nothing, Clean, Jammed, Several}
+use Rattle.station_symbols.specs.declared.Heard.the-variants.{Nothing, Clean, Spoiled}
 use Rattle.station_symbols.specs.declared.Symbol.{Symbol}
 use Rattle.station_symbols.specs.declared.Symbol.the-variants.{Silence, Bit, Jam}
 use Rattle.area.specs.Area.{alone, joined}
@@ -25,8 +25,7 @@ off-is Jam e = absurd (true≢false e)
 pub joined-none : (h : Heard) → joined h Silence ≡ h
 joined-none Nothing = refl
 joined-none (Clean b) = refl
-joined-none Jammed = refl
-joined-none Several = refl
+joined-none Spoiled = refl
 
 -- ---- all alike, none, one
 
@@ -60,21 +59,17 @@ pub record One (k : ℕ) (c : ℕ → Symbol) (s : Symbol) : Type 0 where
   pub is : c from ≡ s
   pub rest : (l : ℕ) → l < k → (l ≡ from → ⊥) → c l ≡ Silence
 
--- two of them are not silent
-pub record Two (k : ℕ) (c : ℕ → Symbol) : Type 0 where
-  pub first : ℕ
-  pub second : ℕ
-  pub order : first < second
-  pub station : second < k
-  pub one : on (c first) ≡ true
-  pub other : on (c second) ≡ true
+-- one of them is not silent
+pub record Some (k : ℕ) (c : ℕ → Symbol) : Type 0 where
+  pub from : ℕ
+  pub station : from < k
+  pub is-on : on (c from) ≡ true
 
 -- what a hearing says of them
 abbrev pub Says : ℕ → (ℕ → Symbol) → Heard → Type 0
 Says k c Nothing = (i : ℕ) → i < k → c i ≡ Silence
 Says k c (Clean b) = One k c (Bit b)
-Says k c Jammed = One k c Jam
-Says k c Several = Two k c
+Says k c Spoiled = Some k c
 
 -- one more that is silent
 silent-more : (k : ℕ) (c : ℕ → Symbol) (h : Heard) → c k ≡ Silence → Says k c h → Says (suc k) c h
@@ -86,83 +81,42 @@ silent-more k c (Clean b) e v =
       is = v .is;
       rest = λ l p q. by-eq l k (λ z. rw z e) (λ z. v .rest l (omega arith) q);
     }
-silent-more k c Jammed e v =
-    record {
-      from = v .from;
-      station = omega (arith, v .station);
-      is = v .is;
-      rest = λ l p q. by-eq l k (λ z. rw z e) (λ z. v .rest l (omega arith) q);
-    }
-silent-more k c Several e v =
-    record {
-      first = v .first;
-      second = v .second;
-      order = v .order;
-      station = omega (arith, v .station);
-      one = v .one;
-      other = v .other;
-    }
+silent-more k c Spoiled e v = record { from = v .from; station = omega (arith, v .station); is-on = v .is-on }
 
 -- the first that is not silent, and a further one
 first-one : (k : ℕ) (c : ℕ → Symbol) (s : Symbol) → c k ≡ s → ((i : ℕ) → i < k → c i ≡ Silence) → One (suc k) c s
 first-one k c s e v = record { from = k; station = omega arith; is = e; rest = λ l p q. v l (omega (arith, q)) }
 
-further-one : (k : ℕ) (c : ℕ → Symbol) (s : Symbol) → on s ≡ true → on (c k) ≡ true → One k c s → Two (suc k) c
-further-one k c s o e v =
-    record {
-      first = v .from;
-      second = k;
-      order = v .station;
-      station = omega arith;
-      one = ap on (v .is) ∙ o;
-      other = e;
-    }
+last-on : (k : ℕ) (c : ℕ → Symbol) (s : Symbol) → on s ≡ true → c k ≡ s → Some (suc k) c
+last-on k c s o e = record { from = k; station = omega arith; is-on = ap on e ∙ o }
 
 says-more : (k : ℕ) (c : ℕ → Symbol) (h : Heard) (s : Symbol) → c k ≡ s → Says k c h → Says (suc k) c (joined h s)
 says-more k c h Silence e v = subst (Says (suc k) c) (sym (joined-none h)) (silent-more k c h e v)
 says-more k c Nothing (Bit b) e v = first-one k c (Bit b) e v
-says-more k c Nothing Jam e v = first-one k c Jam e v
-says-more k c (Clean b) (Bit x) e v = further-one k c (Bit b) refl (ap on e) v
-says-more k c (Clean b) Jam e v = further-one k c (Bit b) refl (ap on e) v
-says-more k c Jammed (Bit x) e v = further-one k c Jam refl (ap on e) v
-says-more k c Jammed Jam e v = further-one k c Jam refl (ap on e) v
-says-more k c Several (Bit x) e v =
-    record {
-      first = v .first;
-      second = v .second;
-      order = v .order;
-      station = omega (arith, v .station);
-      one = v .one;
-      other = v .other;
-    }
-says-more k c Several Jam e v =
-    record {
-      first = v .first;
-      second = v .second;
-      order = v .order;
-      station = omega (arith, v .station);
-      one = v .one;
-      other = v .other;
-    }
+says-more k c Nothing Jam e v = last-on k c Jam refl e
+says-more k c (Clean b) (Bit x) e v = last-on k c (Bit x) refl e
+says-more k c (Clean b) Jam e v = last-on k c Jam refl e
+says-more k c Spoiled (Bit x) e v = last-on k c (Bit x) refl e
+says-more k c Spoiled Jam e v = last-on k c Jam refl e
 
 pub gathered-says : (k : ℕ) (c : ℕ → Symbol) → Says k c (gathered k c)
 unfolding gathered
 gathered-says zero c = λ i l. absurd (omega arith)
 gathered-says (suc k) c = says-more k c (gathered k c) (c k) refl (gathered-says k c)
 
--- two that are not silent are several
-module _ (k : ℕ) (c : ℕ → Symbol) (i l : ℕ) (hi : i < k) (hl : l < k) (ne : i ≡ l → ⊥) (oi : on (c i) ≡ true) (ol : on (c l) ≡ true) where
+-- where two are not silent, what is heard is spoiled
+module _ (k : ℕ) (c : ℕ → Symbol) (i l : ℕ) (hi : i < k) (hl : l < k) (ne : i ≡ l → ⊥) (oi : on (c i) ≡ true)
+    (ol : on (c l) ≡ true) where
   not-one : (s : Symbol) → One k c s → ⊥
   not-one s v =
       by-eq i (v .from)
       (λ z. true≢false (sym ol ∙ ap on (v .rest l hl (λ q. ne (z ∙ sym q)))))
       (λ z. true≢false (sym oi ∙ ap on (v .rest i hi z)))
 
-  says-several : (h : Heard) → Says k c h → h ≡ Several
-  says-several Nothing v = absurd (true≢false (sym oi ∙ ap on (v i hi)))
-  says-several (Clean b) v = absurd (not-one (Bit b) v)
-  says-several Jammed v = absurd (not-one Jam v)
-  says-several Several v = refl
+  says-spoiled : (h : Heard) → Says k c h → h ≡ Spoiled
+  says-spoiled Nothing v = absurd (true≢false (sym oi ∙ ap on (v i hi)))
+  says-spoiled (Clean b) v = absurd (not-one (Bit b) v)
+  says-spoiled Spoiled v = refl
 
-  pub gathered-two : gathered k c ≡ Several
-  gathered-two = says-several (gathered k c) (gathered-says k c)
+  pub gathered-two : gathered k c ≡ Spoiled
+  gathered-two = says-spoiled (gathered k c) (gathered-says k c)

@@ -1,5 +1,5 @@
--- What a step does to the delay lines: a place that is not the present one gets the symbols that reach it, the present one is cleared.
--- Assumes nothing.
+-- What a step does to the delay lines: a place that is not the present one gets the symbols that reach it, the present
+-- one is cleared. Assumes nothing.
 use Prim.Native.Nat.{ℕ, zero, suc, _+_, _%_, _≤_, _<_}
 use mathlib.Core.Path.{_≡_, refl, sym, _∙_, ap, ap₂}
 use mathlib.Core.Bool.{true, true≢false}
@@ -16,7 +16,7 @@ use Rattle.station_symbols.specs.declared.Heard.the-variants.{Nothing}
 use Rattle.station_symbols.specs.declared.Symbol.{Symbol}
 use Rattle.station_symbols.specs.declared.Symbol.the-variants.{Silence, Bit, Jam}
 use Rattle.area.specs.Places.{counters, station, buffer, place}
-use Rattle.area.specs.Area.{spaceAt, arrivalAt, alone, joined}
+use Rattle.area.specs.Area.{spaceAt, arrivalAt, alone, joined, met}
 use Rattle.area.specs.AreaLaws.{space-by, arrival-by, arrival-keeps, arrival-same, arrival-turn}
 use Rattle.bus_spec.specs.declared.Act.{Act}
 use Rattle.bus_spec.specs.Medium.{sendTo, isSilence, pushed}
@@ -26,18 +26,19 @@ use Rattle.bus_spec.specs.MediumLaws.{send-keeps, sends-layout, sends-keep, pus
 use Rattle.bus_spec.specs.After.{length-after, ahead, placed-clear}
 use Rattle.bus_meeting.specs.Net.{gathered}
 use Rattle.bus_meeting.specs.Gather.{joined-none}
-use Rattle.bus_meeting.specs.Meet.{met, met-none, met-group, joined-met, adds}
-use Rattle.area.specs.Offsets.{areaSize}
+use Rattle.bus_meeting.specs.Meet.{met-none, met-group, adds}
+use Rattle.area.specs.Offsets.{areaSize, ring}
+use Rattle.sheet_layout.specs.Limits.{maxStations}
 
 -- ---- one symbol
 
 -- what place u of j's line gets of the symbol s that i emits in step t at distance d
 unfoldable pub share : (t d i : ℕ) (s : Symbol) (j u : ℕ) → Symbol
-share t d i s j u = pick (eqb i j) Silence (pick (eqb ((t + d) % 256) (u % 256)) s Silence)
+share t d i s j u = pick (eqb i j) Silence (pick (eqb ((t + d) % ring) (u % ring)) s Silence)
 
 -- by the place and by the step, where the clock is c and places are counted from it
 pub share-adds : (d : ℕ → ℕ → ℕ) (c t : ℕ) (e : ℕ → Symbol) (j v i T U : ℕ) → T ≡ c + t → U ≡ c + v
-    → ((i ≡ j → ⊥) → 0 < d i j) → d i j < 256 → t < v → v < t + 256 → share T (d i j) i (e i) j U ≡ adds d t e j v i
+    → ((i ≡ j → ⊥) → 0 < d i j) → d i j < ring → t < v → v < t + ring → share T (d i j) i (e i) j U ≡ adds d t e j v i
 unfolding share adds
 share-adds d c t e j v i T U et eu p q lo hi =
     by-eq i j (λ z. rw (eq-eqb i j z))
@@ -46,23 +47,23 @@ share-adds d c t e j v i T U et eu p q lo hi =
     (λ y. rw (
       ne-eqb i j z,
       eq-eqb (t + d i j) v y,
-      eq-eqb ((T + d i j) % 256) (U % 256)
-          (ap (λ (x : ℕ). x % 256) (omega arith)),
+      eq-eqb ((T + d i j) % ring) (U % ring)
+          (ap (λ (x : ℕ). x % ring) (omega arith)),
     ))
-    (λ y. rw (ne-eqb i j z, ne-eqb (t + d i j) v y, ne-eqb ((T + d i j) % 256) (U % 256) (λ x. y (omega arith)))))
+    (λ y. rw (ne-eqb i j z, ne-eqb (t + d i j) v y, ne-eqb ((T + d i j) % ring) (U % ring) (λ x. y (omega arith)))))
 
 share-none : (t d i j u : ℕ) → share t d i Silence j u ≡ Silence
 unfolding share
 share-none t d i j u =
-    by-test (eqb i j) (λ e. rw e) (λ e. by-test (eqb ((t + d) % 256) (u % 256)) (λ f. rw (e, f)) (λ f. rw (e, f)))
+    by-test (eqb i j) (λ e. rw e) (λ e. by-test (eqb ((t + d) % ring) (u % ring)) (λ f. rw (e, f)) (λ f. rw (e, f)))
 
-send-here : (t i : ℕ) (s : Symbol) (j u : ℕ) (x : List ℕ) → j < 16 → areaSize ≤ length x
+send-here : (t i : ℕ) (s : Symbol) (j u : ℕ) (x : List ℕ) → j < maxStations → areaSize ≤ length x
     → arrivalAt (sendTo t i s j x) j u ≡ joined (arrivalAt x j u) (share t (spaceAt x i j) i s j u)
 unfolding sendTo share
 send-here t i s j u x hj room =
     by-eq i j
     (λ z. rw (eq-eqb j i (sym z), eq-eqb i j z) (sym (joined-none (arrivalAt x j u))))
-    (λ z. by-eq ((t + spaceAt x i j) % 256) (u % 256)
+    (λ z. by-eq ((t + spaceAt x i j) % ring) (u % ring)
     (λ e. rw (ne-eqb j i (λ y. z (sym y)), ne-eqb i j z, eq-eqb _ _ e)
     (arrival-same x room j (t + spaceAt x i j) u _ hj e ∙ ap (λ (y : Heard). joined y s)
     (arrival-turn x j (t + spaceAt x i j) u e)))
@@ -70,7 +71,8 @@ send-here t i s j u x hj room =
     (arrival-by _ x j u (arrival-keeps (place j u) x j (t + spaceAt x i j) _ (λ p q. e (omega arith))) ∙ sym
     (joined-none (arrivalAt x j u)))))
 
-sends-here : (t i : ℕ) (s : Symbol) (k j u : ℕ) (x : List ℕ) → i < 16 → k ≤ 16 → j < k → areaSize ≤ length x
+sends-here : (t i : ℕ) (s : Symbol) (k j u : ℕ) (x : List ℕ) → i < maxStations → k ≤ maxStations → j < k
+    → areaSize ≤ length x
     → arrivalAt (turns (sendTo t i s) k x) j u ≡ joined (arrivalAt x j u) (share t (spaceAt x i j) i s j u)
 unfolding turns
 sends-here t i s zero j u x hi hk hj room = absurd (omega arith)
@@ -89,7 +91,8 @@ silence-is Silence h = refl
 silence-is (Bit b) h = absurd (true≢false (sym h))
 silence-is Jam h = absurd (true≢false (sym h))
 
-pushed-here : (n t i : ℕ) (s : Symbol) (j u : ℕ) (x : List ℕ) → i < 16 → n ≤ 16 → j < n → areaSize ≤ length x
+pushed-here : (n t i : ℕ) (s : Symbol) (j u : ℕ) (x : List ℕ) → i < maxStations → n ≤ maxStations → j < n
+    → areaSize ≤ length x
     → arrivalAt (pushed n t i s x) j u ≡ joined (arrivalAt x j u) (share t (spaceAt x i j) i s j u)
 unfolding pushed
 pushed-here n t i s j u x hi hn hj room =
@@ -102,8 +105,8 @@ pushed-here n t i s j u x hi hn hj room =
 
 -- ---- one station's turn, at a place that is not the present one
 
-settled-here : (n t i j u : ℕ) (r : Act) (x : List ℕ) → i < 16 → n ≤ 16 → j < n → areaSize ≤ length x
-    → Kept (r .outcome .stored) → (u % 256 ≡ t % 256 → ⊥)
+settled-here : (n t i j u : ℕ) (r : Act) (x : List ℕ) → i < maxStations → n ≤ maxStations → j < n → areaSize ≤ length x
+    → Kept (r .outcome .stored) → (u % ring ≡ t % ring → ⊥)
     → arrivalAt (settled n t i r x) j u ≡ joined (arrivalAt x j u) (share t (spaceAt x i j) i (r .symbol) j u)
 unfolding settled
 settled-here n t i j u r x hi hn hj room kept ne =
@@ -122,7 +125,8 @@ settled-here n t i j u r x hi hn hj room kept ne =
     (space-by (placed t i (r .outcome) x) x i j hi (omega arith) (placed-layout t i (r .outcome) x hi kept))
 
 -- and at the present one: it is cleared
-settled-clear : (n t i : ℕ) (r : Act) (x : List ℕ) → i < n → n ≤ 16 → areaSize ≤ length x → Kept (r .outcome .stored)
+settled-clear : (n t i : ℕ) (r : Act) (x : List ℕ) → i < n → n ≤ maxStations → areaSize ≤ length x
+    → Kept (r .outcome .stored)
     → arrivalAt (settled n t i r x) i t ≡ Nothing
 unfolding settled
 settled-clear n t i r x hi hn room kept =
@@ -147,7 +151,7 @@ module _ (n t : ℕ) (r : ℕ → Act) (a : List ℕ) (sp : Spread n a) (kept : 
   space-after k i j hk hi hj =
       space-by (after k) a i j (omega (arith, sp .few)) (omega (arith, sp .few)) (ahead n t r a sp kept room k hk .plan)
 
-  pub line-all : (k j u : ℕ) → k ≤ n → j < n → (u % 256 ≡ t % 256 → ⊥)
+  pub line-all : (k j u : ℕ) → k ≤ n → j < n → (u % ring ≡ t % ring → ⊥)
       → arrivalAt (turns (λ i x. settled n t i (r i) x) k a) j u ≡ met (arrivalAt a j u)
       (gathered k (λ i. share t (spaceAt a i j) i (r i .symbol) j u))
   unfolding turns gathered after
@@ -156,13 +160,8 @@ module _ (n t : ℕ) (r : ℕ → Act) (a : List ℕ) (sp : Spread n a) (kept : 
       settled-here n t k j u (r k) (after k) (omega (arith, sp .few)) (sp .few) hj (long k) (kept k hk) ne
       ∙ ap₂ (λ (v : Heard) (d : ℕ). joined v (share t d k (r k .symbol) j u)) (line-all k j u (omega arith) hj ne)
       (space-after k k j (omega arith) hk hj)
-      ∙ joined-met (met (arrivalAt a j u) (gathered k (λ i. share t (spaceAt a i j) i (r i .symbol) j u)))
-      (share t (spaceAt a k j) k (r k .symbol) j u)
       ∙ met-group (arrivalAt a j u) (gathered k (λ i. share t (spaceAt a i j) i (r i .symbol) j u))
       (alone (share t (spaceAt a k j) k (r k .symbol) j u))
-      ∙ ap (met (arrivalAt a j u))
-      (sym (joined-met (gathered k (λ i. share t (spaceAt a i j) i (r i .symbol) j u))
-      (share t (spaceAt a k j) k (r k .symbol) j u)))
 
   pub clear-all : (k j : ℕ) → k ≤ n → j < k → arrivalAt (turns (λ i x. settled n t i (r i) x) k a) j t ≡ Nothing
   unfolding turns after

@@ -1,5 +1,7 @@
--- Symbols that meet on the pair: order and grouping do not matter; and what a step adds to what will be heard. Assumes nothing.
+-- Symbols that meet on the pair: order and grouping do not matter; and what a step adds to what will be heard. Assumes
+-- nothing.
 use Prim.Native.Nat.{ℕ, zero, suc, _+_, _-_, _≤_, _<_}
+use mathlib.Core.Bool.{Bool, true, false, true≢false}
 use mathlib.Core.Path.{_≡_, refl, sym, _∙_, ap, ap₂}
 use native.Mathlib.Omega.{arith}
 use lib.Dec.{leb, eqb}
@@ -7,91 +9,35 @@ use borrow.Author.Tests.{eq-eqb, ne-eqb, leb-true, leb-false}
 use Rattle.octets.specs.Base.{pick}
 use Rattle.octets.specs.BaseLaws.{by-test, by-eq}
 use Rattle.station_symbols.specs.declared.Heard.{Heard}
-use Rattle.station_symbols.specs.declared.Heard.the-variants.{Nothing, Clean, Jammed, Several}
+use Rattle.station_symbols.specs.declared.Heard.the-variants.{Nothing, Clean, Spoiled}
 use Rattle.station_symbols.specs.declared.Symbol.{Symbol}
 use Rattle.station_symbols.specs.declared.Symbol.the-variants.{Silence, Bit, Jam}
-use Rattle.area.specs.Area.{alone, joined}
+use Rattle.station_symbols.specs.Packet.{hearsAny}
+use Rattle.area.specs.Area.{alone, met, joined}
 use Rattle.bus_meeting.specs.Net.{Net, gathered, reaches, heard, grown}
 use Rattle.bus_meeting.specs.Gather.{gathered-none}
 
--- two that are heard, and what is heard where both are
-abbrev pub over : Heard → Heard → Heard
-over g Nothing = g
-over g (Clean b) = Several
-over g Jammed = Several
-over g Several = Several
-
-abbrev pub met : Heard → Heard → Heard
-met Nothing h = h
-met (Clean b) h = over (Clean b) h
-met Jammed h = over Jammed h
-met Several h = over Several h
+pub unheard : (h : Heard) → hearsAny h ≡ false → h ≡ Nothing
+unheard Nothing e = refl
+unheard (Clean b) e = absurd (true≢false e)
+unheard Spoiled e = absurd (true≢false e)
 
 pub met-none : (h : Heard) → met h Nothing ≡ h
-met-none Nothing = refl
-met-none (Clean b) = refl
-met-none Jammed = refl
-met-none Several = refl
+met-none h = by-test (hearsAny h) (λ p. rw p) (λ p. rw p (sym (unheard h p)))
 
 met-swap : (g h : Heard) → met g h ≡ met h g
-met-swap Nothing Nothing = refl
-met-swap Nothing (Clean c) = refl
-met-swap Nothing Jammed = refl
-met-swap Nothing Several = refl
-met-swap (Clean b) Nothing = refl
-met-swap (Clean b) (Clean c) = refl
-met-swap (Clean b) Jammed = refl
-met-swap (Clean b) Several = refl
-met-swap Jammed Nothing = refl
-met-swap Jammed (Clean c) = refl
-met-swap Jammed Jammed = refl
-met-swap Jammed Several = refl
-met-swap Several Nothing = refl
-met-swap Several (Clean c) = refl
-met-swap Several Jammed = refl
-met-swap Several Several = refl
+met-swap g h =
+    by-test (hearsAny g)
+    (λ p. by-test (hearsAny h) (λ q. rw (p, q)) (λ q. rw (p, q)))
+    (λ p. by-test (hearsAny h) (λ q. rw (p, q)) (λ q. rw (p, q) (unheard h q ∙ sym (unheard g p))))
 
 pub met-group : (f g h : Heard) → met (met f g) h ≡ met f (met g h)
-met-group Nothing g h = refl
-met-group (Clean a) Nothing h = refl
-met-group (Clean a) (Clean b) Nothing = refl
-met-group (Clean a) (Clean b) (Clean c) = refl
-met-group (Clean a) (Clean b) Jammed = refl
-met-group (Clean a) (Clean b) Several = refl
-met-group (Clean a) Jammed Nothing = refl
-met-group (Clean a) Jammed (Clean c) = refl
-met-group (Clean a) Jammed Jammed = refl
-met-group (Clean a) Jammed Several = refl
-met-group (Clean a) Several Nothing = refl
-met-group (Clean a) Several (Clean c) = refl
-met-group (Clean a) Several Jammed = refl
-met-group (Clean a) Several Several = refl
-met-group Jammed Nothing h = refl
-met-group Jammed (Clean b) Nothing = refl
-met-group Jammed (Clean b) (Clean c) = refl
-met-group Jammed (Clean b) Jammed = refl
-met-group Jammed (Clean b) Several = refl
-met-group Jammed Jammed Nothing = refl
-met-group Jammed Jammed (Clean c) = refl
-met-group Jammed Jammed Jammed = refl
-met-group Jammed Jammed Several = refl
-met-group Jammed Several Nothing = refl
-met-group Jammed Several (Clean c) = refl
-met-group Jammed Several Jammed = refl
-met-group Jammed Several Several = refl
-met-group Several Nothing h = refl
-met-group Several (Clean b) Nothing = refl
-met-group Several (Clean b) (Clean c) = refl
-met-group Several (Clean b) Jammed = refl
-met-group Several (Clean b) Several = refl
-met-group Several Jammed Nothing = refl
-met-group Several Jammed (Clean c) = refl
-met-group Several Jammed Jammed = refl
-met-group Several Jammed Several = refl
-met-group Several Several Nothing = refl
-met-group Several Several (Clean c) = refl
-met-group Several Several Jammed = refl
-met-group Several Several Several = refl
+met-group f g h =
+    by-test (hearsAny f)
+    (λ p. by-test (hearsAny g)
+    (λ q. by-test (hearsAny h) (λ r. rw (p, q, r)) (λ r. rw (p, q, r, q)))
+    (λ q. rw (p, q, p)))
+    (λ p. rw p)
 
 swap-mid : (a b c d : Heard) → met (met a b) (met c d) ≡ met (met a c) (met b d)
 swap-mid a b c d =
@@ -99,31 +45,14 @@ swap-mid a b c d =
     ∙ ap (met a) (sym (met-group b c d) ∙ ap (λ (x : Heard). met x d) (met-swap b c) ∙ met-group c b d)
     ∙ sym (met-group a c (met b d))
 
--- one symbol more is its meeting what is there
-pub joined-met : (h : Heard) (s : Symbol) → joined h s ≡ met h (alone s)
-joined-met Nothing Silence = refl
-joined-met Nothing (Bit c) = refl
-joined-met Nothing Jam = refl
-joined-met (Clean b) Silence = refl
-joined-met (Clean b) (Bit c) = refl
-joined-met (Clean b) Jam = refl
-joined-met Jammed Silence = refl
-joined-met Jammed (Bit c) = refl
-joined-met Jammed Jam = refl
-joined-met Several Silence = refl
-joined-met Several (Bit c) = refl
-joined-met Several Jam = refl
-
 -- where each symbol of f is g's and h's together, so is what they come to
 gathered-both : (k : ℕ) (f g h : ℕ → Symbol) → ((i : ℕ) → i < k → alone (f i) ≡ met (alone (g i)) (alone (h i)))
     → gathered k f ≡ met (gathered k g) (gathered k h)
 unfolding gathered
 gathered-both zero f g h p = refl
 gathered-both (suc k) f g h p =
-    joined-met (gathered k f) (f k)
-    ∙ ap₂ met (gathered-both k f g h (λ i l. p i (omega arith))) (p k (omega arith))
+    ap₂ met (gathered-both k f g h (λ i l. p i (omega arith))) (p k (omega arith))
     ∙ swap-mid (gathered k g) (gathered k h) (alone (g k)) (alone (h k))
-    ∙ sym (ap₂ met (joined-met (gathered k g) (g k)) (joined-met (gathered k h) (h k)))
 
 -- ---- what a step adds to what will be heard
 

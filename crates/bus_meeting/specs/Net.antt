@@ -1,5 +1,5 @@
--- A layout, what was emitted, and what of it a station hears (document 01: "What station i emits at t is heard at j≠i at
--- t + |p(i)−p(j)|"). Numbers have no bound here. The laws are in Gather and Meet. Assumes nothing.
+-- A layout, what was emitted, and what of it a station hears (document 01: "What station i emits at t is heard at j≠i
+-- at t + |p(i)−p(j)|"). Numbers have no bound here. The laws are in Gather and Meet. Assumes nothing.
 use Prim.Native.Nat.{ℕ, zero, suc, _-_}
 use mathlib.Core.List.{List}
 use lib.Dec.{leb, eqb}
@@ -11,7 +11,8 @@ use Rattle.station_symbols.specs.declared.Symbol.{Symbol}
 use Rattle.station_symbols.specs.declared.Symbol.the-variants.{Silence}
 use Rattle.area.specs.Area.{joined}
 
--- What does not change: the layout, the draws (depth of them, draw i k is draw k of station i), and what the buffers hold at the start.
+-- What does not change: the layout, the draws (depth of them, draw i k is draw k of station i), and what the buffers
+-- hold at the start.
 pub record Net : Type 0 where
   pub n : ℕ
   pub fig : Figures

@@ -8,7 +8,8 @@ use Rattle.octets.specs.Base.{pick, Answer, refused, accepted, Outcome, outcome
 use Rattle.frame_build.specs.Limits.{refusesData}
 use Rattle.frame_build.specs.Build.{frameOf}
 use Rattle.station_state.specs.declared.Transmitter.{Transmitter}
-use Rattle.station_state.specs.declared.Transmitter.the-variants.{NoFrame, Waiting, BackingOff, Sending, Heading, Jamming}
+use Rattle.station_state.specs.declared.Transmitter.the-variants.{NoFrame, Waiting, BackingOff, Sending, Heading}
+use Rattle.station_state.specs.declared.Transmitter.the-variants.{Jamming}
 use Rattle.station_state.specs.declared.Station.{Station}
 use Rattle.station_spec.specs.Count.{added}
 use Rattle.area.specs.Area.{countAt, addressAt, stationAt, withStation, countersAt, withCounters, withFrame}
@@ -21,7 +22,7 @@ holds Waiting = true
 holds (BackingOff w) = true
 holds (Sending k) = true
 holds (Heading k) = true
-holds (Jamming n) = true
+holds (Jamming n ends) = true
 
 -- "An offer at clock t waits from step t on": the station with a frame of n octets, not tried and not deferred yet
 unfoldable pub offeredStation : Station → ℕ → Station
@@ -45,8 +46,8 @@ withHeld a i n = withStation a i (offeredStation (stationAt a i) n)
 unfoldable pub withOffered : List ℕ → ℕ → List ℕ
 withOffered a i = withCounters a i (added (countersAt a i) 0 1)
 
--- what an accepted offer leaves: the frame at its place, "what the builder makes of its destination, value and data, with the offering
--- station's own address as source"; the station that holds it; the offer counted
+-- what an accepted offer leaves: the frame at its place, "what the builder makes of its destination, value and data,
+-- with the offering station's own address as source"; the station that holds it; the offer counted
 unfoldable pub withOffer : List ℕ → ℕ → (d : List ℕ) (v : ℕ) (x : List ℕ) → List ℕ
 withOffer a i d v x =
     withOffered (withHeld (withFrame a i (frameOf d (addressAt a i) v x)) i (length (frameOf d (addressAt a i) v x))) i

@@ -17,33 +17,39 @@ use Rattle.station_spec.specs.Count.{added}
 use Rattle.area.specs.Area.{countAt, addressAt, stationAt, withStation, countersAt, withCounters, withFrame, frameBuilt}
 use Rattle.area_check.specs.Valid.{areaRefusal}
 use Rattle.bus_offer.specs.Offer.{holds, offeredStation, withHeld, withOffered, withOffer, offered}
-use Rattle.area.specs.Offsets.{areaSize}
+use Rattle.area.specs.Offsets.{areaSize, addressFrom}
+use Rattle.sheet_layout.specs.Limits.{maxStations}
 
-pub held-is : (a b : List ℕ) (i n : ℕ) (s t : Station) → b ≡ withStation a i t → t ≡ offeredStation s n → s ≡ stationAt a i → b ≡ withHeld a i n
+pub held-is : (a b : List ℕ) (i n : ℕ) (s t : Station) → b ≡ withStation a i t → t ≡ offeredStation s n
+    → s ≡ stationAt a i → b ≡ withHeld a i n
 unfolding withHeld
 held-is a b i n s t p q r = p ∙ rw (q, r)
 
-pub counted-is : (a b cs ds : List ℕ) (i : ℕ) → b ≡ withCounters a i ds → ds ≡ added cs 0 1 → cs ≡ countersAt a i → b ≡ withOffered a i
+pub counted-is : (a b cs ds : List ℕ) (i : ℕ) → b ≡ withCounters a i ds → ds ≡ added cs 0 1 → cs ≡ countersAt a i
+    → b ≡ withOffered a i
 unfolding withOffered
 counted-is a b cs ds i p q r = p ∙ rw (q, r)
 
 -- what is built where the data are not refused
-frame-placed : (a b d : List ℕ) (v : ℕ) (x : List ℕ) (i : ℕ) (r : Answer) → refusesData v (length x) ≡ false → outcome r b ≡ frameBuilt a i d v x
+frame-placed : (a b d : List ℕ) (v : ℕ) (x : List ℕ) (i : ℕ) (r : Answer) → refusesData v (length x) ≡ false
+    → outcome r b ≡ frameBuilt a i d v x
     → b ≡ withFrame a i (frameOf d (addressAt a i) v x)
 unfolding frameBuilt
 frame-placed a b d v x i r h p = ap (λ (o : Outcome). o .octets) (rw h at p)
 
-pub accepted-is : (a b c e d : List ℕ) (v : ℕ) (x : List ℕ) (i n : ℕ) (r : Answer) → e ≡ withOffered c i → c ≡ withHeld b i n → n ≡ max 46 (length x) + 18
-    → outcome r b ≡ frameBuilt a i d v x → refusesData v (length x) ≡ false → length d ≡ 6 → length (addressAt a i) ≡ 6 → e ≡ withOffer a i d v x
+pub accepted-is : (a b c e d : List ℕ) (v : ℕ) (x : List ℕ) (i n : ℕ) (r : Answer) → e ≡ withOffered c i
+    → c ≡ withHeld b i n → n ≡ max 46 (length x) + 18
+    → outcome r b ≡ frameBuilt a i d v x → refusesData v (length x) ≡ false → length d ≡ 6 → length (addressAt a i) ≡ 6
+    → e ≡ withOffer a i d v x
 unfolding withOffer
 accepted-is a b c e d v x i n r p q en eb h hd hs =
     let f : b ≡ withFrame a i (frameOf d (addressAt a i) v x) = frame-placed a b d v x i r h eb in
     let z : n ≡ length (frameOf d (addressAt a i) v x) = en ∙ sym (frame-size d (addressAt a i) v x hd hs) in
     p ∙ rw (q, f, z)
 
-pub address-six : (a : List ℕ) (i : ℕ) → i < 16 → areaSize ≤ length a → length (addressAt a i) ≡ 6
+pub address-six : (a : List ℕ) (i : ℕ) → i < maxStations → areaSize ≤ length a → length (addressAt a i) ≡ 6
 unfolding addressAt
-address-six a i h g = length-part a (68 + 16 * i) 6 (omega arith)
+address-six a i h g = length-part a (addressFrom i) 6 (omega arith)
 
 pub data-small : (v : ℕ) (x : List ℕ) → refusesData v (length x) ≡ false → length x ≤ 65535
 data-small v x h = let w = data-within v (length x) h in omega arith
@@ -57,23 +63,29 @@ module _ (a d : List ℕ) (v : ℕ) (x : List ℕ) (i n k : ℕ) where
   unfolding offered
   offer-station p q e h = rw (← p, eq-eqb n 0 q, ← e, le-leb k i h)
 
-  pub offer-data : (b : Bool) → n ≡ areaRefusal a → n ≡ 0 → k ≡ countAt a → i < k → b ≡ refusesData v (length x) → b ≡ true
+  pub offer-data : (b : Bool) → n ≡ areaRefusal a → n ≡ 0 → k ≡ countAt a → i < k → b ≡ refusesData v (length x)
+      → b ≡ true
       → outcome (refused 11) a ≡ offered a i d v x
   unfolding offered
   offer-data b p q e h f t = rw (← p, eq-eqb n 0 q, ← e, lt-leb k i h, ← f, t)
 
-  pub offer-held : (b c : Bool) (s : Station) → n ≡ areaRefusal a → n ≡ 0 → k ≡ countAt a → i < k → b ≡ refusesData v (length x) → b ≡ false
+  pub offer-held : (b c : Bool) (s : Station) → n ≡ areaRefusal a → n ≡ 0 → k ≡ countAt a → i < k
+      → b ≡ refusesData v (length x) → b ≡ false
       → c ≡ holds (s .transmitter) → s ≡ stationAt a i → c ≡ true → outcome (refused 12) a ≡ offered a i d v x
   unfolding offered
   offer-held b c s p q e h f g m es t =
-      let w : holds (stationAt a i .transmitter) ≡ true = ap (λ (y : Station). holds (y .transmitter)) (sym es) ∙ sym m ∙ t in
+      let w : holds (stationAt a i .transmitter) ≡ true = ap (λ (y : Station). holds (y .transmitter)) (sym es) ∙ sym m
+      ∙ t in
       rw (← p, eq-eqb n 0 q, ← e, lt-leb k i h, ← f, g, w)
 
-  pub offer-made : (b c : Bool) (s : Station) (o : List ℕ) → o ≡ withOffer a i d v x → n ≡ areaRefusal a → n ≡ 0 → k ≡ countAt a → i < k
-      → b ≡ refusesData v (length x) → b ≡ false → c ≡ holds (s .transmitter) → s ≡ stationAt a i → c ≡ false → outcome (accepted []) o ≡ offered a i d v x
+  pub offer-made : (b c : Bool) (s : Station) (o : List ℕ) → o ≡ withOffer a i d v x → n ≡ areaRefusal a → n ≡ 0
+      → k ≡ countAt a → i < k
+      → b ≡ refusesData v (length x) → b ≡ false → c ≡ holds (s .transmitter) → s ≡ stationAt a i → c ≡ false
+      → outcome (accepted []) o ≡ offered a i d v x
   unfolding offered
   offer-made b c s o eo p q e h f g m es t =
-      let w : holds (stationAt a i .transmitter) ≡ false = ap (λ (y : Station). holds (y .transmitter)) (sym es) ∙ sym m ∙ t in
+      let w : holds (stationAt a i .transmitter) ≡ false = ap (λ (y : Station). holds (y .transmitter)) (sym es) ∙ sym m
+      ∙ t in
       rw (← p, eq-eqb n 0 q, ← e, lt-leb k i h, ← f, g, w, eo)
 
 pub not-refused : (v n : ℕ) (b : Bool) → b ≡ refusesData v n → b ≡ false → refusesData v n ≡ false

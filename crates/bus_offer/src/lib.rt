@@ -11,6 +11,7 @@ ghost use Rattle.octets.specs.Base.{doneAnswer, outcome};
 ghost use Rattle.frame_build.specs.Limits.{refusesData};
 ghost use Rattle.bus_offer.specs.Offer.{holds, offeredStation, withHeld, withOffered, withOffer, offered};
 ghost use Rattle.area.specs.Offsets.{areaSize};
+ghost use Rattle.sheet_layout.specs.Limits.{maxStations};
 
 fn has_frame(t: Transmitter) -> bool
     ensures { λ r. ⌜ r ≡ holds t ⌝ }
@@ -21,7 +22,7 @@ fn has_frame(t: Transmitter) -> bool
         Transmitter::BackingOff(_) => true,
         Transmitter::Sending(_) => true,
         Transmitter::Heading(_) => true,
-        Transmitter::Jamming(_) => true,
+        Transmitter::Jamming { left: _, ends: _ } => true,
     }
 }
 
@@ -46,7 +47,7 @@ fn with_offer(s: Station, n: u32) -> Station
 }
 
 fn hold_frame(area: &mut [u8], i: usize, n: u32)
-    requires { ⌜ (i < 16) × (areaSize ≤ length (now area)) ⌝ }
+    requires { ⌜ (i < maxStations) × (areaSize ≤ length (now area)) ⌝ }
     ensures { λ r. ⌜ now (area .exit) ≡ withHeld (now (area .entry)) i n ⌝ }
 {
     let s = area::read_station(area, i);
@@ -55,7 +56,7 @@ fn hold_frame(area: &mut [u8], i: usize, n: u32)
 }
 
 fn count_offer(area: &mut [u8], i: usize)
-    requires { ⌜ (i < 16) × (areaSize ≤ length (now area)) ⌝ }
+    requires { ⌜ (i < maxStations) × (areaSize ≤ length (now area)) ⌝ }
     ensures { λ r. ⌜ now (area .exit) ≡ withOffered (now (area .entry)) i ⌝ }
 {
     let c = area::read_counters(area, i);
@@ -65,7 +66,7 @@ fn count_offer(area: &mut [u8], i: usize)
 
 // The frame built at its place, held by the station, and counted.
 fn accept(area: &mut [u8], i: usize, destination: [u8; 6], value: u16, payload: &[u8])
-    requires { ⌜ (i < 16) × (areaSize ≤ length (now area)) ⌝ }
+    requires { ⌜ (i < maxStations) × (areaSize ≤ length (now area)) ⌝ }
     requires { ⌜ refusesData value (length (now payload)) ≡ false ⌝ }
     ensures { λ r. ⌜ now (area .exit) ≡ withOffer (now (area .entry)) i destination value (now (payload .entry)) ⌝ }
 {
@@ -76,7 +77,8 @@ fn accept(area: &mut [u8], i: usize, destination: [u8; 6], value: u16, payload: 
 
 // Offers a frame to station i: destination, length/type value and data. Refusals 1, 2, 10, 11, 12.
 pub fn offer(area: &mut [u8], i: usize, destination: [u8; 6], value: u16, payload: &[u8]) -> Done
-    ensures { λ r. ⌜ outcome (doneAnswer r) (now (area .exit)) ≡ offered (now (area .entry)) i destination value (now (payload .entry)) ⌝ }
+    ensures { λ r. ⌜ outcome (doneAnswer r) (now (area .exit))
+        ≡ offered (now (area .entry)) i destination value (now (payload .entry)) ⌝ }
 {
     let number = area_check::refusal(area);
     if number != 0 {

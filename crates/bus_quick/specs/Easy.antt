@@ -1,4 +1,5 @@
--- Whether a record is the one that its state is written as, by its words; the turn of a station that rests. Assumes nothing.
+-- Whether a record is the one that its state is written as, by its words; the turn of a station that rests. Assumes
+-- nothing.
 use Prim.Native.Nat.{ℕ, _+_, _-_, _*_, _/_, _≤_, _<_}
 use mathlib.Core.Path.{_≡_, refl, sym, _∙_, ap}
 use mathlib.Core.Bool.{Bool, true, false, _&&_, true≢false}
@@ -14,17 +15,23 @@ use Rattle.octets.specs.NumberLaws.{Octets}
 use Rattle.sheet_layout.specs.declared.Figures.{Figures}
 use Rattle.sheet_layout.specs.Layout.{gapOf}
 use Rattle.station_state.specs.State.{numberIn}
-use Rattle.area_record.specs.Codec.{flag, deferenceOf, deferenceCode, deferenceOwn, deferenceCount, transmitterOf, transmitterCode, receiverOf, receiverCode, receiverNumber, receiverSpoiled, receiverOwn, decoded, encoded}
+use Rattle.area_record.specs.Codec.{flag, deferenceOf, deferenceCode, deferenceOwn, deferenceCount, transmitterOf}
+use Rattle.area_record.specs.Codec.{transmitterCode, receiverOf, receiverCode, receiverNumber, receiverSpoiled}
+use Rattle.area_record.specs.Codec.{receiverOwn, decoded, encoded}
 use Rattle.area.specs.Area.{addressAt, recordAt, stationAt, withWord, symbolAt}
 use Rattle.bus_spec.specs.declared.Events.{Events}
 use Rattle.bus_spec.specs.BitTime.{actIn, turnIn, eventsOf, noEvents}
 use Rattle.bus_spec.specs.Ready.{Able}
-use Rattle.bus_quick.specs.Quick.{Plain, Taken, restsIn, gapsIn, backsIn, calmIn, countedDown, both-true, rest-taken, gap-taken, back-taken, taken-area, taken-events, left-area}
+use Rattle.bus_quick.specs.Quick.{Plain, Taken, restsIn, gapsIn, backsIn, calmIn, countedDown, both-true}
+use Rattle.bus_quick.specs.Quick.{rest-taken, gap-taken, back-taken, taken-area, taken-events, left-area}
 use Rattle.area.specs.Offsets.{areaSize}
+use Rattle.sheet_layout.specs.Limits.{maxStations}
+use Rattle.area_record.specs.Words.{gapWord, phaseWord, phaseNumberWord}
 
 -- ---- what the code tests
 
--- the words of deference, transmitter and receiver are those of a state: a number that the state does not use is 0, and a flag too
+-- the words of deference, transmitter and receiver are those of a state: a number that the state does not use is 0, and
+-- a flag too
 unfoldable pub deferenceIn : (c o n : ℕ) → Bool
 deferenceIn c o n = leb c 2 && (leb o 1 && (leb o c && leb n (c / 2 * 4294967295)))
 
@@ -58,7 +65,8 @@ flag-one v h =
 
 module _ (c o n : ℕ) where
   deference-words : deferenceIn c o n ≡ true
-      → (deferenceCode (deferenceOf c (eqb o 1) n) ≡ c) × (flag (deferenceOwn (deferenceOf c (eqb o 1) n)) ≡ o) × (deferenceCount (deferenceOf c (eqb o 1) n) ≡ n)
+      → (deferenceCode (deferenceOf c (eqb o 1) n) ≡ c) × (flag (deferenceOwn (deferenceOf c (eqb o 1) n)) ≡ o)
+      × (deferenceCount (deferenceOf c (eqb o 1) n) ≡ n)
   unfolding deferenceIn deferenceOf
   deference-words h =
       let p = both-true (leb c 2) _ h in
@@ -82,7 +90,8 @@ no-code : (c : ℕ) → 3 ≤ c → c ≤ 5 → (c ≡ 3 → ⊥) → (c ≡ 4 �
 no-code c h g p q r = omega (arith, p, q, r)
 
 module _ (c n : ℕ) where
-  transmitter-words : transmitterIn c n ≡ true → (transmitterCode (transmitterOf c n) ≡ c) × (numberIn (transmitterOf c n) ≡ n)
+  transmitter-words : transmitterIn c n ≡ true
+      → (transmitterCode (transmitterOf c n) ≡ c) × (numberIn (transmitterOf c n) ≡ n)
   unfolding transmitterIn transmitterOf
   transmitter-words h =
       let p = both-true (leb c 5) _ h in
@@ -103,8 +112,10 @@ module _ (c n : ℕ) where
 
 module _ (c n s o : ℕ) where
   receiver-words : receiverIn c n s o ≡ true
-      → (receiverCode (receiverOf c n (eqb s 1) (eqb o 1)) ≡ c) × (receiverNumber (receiverOf c n (eqb s 1) (eqb o 1)) ≡ n)
-      × (flag (receiverSpoiled (receiverOf c n (eqb s 1) (eqb o 1))) ≡ s) × (flag (receiverOwn (receiverOf c n (eqb s 1) (eqb o 1))) ≡ o)
+      → (receiverCode (receiverOf c n (eqb s 1) (eqb o 1)) ≡ c)
+      × (receiverNumber (receiverOf c n (eqb s 1) (eqb o 1)) ≡ n)
+      × (flag (receiverSpoiled (receiverOf c n (eqb s 1) (eqb o 1))) ≡ s)
+      × (flag (receiverOwn (receiverOf c n (eqb s 1) (eqb o 1))) ≡ o)
   unfolding receiverIn receiverOf
   receiver-words h =
       let p = both-true (leb c 3) _ h in
@@ -155,11 +166,14 @@ plain-found a i b e h = row-back _ _ _ _ _ _ _ _ _ _ _ _ _ _ (addressAt a i) (sy
 -- each of the words is 0
 sum-zero : (s a b c d e g h k : ℕ) → s ≡ a + b + c + d + e + g + h + k → s ≡ 0
     → (a ≡ 0) × (b ≡ 0) × (c ≡ 0) × (d ≡ 0) × (e ≡ 0) × (g ≡ 0) × (h ≡ 0) × (k ≡ 0)
-sum-zero s a b c d e g h k p q = (omega arith, omega arith, omega arith, omega arith, omega arith, omega arith, omega arith, omega arith)
+sum-zero s a b c d e g h k p q =
+    (omega arith, omega arith, omega arith, omega arith, omega arith, omega arith, omega arith, omega arith)
 
 -- a record with these words is plain, and its station rests
-bare-zero : (w : List ℕ) → getD w 0 0 ≡ 0 → getD w 1 0 ≡ 0 → getD w 2 0 ≡ 0 → getD w 3 0 ≡ 0 → getD w 4 0 ≡ 0 → getD w 7 0 ≡ 0 → getD w 8 0 ≡ 0 → getD w 13 0 ≡ 0 → leb (getD w 12 0) 1 ≡ true
-    → leb (getD w 6 0) (getD w 5 0 * 4294967295) ≡ true → leb (getD w 5 0) 1 ≡ true → leb (getD w 5 0) 3 ≡ true → (plainIn w ≡ true) × (restsIn w ≡ true)
+bare-zero : (w : List ℕ) → getD w 0 0 ≡ 0 → getD w 1 0 ≡ 0 → getD w 2 0 ≡ 0 → getD w 3 0 ≡ 0 → getD w 4 0 ≡ 0
+    → getD w 7 0 ≡ 0 → getD w 8 0 ≡ 0 → getD w 13 0 ≡ 0 → leb (getD w 12 0) 1 ≡ true
+    → leb (getD w 6 0) (getD w 5 0 * 4294967295) ≡ true → leb (getD w 5 0) 1 ≡ true → leb (getD w 5 0) 3 ≡ true
+    → (plainIn w ≡ true) × (restsIn w ≡ true)
 unfolding plainIn restsIn deferenceIn transmitterIn receiverIn
 bare-zero w e₀ e₁ e₂ e₃ e₄ e₇ e₈ e₁₃ h₁₂ h₆ h₅ g₅ =
     rw (e₀, e₁, e₂, e₃, e₄, e₇, e₈, e₁₃, h₁₂, h₆, h₅, g₅, le-leb 0 (getD w 5 0 / 2) (omega arith)) (refl, refl)
@@ -171,9 +185,11 @@ bare-rests w h =
     let r = both-true (leb (getD w 5 0) 1) _ (p .1) in
     let m = leb-true (2 * bareSum w + getD w 12 0) 1 (p .0) in
     let v = sum-zero (bareSum w) _ _ _ _ _ _ _ _ refl (omega arith) in
-    bare-zero w (v .0) (v .1) (v .2) (v .3) (v .4) (v .5) (v .6) (v .7) (le-leb (getD w 12 0) 1 (omega arith)) (r .1) (r .0) (le-leb (getD w 5 0) 3 (omega (arith, leb-true (getD w 5 0) 1 (r .0))))
+    bare-zero w (v .0) (v .1) (v .2) (v .3) (v .4) (v .5) (v .6) (v .7) (le-leb (getD w 12 0) 1 (omega arith)) (r .1)
+    (r .0) (le-leb (getD w 5 0) 3 (omega (arith, leb-true (getD w 5 0) 1 (r .0))))
 
-module _ (f : Figures) (d n t i : ℕ) (x : List ℕ) (hi : i < 16) (room : areaSize ≤ length x) (s : symbolAt x i t ≡ 0) where
+module _ (f : Figures) (d n t i : ℕ) (x : List ℕ) (hi : i < maxStations) (room : areaSize ≤ length x)
+    (s : symbolAt x i t ≡ 0) where
   rest-now : (b : Bool) → b ≡ bareIn (recordAt x i) → b ≡ true → Octets x → Taken f d n t i x x true
   rest-now b e h o =
       let p = bare-rests (recordAt x i) (sym e ∙ h) in
@@ -187,13 +203,17 @@ module _ (f : Figures) (d n t i : ℕ) (x : List ℕ) (hi : i < 16) (room : area
 
   -- with the tests as the code has made them
   module _ (o : Octets x) (plain : Plain x i) where
-    pub gap-now : (g : Bool) (m c : ℕ) (z y : List ℕ) → gapsIn (recordAt x i) ≡ true → y ≡ withWord z i 2 (m + 1) → z ≡ countedDown i c (getD (recordAt x i) 4 0) x
-        → g ≡ calmIn (recordAt x i) → g ≡ true → c ≡ getD (recordAt x i) 3 0 → m < f .gap1 + f .gap2 → f .gap1 + f .gap2 < 65536 → m ≡ getD (recordAt x i) 2 0 → Taken f d n t i x y true
+    pub gap-now : (g : Bool) (m c : ℕ) (z y : List ℕ) → gapsIn (recordAt x i) ≡ true → y ≡ withWord z i 2 (m + 1)
+        → z ≡ countedDown i c (getD (recordAt x i) phaseNumberWord 0) x
+        → g ≡ calmIn (recordAt x i) → g ≡ true → c ≡ getD (recordAt x i) phaseWord 0 → m < f .gap1 + f .gap2
+        → f .gap1 + f .gap2 < 65536 → m ≡ getD (recordAt x i) gapWord 0 → Taken f d n t i x y true
     unfolding gapOf
     gap-now g m c z y hb ey ez eg hg ec below small em =
-        gap-taken f d n t i x hi room o plain z y s hb (sym eg ∙ hg) (omega arith) (omega arith) (ez ∙ rw ec) (ey ∙ rw em)
+        gap-taken f d n t i x hi room o plain z y s hb (sym eg ∙ hg) (omega arith) (omega arith) (ez ∙ rw ec)
+        (ey ∙ rw em)
 
-    pub back-now : (k : ℕ) (y : List ℕ) → backsIn (recordAt x i) ≡ true → y ≡ withWord x i 4 (k - 1) → 1 < k → k ≡ getD (recordAt x i) 4 0 → Taken f d n t i x y true
+    pub back-now : (k : ℕ) (y : List ℕ) → backsIn (recordAt x i) ≡ true → y ≡ withWord x i 4 (k - 1) → 1 < k
+        → k ≡ getD (recordAt x i) phaseNumberWord 0 → Taken f d n t i x y true
     back-now k y hb ey more ek = back-taken f d n t i x hi room o plain y s hb (omega arith) (ey ∙ rw ek)
 
 -- ---- what a turn asks for
@@ -207,11 +227,13 @@ nothing-here x i t c e z = sym e ∙ z
 
 -- ---- a station that rests leaves the area as it is
 
-module _ (f : Figures) (d n t i : ℕ) (x : List ℕ) (hi : i < 16) (room : areaSize ≤ length x) (b : Bool) (c : ℕ) where
+module _ (f : Figures) (d n t i : ℕ) (x : List ℕ) (hi : i < maxStations) (room : areaSize ≤ length x) (b : Bool)
+    (c : ℕ) where
   pub rests-area : b ≡ bareIn (recordAt x i) → b ≡ true → Octets x → c ≡ 0 → c ≡ symbolAt x i t → x ≡ turnIn f d n t i x
   rests-area e h o z s = rest-turn f d n t i x hi room (sym s ∙ z) b e h o
 
-  pub rests-events : (y : Events) → y ≡ noEvents → b ≡ bareIn (recordAt x i) → b ≡ true → Octets x → c ≡ 0 → c ≡ symbolAt x i t → y ≡ eventsOf (actIn f d t x i)
+  pub rests-events : (y : Events) → y ≡ noEvents → b ≡ bareIn (recordAt x i) → b ≡ true → Octets x → c ≡ 0
+      → c ≡ symbolAt x i t → y ≡ eventsOf (actIn f d t x i)
   rests-events y p e h o z s = p ∙ rest-events f d n t i x hi room (sym s ∙ z) b e h o
 
 -- ---- a turn taken, or still to be taken
@@ -231,7 +253,8 @@ module _ (f : Figures) (d n t i : ℕ) (x b : List ℕ) (r : Bool) (h : Taken f 
 
 -- ---- the code
 
-pub deference-in : (c o n : ℕ) (b x y : Bool) → b ≡ (leb c 2 && x) → x ≡ (leb o 1 && y) → y ≡ (leb o c && leb n (c / 2 * 4294967295)) → b ≡ deferenceIn c o n
+pub deference-in : (c o n : ℕ) (b x y : Bool) → b ≡ (leb c 2 && x) → x ≡ (leb o 1 && y)
+    → y ≡ (leb o c && leb n (c / 2 * 4294967295)) → b ≡ deferenceIn c o n
 unfolding deferenceIn
 deference-in c o n b x y p q r = p ∙ rw (q, r)
 
@@ -239,7 +262,8 @@ pub transmitter-in : (c n : ℕ) (b : Bool) → b ≡ (leb c 5 && leb n (c / 2 *
 unfolding transmitterIn
 transmitter-in c n b p = p
 
-pub receiver-in : (c n s o : ℕ) (b x y : Bool) → b ≡ (leb c 3 && x) → x ≡ (leb n (c * 4294967295) && y) → y ≡ (leb s (c / 2) && leb o (c / 2)) → b ≡ receiverIn c n s o
+pub receiver-in : (c n s o : ℕ) (b x y : Bool) → b ≡ (leb c 3 && x) → x ≡ (leb n (c * 4294967295) && y)
+    → y ≡ (leb s (c / 2) && leb o (c / 2)) → b ≡ receiverIn c n s o
 unfolding receiverIn
 receiver-in c n s o b x y p q r = p ∙ rw (q, r)
 
@@ -254,11 +278,14 @@ plain-is w b x y d q r g w₀ w₁ w₂ w₃ w₄ w₅ w₆ w₇ w₈ w₁₂ w�
     eb ∙ rw (ex, ey, eg, e₁₃, e₁₂, er, e₈, e₇, e₆, e₅, eq, e₄, e₃, ed, e₂, e₁, e₀)
 
 pub sum-is : (w : List ℕ) (w₀ w₁ w₂ w₃ w₄ w₇ w₈ w₁₃ : ℕ)
-    → w₀ ≡ getD w 0 0 → w₁ ≡ getD w 1 0 → w₂ ≡ getD w 2 0 → w₃ ≡ getD w 3 0 → w₄ ≡ getD w 4 0 → w₇ ≡ getD w 7 0 → w₈ ≡ getD w 8 0 → w₁₃ ≡ getD w 13 0
+    → w₀ ≡ getD w 0 0 → w₁ ≡ getD w 1 0 → w₂ ≡ getD w 2 0 → w₃ ≡ getD w 3 0 → w₄ ≡ getD w 4 0 → w₇ ≡ getD w 7 0
+    → w₈ ≡ getD w 8 0 → w₁₃ ≡ getD w 13 0
     → w₁₃ + w₈ + w₇ + (w₄ + w₃) + (w₂ + w₁ + w₀) ≡ bareSum w
 unfolding bareSum
 sum-is w w₀ w₁ w₂ w₃ w₄ w₇ w₈ w₁₃ e₀ e₁ e₂ e₃ e₄ e₇ e₈ e₁₃ = omega arith
 
-pub bare-is : (w : List ℕ) (b x : Bool) (s c n v : ℕ) → b ≡ (leb (2 * s + v) 1 && x) → x ≡ (leb c 1 && leb n (c * 4294967295)) → n ≡ getD w 6 0 → c ≡ getD w 5 0 → v ≡ getD w 12 0 → s ≡ bareSum w → b ≡ bareIn w
+pub bare-is : (w : List ℕ) (b x : Bool) (s c n v : ℕ) → b ≡ (leb (2 * s + v) 1 && x)
+    → x ≡ (leb c 1 && leb n (c * 4294967295)) → n ≡ getD w 6 0 → c ≡ getD w 5 0 → v ≡ getD w 12 0 → s ≡ bareSum w
+    → b ≡ bareIn w
 unfolding bareIn
 bare-is w b x s c n v p q en ec ev es = p ∙ rw (q, en, ec, ev, es)

@@ -1,5 +1,5 @@
--- Reading a received frame (document 01: "The frame of a receiveOK can be read, whole with its check sequence, until that station's next
--- reception begins"; refusals 1, 2, 10, 14, 15). The laws are in ReadLaws. Assumes nothing.
+-- Reading a received frame (document 01: "The frame of a receiveOK can be read, whole with its check sequence, until
+-- that station's next reception begins"; refusals 1, 2, 10, 14, 15). The laws are in ReadLaws. Assumes nothing.
 use Prim.Native.Nat.{ℕ}
 use mathlib.Core.Bool.{Bool, true, false}
 use mathlib.Core.List.{List, [], _∷_}
@@ -33,6 +33,7 @@ frameRead a i out =
     (pick (leb (countAt a) i) (outcome (refused 10) out)
     (pick (isReadable (stationAt a i .receiver))
     (pick (ltb (length out) (octetsIn (stationAt a i .receiver))) (outcome (refused 15) out)
-    (outcome (accepted (octetsIn (stationAt a i .receiver) ∷ [])) (sets out 0 (take (octetsIn (stationAt a i .receiver)) (bufferAt a i)))))
+    (outcome (accepted (octetsIn (stationAt a i .receiver) ∷ []))
+    (sets out 0 (take (octetsIn (stationAt a i .receiver)) (bufferAt a i)))))
     (outcome (refused 14) out)))
     (outcome (refused (areaRefusal a)) out)

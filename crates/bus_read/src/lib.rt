@@ -10,6 +10,7 @@ ghost use Rattle.area.specs.Area.{bufferAt};
 ghost use Rattle.bus_read.specs.Read.{readAnswer, isReadable, frameRead};
 ghost use Rattle.area.specs.Offsets.{areaSize};
 ghost use Rattle.frame_build.specs.Limits.{bufferOctets};
+ghost use Rattle.sheet_layout.specs.Limits.{maxStations};
 
 // What a reading answers: a refusal by its number, or the octets of the frame.
 pub enum Reading {
@@ -37,7 +38,7 @@ fn is_readable(r: Receiver) -> bool
 }
 
 fn copy_frame(area: &[u8], i: usize, n: usize, out: &mut [u8])
-    requires { ⌜ (i < 16) × (areaSize ≤ length (now area)) × (n ≤ bufferOctets) × (n ≤ length (now out)) ⌝ }
+    requires { ⌜ (i < maxStations) × (areaSize ≤ length (now area)) × (n ≤ bufferOctets) × (n ≤ length (now out)) ⌝ }
     ensures { λ r. ⌜ now (out .exit) ≡ sets (now (out .entry)) 0 (take n (bufferAt (now (area .entry)) i)) ⌝ }
 {
     let b = area_buffers::buffer(area, i);

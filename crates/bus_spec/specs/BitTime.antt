@@ -1,6 +1,6 @@
 -- One bit time of the whole pair, on the octets of the work area (document 01, "One bit time").
--- "In step t all stations work from what they hear at t and emitted at t−1; none sees another's step t." The laws are in InPlace and
--- CodeLaws. Assumes nothing.
+-- "In step t all stations work from what they hear at t and emitted at t−1; none sees another's step t." The laws are
+-- in InPlace and CodeLaws. Assumes nothing.
 use Prim.Native.Nat.{ℕ, _+_}
 use mathlib.Core.Bool.{Bool, true, false, _||_}
 use mathlib.Core.List.{List}
@@ -14,25 +14,29 @@ use Rattle.station_symbols.specs.declared.Heard.the-variants.{Nothing}
 use Rattle.station_symbols.specs.declared.Symbol.{Symbol}
 use Rattle.station_symbols.specs.Packet.{symbolOf}
 use Rattle.station_receive.specs.declared.ReceiveEvent.{ReceiveEvent}
-use Rattle.station_receive.specs.declared.ReceiveEvent.the-variants.{NoReceive, GotOk, GotTooLong, GotAlignment, GotCheck, GotLength}
+use Rattle.station_receive.specs.declared.ReceiveEvent.the-variants.{NoReceive, GotOk, GotTooLong, GotAlignment}
+use Rattle.station_receive.specs.declared.ReceiveEvent.the-variants.{GotCheck, GotLength}
 use Rattle.station_receive.specs.declared.Stored.{Stored}
 use Rattle.station_receive.specs.declared.Stored.the-variants.{NoStore, Store}
 use Rattle.station_transmit.specs.declared.TransmitEvent.{TransmitEvent}
 use Rattle.station_transmit.specs.declared.TransmitEvent.the-variants.{NoTransmit, Collision, Late, Sent, GivenUp}
+use Rattle.station_transmit.specs.declared.TransmitEvent.the-variants.{LateEnded}
 use Rattle.station_transmit.specs.Transmit.{octetsHeld}
 use Rattle.station_state.specs.declared.Station.{Station}
 use Rattle.station_spec.specs.declared.Stepped.{Stepped}
 use Rattle.station_spec.specs.Step.{stepped}
 use Rattle.station_spec.specs.Count.{counted}
-use Rattle.area.specs.Area.{clockAt, withClock, depthAt, drawAt, figuresAt, countAt, countersAt, withCounters, stationAt, withStation, frameAt, bufferAt, withBit, arrivalAt, withArrival}
+use Rattle.area.specs.Area.{clockAt, withClock, depthAt, drawAt, figuresAt, countAt, countersAt, withCounters}
+use Rattle.area.specs.Area.{stationAt, withStation, frameAt, bufferAt, withBit, arrivalAt, withArrival}
 use Rattle.bus_spec.specs.Medium.{pushed}
 use Rattle.bus_spec.specs.declared.Events.{Events}
 use Rattle.bus_spec.specs.declared.Act.{Act}
+use Rattle.station_tally.specs.Words.{isTransmit, isReceive}
 
 -- ---- what a station does
 
--- Station i in step t of area a: its step by value, from its own state, its next draw of d, what it collected and what it hears; and
--- the symbol that it emits, of the frame that it held before the step.
+-- Station i in step t of area a: its step by value, from its own state, its next draw of d, what it collected and what
+-- it hears; and the symbol that it emits, of the frame that it held before the step.
 unfoldable pub outcomeIn : Figures → (d t : ℕ) → List ℕ → ℕ → Stepped
 outcomeIn f d t a i = stepped f (stationAt a i) d (drawAt a i (stationAt a i .draw)) (bufferAt a i) (arrivalAt a i t)
 
@@ -40,7 +44,9 @@ unfoldable pub actIn : Figures → (d t : ℕ) → List ℕ → ℕ → Act
 actIn f d t a i =
     record {
       outcome = outcomeIn f d t a i;
-      symbol = symbolOf (frameAt a i (octetsHeld (stationAt a i .transmitter) (stationAt a i .frame))) (outcomeIn f d t a i .emission);
+      symbol =
+          symbolOf (frameAt a i (octetsHeld (stationAt a i .transmitter) (stationAt a i .frame)))
+          (outcomeIn f d t a i .emission);
     }
 
 -- in the next step of area a
@@ -55,21 +61,6 @@ withStored i NoStore x = x
 withStored i (Store k b) x = withBit x i k b
 
 -- its counters, where there is anything to count
-abbrev pub isTransmit : TransmitEvent → Bool
-isTransmit NoTransmit = false
-isTransmit (Collision k) = true
-isTransmit (Late k) = true
-isTransmit (Sent n) = true
-isTransmit (GivenUp n) = true
-
-abbrev pub isReceive : ReceiveEvent → Bool
-isReceive NoReceive = false
-isReceive (GotOk n) = true
-isReceive (GotTooLong n) = true
-isReceive (GotAlignment n) = true
-isReceive (GotCheck n) = true
-isReceive (GotLength n) = true
-
 unfoldable pub happened : Stepped → Bool
 happened o = o .start || (isTransmit (o .sent) || isReceive (o .got))
 
@@ -89,7 +80,8 @@ settled n t i r x = pushed n t i (r .symbol) (placed t i (r .outcome) x)
 unfoldable pub stepArea : List ℕ → List ℕ
 stepArea a = withClock (turns (λ i x. settled (countAt a) (clockAt a) i (actAt a i) x) (countAt a) a) (clockAt a + 1)
 
--- "A step answers for each station at most one transmit and one receive event"; the places after the last station have none
+-- "A step answers for each station at most one transmit and one receive event"; the places after the last station have
+-- none
 abbrev pub eventsOf : Act → Events
 eventsOf r = record { sent = r .outcome .sent; got = r .outcome .got }
 

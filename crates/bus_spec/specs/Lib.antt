@@ -6,6 +6,7 @@ pub mod CodeLaws
 pub mod Medium
 pub mod MediumLaws
 pub mod After
+pub mod Sizes
 pub mod Passes
 pub mod Stays
 pub mod Run

@@ -1,4 +1,5 @@
--- The pair as a medium: a symbol that a station emits is on its way to the others. The laws are in MediumLaws. Assumes nothing.
+-- The pair as a medium: a symbol that a station emits is on its way to the others. The laws are in MediumLaws. Assumes
+-- nothing.
 use Prim.Native.Nat.{ℕ, _+_}
 use mathlib.Core.Bool.{Bool, true, false}
 use mathlib.Core.List.{List}

@@ -16,32 +16,35 @@ use Rattle.sheet_layout.specs.declared.Figures.{Figures}
 use Rattle.sheet_layout.specs.CheckLaws.{Figured}
 use Rattle.sheet_layout.specs.Check.{refusalOf}
 use Rattle.station_symbols.specs.declared.Heard.{Heard}
-use Rattle.station_symbols.specs.declared.Heard.the-variants.{Nothing, Clean, Jammed, Several}
+use Rattle.station_symbols.specs.declared.Heard.the-variants.{Nothing, Clean, Spoiled}
 use Rattle.station_state.specs.declared.Receiver.{Receiver}
 use Rattle.station_state.specs.declared.Receiver.the-variants.{Listening, Readable, Seeking, Collecting}
 use Rattle.station_receive.specs.declared.Stored.{Stored}
-use Rattle.station_receive.specs.Receive.{storedBit, seek, seekBit, collect, collectBit, hear, addressed, opening, decide, ended, receive}
+use Rattle.station_receive.specs.Receive.{storedBit, seek, seekBit, collect, collectBit, hear, addressed, opening}
+use Rattle.station_receive.specs.Receive.{decide, ended, receive}
 use Rattle.station_transmit.specs.Transmit.{octetsHeld}
 use Rattle.station_state.specs.declared.Station.{Station}
 use Rattle.station_spec.specs.declared.Stepped.{Stepped}
 use Rattle.station_spec.specs.Step.{Roomy, stepped}
 use Rattle.area.specs.Places.{Part, Keeps}
-use Rattle.area.specs.Area.{clockAt, depthAt, figuresAt, countAt, layoutAt, countersAt, stationAt, bufferAt, symbolAt, arrivalAt}
+use Rattle.area.specs.Area.{clockAt, depthAt, figuresAt, countAt, layoutAt, countersAt, stationAt, bufferAt, symbolAt}
+use Rattle.area.specs.Area.{arrivalAt, maxCode}
 use Rattle.area.specs.AreaLaws.{station-by}
 use Rattle.bus_spec.specs.declared.Act.{Act}
 use Rattle.bus_spec.specs.declared.Events.{Events}
-use Rattle.bus_spec.specs.BitTime.{outcomeIn, actIn, actAt, settled, turnedIn, turnIn, eventsIn, advancedIn, stepArea, eventsAt, eventsOf, noEvents}
+use Rattle.bus_spec.specs.BitTime.{outcomeIn, actIn, actAt, settled, turnedIn, turnIn, eventsIn, advancedIn}
+use Rattle.bus_spec.specs.BitTime.{stepArea, eventsAt, eventsOf, noEvents}
 use Rattle.bus_spec.specs.Range.{Fine, fine-room, held-small}
 use Rattle.bus_spec.specs.InPlace.{Kept, Spread, Ahead, ahead-all, same-act, length-turned}
-use Rattle.sheet_layout.specs.Limits.{lastClock}
-use Rattle.area.specs.Offsets.{areaSize}
-use Rattle.frame_build.specs.Limits.{bufferOctets, bufferBits}
+use Rattle.sheet_layout.specs.Limits.{lastClock, maxStations, maxDraws}
+use Rattle.area.specs.Offsets.{areaSize, from, theBuffer, frameRoom}
+use Rattle.frame_build.specs.Limits.{bufferOctets, bufferBits, shortestFrame}
 
 -- ---- what each station must be
 
 pub record CanAct (f : Figures) (s : Station) : Type 0 where
   pub room : Roomy f s bufferOctets
-  pub draw : s .draw < 16
+  pub draw : s .draw < maxDraws
   pub held : octetsHeld (s .transmitter) (s .frame) ≤ bufferOctets
 
 -- shut, so that a search does not enter them
@@ -56,16 +59,16 @@ module _ (f : Figures) (a : List ℕ) (i : ℕ) (s : Station) (p : Able f a i) (
   unfolding Able
   can = subst (CanAct f) (sym e) p
 
-  pub able-draw : s .draw < 16
+  pub able-draw : s .draw < maxDraws
   able-draw = can .draw
 
-  pub able-held : (z : ℕ) → z ≡ octetsHeld (s .transmitter) (s .frame) → z ≤ 1536
+  pub able-held : (z : ℕ) → z ≡ octetsHeld (s .transmitter) (s .frame) → z ≤ frameRoom
   able-held z q = omega (arith, can .held)
 
-  pub able-room : (b : List ℕ) → b ≡ bufferAt a i → i < 16 → areaSize ≤ length a → Roomy f s (length b)
+  pub able-room : (b : List ℕ) → b ≡ bufferAt a i → i < maxStations → areaSize ≤ length a → Roomy f s (length b)
   unfolding bufferAt
   able-room b q h g =
-      let n : length b ≡ bufferOctets = ap length q ∙ length-part a (32768 + 1536 * i) bufferOctets (omega arith) in
+      let n : length b ≡ bufferOctets = ap length q ∙ length-part a (from (theBuffer i)) bufferOctets (omega arith) in
       subst (Roomy f s) (sym n) (can .room)
 
 -- ---- a bit that is stored is one that the buffer holds
@@ -89,9 +92,10 @@ hear-kept (Collecting n sp own) clean b e = stored-kept n b
 decide-kept : (address buffer : List ℕ) (n : ℕ) (sp own : Bool) → Kept (decide address buffer n sp own .stored)
 unfolding decide opening
 decide-kept address buffer n sp own =
-    by-test (ltb n 512)
+    by-test (ltb n shortestFrame)
     (λ c. rw c tt)
-    (λ c. by-test own (λ o. rw (c, o) tt) (λ o. by-test (addressed address buffer) (λ b. rw (c, o, b) tt) (λ b. rw (c, o, b) tt)))
+    (λ c. by-test own (λ o. rw (c, o) tt)
+    (λ o. by-test (addressed address buffer) (λ b. rw (c, o, b) tt) (λ b. rw (c, o, b) tt)))
 
 ended-kept : (address buffer : List ℕ) (x : Receiver) → Kept (ended address buffer x .stored)
 unfolding ended
@@ -100,12 +104,12 @@ ended-kept address buffer (Readable n) = tt
 ended-kept address buffer (Seeking row sp own) = tt
 ended-kept address buffer (Collecting n sp own) = decide-kept address buffer n sp own
 
-pub receive-kept : (address buffer : List ℕ) (x : Receiver) (h : Heard) (e : Bool) → Kept (receive address buffer x h e .stored)
+pub receive-kept : (address buffer : List ℕ) (x : Receiver) (h : Heard) (e : Bool)
+    → Kept (receive address buffer x h e .stored)
 unfolding receive
 receive-kept address buffer x Nothing e = ended-kept address buffer x
 receive-kept address buffer x (Clean b) e = hear-kept x true b e
-receive-kept address buffer x Jammed e = hear-kept x false false e
-receive-kept address buffer x Several e = hear-kept x false false e
+receive-kept address buffer x Spoiled e = hear-kept x false false e
 
 pub kept : (f : Figures) (d t : ℕ) (a : List ℕ) (i : ℕ) → Kept (actIn f d t a i .outcome .stored)
 unfolding actIn outcomeIn stepped
@@ -120,7 +124,8 @@ acts-kept f d t a i r e = subst (λ (x : Act). Kept (x .outcome .stored)) (sym e
 
 -- ---- the turns
 
-module _ (f : Figures) (d n t i : ℕ) (a x : List ℕ) (v : AllAble n f a) (hi : i < n) (room : areaSize ≤ length a) (e : x ≡ turnedIn f d n t a i) where
+module _ (f : Figures) (d n t i : ℕ) (a x : List ℕ) (v : AllAble n f a) (hi : i < n) (room : areaSize ≤ length a)
+    (e : x ≡ turnedIn f d n t a i) where
   behind : Ahead t i a x
   unfolding turnedIn AllAble
   behind = subst (Ahead t i a) (sym e) (ahead-all n t i (actIn f d t a) a (v .0) (λ k h. kept f d t a k) (omega arith))
@@ -133,20 +138,25 @@ module _ (f : Figures) (d n t i : ℕ) (a x : List ℕ) (v : AllAble n f a) (hi 
   unfolding Able AllAble
   turn-able =
       let few = v .0 .few in
-      let s : stationAt x i ≡ stationAt a i = station-by x a i (omega arith) (omega (arith, long)) room (behind .plan) (behind .record-of i (omega arith) (omega arith)) in
+      let s : stationAt x i ≡ stationAt a i = station-by x a i (omega arith) (omega (arith, long)) room (behind .plan)
+      (behind .record-of i (omega arith) (omega arith)) in
       subst (CanAct f) (sym s) (v .1 i hi)
 
   pub acts-same : actIn f d t x i ≡ actIn f d t a i
   unfolding AllAble
   acts-same =
       let few = v .0 .few in
-      same-act f d t i i a x (omega arith) (omega arith) room long (v .1 i hi .draw) (omega (arith, v .1 i hi .held)) behind
+      same-act f d t i i a x (omega arith) (omega arith) room long (v .1 i hi .draw)
+      (omega (arith, v .1 i hi .held)) behind
 
   pub turn-next : (b : List ℕ) → b ≡ turnIn f d n t i x → b ≡ turnedIn f d n t a (i + 1)
   unfolding turnIn turnedIn
-  turn-next b p = turns-more (λ j y. settled n t j (actIn f d t a j) y) i a x b (p ∙ ap (λ (r : Act). settled n t i r x) acts-same) e
+  turn-next b p =
+      turns-more (λ j y. settled n t j (actIn f d t a j) y) i a x b
+      (p ∙ ap (λ (r : Act). settled n t i r x) acts-same) e
 
-  pub events-next : (r : Events) (es : List Events) → r ≡ eventsOf (actIn f d t x i) → es ≡ eventsIn f d t a i → set es i r ≡ eventsIn f d t a (i + 1)
+  pub events-next : (r : Events) (es : List Events) → r ≡ eventsOf (actIn f d t x i) → es ≡ eventsIn f d t a i
+      → set es i r ≡ eventsIn f d t a (i + 1)
   unfolding eventsIn AllAble
   events-next r es p q =
       filled-more noEvents (λ j. eventsOf (actIn f d t a j)) i n es r (p ∙ ap eventsOf acts-same) hi (v .0 .few) q
@@ -158,10 +168,10 @@ pub record Readiness (a : List ℕ) : Type 0 where
   pub sound : refusalOf (layoutAt a) ≡ 0
   pub figures : Figured (figuresAt a)
   pub spread : Spread (countAt a) a
-  pub depth : (1 ≤ depthAt a) × (depthAt a ≤ 16)
+  pub depth : (1 ≤ depthAt a) × (depthAt a ≤ maxDraws)
   pub clock : clockAt a ≤ lastClock
   pub fine : (i : ℕ) → i < countAt a → Fine (figuresAt a) (depthAt a) (clockAt a) (stationAt a i)
-  pub codes : (i u : ℕ) → i < countAt a → symbolAt a i u ≤ 4
+  pub codes : (i u : ℕ) → i < countAt a → symbolAt a i u ≤ maxCode
   pub counts : (i : ℕ) → i < countAt a → Small (countersAt a i)
 
 -- shut, so that a search does not enter it
@@ -172,12 +182,14 @@ ready-can : (a : List ℕ) → Readiness a → (i : ℕ) → i < countAt a → C
 ready-can a r i h =
     let v = r .fine i h in
     record {
-      room = fine-room (figuresAt a) (r .figures) (depthAt a) (clockAt a) (stationAt a i) (r .depth .1) (omega (arith, r .clock)) v bufferOctets (omega arith);
+      room =
+          fine-room (figuresAt a) (r .figures) (depthAt a) (clockAt a) (stationAt a i) (r .depth .1)
+          (omega (arith, r .clock)) v bufferOctets (omega arith);
       draw = omega (arith, v .draw, r .depth);
       held = held-small (stationAt a i .frame) (stationAt a i .transmitter) (v .frame);
     }
 
-pub ready-few : (a : List ℕ) (n : ℕ) → n ≡ countAt a → Ready a → n ≤ 16
+pub ready-few : (a : List ℕ) (n : ℕ) → n ≡ countAt a → Ready a → n ≤ maxStations
 unfolding Ready
 ready-few a n e r = omega (arith, r .spread .few)
 
@@ -185,11 +197,13 @@ pub ready-able : (a : List ℕ) (n : ℕ) (f : Figures) → n ≡ countAt a → 
 unfolding Ready AllAble
 ready-able a n f e g r = rw (e, g) (r .spread, ready-can a r)
 
-pub step-is : (f : Figures) (d n t : ℕ) (a b : List ℕ) → b ≡ advancedIn f d n t a → n ≡ countAt a → t ≡ clockAt a → d ≡ depthAt a → f ≡ figuresAt a → b ≡ stepArea a
+pub step-is : (f : Figures) (d n t : ℕ) (a b : List ℕ) → b ≡ advancedIn f d n t a → n ≡ countAt a → t ≡ clockAt a
+    → d ≡ depthAt a → f ≡ figuresAt a → b ≡ stepArea a
 unfolding advancedIn turnedIn stepArea actAt
 step-is f d n t a b p en et ed ef = p ∙ rw (en, et, ed, ef)
 
-pub step-events : (f : Figures) (d n t : ℕ) (a : List ℕ) (es : List Events) → es ≡ eventsIn f d t a n → n ≡ countAt a → t ≡ clockAt a → d ≡ depthAt a → f ≡ figuresAt a
+pub step-events : (f : Figures) (d n t : ℕ) (a : List ℕ) (es : List Events) → es ≡ eventsIn f d t a n → n ≡ countAt a
+    → t ≡ clockAt a → d ≡ depthAt a → f ≡ figuresAt a
     → es ≡ eventsAt a
 unfolding eventsIn eventsAt actAt
 step-events f d n t a es p en et ed ef = p ∙ rw (en, et, ed, ef)

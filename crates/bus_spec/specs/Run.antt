@@ -1,5 +1,6 @@
--- A run of n bit times (document 01: "A run of n bit times ends early after the first step in which any station has a late collision. ..
--- a run answers the steps made and how many events of each word came"; refusals 1, 2, 13). The laws are in RunLaws. Assumes nothing.
+-- A run of n bit times (document 01: "A run of n bit times ends early after the first step in which any station has a
+-- late collision. .. a run answers the steps made and how many events of each word came"; refusals 1, 2, 13). The laws
+-- are in RunLaws. Assumes nothing.
 use Prim.Native.Nat.{ℕ, zero, suc, _+_}
 use mathlib.Core.Bool.{Bool}
 use mathlib.Core.List.{List, []}
@@ -7,7 +8,7 @@ use lib.Dec.{ltb, eqb}
 use lib.ListN.{replicate}
 use Rattle.octets.specs.Base.{pick, some, Answer, refused, accepted, doneAnswer}
 use Rattle.octets.specs.Turns.{turns}
-use Rattle.station_tally.specs.Tally.{sentCounted, gotCounted, isLate, wordCount}
+use Rattle.station_tally.specs.Tally.{sentCounted, gotCounted}
 use Rattle.area.specs.Area.{clockAt}
 use Rattle.area_check.specs.Valid.{areaRefusal}
 use Rattle.bus_spec.specs.declared.Events.{Events}
@@ -17,6 +18,7 @@ use Rattle.bus_spec.specs.declared.course.Ended.the-variants as how
 use Rattle.bus_spec.specs.declared.course.Course.{Course}
 use Rattle.bus_spec.specs.declared.course.RunAnswer.{RunAnswer}
 use Rattle.sheet_layout.specs.Limits.{lastClock}
+use Rattle.station_tally.specs.Words.{endsRun, wordCount}
 
 -- ---- counting
 
@@ -27,7 +29,7 @@ tallied es n ws = turns (λ i x. gotCounted (sentCounted x (eventAt es i .sent))
 -- ---- the early end
 
 unfoldable pub lateAt : List Events → ℕ → Bool
-lateAt es i = isLate (eventAt es i .sent)
+lateAt es i = endsRun (eventAt es i .sent)
 
 -- a step with these events ends a run
 abbrev pub stops : List Events → Bool
@@ -48,7 +50,8 @@ pub record Ran : Type 0 where
   pub ended : Ended
   pub octets : List ℕ
 
--- At most k steps more, one after the other, where m have been made already: each counted, the one with a late collision among them.
+-- At most k steps more, one after the other, where m have been made already: each counted, the one with a late
+-- collision among them.
 unfoldable pub runOf : ℕ → (m : ℕ) (ws : List ℕ) (a : List ℕ) → Ran
 runOf zero m ws a = record { answer = accepted []; steps = m; words = ws; ended = how.All; octets = a }
 runOf (suc k) m ws a =

@@ -11,7 +11,7 @@ use Rattle.octets.specs.Base.{pick, some, refused, accepted, doneAnswer}
 use Rattle.octets.specs.BaseLaws.{by-test, by-eq, none-below, some-none, some-more, some-hit}
 use Rattle.octets.specs.NumberLaws.{Octets}
 use Rattle.octets.specs.Turns.{turns}
-use Rattle.station_tally.specs.TallyLaws.{Bounded, sent-is-bounded, got-is-bounded, start-bounded}
+use Rattle.station_tally.specs.TallyLaws.{Bounded, counted-bounded, start-bounded}
 use Rattle.area.specs.Area.{clockAt}
 use Rattle.area_check.specs.Valid.{areaRefusal}
 use Rattle.bus_spec.specs.declared.Events.{Events}
@@ -22,9 +22,10 @@ use Rattle.bus_spec.specs.Stays.{step-ready, step-clock}
 use Rattle.bus_spec.specs.declared.course.Ended.{Ended}
 use Rattle.bus_spec.specs.declared.course.Ended.the-variants as how
 use Rattle.bus_spec.specs.declared.course.RunAnswer.{RunAnswer}
-use Rattle.station_tally.specs.Tally.{sentCounted, gotCounted, isLate, wordCount}
+use Rattle.station_tally.specs.Tally.{sentCounted, gotCounted}
 use Rattle.bus_spec.specs.Run.{tallied, lateAt, first, Ran, runOf, runOutcome, ran, stops}
-use Rattle.sheet_layout.specs.Limits.{lastClock}
+use Rattle.sheet_layout.specs.Limits.{lastClock, maxStations}
+use Rattle.station_tally.specs.Words.{endsRun, wordCount, transmitWord, receiveWord}
 
 -- ---- the words have room
 
@@ -34,8 +35,9 @@ tallied-bounded es zero m ws h = start-bounded ws m h
 tallied-bounded es (suc n) m ws h =
     let z : m + 2 * n + 1 + 1 ≡ m + 2 * suc n = omega arith in
     subst (Bounded (tallied es (suc n) ws)) z
-    (got-is-bounded (sentCounted (tallied es n ws) (eventAt es n .sent)) (eventAt es n .got) (m + 2 * n + 1)
-    (sent-is-bounded (tallied es n ws) (eventAt es n .sent) (m + 2 * n) (tallied-bounded es n m ws h)))
+    (counted-bounded (sentCounted (tallied es n ws) (eventAt es n .sent)) (receiveWord (eventAt es n .got))
+    (m + 2 * n + 1)
+    (counted-bounded (tallied es n ws) (transmitWord (eventAt es n .sent)) (m + 2 * n) (tallied-bounded es n m ws h)))
 
 pub tally-none : (es : List Events) (ws : List ℕ) → ws ≡ tallied es 0 ws
 unfolding tallied turns
@@ -47,7 +49,7 @@ pub tally-more : (es : List Events) (ws us vs xs : List ℕ) (i : ℕ) (e : Even
 unfolding tallied turns
 tally-more es ws us vs xs i e ee ev ex p = ex ∙ rw (ev, p, ee, add-one i)
 
-pub tally-end : (es : List Events) (ws us : List ℕ) (i : ℕ) → us ≡ tallied es i ws → i ≤ 16 → 16 ≤ i
+pub tally-end : (es : List Events) (ws us : List ℕ) (i : ℕ) → us ≡ tallied es i ws → i ≤ maxStations → 16 ≤ i
     → us ≡ tallied es 16 ws
 tally-end es ws us i p lo up = let e : i ≡ 16 = omega arith in rw e at p
 
@@ -108,7 +110,7 @@ module _ (n t : ℕ) (ws : List ℕ) (a : List ℕ) (R : Ran) where
   turn (suc k) e h p = let z : n - (t + 1) ≡ k = omega arith in rw z (rw (← e) at p)
 
   pub run-on : (es : List Events) (vs b : List ℕ) (i : ℕ) → b ≡ stepArea a → es ≡ eventsAt a → vs ≡ tallied es 16 ws
-      → some (lateAt es) i ≡ false → i ≤ 16 → 16 ≤ i → t < n
+      → some (lateAt es) i ≡ false → i ≤ maxStations → 16 ≤ i → t < n
       → runOf (n - t) t ws a ≡ R → runOf (n - (t + 1)) (t + 1) vs b ≡ R
   run-on es vs b i eb ee ev s lo up h p =
       let z : i ≡ 16 = omega arith in
@@ -118,7 +120,7 @@ module _ (n t : ℕ) (ws : List ℕ) (a : List ℕ) (R : Ran) where
 
   pub run-late : (es : List Events) (vs b : List ℕ) (i : ℕ) (c : Bool) → b ≡ stepArea a → es ≡ eventsAt a
       → vs ≡ tallied es 16 ws → c ≡ lateAt es i → c ≡ true
-      → some (lateAt es) i ≡ false → i < 16 → t < n → runOf (n - t) t ws a ≡ R
+      → some (lateAt es) i ≡ false → i < maxStations → t < n → runOf (n - t) t ws a ≡ R
       → record { answer = accepted []; steps = t + 1; words = vs; ended = how.Late (t + 1 - 1) i; octets = b } ≡ R
   run-late es vs b i c eb ee ev ec et s hi h p =
       let z : t + 1 - 1 ≡ t = omega arith in
@@ -140,10 +142,10 @@ pub none-late-first : (es : List Events) → NoneLate es 0
 unfolding NoneLate
 none-late-first es = some-none (lateAt es)
 
-module _ (es : List Events) (i : ℕ) (e : Events) (b : Bool) (p : b ≡ isLate (e .sent)) (q : e ≡ eventAt es i) where
+module _ (es : List Events) (i : ℕ) (e : Events) (b : Bool) (p : b ≡ endsRun (e .sent)) (q : e ≡ eventAt es i) where
   late-is : b ≡ lateAt es i
   unfolding lateAt
-  late-is = p ∙ ap (λ (x : Events). isLate (x .sent)) q
+  late-is = p ∙ ap (λ (x : Events). endsRun (x .sent)) q
 
   pub none-late-more : b ≡ false → NoneLate es i → NoneLate es (i + 1)
   unfolding NoneLate
@@ -151,7 +153,7 @@ module _ (es : List Events) (i : ℕ) (e : Events) (b : Bool) (p : b ≡ isLate 
 
   -- it has one: the run ends
   pub run-found : (n t : ℕ) (ws a vs y : List ℕ) (R : Ran) (w : Ended) → b ≡ true → w ≡ how.Late (t + 1 - 1) i
-      → y ≡ stepArea a → es ≡ eventsAt a → vs ≡ tallied es 16 ws → NoneLate es i → i < 16 → t < n
+      → y ≡ stepArea a → es ≡ eventsAt a → vs ≡ tallied es 16 ws → NoneLate es i → i < maxStations → t < n
       → runOf (n - t) t ws a ≡ R
       → record { answer = accepted []; steps = t + 1; words = vs; ended = w; octets = y } ≡ R
   unfolding NoneLate
@@ -160,7 +162,8 @@ module _ (es : List Events) (i : ℕ) (e : Events) (b : Bool) (p : b ≡ isLate 
 
 -- no station has one: the run goes on
 pub run-searched : (n t : ℕ) (ws a : List ℕ) (R : Ran) (es : List Events) (vs b : List ℕ) (i : ℕ) → b ≡ stepArea a
-    → es ≡ eventsAt a → vs ≡ tallied es 16 ws → NoneLate es i → i ≤ 16 → 16 ≤ i → t < n → runOf (n - t) t ws a ≡ R
+    → es ≡ eventsAt a → vs ≡ tallied es 16 ws → NoneLate es i → i ≤ maxStations → 16 ≤ i → t < n
+    → runOf (n - t) t ws a ≡ R
     → runOf (n - (t + 1)) (t + 1) vs b ≡ R
 unfolding NoneLate
 run-searched n t ws a R es vs b i eb ee ev h lo up lt g = run-on n t ws a R es vs b i eb ee ev h lo up lt g
@@ -187,7 +190,8 @@ module _ (a : List ℕ) (k n : ℕ) where
   ran-area r p q s t e h =
       (λ i. record { answer = p i; steps = q i; words = s i; ended = t i; octets = a }) ∙ rw (← e, ne-eqb k 0 h)
 
-  pub ran-over : (r : RunAnswer) (c : ℕ) → doneAnswer (r .done) ≡ refused 13 → r .steps ≡ 0 → r .words ≡ replicate wordCount 0
+  pub ran-over : (r : RunAnswer) (c : ℕ) → doneAnswer (r .done) ≡ refused 13 → r .steps ≡ 0
+      → r .words ≡ replicate wordCount 0
       → r .ended ≡ how.All → k ≡ areaRefusal a → k ≡ 0
       → c ≡ clockAt a → lastClock - c < n → runOutcome r a ≡ ran a n
   unfolding ran

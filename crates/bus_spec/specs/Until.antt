@@ -1,12 +1,14 @@
--- Steps until an event: at most n, the last one is the first that has an event. The laws are in UntilLaws. Assumes nothing.
+-- Steps until an event: at most n, the last one is the first that has an event. The laws are in UntilLaws. Assumes
+-- nothing.
 use Prim.Native.Nat.{ℕ, zero, suc, _+_}
 use mathlib.Core.Bool.{Bool, _||_}
 use mathlib.Core.List.{List}
 use lib.ListN.{replicate}
 use Rattle.octets.specs.Base.{pick, some}
 use Rattle.bus_spec.specs.declared.Events.{Events}
-use Rattle.bus_spec.specs.BitTime.{isTransmit, isReceive, noEvents, eventAt, eventsAt, stepArea}
+use Rattle.bus_spec.specs.BitTime.{noEvents, eventAt, eventsAt, stepArea}
 use Rattle.bus_spec.specs.declared.course.Stretch.{Stretch}
+use Rattle.station_tally.specs.Words.{isTransmit, isReceive}
 
 unfoldable pub hasEvent : Events → Bool
 hasEvent e = isTransmit (e .sent) || isReceive (e .got)

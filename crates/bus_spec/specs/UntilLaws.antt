@@ -9,10 +9,12 @@ use Rattle.octets.specs.Base.{pick, some}
 use Rattle.octets.specs.BaseLaws.{some-none, some-more, some-hit, some-end}
 use Rattle.area.specs.Area.{clockAt}
 use Rattle.bus_spec.specs.declared.Events.{Events}
-use Rattle.bus_spec.specs.BitTime.{isTransmit, isReceive, noEvents, eventAt, eventsAt, stepArea}
+use Rattle.bus_spec.specs.BitTime.{noEvents, eventAt, eventsAt, stepArea}
 use Rattle.bus_spec.specs.Stays.{step-clock}
 use Rattle.bus_spec.specs.RunLaws.{Runnable, run-first, run-next}
 use Rattle.bus_spec.specs.Until.{hasEvent, eventful, Stretched, oneMore, untilEvent}
+use Rattle.sheet_layout.specs.Limits.{maxStations}
+use Rattle.station_tally.specs.Words.{isTransmit, isReceive}
 
 -- ---- whether some station has an event
 
@@ -34,11 +36,12 @@ module _ (es : List Events) (i : ℕ) where
   unfolding Calm
   calm-more e b p q r h = some-more (λ k. hasEvent (eventAt es k)) i b (p ∙ ap hasEvent q) r h
 
-  pub calm-hit : (e : Events) (b : Bool) → b ≡ hasEvent e → e ≡ eventAt es i → b ≡ true → i < 16 → true ≡ eventful es
+  pub calm-hit : (e : Events) (b : Bool) → b ≡ hasEvent e → e ≡ eventAt es i → b ≡ true → i < maxStations
+      → true ≡ eventful es
   unfolding eventful
   calm-hit e b p q r h = some-hit (λ k. hasEvent (eventAt es k)) 16 i b (p ∙ ap hasEvent q) r h
 
-  pub calm-end : i ≤ 16 → 16 ≤ i → Calm es i → false ≡ eventful es
+  pub calm-end : i ≤ maxStations → 16 ≤ i → Calm es i → false ≡ eventful es
   unfolding Calm eventful
   calm-end p q h = some-end (λ k. hasEvent (eventAt es k)) 16 i p q h
 

@@ -9,7 +9,7 @@ ghost use Rattle.octets.specs.Base.{refused, doneAnswer};
 ghost use Rattle.station_tally.specs.TallyLaws.{Bounded};
 ghost use Rattle.bus_spec.specs.Run.{tallied};
 ghost use Rattle.bus_spec.specs.declared.course.Ended.the-variants.{All, Late};
-ghost use Rattle.station_tally.specs.Tally.{wordCount};
+ghost use Rattle.station_tally.specs.Words.{wordCount};
 
 // How a run ended: all its steps were made, or a station had a late collision in the last of them.
 pub enum Ended {
@@ -17,12 +17,12 @@ pub enum Ended {
     Late { step: u32, station: u32 },
 }
 
-// What a run answers: the steps made, how many events of each word came (collision, late, sent, given-up, got ok, got too-long, got
-// alignment, got check, got length), and how it ended; zeros where the call is refused.
+// What a run answers: the steps made, how many events of each word came (collision, late, sent, given-up, got ok, got
+// too-long, got alignment, got check, got length), and how it ended; zeros where the call is refused.
 pub struct RunAnswer {
     pub done: Done,
     pub steps: u32,
-    pub words: [u32; 9],
+    pub words: [u32; station_tally::WORDS],
     pub ended: Ended,
 }
 
@@ -55,7 +55,7 @@ pub fn count_events(words: &mut [u32], events: [Events; 16], top: u32)
     ensures { λ r. ⌜ now (words .exit) ≡ tallied events 16 (now (words .entry)) ⌝ }
 {
     let mut i: usize = 0;
-    while i < 16 {
+    while i < sheet_layout::MAX_STATIONS {
         let high = top + 2 * i as u32;
         let e = events[i];
         let sent = e.sent;
@@ -68,12 +68,13 @@ pub fn count_events(words: &mut [u32], events: [Events; 16], top: u32)
 
 // A run refused under this number.
 pub fn no_run(number: u32) -> RunAnswer
-    ensures { λ r. ⌜ (doneAnswer (r .done) ≡ refused number) × (r .steps ≡ 0) × (r .words ≡ replicate wordCount 0) × (r .ended ≡ All) ⌝ }
+    ensures { λ r. ⌜ (doneAnswer (r .done) ≡ refused number) × (r .steps ≡ 0) × (r .words ≡ replicate wordCount 0)
+        × (r .ended ≡ All) ⌝ }
 {
     RunAnswer {
         done: Done::Refused(number),
         steps: 0,
-        words: [0u32; 9],
+        words: [0u32; station_tally::WORDS],
         ended: Ended::All,
     }
 }

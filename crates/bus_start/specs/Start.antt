@@ -1,5 +1,5 @@
--- A fresh start (document 01, refusals 1, 5 to 9). The draws are rows of sixteen, as many of each in use as D says, so there are always
--- N × D of them. The laws are in StartLaws. Assumes nothing.
+-- A fresh start (document 01, refusals 1, 5 to 9). The draws are rows of sixteen, as many of each in use as D says, so
+-- there are always N × D of them. The laws are in StartLaws. Assumes nothing.
 use Prim.Native.Nat.{ℕ}
 use mathlib.Core.List.{List, []}
 use lib.Dec.{ltb, eqb}

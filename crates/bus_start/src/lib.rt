@@ -8,30 +8,41 @@ ghost use mathlib.Core.Path.{_≡_};
 ghost use Prim.Native.Nat.{_+_, _*_, _<_, _≤_};
 ghost use lib.ListN.{length};
 ghost use Rattle.octets.specs.Base.{doneAnswer, outcome};
-ghost use Rattle.bus_start.specs.Fresh.{withFigures, withTap, withTaps, withDepth, withDraw, withRow, withDraws, withPlan, fresh};
+ghost use Rattle.bus_start.specs.Fresh.{withFigures, withTap, withTaps, withDepth, withDraw, withRow, withDraws};
+ghost use Rattle.bus_start.specs.Fresh.{withPlan, fresh};
 ghost use Rattle.bus_start.specs.Start.{started};
 ghost use Rattle.area.specs.Offsets.{areaSize};
+ghost use Rattle.sheet_layout.specs.Limits.{maxStations, maxDraws};
 
-// The figures and N.
+// The figures, N among them.
 fn write_figures(area: &mut [u8], f: Figures, count: u32)
     requires { ⌜ areaSize ≤ length (now area) ⌝ }
     ensures { λ r. ⌜ now (area .exit) ≡ withFigures f count (now (area .entry)) ⌝ }
 {
-    let words = [f.slot, f.gap1, f.gap2, f.jam, f.limit, f.backoff, count];
-    octets_words::store_words(area, 8, &words);
+    let words = [
+        f.slot,
+        f.gap1,
+        f.gap2,
+        f.jam,
+        f.limit,
+        f.backoff,
+        count,
+        f.ends,
+    ];
+    octets_words::store_words(area, area::LAYOUT_AT, &words);
 }
 
 fn write_tap(area: &mut [u8], i: usize, position: u32, address: [u8; 6])
-    requires { ⌜ (i < 16) × (areaSize ≤ length (now area)) ⌝ }
+    requires { ⌜ (i < maxStations) × (areaSize ≤ length (now area)) ⌝ }
     ensures { λ r. ⌜ now (area .exit) ≡ withTap position address i (now (area .entry)) ⌝ }
 {
-    octets_words::put32(area, 64 + 16 * i, position);
-    octets_copies::store(area, 68 + 16 * i, &address);
+    octets_words::put32(area, area::TAPS_AT + 16 * i, position);
+    octets_copies::store(area, area::ADDRESSES_AT + 16 * i, &address);
 }
 
 // The first n stations.
 fn write_taps(area: &mut [u8], taps: [Tap; 16], n: usize)
-    requires { ⌜ (n ≤ 16) × (areaSize ≤ length (now area)) ⌝ }
+    requires { ⌜ (n ≤ maxStations) × (areaSize ≤ length (now area)) ⌝ }
     ensures { λ r. ⌜ now (area .exit) ≡ withTaps taps n (now (area .entry)) ⌝ }
 {
     let mut i: usize = 0;
@@ -47,19 +58,19 @@ fn write_depth(area: &mut [u8], depth: u32)
     requires { ⌜ areaSize ≤ length (now area) ⌝ }
     ensures { λ r. ⌜ now (area .exit) ≡ withDepth depth (now (area .entry)) ⌝ }
 {
-    octets_words::put32(area, 4, depth);
+    octets_words::put32(area, area::DEPTH_AT, depth);
 }
 
 fn write_draw(area: &mut [u8], i: usize, k: usize, v: u16)
-    requires { ⌜ (i < 16) × (k < 16) × (areaSize ≤ length (now area)) ⌝ }
+    requires { ⌜ (i < maxStations) × (k < maxDraws) × (areaSize ≤ length (now area)) ⌝ }
     ensures { λ r. ⌜ now (area .exit) ≡ withDraw i k v (now (area .entry)) ⌝ }
 {
-    octets_words::put16(area, 320 + 32 * i + 2 * k, v);
+    octets_words::put16(area, area::DRAWS_AT + 32 * i + 2 * k, v);
 }
 
 // The first draws of station i, as many as there are.
 fn write_row(area: &mut [u8], i: usize, depth: usize, row: [u16; 16])
-    requires { ⌜ (i < 16) × (depth ≤ 16) × (areaSize ≤ length (now area)) ⌝ }
+    requires { ⌜ (i < maxStations) × (depth ≤ maxDraws) × (areaSize ≤ length (now area)) ⌝ }
     ensures { λ r. ⌜ now (area .exit) ≡ withRow row i depth (now (area .entry)) ⌝ }
 {
     let mut k: usize = 0;
@@ -70,7 +81,7 @@ fn write_row(area: &mut [u8], i: usize, depth: usize, row: [u16; 16])
 }
 
 fn write_draws(area: &mut [u8], n: usize, depth: usize, draws: [[u16; 16]; 16])
-    requires { ⌜ (n ≤ 16) × (depth ≤ 16) × (areaSize ≤ length (now area)) ⌝ }
+    requires { ⌜ (n ≤ maxStations) × (depth ≤ maxDraws) × (areaSize ≤ length (now area)) ⌝ }
     ensures { λ r. ⌜ now (area .exit) ≡ withDraws draws n depth (now (area .entry)) ⌝ }
 {
     let mut i: usize = 0;
@@ -82,7 +93,7 @@ fn write_draws(area: &mut [u8], n: usize, depth: usize, draws: [[u16; 16]; 16])
 }
 
 fn write_plan(area: &mut [u8], y: Layout, depth: u32, draws: [[u16; 16]; 16])
-    requires { ⌜ (y .count ≤ 16) × (depth ≤ 16) × (areaSize ≤ length (now area)) ⌝ }
+    requires { ⌜ (y .count ≤ maxStations) × (depth ≤ maxDraws) × (areaSize ≤ length (now area)) ⌝ }
     ensures { λ r. ⌜ now (area .exit) ≡ withPlan y depth draws (now (area .entry)) ⌝ }
 {
     let figures = y.figures;
@@ -96,7 +107,7 @@ fn write_plan(area: &mut [u8], y: Layout, depth: u32, draws: [[u16; 16]; 16])
 
 // A fresh start on this layout, with D and the draws of each station.
 pub fn write_fresh(area: &mut [u8], y: Layout, depth: u32, draws: [[u16; 16]; 16])
-    requires { ⌜ (y .count ≤ 16) × (depth ≤ 16) × (areaSize ≤ length (now area)) ⌝ }
+    requires { ⌜ (y .count ≤ maxStations) × (depth ≤ maxDraws) × (areaSize ≤ length (now area)) ⌝ }
     ensures { λ r. ⌜ now (area .exit) ≡ fresh y depth draws (now (area .entry)) ⌝ }
 {
     octets_copies::blank(area, area::AREA);

@@ -4,6 +4,7 @@ use mathlib.Core.Bool.{Bool}
 use mathlib.Core.List.{List, []}
 use lib.Dec.{leb, eqb}
 use lib.ListN.{replicate}
+use Rattle.station_state.specs.State.{counterCount}
 use Rattle.octets.specs.Base.{pick, Answer, refused, accepted, doneAnswer}
 use Rattle.area.specs.Area.{countAt, countersAt}
 use Rattle.area_check.specs.Valid.{areaRefusal}
@@ -20,6 +21,6 @@ countersReading r = record { answer = doneAnswer (r .done); words = r .words }
 unfoldable pub countersRead : List ℕ → ℕ → Reading
 countersRead a i =
     pick (eqb (areaRefusal a) 0)
-    (pick (leb (countAt a) i) (record { answer = refused 10; words = replicate 16 0 })
+    (pick (leb (countAt a) i) (record { answer = refused 10; words = replicate counterCount 0 })
     (record { answer = accepted []; words = countersAt a i }))
-    (record { answer = refused (areaRefusal a); words = replicate 16 0 })
+    (record { answer = refused (areaRefusal a); words = replicate counterCount 0 })

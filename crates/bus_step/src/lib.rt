@@ -11,10 +11,10 @@ ghost use Rattle.bus_spec.specs.BitTime.{noEvents};
 ghost use Rattle.bus_step.specs.Step.{bitTimeOutcome, steppedOnce};
 ghost use Rattle.bus_step.specs.Counters.{countersReading, countersRead};
 
-// A station's sixteen counters, in the order that document 01 lists them; all 0 where the call is refused.
+// A station's counters, in the order in which document 01 and N1 list them; all 0 where the call is refused.
 pub struct Counters {
     pub done: Done,
-    pub words: [u32; 16],
+    pub words: [u32; station_state::COUNTERS],
 }
 
 // What a step answers: the events of each station, none where the call is refused.
@@ -31,13 +31,13 @@ pub fn read_counters(area: &[u8], i: usize) -> Counters
     if number != 0 {
         return Counters {
             done: Done::Refused(number),
-            words: [0u32; 16],
+            words: [0u32; station_state::COUNTERS],
         };
     }
     if area::read_count(area) as usize <= i {
         return Counters {
             done: Done::Refused(10),
-            words: [0u32; 16],
+            words: [0u32; station_state::COUNTERS],
         };
     }
     Counters {

@@ -1,4 +1,5 @@
-// The turn of one station, in place: it acts on what it hears, its symbol goes to every other, its record and counters are written.
+// The turn of one station, in place: it acts on what it hears, its symbol goes to every other, its record and counters
+// are written.
 
 pub mod step;
 
@@ -18,14 +19,17 @@ ghost use mathlib.Core.Path.{_≡_};
 ghost use Prim.Native.Nat.{_+_, _*_, _<_, _≤_};
 ghost use lib.ListN.{length};
 ghost use Rattle.area.specs.Area.{stationAt, withStation};
-ghost use Rattle.bus_spec.specs.BitTime.{happened, withStored, withCounted, placed, settled, isTransmit, isReceive, actIn, turnIn, eventsOf, noEvents};
+ghost use Rattle.bus_spec.specs.BitTime.{happened, withStored, withCounted, placed, settled, actIn, turnIn, eventsOf};
+ghost use Rattle.bus_spec.specs.BitTime.{noEvents};
 ghost use Rattle.bus_spec.specs.InPlace.{Kept};
 ghost use Rattle.bus_spec.specs.Ready.{Able};
 ghost use Rattle.area.specs.Offsets.{areaSize};
+ghost use Rattle.sheet_layout.specs.Limits.{maxStations};
+ghost use Rattle.station_tally.specs.Words.{isTransmit, isReceive};
 
 // A collected bit is kept.
 pub fn keep_bit(area: &mut [u8], i: usize, stored: Stored)
-    requires { ⌜ (i < 16) × (areaSize ≤ length (now area)) × Kept stored ⌝ }
+    requires { ⌜ (i < maxStations) × (areaSize ≤ length (now area)) × Kept stored ⌝ }
     ensures { λ r. ⌜ now (area .exit) ≡ withStored i stored (now (area .entry)) ⌝ }
 {
     match stored {
@@ -36,42 +40,23 @@ pub fn keep_bit(area: &mut [u8], i: usize, stored: Stored)
     }
 }
 
-pub fn is_transmit(e: TransmitEvent) -> bool
-    ensures { λ r. ⌜ r ≡ isTransmit e ⌝ }
-{
-    match e {
-        TransmitEvent::NoTransmit => false,
-        TransmitEvent::Collision(_) => true,
-        TransmitEvent::Late(_) => true,
-        TransmitEvent::Sent(_) => true,
-        TransmitEvent::GivenUp(_) => true,
-    }
-}
-
-pub fn is_receive(e: ReceiveEvent) -> bool
-    ensures { λ r. ⌜ r ≡ isReceive e ⌝ }
-{
-    match e {
-        ReceiveEvent::NoReceive => false,
-        ReceiveEvent::GotOk(_) => true,
-        ReceiveEvent::GotTooLong(_) => true,
-        ReceiveEvent::GotAlignment(_) => true,
-        ReceiveEvent::GotCheck(_) => true,
-        ReceiveEvent::GotLength(_) => true,
-    }
-}
-
 // Whether a step has anything to count.
 fn has_happened(o: Stepped) -> bool
     ensures { λ r. ⌜ r ≡ happened o ⌝ }
 {
     let sent = o.sent;
     let got = o.got;
-    octets::either(o.start, octets::either(is_transmit(sent), is_receive(got)))
+    octets::either(
+        o.start,
+        octets::either(
+            station_tally::is_transmit(sent),
+            station_tally::is_receive(got),
+        ),
+    )
 }
 
 pub fn count_step(area: &mut [u8], i: usize, o: Stepped)
-    requires { ⌜ (i < 16) × (areaSize ≤ length (now area)) ⌝ }
+    requires { ⌜ (i < maxStations) × (areaSize ≤ length (now area)) ⌝ }
     ensures { λ r. ⌜ now (area .exit) ≡ withCounted i o (now (area .entry)) ⌝ }
 {
     if has_happened(o) {
@@ -82,39 +67,39 @@ pub fn count_step(area: &mut [u8], i: usize, o: Stepped)
 }
 
 fn load_deference(area: &[u8], i: usize) -> Deference
-    requires { ⌜ (i < 16) × (areaSize ≤ length (now area)) ⌝ }
+    requires { ⌜ (i < maxStations) × (areaSize ≤ length (now area)) ⌝ }
     ensures { λ r. ⌜ r ≡ stationAt (now (area .entry)) i .deference ⌝ }
 {
-    let code = area::read_word(area, i, 0);
-    let own = area::read_word(area, i, 1);
-    let count = area::read_word(area, i, 2);
+    let code = area::read_word(area, i, area_record::words::DEFERENCE);
+    let own = area::read_word(area, i, area_record::words::STRETCH);
+    let count = area::read_word(area, i, area_record::words::GAP);
     area_record::deference_of(code, own == 1, count)
 }
 
 fn load_transmitter(area: &[u8], i: usize) -> Transmitter
-    requires { ⌜ (i < 16) × (areaSize ≤ length (now area)) ⌝ }
+    requires { ⌜ (i < maxStations) × (areaSize ≤ length (now area)) ⌝ }
     ensures { λ r. ⌜ r ≡ stationAt (now (area .entry)) i .transmitter ⌝ }
 {
-    let code = area::read_word(area, i, 3);
-    let number = area::read_word(area, i, 4);
+    let code = area::read_word(area, i, area_record::words::PHASE);
+    let number = area::read_word(area, i, area_record::words::PHASE_NUMBER);
     area_record::transmitter_of(code, number)
 }
 
 fn load_receiver(area: &[u8], i: usize) -> Receiver
-    requires { ⌜ (i < 16) × (areaSize ≤ length (now area)) ⌝ }
+    requires { ⌜ (i < maxStations) × (areaSize ≤ length (now area)) ⌝ }
     ensures { λ r. ⌜ r ≡ stationAt (now (area .entry)) i .receiver ⌝ }
 {
-    let code = area::read_word(area, i, 5);
-    let number = area::read_word(area, i, 6);
-    let spoiled = area::read_word(area, i, 7);
-    let own = area::read_word(area, i, 8);
+    let code = area::read_word(area, i, area_record::words::RECEIVER);
+    let number = area::read_word(area, i, area_record::words::RECEIVER_NUMBER);
+    let spoiled = area::read_word(area, i, area_record::words::SPOILED);
+    let own = area::read_word(area, i, area_record::words::RECEPTION);
     area_record::receiver_of(code, number, spoiled == 1, own == 1)
 }
 
 // Station i. It is `area::read_station`, here once more: called from one place it is put in there, and no word goes
 // through memory.
 fn load(area: &[u8], i: usize) -> Station
-    requires { ⌜ (i < 16) × (areaSize ≤ length (now area)) ⌝ }
+    requires { ⌜ (i < maxStations) × (areaSize ≤ length (now area)) ⌝ }
     ensures { λ r. ⌜ r ≡ stationAt (now (area .entry)) i ⌝ }
 {
     let deference = load_deference(area, i);
@@ -126,26 +111,27 @@ fn load(area: &[u8], i: usize) -> Station
         deference,
         transmitter,
         receiver,
-        frame: area::read_word(area, i, 9),
-        attempts: area::read_word(area, i, 10),
-        draw: area::read_word(area, i, 11),
-        deferred: area::read_word(area, i, 12) == 1,
-        emitted: area::read_word(area, i, 13) == 1,
+        frame: area::read_word(area, i, area_record::words::FRAME),
+        attempts: area::read_word(area, i, area_record::words::ATTEMPTS),
+        draw: area::read_word(area, i, area_record::words::DRAW),
+        deferred: area::read_word(area, i, area_record::words::DEFERRED) == 1,
+        emitted: area::read_word(area, i, area_record::words::EMITTED) == 1,
     }
 }
 
 // Writes station i, as `area::write_station` does.
 fn store(area: &mut [u8], i: usize, s: Station)
-    requires { ⌜ (i < 16) × (areaSize ≤ length (now area)) ⌝ }
+    requires { ⌜ (i < maxStations) × (areaSize ≤ length (now area)) ⌝ }
     ensures { λ r. ⌜ now (area .exit) ≡ withStation (now (area .entry)) i s ⌝ }
 {
     let w = area_record::encode(s);
-    octets_words::store_words(area, 2048 + 64 * i, &w);
+    octets_words::store_words(area, area::RECORDS_AT + 64 * i, &w);
 }
 
-// Station i is what its step t made of it: its record, its counters, the bit it collected; what reached it is taken from its line.
+// Station i is what its step t made of it: its record, its counters, the bit it collected; what reached it is taken
+// from its line.
 fn place(area: &mut [u8], t: usize, i: usize, o: Stepped)
-    requires { ⌜ (i < 16) × (areaSize ≤ length (now area)) × Kept (o .stored) ⌝ }
+    requires { ⌜ (i < maxStations) × (areaSize ≤ length (now area)) × Kept (o .stored) ⌝ }
     ensures { λ r. ⌜ now (area .exit) ≡ placed t i o (now (area .entry)) ⌝ }
 {
     let next = o.station;
@@ -157,7 +143,8 @@ fn place(area: &mut [u8], t: usize, i: usize, o: Stepped)
 }
 
 fn settle(area: &mut [u8], n: usize, t: usize, i: usize, a: Act)
-    requires { ⌜ (i < 16) × (n ≤ 16) × (t < 4294967296) × (areaSize ≤ length (now area)) × Kept (a .outcome .stored) ⌝ }
+    requires { ⌜ (i < maxStations) × (n ≤ maxStations) × (t < 4294967296) × (areaSize ≤ length (now area))
+        × Kept (a .outcome .stored) ⌝ }
     ensures { λ r. ⌜ now (area .exit) ≡ settled n t i a (now (area .entry)) ⌝ }
 {
     let o = a.outcome;
@@ -168,7 +155,7 @@ fn settle(area: &mut [u8], n: usize, t: usize, i: usize, a: Act)
 
 // What station i does in step t, from the area as it stands.
 fn acts(area: &[u8], depth: u32, t: usize, f: Figures, i: usize) -> Act
-    requires { ⌜ (i < 16) × (areaSize ≤ length (now area)) × Able f (now area) i ⌝ }
+    requires { ⌜ (i < maxStations) × (areaSize ≤ length (now area)) × Able f (now area) i ⌝ }
     ensures { λ r. ⌜ r ≡ actIn f depth t (now (area .entry)) i ⌝ }
 {
     let s = load(area, i);
@@ -184,7 +171,8 @@ fn acts(area: &[u8], depth: u32, t: usize, f: Figures, i: usize) -> Act
 
 // Any turn of station i in step t.
 fn general(area: &mut [u8], n: usize, depth: u32, t: usize, f: Figures, i: usize) -> Events
-    requires { ⌜ (i < 16) × (n ≤ 16) × (t < 4294967296) × (areaSize ≤ length (now area)) × Able f (now area) i ⌝ }
+    requires { ⌜ (i < maxStations) × (n ≤ maxStations) × (t < 4294967296) × (areaSize ≤ length (now area))
+        × Able f (now area) i ⌝ }
     ensures area { λ r. ⌜ now (area .exit) ≡ turnIn f depth n t i (now (area .entry)) ⌝ }
     ensures events { λ r. ⌜ r ≡ eventsOf (actIn f depth t (now (area .entry)) i) ⌝ }
 {
@@ -209,7 +197,8 @@ fn no_events() -> Events
 // places, and so is this one: each is then a function of its own. Put together, the octets that one reads would take
 // apart the words that another reads.
 fn work(area: &mut [u8], n: usize, depth: u32, t: usize, f: Figures, i: usize) -> Events
-    requires { ⌜ (i < 16) × (n ≤ 16) × (t < 4294967296) × (areaSize ≤ length (now area)) × Able f (now area) i ⌝ }
+    requires { ⌜ (i < maxStations) × (n ≤ maxStations) × (t < 4294967296) × (areaSize ≤ length (now area))
+        × Able f (now area) i ⌝ }
     ensures area { λ r. ⌜ now (area .exit) ≡ turnIn f depth n t i (now (area .entry)) ⌝ }
     ensures events { λ r. ⌜ r ≡ eventsOf (actIn f depth t (now (area .entry)) i) ⌝ }
 {
@@ -225,7 +214,8 @@ fn work(area: &mut [u8], n: usize, depth: u32, t: usize, f: Figures, i: usize) -
 // Station i's turn in step t: it acts from the area as the stations before it have left it. One that rests, and that
 // nothing reaches, leaves all as it is; of one whose reception goes on few words change.
 pub fn turn(area: &mut [u8], n: usize, depth: u32, t: usize, f: Figures, i: usize) -> Events
-    requires { ⌜ (i < 16) × (n ≤ 16) × (t < 4294967296) × (areaSize ≤ length (now area)) × Able f (now area) i ⌝ }
+    requires { ⌜ (i < maxStations) × (n ≤ maxStations) × (t < 4294967296) × (areaSize ≤ length (now area))
+        × Able f (now area) i ⌝ }
     ensures area { λ r. ⌜ now (area .exit) ≡ turnIn f depth n t i (now (area .entry)) ⌝ }
     ensures events { λ r. ⌜ r ≡ eventsOf (actIn f depth t (now (area .entry)) i) ⌝ }
 {

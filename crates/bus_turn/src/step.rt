@@ -10,12 +10,12 @@ ghost use lib.ListN.{length};
 ghost use Rattle.area.specs.Area.{clockAt};
 ghost use Rattle.bus_spec.specs.BitTime.{turnedIn, eventsIn, advancedIn, stepArea, eventsAt};
 ghost use Rattle.bus_spec.specs.Ready.{AllAble, Ready};
-ghost use Rattle.sheet_layout.specs.Limits.{lastClock};
+ghost use Rattle.sheet_layout.specs.Limits.{lastClock, maxStations};
 ghost use Rattle.area.specs.Offsets.{areaSize};
 
 // The turns of n stations, and the events of each.
 fn turn_all(area: &mut [u8], n: usize, depth: u32, t: usize, f: Figures) -> [Events; 16]
-    requires { ⌜ (n ≤ 16) × (t < 4294967296) × (areaSize ≤ length (now area)) × AllAble n f (now area) ⌝ }
+    requires { ⌜ (n ≤ maxStations) × (t < 4294967296) × (areaSize ≤ length (now area)) × AllAble n f (now area) ⌝ }
     ensures area { λ r. ⌜ now (area .exit) ≡ turnedIn f depth n t (now (area .entry)) n ⌝ }
     ensures events { λ r. ⌜ r ≡ eventsIn f depth t (now (area .entry)) n ⌝ }
 {
@@ -35,7 +35,7 @@ fn turn_all(area: &mut [u8], n: usize, depth: u32, t: usize, f: Figures) -> [Eve
 
 // All turns, and the clock.
 fn advance(area: &mut [u8], n: usize, depth: u32, t: u32, f: Figures) -> [Events; 16]
-    requires { ⌜ (n ≤ 16) × (t < 4294967295) × (areaSize ≤ length (now area)) × AllAble n f (now area) ⌝ }
+    requires { ⌜ (n ≤ maxStations) × (t < 4294967295) × (areaSize ≤ length (now area)) × AllAble n f (now area) ⌝ }
     ensures area { λ r. ⌜ now (area .exit) ≡ advancedIn f depth n t (now (area .entry)) ⌝ }
     ensures events { λ r. ⌜ r ≡ eventsIn f depth t (now (area .entry)) n ⌝ }
 {

@@ -1,6 +1,7 @@
--- The C interface: what each call returns, and what it leaves in the octets lent to it. A call returns one number of 32 bits: "A refusal
--- returns its number alone", with bit 31; what is below is the answer. What is written into the lent output stands here in words of four
--- octets, high octet first; those words, and the numbers of answers, are in `c_words`. The laws are in CallLaws. Assumes nothing.
+-- The C interface: what each call returns, and what it leaves in the octets lent to it. A call returns one number of 32
+-- bits: "A refusal returns its number alone", with bit 31; what is below is the answer. What is written into the lent
+-- output stands here in words of four octets, high octet first; those words, and the numbers of answers, are in
+-- `c_words`. The laws are in CallLaws. Assumes nothing.
 use Prim.Native.Nat.{ℕ, _+_, _*_}
 use mathlib.Core.Bool.{false}
 use mathlib.Core.List.{List}
@@ -15,7 +16,7 @@ use Rattle.sheet_read.specs.Sheet.{readSheet}
 use Rattle.plan_draws.specs.Draws.{drawsIn}
 use Rattle.frame_open.specs.Open.{opened}
 use Rattle.frame_build.specs.Build.{built}
-use Rattle.area.specs.Offsets.{areaSize, counterCount}
+use Rattle.area.specs.Offsets.{areaSize}
 use Rattle.area.specs.Area.{clockAt}
 use Rattle.area_check.specs.Valid.{areaRefusal}
 use Rattle.bus_start.specs.Start.{started}
@@ -24,9 +25,10 @@ use Rattle.bus_step.specs.Step.{steppedOnce}
 use Rattle.bus_step.specs.Counters.{countersRead}
 use Rattle.bus_spec.specs.Run.{ran}
 use Rattle.bus_read.specs.Read.{frameRead}
-use Rattle.c_words.specs.Answers.{replied, valueOf, layoutPut, clientWords, eventsPut}
+use Rattle.c_words.specs.Answers.{replied, valueOf, layoutPut, clientWords, eventsPut, countersOut, runOut, sheetOut}
 use Rattle.c_tables.specs.RunWords.{runPut}
 use Rattle.sheet_layout.specs.Limits.{lastClock}
+use Rattle.station_state.specs.State.{counterCount}
 
 -- ---- the number that a call returns
 
@@ -57,7 +59,8 @@ left r a o = record { result = r; area = a; out = o }
 abbrev pub codeGiven : Outcome → Given
 codeGiven o = given (codeOf (o .answer)) (o .octets)
 
--- "A refusal .. changes nothing lent": x where refusal n does not stand (n is 0), else that refusal, with what was lent as it was
+-- "A refusal .. changes nothing lent": x where refusal n does not stand (n is 0), else that refusal, with what was lent
+-- as it was
 abbrev pub unless : {A : Type 0} → ℕ → (ℕ → A) → A → A
 unless n kept x = pick (eqb n 0) x (kept (replied n 0))
 
@@ -79,7 +82,7 @@ short k out = pick (ltb (length out) k) 15 0
 unfoldable pub sheetGiven : (sheet out : List ℕ) → Given
 sheetGiven l out =
     unless (numberOf (readSheet l .answer)) (kept out)
-    (unless (short 192 out) (kept out)
+    (unless (short sheetOut out) (kept out)
     (given (valueOf (readSheet l .answer)) (layoutPut (readSheet l .layout) out)))
 
 -- 1 where the layout of a sheet fits, else 0; refusals 3 to 8
@@ -139,7 +142,7 @@ stepLeft a out =
 unfoldable pub runLeft : (area : List ℕ) (n : ℕ) (out : List ℕ) → Left
 runLeft a n out =
     unless (numberOf (ran a n .answer)) (bothKept a out)
-    (unless (short 48 out) (bothKept a out)
+    (unless (short runOut out) (bothKept a out)
     (left (ran a n .steps) (ran a n .octets) (runPut (ran a n .words) (ran a n .ended) out)))
 
 -- the refusal of n bit times, 1, 2 or 13, whatever output is lent; that a step and a run have it is in CallLaws
@@ -156,5 +159,5 @@ frameGiven a i out = codeGiven (frameRead a i out)
 unfoldable pub countersGiven : (area : List ℕ) (i : ℕ) (out : List ℕ) → Given
 countersGiven a i out =
     unless (numberOf (countersRead a i .answer)) (kept out)
-    (unless (short 64 out) (kept out)
+    (unless (short countersOut out) (kept out)
     (given 0 (putWords counterCount out 0 (countersRead a i .words))))

@@ -1,6 +1,7 @@
-// Each call of the model on numbers and lent octets, as the C interface hands it out: it answers one 32-bit number. 0x80000000 + n is
-// refusal n, anything below is the answer. With a refusal every lent slice keeps what it held. What is written into `out` is said at each
-// function of wisavulome.h, in words of four octets, high octet first; octets past what is written stay.
+// Each call of the model on numbers and lent octets, as the C interface hands it out: it answers one 32-bit number.
+// 0x80000000 + n is refusal n, anything below is the answer. With a refusal every lent slice keeps what it held. What
+// is written into `out` is said at each function of wisavulome.h, in words of four octets, high octet first; octets
+// past what is written stay.
 
 use bus_read::Reading;
 use sheet_layout::Layout;
@@ -10,11 +11,14 @@ ghost use lib.Dec.{eqb};
 ghost use Rattle.octets.specs.Base.{pick, numberOf};
 ghost use Rattle.c_words.specs.Answers.{replied, valueOf};
 ghost use Rattle.bus_read.specs.Read.{readAnswer};
-ghost use Rattle.c_calls.specs.Calls.{given, left, sheetGiven, fitsGiven, buildGiven, statusGiven, clientGiven, drawnGiven, startGiven, offerGiven, stepLeft, timeRefusal, frameGiven, countersGiven};
+ghost use Rattle.c_calls.specs.Calls.{given, left, sheetGiven, fitsGiven, buildGiven, statusGiven, clientGiven};
+ghost use Rattle.c_calls.specs.Calls.{drawnGiven, startGiven, offerGiven, stepLeft, timeRefusal, frameGiven};
+ghost use Rattle.c_calls.specs.Calls.{countersGiven};
+ghost use Rattle.sheet_layout.specs.Limits.{maxStations};
 
 // A fresh start on a layout, with the octets of its draws.
 fn start_drawn(area: &mut [u8], y: Layout, depth: u32, draws: &[u8]) -> u32
-    requires { ⌜ y .count ≤ 16 ⌝ }
+    requires { ⌜ y .count ≤ maxStations ⌝ }
     ensures { λ r. ⌜ given r (now (area .exit)) ≡ drawnGiven (now (area .entry)) y depth (now (draws .entry)) ⌝ }
 {
     if octets::out_of(depth, 1, 16) {
@@ -85,7 +89,7 @@ pub fn read_sheet(sheet: &[u8], out: &mut [u8]) -> u32
     if number != 0 {
         return c_words::numbers::reply(number, 0);
     }
-    if out.len() < 192 {
+    if out.len() < c_words::SHEET_OUT {
         return c_words::numbers::reply(15, 0);
     }
     let y = front.layout;
@@ -113,7 +117,8 @@ pub fn fits(sheet: &[u8]) -> u32
 
 // Builds a frame: its octets. Refusals 11, 15.
 pub fn build(destination: u64, source: u64, value: u16, payload: &[u8], out: &mut [u8]) -> u32
-    ensures { λ r. ⌜ given r (now (out .exit)) ≡ buildGiven destination source value (now (payload .entry)) (now (out .entry)) ⌝ }
+    ensures { λ r. ⌜ given r (now (out .exit))
+        ≡ buildGiven destination source value (now (payload .entry)) (now (out .entry)) ⌝ }
 {
     let d = c_words::numbers::address(destination);
     let s = c_words::numbers::address(source);
@@ -154,7 +159,8 @@ pub fn client_data(frame: &[u8], excess: u32, out: &mut [u8]) -> u32
 
 // A fresh start: 0. Refusals 1, 3 to 8, 9.
 pub fn start(area: &mut [u8], sheet: &[u8], depth: u32, draws: &[u8]) -> u32
-    ensures { λ r. ⌜ given r (now (area .exit)) ≡ startGiven (now (area .entry)) (now (sheet .entry)) depth (now (draws .entry)) ⌝ }
+    ensures { λ r. ⌜ given r (now (area .exit))
+        ≡ startGiven (now (area .entry)) (now (sheet .entry)) depth (now (draws .entry)) ⌝ }
 {
     if area.len() < area::AREA {
         return c_words::numbers::reply(1, 0);
@@ -171,7 +177,8 @@ pub fn start(area: &mut [u8], sheet: &[u8], depth: u32, draws: &[u8]) -> u32
 
 // Offers a frame to a station: 0. Refusals 1, 2, 10, 11, 12.
 pub fn offer(area: &mut [u8], station: u32, destination: u64, value: u16, payload: &[u8]) -> u32
-    ensures { λ r. ⌜ given r (now (area .exit)) ≡ offerGiven (now (area .entry)) station destination value (now (payload .entry)) ⌝ }
+    ensures { λ r. ⌜ given r (now (area .exit))
+        ≡ offerGiven (now (area .entry)) station destination value (now (payload .entry)) ⌝ }
 {
     let d = c_words::numbers::address(destination);
     let done = bus_offer::offer(area, station as usize, d, value, payload);
@@ -204,7 +211,7 @@ pub fn read_frame(area: &[u8], station: u32, out: &mut [u8]) -> u32
     c_words::numbers::reply(read_number(g), read_size(g))
 }
 
-// The sixteen counters of a station: 0. Refusals 1, 2, 10, 15.
+// The counters of a station: 0. Refusals 1, 2, 10, 15.
 pub fn counters(area: &[u8], station: u32, out: &mut [u8]) -> u32
     ensures { λ r. ⌜ given r (now (out .exit)) ≡ countersGiven (now (area .entry)) station (now (out .entry)) ⌝ }
 {
@@ -214,7 +221,7 @@ pub fn counters(area: &[u8], station: u32, out: &mut [u8]) -> u32
     if number != 0 {
         return c_words::numbers::reply(number, 0);
     }
-    if out.len() < 64 {
+    if out.len() < c_words::COUNTERS_OUT {
         return c_words::numbers::reply(15, 0);
     }
     let words = c.words;

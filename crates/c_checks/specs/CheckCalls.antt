@@ -1,5 +1,5 @@
--- The C interface: the calls that only look. A reception's status, checks 1 and 2 of a work area, checks 5 to 8 of a layout, and a run input
--- as it is read. The laws are in CheckCallLaws. Assumes nothing.
+-- The C interface: the calls that only look. A reception's status, checks 1 and 2 of a work area, checks 5 to 8 of a
+-- layout, and a run input as it is read. The laws are in CheckCallLaws. Assumes nothing.
 use Prim.Native.Nat.{ℕ, _+_, _*_}
 use mathlib.Core.Bool.{not}
 use mathlib.Core.List.{List, [], _∷_}
@@ -17,7 +17,7 @@ use Rattle.sheet_layout.specs.Check.{refusalOf}
 use Rattle.frame_open.specs.Open.{opened}
 use Rattle.area_check.specs.Valid.{areaRefusal}
 use Rattle.plan_read.specs.Plan.{Planned, planRead}
-use Rattle.c_words.specs.Answers.{replied, layoutPut}
+use Rattle.c_words.specs.Answers.{replied, layoutPut, planOut, sheetOut}
 use Rattle.c_calls.specs.Calls.{codeOf, Given, given, unless, kept, short}
 
 -- ---- a reception
@@ -34,7 +34,7 @@ areaGiven a = replied (areaRefusal a) 0
 
 -- ---- a layout, as `layoutPut` writes one
 
--- the six figures, in the first six words
+-- the figures: in the first six words, and the last one after the stations
 unfoldable pub figuresWritten : List ℕ → Figures
 figuresWritten l =
     record {
@@ -44,6 +44,7 @@ figuresWritten l =
       jam = get 4 l 12;
       limit = get 4 l 16;
       backoff = get 4 l 20;
+      ends = get 4 l 192;
     }
 
 -- place i: a station's position, 4 octets, and its address, 6
@@ -54,9 +55,9 @@ tapWritten l i = record { position = get 4 l (32 + 10 * i); address = part l (36
 unfoldable pub layoutWritten : List ℕ → Layout
 layoutWritten l = record { figures = figuresWritten l; count = get 4 l 24; stations = placesOf (tapWritten l) 16 }
 
--- 0; refusals 3 (under 192 octets), 5 to 8
+-- 0; refusals 3 (short), 5 to 8
 unfoldable pub layoutGiven : (layout : List ℕ) → ℕ
-layoutGiven l = unless (pick (ltb (length l) 192) 3 0) (λ r. r) (replied (refusalOf (layoutWritten l)) 0)
+layoutGiven l = unless (pick (ltb (length l) sheetOut) 3 0) (λ r. r) (replied (refusalOf (layoutWritten l)) 0)
 
 -- ---- a run input
 
@@ -68,5 +69,5 @@ planWords r = r .depth ∷ r .drawn ∷ r .offers ∷ r .first ∷ r .times ∷ 
 unfoldable pub planGiven : (input out : List ℕ) → Given
 planGiven l out =
     unless (numberOf (planRead l .answer)) (kept out)
-    (unless (short 212 out) (kept out)
-    (given 0 (putWords 5 (layoutPut (planRead l .layout) out) 192 (planWords (planRead l)))))
+    (unless (short planOut out) (kept out)
+    (given 0 (putWords 5 (layoutPut (planRead l .layout) out) sheetOut (planWords (planRead l)))))

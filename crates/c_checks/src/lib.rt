@@ -1,5 +1,5 @@
-// The calls of the C interface that only look: a reception's status, the checks of a work area and of a layout, and a run input as it is
-// read. Replies are as in `c_calls`.
+// The calls of the C interface that only look: a reception's status, the checks of a work area and of a layout, and a
+// run input as it is read. Replies are as in `c_calls`.
 
 use plan_read::Plan;
 use plan_read::Verdict;
@@ -13,7 +13,10 @@ ghost use Rattle.octets.specs.Base.{numberOf};
 ghost use Rattle.sheet_layout.specs.Layout.{placesOf};
 ghost use Rattle.plan_read.specs.Plan.{verdictAnswer, planReading};
 ghost use Rattle.c_calls.specs.Calls.{given};
-ghost use Rattle.c_checks.specs.CheckCalls.{receptionGiven, areaGiven, figuresWritten, tapWritten, layoutWritten, layoutGiven, planWords, planGiven};
+ghost use Rattle.c_checks.specs.CheckCalls.{receptionGiven, areaGiven, figuresWritten, tapWritten, layoutWritten};
+ghost use Rattle.c_checks.specs.CheckCalls.{layoutGiven, planWords, planGiven};
+ghost use Rattle.sheet_layout.specs.Limits.{maxStations};
+ghost use Rattle.c_words.specs.Answers.{sheetOut};
 
 // The status of a reception: 0 to 5. Refusal 5.
 pub fn reception_status(frame: &[u8], excess: u32, spoiled: u32) -> u32
@@ -34,9 +37,9 @@ pub fn check_area(area: &[u8]) -> u32
     c_words::numbers::reply(number, 0)
 }
 
-// The six figures, each in a word.
+// The figures, each in a word; the last stands after the stations.
 fn read_figures(s: &[u8]) -> Figures
-    requires { ⌜ 192 ≤ length (now s) ⌝ }
+    requires { ⌜ sheetOut ≤ length (now s) ⌝ }
     ensures { λ r. ⌜ r ≡ figuresWritten (now (s .entry)) ⌝ }
 {
     let slot = octets_words::get32(s, 0);
@@ -45,6 +48,7 @@ fn read_figures(s: &[u8]) -> Figures
     let jam = octets_words::get32(s, 12);
     let limit = octets_words::get32(s, 16);
     let backoff = octets_words::get32(s, 20);
+    let ends = octets_words::get32(s, 192);
     Figures {
         slot,
         gap1,
@@ -52,12 +56,13 @@ fn read_figures(s: &[u8]) -> Figures
         jam,
         limit,
         backoff,
+        ends,
     }
 }
 
 // The station at place i.
 fn read_tap(s: &[u8], i: usize) -> Tap
-    requires { ⌜ (i < 16) × (192 ≤ length (now s)) ⌝ }
+    requires { ⌜ (i < maxStations) × (sheetOut ≤ length (now s)) ⌝ }
     ensures { λ r. ⌜ r ≡ tapWritten (now (s .entry)) i ⌝ }
 {
     let address = octets_copies::six(s, 36 + 10 * i);
@@ -67,7 +72,7 @@ fn read_tap(s: &[u8], i: usize) -> Tap
 
 // All sixteen places.
 fn read_taps(s: &[u8]) -> [Tap; 16]
-    requires { ⌜ 192 ≤ length (now s) ⌝ }
+    requires { ⌜ sheetOut ≤ length (now s) ⌝ }
     ensures { λ r. ⌜ r ≡ placesOf (tapWritten (now (s .entry))) 16 ⌝ }
 {
     let blank = Tap {
@@ -76,7 +81,7 @@ fn read_taps(s: &[u8]) -> [Tap; 16]
     };
     let mut all = [blank; 16];
     let mut i: usize = 0;
-    while i < 16 {
+    while i < sheet_layout::MAX_STATIONS {
         let t = read_tap(s, i);
         all[i] = t;
         i += 1;
@@ -86,7 +91,7 @@ fn read_taps(s: &[u8]) -> [Tap; 16]
 
 // A layout as `c_tables::write_layout` writes one.
 fn read_layout(s: &[u8]) -> Layout
-    requires { ⌜ 192 ≤ length (now s) ⌝ }
+    requires { ⌜ sheetOut ≤ length (now s) ⌝ }
     ensures { λ r. ⌜ r ≡ layoutWritten (now (s .entry)) ⌝ }
 {
     let figures = read_figures(s);
@@ -103,7 +108,7 @@ fn read_layout(s: &[u8]) -> Layout
 pub fn check_layout(layout: &[u8]) -> u32
     ensures { λ r. ⌜ r ≡ layoutGiven (now (layout .entry)) ⌝ }
 {
-    if layout.len() < 192 {
+    if layout.len() < c_words::SHEET_OUT {
         return c_words::numbers::reply(3, 0);
     }
     let y = read_layout(layout);
@@ -139,12 +144,12 @@ pub fn read_plan(input: &[u8], out: &mut [u8]) -> u32
     if number != 0 {
         return c_words::numbers::reply(number, 0);
     }
-    if out.len() < 212 {
+    if out.len() < c_words::PLAN_OUT {
         return c_words::numbers::reply(15, 0);
     }
     let y = p.layout;
     let words = plan_words(p);
     c_tables::write_layout(out, y);
-    octets_words::store_words(out, 192, &words);
+    octets_words::store_words(out, c_words::SHEET_OUT, &words);
     0
 }

@@ -10,7 +10,10 @@ ghost use Prim.Native.Nat.{_+_, _*_, _<_, _≤_};
 ghost use lib.ListN.{length};
 ghost use Rattle.octets.specs.Words.{putWords};
 ghost use Rattle.c_words.specs.Answers.{layoutWords, tapPut, tapsPut, layoutPut, eventsPut};
+ghost use Rattle.c_words.specs.Answers.{countersOut, runOut, sheetOut};
 ghost use Rattle.c_tables.specs.RunWords.{endedWords, runPut};
+ghost use Rattle.sheet_layout.specs.Limits.{maxStations};
+ghost use Rattle.station_state.specs.State.{counterCount};
 
 // Slot, gap1, gap2, jam, attempt limit, backoff limit, N, and whether the layout fits.
 fn layout_words(y: Layout) -> [u32; 8]
@@ -31,7 +34,7 @@ fn layout_words(y: Layout) -> [u32; 8]
 }
 
 fn write_tap(out: &mut [u8], i: usize, position: u32, address: [u8; 6])
-    requires { ⌜ (i < 16) × (192 ≤ length (now out)) ⌝ }
+    requires { ⌜ (i < maxStations) × (sheetOut ≤ length (now out)) ⌝ }
     ensures { λ r. ⌜ now (out .exit) ≡ tapPut position address i (now (out .entry)) ⌝ }
 {
     octets_words::put32(out, 32 + 10 * i, position);
@@ -40,11 +43,11 @@ fn write_tap(out: &mut [u8], i: usize, position: u32, address: [u8; 6])
 
 // All sixteen places.
 fn write_taps(out: &mut [u8], taps: [Tap; 16])
-    requires { ⌜ 192 ≤ length (now out) ⌝ }
+    requires { ⌜ sheetOut ≤ length (now out) ⌝ }
     ensures { λ r. ⌜ now (out .exit) ≡ tapsPut taps 16 (now (out .entry)) ⌝ }
 {
     let mut i: usize = 0;
-    while i < 16 {
+    while i < sheet_layout::MAX_STATIONS {
         let t = taps[i];
         let address = t.address;
         write_tap(out, i, t.position, address);
@@ -53,13 +56,14 @@ fn write_taps(out: &mut [u8], taps: [Tap; 16])
 }
 
 pub fn write_layout(out: &mut [u8], y: Layout)
-    requires { ⌜ 192 ≤ length (now out) ⌝ }
+    requires { ⌜ sheetOut ≤ length (now out) ⌝ }
     ensures { λ r. ⌜ now (out .exit) ≡ layoutPut y (now (out .entry)) ⌝ }
 {
     let words = layout_words(y);
     let taps = y.stations;
     octets_words::store_words(out, 0, &words);
     write_taps(out, taps);
+    octets_words::put32(out, 192, y.figures.ends);
 }
 
 // Four words for each of the sixteen stations.
@@ -68,7 +72,7 @@ pub fn write_events(out: &mut [u8], events: [Events; 16])
     ensures { λ r. ⌜ now (out .exit) ≡ eventsPut events 16 (now (out .entry)) ⌝ }
 {
     let mut i: usize = 0;
-    while i < 16 {
+    while i < sheet_layout::MAX_STATIONS {
         let e = events[i];
         let words = numbers::event_words(e);
         octets_words::store_words(out, 16 * i, &words);
@@ -76,10 +80,10 @@ pub fn write_events(out: &mut [u8], events: [Events; 16])
     }
 }
 
-// The sixteen counters of a station.
-pub fn write_counters(out: &mut [u8], words: [u32; 16])
-    requires { ⌜ 64 ≤ length (now out) ⌝ }
-    ensures { λ r. ⌜ now (out .exit) ≡ putWords 16 (now (out .entry)) 0 words ⌝ }
+// The counters of a station.
+pub fn write_counters(out: &mut [u8], words: [u32; station_state::COUNTERS])
+    requires { ⌜ countersOut ≤ length (now out) ⌝ }
+    ensures { λ r. ⌜ now (out .exit) ≡ putWords counterCount (now (out .entry)) 0 words ⌝ }
 {
     octets_words::store_words(out, 0, &words);
 }
@@ -94,12 +98,12 @@ fn ended_words(e: Ended) -> [u32; 3]
     }
 }
 
-// The nine words of a run, and how it ended.
-pub fn write_run(out: &mut [u8], words: [u32; 9], ended: Ended)
-    requires { ⌜ 48 ≤ length (now out) ⌝ }
+// The event words of a run, and how it ended.
+pub fn write_run(out: &mut [u8], words: [u32; station_tally::WORDS], ended: Ended)
+    requires { ⌜ runOut ≤ length (now out) ⌝ }
     ensures { λ r. ⌜ now (out .exit) ≡ runPut words ended (now (out .entry)) ⌝ }
 {
     let last = ended_words(ended);
     octets_words::store_words(out, 0, &words);
-    octets_words::store_words(out, 36, &last);
+    octets_words::store_words(out, 4 * station_tally::WORDS, &last);
 }

@@ -1,5 +1,5 @@
--- What a caller of the run program's calls may rely on: a reply with bit 31 is a refusal, and what was lent is then as it was.
--- Assumes nothing.
+-- What a caller of the run program's calls may rely on: a reply with bit 31 is a refusal, and what was lent is then as
+-- it was. Assumes nothing.
 use Prim.Native.Nat.{ℕ, _≤_}
 use mathlib.Core.Path.{_≡_, refl, _∙_, ap}
 use mathlib.Core.List.{List, _++_}
@@ -16,7 +16,8 @@ use Rattle.report_spec.specs.Pieces.{Hand, moveRefusal, advancedOn, advanced, b
 use Rattle.report_whole.specs.Print.{printedInto}
 use Rattle.c_words.specs.Answers.{refusalBit, replied, valueOf}
 use Rattle.c_calls.specs.CallTheorems.{BothKept}
-use Rattle.c_text.specs.TextCalls.{progressWords, progressIn, progressPut, Lent, handLent, begunLent, advancedLent, printFront, printLeft}
+use Rattle.c_text.specs.TextCalls.{progressWords, progressIn, progressPut, Lent, handLent, begunLent}
+use Rattle.c_text.specs.TextCalls.{advancedLent, printFront, printLeft}
 use Rattle.c_text.specs.TextCallLaws.{Small, begun-small, advanced-small}
 use Rattle.area.specs.Offsets.{areaSize}
 
@@ -31,9 +32,11 @@ hand-kept : (a p o : List ℕ) (y : Hand) → Small (y .answer) → Same a o y �
 unfolding replied progressPut
 hand-kept a p o y s k h =
     by-eq (numberOf (y .answer)) 0
-    (λ e. let z : refusalBit ≤ valueOf (y .answer) = rw (eq-eqb (numberOf (y .answer)) 0 e) at h in absurd (omega (arith, s .1)))
+    (λ e. let z : refusalBit ≤ valueOf (y .answer) = rw (eq-eqb (numberOf (y .answer)) 0 e) at h
+    in absurd (omega (arith, s .1)))
     (λ e. let w = k e in
-    let q : pick (eqb (numberOf (y .answer)) 0) (putWords 4 p 0 (progressWords (y .progress))) p ≡ p = rw (ne-eqb (numberOf (y .answer)) 0 e) in
+    let q : pick (eqb (numberOf (y .answer)) 0) (putWords 4 p 0 (progressWords (y .progress))) p
+    ≡ p = rw (ne-eqb (numberOf (y .answer)) 0 e) in
     (w .0, q, w .1))
 
 begun-same : (l a o : List ℕ) → Same a o (begun l a o)
@@ -44,7 +47,8 @@ begun-same l a o =
 
 on-same : (l a o : List ℕ) (g : Progress) → Same a o (advancedOn l a o g)
 unfolding advancedOn
-on-same l a o g = by-test (eqb (moveRefusal l a (length o) g) 0) (λ p. rw p (λ h. absurd (h refl))) (λ p. rw p (λ h. (refl, refl)))
+on-same l a o g =
+    by-test (eqb (moveRefusal l a (length o) g) 0) (λ p. rw p (λ h. absurd (h refl))) (λ p. rw p (λ h. (refl, refl)))
 
 advanced-same : (l a o : List ℕ) (g : Progress) → Same a o (advanced l a o g)
 unfolding advanced
@@ -63,9 +67,11 @@ pub advance-keeps : (l a p o : List ℕ) → AllKept a p o (advancedLent l a p o
 unfolding advancedLent
 advance-keeps l a p o =
     by-test (ltb (length p) 16) (λ q. rw q (λ h. (refl, refl, refl)))
-    (λ q. rw q (hand-kept a p o (advanced (take 16384 l) a o (progressIn p)) (advanced-small (take 16384 l) a o (progressIn p)) (advanced-same (take 16384 l) a o (progressIn p))))
+    (λ q. rw q (hand-kept a p o (advanced (take 16384 l) a o (progressIn p))
+    (advanced-small (take 16384 l) a o (progressIn p)) (advanced-same (take 16384 l) a o (progressIn p))))
 
-front-keeps : (l a x o : List ℕ) → length x ≤ 2147483647 → x ++ drop 2147483647 o ≡ o → BothKept a o (printFront o (printedInto l a x))
+front-keeps : (l a x o : List ℕ) → length x ≤ 2147483647 → x ++ drop 2147483647 o ≡ o
+    → BothKept a o (printFront o (printedInto l a x))
 unfolding printedInto replied
 front-keeps l a x o m e =
     by-test (ltb (length a) areaSize) (λ p. rw p (λ h. (refl, e)))
@@ -74,4 +80,5 @@ front-keeps l a x o m e =
 
 pub print-keeps : (l a o : List ℕ) → BothKept a o (printLeft l a o)
 unfolding printLeft
-print-keeps l a o = front-keeps l a (take 2147483647 o) o (omega (arith, length-take 2147483647 o)) (take-append-drop 2147483647 o)
+print-keeps l a o =
+    front-keeps l a (take 2147483647 o) o (omega (arith, length-take 2147483647 o)) (take-append-drop 2147483647 o)

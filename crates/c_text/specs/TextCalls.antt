@@ -1,5 +1,6 @@
--- The C interface of the run program: what is printed for an input, piece by piece or the whole, and what the calls leave in the octets lent
--- to them. Where a run stands is lent as four words, p. The laws are in TextCallLaws. Assumes nothing.
+-- The C interface of the run program: what is printed for an input, piece by piece or the whole, and what the calls
+-- leave in the octets lent to them. Where a run stands is lent as four words, p. The laws are in TextCallLaws. Assumes
+-- nothing.
 use Prim.Native.Nat.{ℕ}
 use mathlib.Core.Bool.{not}
 use mathlib.Core.List.{List, [], _∷_, _++_}
@@ -18,7 +19,8 @@ use Rattle.c_calls.specs.Calls.{codeOf, Left, left}
 
 -- ---- where a run stands
 
--- the octet of the input at which the next offer begins, the offers left, the bit times left, and 1 where the last line is handed out
+-- the octet of the input at which the next offer begins, the offers left, the bit times left, and 1 where the last line
+-- is handed out
 unfoldable pub progressWords : Progress → List ℕ
 progressWords g = g .at ∷ g .offers ∷ g .times ∷ pick (g .ended) 1 0 ∷ []
 
@@ -48,7 +50,8 @@ handLent h p = lent (codeOf (h .answer)) (h .octets) (progressPut (h .answer) (h
 
 -- the first piece; refusals 1, 15
 unfoldable pub begunLent : List ℕ → (a p o : List ℕ) → Lent
-begunLent l a p o = pick (ltb (length p) 16) (lent (replied (pick (ltb (length a) areaSize) 1 15) 0) a p o) (handLent (begun l a o) p)
+begunLent l a p o =
+    pick (ltb (length p) 16) (lent (replied (pick (ltb (length a) areaSize) 1 15) 0) a p o) (handLent (begun l a o) p)
 
 -- no plan has more octets, and of a longer input no more are looked at
 abbrev pub planOctets : ℕ

@@ -1,5 +1,6 @@
-// The run program's calls on numbers and lent octets, as the C interface hands them out: what is printed for an input, piece by piece or the
-// whole. Replies are as in `c_calls`. Where a run stands is lent as 16 octets: four words, high octet first.
+// The run program's calls on numbers and lent octets, as the C interface hands them out: what is printed for an input,
+// piece by piece or the whole. Replies are as in `c_calls`. Where a run stands is lent as 16 octets: four words, high
+// octet first.
 
 use report_spec::Handed;
 use report_spec::Piece;
@@ -13,9 +14,10 @@ ghost use Rattle.octets.specs.Number.{put};
 ghost use Rattle.octets.specs.Words.{putWords};
 ghost use Rattle.area_check.specs.Valid.{areaRefusal};
 ghost use Rattle.report_spec.specs.Pieces.{pieceAnswer};
-ghost use Rattle.c_words.specs.Answers.{replied, valueOf};
+ghost use Rattle.c_words.specs.Answers.{replied, valueOf, maxRefusal};
 ghost use Rattle.c_calls.specs.Calls.{codeOf, given, left};
-ghost use Rattle.c_text.specs.TextCalls.{progressWords, progressIn, progressPut, lent, begunLent, advancedLent, printLeft};
+ghost use Rattle.c_text.specs.TextCalls.{progressWords, progressIn, progressPut, lent, begunLent, advancedLent};
+ghost use Rattle.c_text.specs.TextCalls.{printLeft};
 
 // The octets of a place, four of them, high octet first.
 fn put_place(s: &mut [u8], at: usize, v: usize)
@@ -84,8 +86,10 @@ fn piece_size(p: Piece) -> u32
 
 // What a call replies that hands out a piece; where the run stands is written, unless it is a refusal.
 fn hand_over(h: Handed, progress: &mut [u8]) -> u32
-    requires { ⌜ (16 ≤ length (now progress)) × (numberOf (pieceAnswer (h .piece)) ≤ 16) × (valueOf (pieceAnswer (h .piece)) < 4294967296) ⌝ }
-    ensures { λ r. ⌜ given r (now (progress .exit)) ≡ given (codeOf (pieceAnswer (h .piece))) (progressPut (pieceAnswer (h .piece)) (h .progress) (now (progress .entry))) ⌝ }
+    requires { ⌜ (16 ≤ length (now progress)) × (numberOf (pieceAnswer (h .piece)) ≤ maxRefusal)
+        × (valueOf (pieceAnswer (h .piece)) < 4294967296) ⌝ }
+    ensures { λ r. ⌜ given r (now (progress .exit))
+        ≡ given (codeOf (pieceAnswer (h .piece))) (progressPut (pieceAnswer (h .piece)) (h .progress) (now (progress .entry))) ⌝ }
 {
     let piece = h.piece;
     let number = piece_number(piece);
@@ -107,7 +111,8 @@ fn at_most(n: usize, most: usize) -> usize
 
 // The first piece of what is printed for an input: its octets, and where the run stands. Refusals 1, 15.
 pub fn begin(input: &[u8], area: &mut [u8], progress: &mut [u8], out: &mut [u8]) -> u32
-    ensures { λ r. ⌜ lent r (now (area .exit)) (now (progress .exit)) (now (out .exit)) ≡ begunLent (now (input .entry)) (now (area .entry)) (now (progress .entry)) (now (out .entry)) ⌝ }
+    ensures { λ r. ⌜ lent r (now (area .exit)) (now (progress .exit)) (now (out .exit))
+        ≡ begunLent (now (input .entry)) (now (area .entry)) (now (progress .entry)) (now (out .entry)) ⌝ }
 {
     if progress.len() < 16 {
         if area.len() < area::AREA {
@@ -132,7 +137,8 @@ fn refuse_place(area: &[u8]) -> u32
 
 // The next piece: its octets, and where the run stands after it. Refusals 1, 2, 13, 15, 16.
 pub fn advance(input: &[u8], area: &mut [u8], progress: &mut [u8], out: &mut [u8]) -> u32
-    ensures { λ r. ⌜ lent r (now (area .exit)) (now (progress .exit)) (now (out .exit)) ≡ advancedLent (now (input .entry)) (now (area .entry)) (now (progress .entry)) (now (out .entry)) ⌝ }
+    ensures { λ r. ⌜ lent r (now (area .exit)) (now (progress .exit)) (now (out .exit))
+        ≡ advancedLent (now (input .entry)) (now (area .entry)) (now (progress .entry)) (now (out .entry)) ⌝ }
 {
     if progress.len() < 16 {
         return refuse_place(area);
@@ -145,7 +151,8 @@ pub fn advance(input: &[u8], area: &mut [u8], progress: &mut [u8], out: &mut [u8
 
 // The whole text of an input: its octets. Refusals 1, 15.
 pub fn print(input: &[u8], area: &mut [u8], out: &mut [u8]) -> u32
-    ensures { λ r. ⌜ left r (now (area .exit)) (now (out .exit)) ≡ printLeft (now (input .entry)) (now (area .entry)) (now (out .entry)) ⌝ }
+    ensures { λ r. ⌜ left r (now (area .exit)) (now (out .exit))
+        ≡ printLeft (now (input .entry)) (now (area .entry)) (now (out .entry)) ⌝ }
 {
     let end = at_most(out.len(), 2147483647);
     let piece = report_whole::print(input, area, &mut out[0..end]);

@@ -1,6 +1,6 @@
--- The answers of the calls as numbers, and the words that are written into a lent output: of four octets, high octet first. The laws are in
--- AnswersLaws. Assumes nothing.
-use Prim.Native.Nat.{ℕ, _+_, _*_}
+-- The answers of the calls as numbers, and the words that are written into a lent output: of four octets, high octet
+-- first. The laws are in AnswersLaws. Assumes nothing.
+use Prim.Native.Nat.{ℕ, _+_, _*_, _-_}
 use mathlib.Core.List.{List, [], _∷_}
 use lib.Dec.{eqb}
 use lib.ListN.{getD}
@@ -13,18 +13,44 @@ use Rattle.sheet_layout.specs.declared.Layout.{Layout}
 use Rattle.sheet_layout.specs.declared.Tap.{Tap}
 use Rattle.sheet_layout.specs.Fit.{fitOf}
 use Rattle.station_receive.specs.declared.ReceiveEvent.{ReceiveEvent}
-use Rattle.station_receive.specs.declared.ReceiveEvent.the-variants.{NoReceive, GotOk, GotTooLong, GotAlignment, GotCheck, GotLength}
+use Rattle.station_receive.specs.declared.ReceiveEvent.the-variants.{NoReceive, GotOk, GotTooLong, GotAlignment}
+use Rattle.station_receive.specs.declared.ReceiveEvent.the-variants.{GotCheck, GotLength}
 use Rattle.station_transmit.specs.declared.TransmitEvent.{TransmitEvent}
 use Rattle.station_transmit.specs.declared.TransmitEvent.the-variants.{NoTransmit, Collision, Late, Sent, GivenUp}
+use Rattle.station_transmit.specs.declared.TransmitEvent.the-variants.{LateEnded}
 use Rattle.bus_start.specs.Fresh.{tapIn}
 use Rattle.bus_spec.specs.declared.Events.{Events}
 use Rattle.bus_spec.specs.BitTime.{eventAt}
+use Rattle.station_tally.specs.Words.{transmitWord, transmitValue, receiveWord, receiveValue, lastTransmit, wordCount}
+use Rattle.station_state.specs.State.{counterCount}
+use Rattle.sheet_layout.specs.Limits.{maxStations}
+
+-- ---- the octets of the outputs
+
+-- a layout: eight words, the sixteen places, and the late-end field
+abbrev pub sheetOut : ℕ
+sheetOut = 196
+
+-- what a run input says: its layout, and five words
+abbrev pub planOut : ℕ
+planOut = sheetOut + 20
+
+-- a run: its event words, and three words of how it ended
+abbrev pub runOut : ℕ
+runOut = 4 * wordCount + 12
+
+abbrev pub countersOut : ℕ
+countersOut = 4 * counterCount
 
 -- ---- the number that a call returns
 
 -- bit 31, set in a refusal
 abbrev pub refusalBit : ℕ
 refusalBit = 2147483648
+
+-- the highest number of a refusal
+abbrev pub maxRefusal : ℕ
+maxRefusal = 16
 
 -- refusal n, or where n is 0 the value
 unfoldable pub replied : (n value : ℕ) → ℕ
@@ -57,9 +83,9 @@ tapPut p d i out = sets (put 4 out (32 + 10 * i) p) (36 + 10 * i) d
 unfoldable pub tapsPut : List Tap → ℕ → List ℕ → List ℕ
 tapsPut ts n out = turns (λ i x. tapPut (tapIn ts i .position) (tapIn ts i .address) i x) n out
 
--- the eight words, and after them the sixteen places
+-- the eight words, after them the sixteen places, and last the late-end field
 unfoldable pub layoutPut : Layout → List ℕ → List ℕ
-layoutPut y out = tapsPut (y .stations) 16 (putWords 8 out 0 (layoutWords y))
+layoutPut y out = put 4 (tapsPut (y .stations) maxStations (putWords 8 out 0 (layoutWords y))) 192 (y .figures .ends)
 
 -- ---- client data
 
@@ -69,43 +95,13 @@ clientWords r = pick (eqb (valueOf r) 5) 14 0 ∷ getD (valuesOf r) 1 0 ∷ []
 
 -- ---- events
 
--- a station's transmit event as a number
-abbrev pub sentCode : TransmitEvent → ℕ
-sentCode NoTransmit = 0
-sentCode (Collision k) = 1
-sentCode (Late k) = 2
-sentCode (Sent n) = 3
-sentCode (GivenUp n) = 4
-
--- "`collision` or `late` with the bit, `sent` or `given-up` with attempts"
-abbrev pub sentNumber : TransmitEvent → ℕ
-sentNumber NoTransmit = 0
-sentNumber (Collision k) = k
-sentNumber (Late k) = k
-sentNumber (Sent n) = n
-sentNumber (GivenUp n) = n
-
--- "`got` with ok, too-long, alignment, check or length"
+-- the code of a receive event: its place among theirs
 abbrev pub gotCode : ReceiveEvent → ℕ
-gotCode NoReceive = 0
-gotCode (GotOk n) = 1
-gotCode (GotTooLong n) = 2
-gotCode (GotAlignment n) = 3
-gotCode (GotCheck n) = 4
-gotCode (GotLength n) = 5
-
--- "and octets"
-abbrev pub gotNumber : ReceiveEvent → ℕ
-gotNumber NoReceive = 0
-gotNumber (GotOk n) = n
-gotNumber (GotTooLong n) = n
-gotNumber (GotAlignment n) = n
-gotNumber (GotCheck n) = n
-gotNumber (GotLength n) = n
+gotCode e = receiveWord e - lastTransmit
 
 -- "transmit comes before receive"
 unfoldable pub eventWords : Events → List ℕ
-eventWords e = sentCode (e .sent) ∷ sentNumber (e .sent) ∷ gotCode (e .got) ∷ gotNumber (e .got) ∷ []
+eventWords e = transmitWord (e .sent) ∷ transmitValue (e .sent) ∷ gotCode (e .got) ∷ receiveValue (e .got) ∷ []
 
 -- the first n stations' events, four words each
 unfoldable pub eventsPut : List Events → ℕ → List ℕ → List ℕ

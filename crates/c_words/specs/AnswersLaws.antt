@@ -1,6 +1,7 @@
--- The numbers that answers become, and what is written into the lent output: a law for each way through that code. Assumes nothing.
+-- The numbers that answers become, and what is written into the lent output: a law for each way through that code.
+-- Assumes nothing.
 use Prim.Native.Nat.{ℕ, _+_, _-_, _*_, _/_, _%_, _≤_, _<_}
-use mathlib.Core.Path.{_≡_, refl, _∙_}
+use mathlib.Core.Path.{_≡_, refl, _∙_, ap}
 use mathlib.Core.List.{List, [], _∷_}
 use native.Mathlib.Omega.{arith}
 use borrow.Author.Tests.{eq-eqb, ne-eqb}
@@ -26,7 +27,12 @@ use Rattle.frame_open.specs.Open.{statusAnswer}
 use Rattle.bus_start.specs.Fresh.{tapIn}
 use Rattle.bus_spec.specs.declared.Events.{Events}
 use Rattle.bus_spec.specs.BitTime.{eventAt}
-use Rattle.c_words.specs.Answers.{replied, valueOf, layoutWords, tapPut, tapsPut, layoutPut, clientWords, sentCode, sentNumber, gotCode, gotNumber, eventWords, eventsPut}
+use Rattle.station_receive.specs.declared.ReceiveEvent.{ReceiveEvent}
+use Rattle.station_state.specs.State.{counterCount}
+use Rattle.station_tally.specs.Words.{transmitWord, transmitValue, receiveWord, receiveValue, lastTransmit}
+use Rattle.c_words.specs.Answers.{replied, valueOf, layoutWords, tapPut, tapsPut, layoutPut, clientWords, gotCode}
+use Rattle.c_words.specs.Answers.{eventWords, eventsPut}
+use Rattle.sheet_layout.specs.Limits.{maxStations}
 
 -- ---- answers in numbers
 
@@ -56,7 +62,8 @@ sheet-cast s n p h = rw p at h
 pub built-cast : (b : Built) (n : ℕ) → b ≡ builds.Made n → valueOf (builtAnswer b) < 4294967296 → n < 4294967296
 built-cast b n p h = rw p at h
 
-pub client-cast : (s : ReceiveStatus) (n : ℕ) → s ≡ opens.ReceiveOk n → getD (valuesOf (statusAnswer s)) 1 0 < 4294967296 → n < 4294967296
+pub client-cast : (s : ReceiveStatus) (n : ℕ) → s ≡ opens.ReceiveOk n
+    → getD (valuesOf (statusAnswer s)) 1 0 < 4294967296 → n < 4294967296
 client-cast s n p h = rw p at h
 
 module _ (s : ReceiveStatus) where
@@ -88,7 +95,14 @@ module _ (s : ReceiveStatus) where
   unfolding clientWords
   client-ok n p = rw p
 
-pub events-are : (e : Events) (a b c d : ℕ) → d ≡ gotNumber (e .got) → c ≡ gotCode (e .got) → b ≡ sentNumber (e .sent) → a ≡ sentCode (e .sent)
+pub got-none : (e : ReceiveEvent) (w : ℕ) → w ≡ receiveWord e → w ≤ lastTransmit → 0 ≡ gotCode e
+got-none e w p h = omega arith
+
+pub got-some : (e : ReceiveEvent) (w : ℕ) → w ≡ receiveWord e → lastTransmit < w → w - lastTransmit ≡ gotCode e
+got-some e w p h = ap (λ (k : ℕ). k - lastTransmit) p
+
+pub events-are : (e : Events) (a b c d : ℕ) → d ≡ receiveValue (e .got) → c ≡ gotCode (e .got)
+    → b ≡ transmitValue (e .sent) → a ≡ transmitWord (e .sent)
     → a ∷ b ∷ c ∷ d ∷ [] ≡ eventWords e
 unfolding eventWords
 events-are e a b c d p q r s = rw (p, q, r, s)
@@ -96,36 +110,44 @@ events-are e a b c d p q r s = rw (p, q, r, s)
 -- ---- what is written
 
 pub layout-are : (y : Layout) (f : Fit) (v : ℕ) → v ≡ valueOf (fitAnswer f) → fitAnswer f ≡ fitOf y
-    → y .figures .slot ∷ y .figures .gap1 ∷ y .figures .gap2 ∷ y .figures .jam ∷ y .figures .limit ∷ y .figures .backoff ∷ y .count ∷ v ∷ [] ≡ layoutWords y
+    → y .figures .slot ∷ y .figures .gap1 ∷ y .figures .gap2 ∷ y .figures .jam ∷ y .figures .limit ∷ y .figures .backoff
+    ∷ y .count ∷ v ∷ [] ≡ layoutWords y
 unfolding layoutWords
 layout-are y f v p q = rw (p, q)
 
 module _ (a b : List ℕ) where
-  pub tap-put : (x : List ℕ) (p : ℕ) (d : List ℕ) (i : ℕ) → b ≡ sets x (36 + 10 * i) d → x ≡ put 4 a (32 + 10 * i) p → b ≡ tapPut p d i a
+  pub tap-put : (x : List ℕ) (p : ℕ) (d : List ℕ) (i : ℕ) → b ≡ sets x (36 + 10 * i) d → x ≡ put 4 a (32 + 10 * i) p
+      → b ≡ tapPut p d i a
   unfolding tapPut
   tap-put x p d i e f = e ∙ rw f
 
-  pub taps-more : (ts : List Tap) (i : ℕ) (x : List ℕ) (t : Tap) → b ≡ tapPut (t .position) (t .address) i x → t ≡ tapIn ts i → x ≡ tapsPut ts i a
+  pub taps-more : (ts : List Tap) (i : ℕ) (x : List ℕ) (t : Tap) → b ≡ tapPut (t .position) (t .address) i x
+      → t ≡ tapIn ts i → x ≡ tapsPut ts i a
       → b ≡ tapsPut ts (i + 1) a
   unfolding tapsPut
-  taps-more ts i x t p q r = turns-more (λ j z. tapPut (tapIn ts j .position) (tapIn ts j .address) j z) i a x b (p ∙ rw q) r
+  taps-more ts i x t p q r =
+      turns-more (λ j z. tapPut (tapIn ts j .position) (tapIn ts j .address) j z) i a x b (p ∙ rw q) r
 
-  pub taps-end : (ts : List Tap) (i : ℕ) → i ≤ 16 → 16 ≤ i → b ≡ tapsPut ts i a → b ≡ tapsPut ts 16 a
+  pub taps-end : (ts : List Tap) (i : ℕ) → i ≤ maxStations → 16 ≤ i → b ≡ tapsPut ts i a → b ≡ tapsPut ts 16 a
   taps-end ts i p q r = let e : i ≡ 16 = omega arith in rw e at r
 
-  pub layout-put : (x ws : List ℕ) (y : Layout) → b ≡ tapsPut (y .stations) 16 x → x ≡ putWords (length ws) a 0 ws → ws ≡ layoutWords y → b ≡ layoutPut y a
+  pub layout-put : (x z ws : List ℕ) (y : Layout) → b ≡ put 4 z 192 (y .figures .ends) → z ≡ tapsPut (y .stations) 16 x
+      → x ≡ putWords (length ws) a 0 ws → ws ≡ layoutWords y → b ≡ layoutPut y a
   unfolding layoutPut layoutWords
-  layout-put x ws y p q r = p ∙ rw (q, r)
+  layout-put x z ws y p s q r = p ∙ rw (s, q, r)
 
-  pub events-more : (es : List Events) (i : ℕ) (x ws : List ℕ) (e : Events) → b ≡ putWords (length ws) x (16 * i) ws → ws ≡ eventWords e → e ≡ eventAt es i → x ≡ eventsPut es i a
+  pub events-more : (es : List Events) (i : ℕ) (x ws : List ℕ) (e : Events) → b ≡ putWords (length ws) x (16 * i) ws
+      → ws ≡ eventWords e → e ≡ eventAt es i → x ≡ eventsPut es i a
       → b ≡ eventsPut es (i + 1) a
   unfolding eventsPut eventWords
-  events-more es i x ws e p q s r = turns-more (λ j z. putWords 4 z (16 * j) (eventWords (eventAt es j))) i a x b (p ∙ rw (q, s)) r
+  events-more es i x ws e p q s r =
+      turns-more (λ j z. putWords 4 z (16 * j) (eventWords (eventAt es j))) i a x b (p ∙ rw (q, s)) r
 
-  pub events-end : (es : List Events) (i : ℕ) → i ≤ 16 → 16 ≤ i → b ≡ eventsPut es i a → b ≡ eventsPut es 16 a
+  pub events-end : (es : List Events) (i : ℕ) → i ≤ maxStations → 16 ≤ i → b ≡ eventsPut es i a → b ≡ eventsPut es 16 a
   events-end es i p q r = let e : i ≡ 16 = omega arith in rw e at r
 
-  pub words-put : (ws : List ℕ) → b ≡ putWords (length ws) a 0 ws → length ws ≡ 16 → b ≡ putWords 16 a 0 ws
+  pub words-put : (ws : List ℕ) → b ≡ putWords (length ws) a 0 ws → length ws ≡ counterCount
+      → b ≡ putWords counterCount a 0 ws
   words-put ws p h = rw h at p
 
 pub taps-none : (ts : List Tap) (a : List ℕ) → a ≡ tapsPut ts 0 a

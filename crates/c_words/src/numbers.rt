@@ -17,14 +17,14 @@ ghost use Rattle.sheet_read.specs.Sheet.{sheetAnswer};
 ghost use Rattle.frame_build.specs.Build.{builtAnswer};
 ghost use Rattle.frame_open.specs.Open.{statusAnswer};
 ghost use Rattle.octets.specs.Base.{doneAnswer, numberOf, valuesOf};
-ghost use Rattle.c_words.specs.Answers.{replied, valueOf, clientWords, sentCode, sentNumber, gotCode, gotNumber, eventWords};
+ghost use Rattle.c_words.specs.Answers.{replied, valueOf, clientWords, gotCode, eventWords, maxRefusal};
 
 // Set in a reply that is a refusal.
 const REFUSAL: u32 = 0x8000_0000;
 
 // What a call returns: the refusal's number with bit 31, or with none the value.
 pub fn reply(number: u32, value: u32) -> u32
-    requires { ⌜ number ≤ 16 ⌝ }
+    requires { ⌜ number ≤ maxRefusal ⌝ }
     ensures { λ r. ⌜ r ≡ replied number value ⌝ }
 {
     if number == 0 {
@@ -162,54 +162,15 @@ pub fn status_words(s: ReceiveStatus) -> [u32; 2]
     }
 }
 
-fn sent_code(e: TransmitEvent) -> u32
-    ensures { λ r. ⌜ r ≡ sentCode e ⌝ }
-{
-    match e {
-        TransmitEvent::NoTransmit => 0,
-        TransmitEvent::Collision(_) => 1,
-        TransmitEvent::Late(_) => 2,
-        TransmitEvent::Sent(_) => 3,
-        TransmitEvent::GivenUp(_) => 4,
-    }
-}
-
-fn sent_number(e: TransmitEvent) -> u32
-    ensures { λ r. ⌜ r ≡ sentNumber e ⌝ }
-{
-    match e {
-        TransmitEvent::NoTransmit => 0,
-        TransmitEvent::Collision(n) => n,
-        TransmitEvent::Late(n) => n,
-        TransmitEvent::Sent(n) => n,
-        TransmitEvent::GivenUp(n) => n,
-    }
-}
-
+// The code of a receive event: its place among theirs.
 fn got_code(e: ReceiveEvent) -> u32
     ensures { λ r. ⌜ r ≡ gotCode e ⌝ }
 {
-    match e {
-        ReceiveEvent::NoReceive => 0,
-        ReceiveEvent::GotOk(_) => 1,
-        ReceiveEvent::GotTooLong(_) => 2,
-        ReceiveEvent::GotAlignment(_) => 3,
-        ReceiveEvent::GotCheck(_) => 4,
-        ReceiveEvent::GotLength(_) => 5,
+    let w = station_tally::receive_word(e);
+    if w <= station_tally::LAST_TRANSMIT {
+        return 0;
     }
-}
-
-fn got_number(e: ReceiveEvent) -> u32
-    ensures { λ r. ⌜ r ≡ gotNumber e ⌝ }
-{
-    match e {
-        ReceiveEvent::NoReceive => 0,
-        ReceiveEvent::GotOk(n) => n,
-        ReceiveEvent::GotTooLong(n) => n,
-        ReceiveEvent::GotAlignment(n) => n,
-        ReceiveEvent::GotCheck(n) => n,
-        ReceiveEvent::GotLength(n) => n,
-    }
+    w - station_tally::LAST_TRANSMIT
 }
 
 // A station's events as four words: transmit event and its number, receive event and its number.
@@ -218,9 +179,9 @@ pub fn event_words(e: Events) -> [u32; 4]
 {
     let sent = e.sent;
     let got = e.got;
-    let transmit = sent_code(sent);
-    let transmit_number = sent_number(sent);
+    let transmit = station_tally::transmit_word(sent);
+    let transmit_number = station_tally::transmit_value(sent);
     let receive = got_code(got);
-    let receive_number = got_number(got);
+    let receive_number = station_tally::receive_value(got);
     [transmit, transmit_number, receive, receive_number]
 }

@@ -1,11 +1,13 @@
-// The C interface: every call of the model as a function on numbers and lent octets. It returns one 32-bit number: 0x80000000 + n is
-// refusal n, anything below is the answer (crc32: all 32 bits). With a refusal every lent slice keeps what it held. What is written into
-// `out` is said at each function of wisavulome.h, in words of four octets, high octet first; octets past what is written stay.
+// The C interface: every call of the model as a function on numbers and lent octets. It returns one 32-bit number:
+// 0x80000000 + n is refusal n, anything below is the answer (crc32: all 32 bits). With a refusal every lent slice keeps
+// what it held. What is written into `out` is said at each function of wisavulome.h, in words of four octets, high
+// octet first; octets past what is written stay.
 
 ghost use mathlib.Core.Path.{_≡_};
 ghost use Prim.Native.Nat.{_<_};
 ghost use Rattle.frame_crc.specs.Crc.{crcOf};
-ghost use Rattle.c_calls.specs.Calls.{given, left, sheetGiven, fitsGiven, buildGiven, statusGiven, clientGiven, startGiven, offerGiven, stepLeft, runLeft, frameGiven, countersGiven};
+ghost use Rattle.c_calls.specs.Calls.{given, left, sheetGiven, fitsGiven, buildGiven, statusGiven, clientGiven};
+ghost use Rattle.c_calls.specs.Calls.{startGiven, offerGiven, stepLeft, runLeft, frameGiven, countersGiven};
 ghost use Rattle.c_checks.specs.CheckCalls.{receptionGiven, areaGiven, layoutGiven, planGiven};
 ghost use Rattle.c_text.specs.TextCalls.{lent, begunLent, advancedLent, printLeft};
 
@@ -50,7 +52,8 @@ pub extern "C" fn wisavulome_build(
     payload: &[u8],
     out: &mut [u8],
 ) -> u32
-    ensures { λ r. ⌜ given r (now (out .exit)) ≡ buildGiven destination source value (now (payload .entry)) (now (out .entry)) ⌝ }
+    ensures { λ r. ⌜ given r (now (out .exit))
+        ≡ buildGiven destination source value (now (payload .entry)) (now (out .entry)) ⌝ }
 {
     c_calls::build(destination, source, value, payload, out)
 }
@@ -82,7 +85,8 @@ pub extern "C" fn wisavulome_client_data(frame: &[u8], excess: u32, out: &mut [u
 // A fresh start: 0. Refusals 1, 3 to 8, 9.
 #[no_mangle]
 pub extern "C" fn wisavulome_start(area: &mut [u8], sheet: &[u8], depth: u32, draws: &[u8]) -> u32
-    ensures { λ r. ⌜ given r (now (area .exit)) ≡ startGiven (now (area .entry)) (now (sheet .entry)) depth (now (draws .entry)) ⌝ }
+    ensures { λ r. ⌜ given r (now (area .exit))
+        ≡ startGiven (now (area .entry)) (now (sheet .entry)) depth (now (draws .entry)) ⌝ }
 {
     c_calls::start(area, sheet, depth, draws)
 }
@@ -104,7 +108,8 @@ pub extern "C" fn wisavulome_offer(
     value: u16,
     payload: &[u8],
 ) -> u32
-    ensures { λ r. ⌜ given r (now (area .exit)) ≡ offerGiven (now (area .entry)) station destination value (now (payload .entry)) ⌝ }
+    ensures { λ r. ⌜ given r (now (area .exit))
+        ≡ offerGiven (now (area .entry)) station destination value (now (payload .entry)) ⌝ }
 {
     c_calls::offer(area, station, destination, value, payload)
 }
@@ -122,7 +127,7 @@ pub extern "C" fn wisavulome_step(area: &mut [u8], out: &mut [u8]) -> u32
 pub extern "C" fn wisavulome_run(area: &mut [u8], n: u32, out: &mut [u8]) -> u32
     ensures { λ r. ⌜ left r (now (area .exit)) (now (out .exit)) ≡ runLeft (now (area .entry)) n (now (out .entry)) ⌝ }
 {
-    if out.len() < 48 {
+    if out.len() < c_words::RUN_OUT {
         return c_calls::refuse_short(area, n);
     }
     let a = fast_run::run(area, n);
@@ -142,7 +147,7 @@ pub extern "C" fn wisavulome_run(area: &mut [u8], n: u32, out: &mut [u8]) -> u32
 pub extern "C" fn wisavulome_run_stepwise(area: &mut [u8], n: u32, out: &mut [u8]) -> u32
     ensures { λ r. ⌜ left r (now (area .exit)) (now (out .exit)) ≡ runLeft (now (area .entry)) n (now (out .entry)) ⌝ }
 {
-    if out.len() < 48 {
+    if out.len() < c_words::RUN_OUT {
         return c_calls::refuse_short(area, n);
     }
     let a = bus_run::run(area, n);
@@ -165,7 +170,7 @@ pub extern "C" fn wisavulome_read_frame(area: &[u8], station: u32, out: &mut [u8
     c_calls::read_frame(area, station, out)
 }
 
-// The sixteen counters of a station: 0. Refusals 1, 2, 10, 15.
+// The counters of a station: 0. Refusals 1, 2, 10, 15.
 #[no_mangle]
 pub extern "C" fn wisavulome_counters(area: &[u8], station: u32, out: &mut [u8]) -> u32
     ensures { λ r. ⌜ given r (now (out .exit)) ≡ countersGiven (now (area .entry)) station (now (out .entry)) ⌝ }
@@ -181,7 +186,8 @@ pub extern "C" fn wisavulome_begin(
     progress: &mut [u8],
     out: &mut [u8],
 ) -> u32
-    ensures { λ r. ⌜ lent r (now (area .exit)) (now (progress .exit)) (now (out .exit)) ≡ begunLent (now (input .entry)) (now (area .entry)) (now (progress .entry)) (now (out .entry)) ⌝ }
+    ensures { λ r. ⌜ lent r (now (area .exit)) (now (progress .exit)) (now (out .exit))
+        ≡ begunLent (now (input .entry)) (now (area .entry)) (now (progress .entry)) (now (out .entry)) ⌝ }
 {
     c_text::begin(input, area, progress, out)
 }
@@ -194,7 +200,8 @@ pub extern "C" fn wisavulome_advance(
     progress: &mut [u8],
     out: &mut [u8],
 ) -> u32
-    ensures { λ r. ⌜ lent r (now (area .exit)) (now (progress .exit)) (now (out .exit)) ≡ advancedLent (now (input .entry)) (now (area .entry)) (now (progress .entry)) (now (out .entry)) ⌝ }
+    ensures { λ r. ⌜ lent r (now (area .exit)) (now (progress .exit)) (now (out .exit))
+        ≡ advancedLent (now (input .entry)) (now (area .entry)) (now (progress .entry)) (now (out .entry)) ⌝ }
 {
     c_text::advance(input, area, progress, out)
 }
@@ -202,7 +209,8 @@ pub extern "C" fn wisavulome_advance(
 // All that is printed for a run input: its octets. Refusals 1, 15.
 #[no_mangle]
 pub extern "C" fn wisavulome_print(input: &[u8], area: &mut [u8], out: &mut [u8]) -> u32
-    ensures { λ r. ⌜ left r (now (area .exit)) (now (out .exit)) ≡ printLeft (now (input .entry)) (now (area .entry)) (now (out .entry)) ⌝ }
+    ensures { λ r. ⌜ left r (now (area .exit)) (now (out .exit))
+        ≡ printLeft (now (input .entry)) (now (area .entry)) (now (out .entry)) ⌝ }
 {
     c_text::print(input, area, out)
 }

@@ -1,6 +1,6 @@
--- Lists of calls on one work area (document 01, "Demand 3, word by word"): "The list holds, in any order and number, offers, single
--- steps, runs and readings of a received frame, all on one work area, refused ones among them. .. Each call gets the area as the call
--- before left it, and nobody else writes there". Assumes nothing.
+-- Lists of calls on one work area (document 01, "Demand 3, word by word"): "The list holds, in any order and number,
+-- offers, single steps, runs and readings of a received frame, all on one work area, refused ones among them. .. Each
+-- call gets the area as the call before left it, and nobody else writes there". Assumes nothing.
 use Prim.Native.Nat.{ℕ, zero, suc, _+_, _<_}
 use mathlib.Core.Path.{_≡_}
 use mathlib.Core.Bool.{Bool}
@@ -15,7 +15,7 @@ use Rattle.station_symbols.specs.declared.Heard.{Heard}
 use Rattle.station_symbols.specs.declared.Heard.the-variants.{Nothing}
 use Rattle.station_receive.specs.declared.ReceiveEvent.{ReceiveEvent}
 use Rattle.station_transmit.specs.declared.TransmitEvent.{TransmitEvent}
-use Rattle.station_transmit.specs.declared.TransmitEvent.the-variants.{Sent, GivenUp}
+use Rattle.station_transmit.specs.declared.TransmitEvent.the-variants.{Sent, GivenUp, LateEnded}
 use Rattle.area.specs.Area.{clockAt, addressAt, arrivalAt}
 use Rattle.bus_spec.specs.BitTime.{actAt, eventsAt, stepArea, eventAt}
 use Rattle.bus_offer.specs.Offer.{offered}
@@ -46,9 +46,9 @@ abbrev pub AllFair : List Call → Type 0
 AllFair [] = Unit {0}
 AllFair (c ∷ cs) = Fair c × AllFair cs
 
--- The area between two calls, and beside it, of each station: how many offers it has accepted, the frame of the last of them ("what the
--- builder makes of its destination, value and data, with the offering station's own address as source"), and the steps in which that
--- frame has started.
+-- The area between two calls, and beside it, of each station: how many offers it has accepted, the frame of the last of
+-- them ("what the builder makes of its destination, value and data, with the offering station's own address as
+-- source"), and the steps in which that frame has started.
 pub record Moment : Type 0 where
   pub area : List ℕ
   pub offers : ℕ → ℕ
@@ -135,7 +135,7 @@ gotAt T u j = eventAt (eventsAt (momentAt T u .area)) j .got
 
 -- an event that ends a frame, with the attempts that it carries
 abbrev pub Ends : TransmitEvent → ℕ → Type 0
-Ends v n = (v ≡ Sent n) ⊎ (v ≡ GivenUp n)
+Ends v n = (v ≡ Sent n) ⊎ ((v ≡ GivenUp n) ⊎ (v ≡ LateEnded n))
 
 -- what station j hears in it
 abbrev pub hearsAt : List Moment → (u j : ℕ) → Heard

@@ -7,4 +7,5 @@ pub mod Calls
 pub mod Traced
 pub mod Demand3
 pub mod Theorem
+pub mod Closing
 pub mod Two

@@ -20,7 +20,8 @@ use Rattle.station_state.specs.declared.Transmitter.the-variants.{NoFrame}
 use Rattle.station_state.specs.declared.Station.{Station}
 use Rattle.area.specs.Area.{depthAt, drawAt, figuresAt, countAt, positionAt, addressAt, distance, spaceAt, bufferAt}
 use Rattle.bus_start.specs.Fresh.{tapIn, fresh}
-use Rattle.bus_start.specs.FreshLaws.{Formed, fresh-clock, fresh-count, fresh-figures, fresh-position, fresh-address, fresh-arrival}
+use Rattle.bus_start.specs.FreshLaws.{Formed, fresh-clock, fresh-count, fresh-figures, fresh-position, fresh-address}
+use Rattle.bus_start.specs.FreshLaws.{fresh-arrival}
 use Rattle.bus_spec.specs.Ready.{Readiness}
 use Rattle.bus_spec.specs.Passes.{Passing, rise}
 use Rattle.bus_offer.specs.OfferLaws.{address-six}
@@ -32,8 +33,9 @@ use Rattle.bus_meeting.specs.Gather.{gathered-none}
 use Rattle.trace.specs.Run as run
 use Rattle.delivery.specs.Passing.{freshStation, start-station, start-passing}
 use Rattle.delivery.specs.Encode.{Plan, Encodes}
-use Rattle.area.specs.Offsets.{areaSize}
+use Rattle.area.specs.Offsets.{areaSize, from, theBuffer}
 use Rattle.frame_build.specs.Limits.{bufferOctets}
+use Rattle.sheet_layout.specs.Limits.{maxPosition, maxDraws, maxStations}
 
 abbrev pub netOf : List ℕ → Net
 netOf b =
@@ -56,7 +58,8 @@ pub record Laid (y : Layout) (b : List ℕ) : Type 0 where
   pub count : countAt b ≡ y .count
   pub figures : figuresAt b ≡ y .figures
   pub address : (i : ℕ) → i < y .count → addressAt b i ≡ lay.addressAt y i
-  pub space : (i j : ℕ) → i < y .count → j < y .count → spaceAt b i j ≡ distance (lay.positionAt y i) (lay.positionAt y j)
+  pub space : (i j : ℕ) → i < y .count → j < y .count
+      → spaceAt b i j ≡ distance (lay.positionAt y i) (lay.positionAt y j)
 
 -- an address of six octets, in each place that is counted
 pub record Proper (y : Layout) : Type 0 where
@@ -98,7 +101,7 @@ module _ (b : List ℕ) (v : Passing b) where
         depth = r .depth .0;
         address = λ i h. address-six b i (omega arith) (r .long);
         wide = o;
-        room = λ i h. omega (arith, length-part b (32768 + 1536 * i) bufferOctets (omega (arith, r .long)));
+        room = λ i h. omega (arith, length-part b (from (theBuffer i)) bufferOctets (omega (arith, r .long)));
         metric = record {
           symm = dist-symm b;
           tri = dist-tri b;
@@ -115,15 +118,16 @@ silent P j u =
     gathered-none (P .n) _
     (λ i l. by-test (eqb i j) (λ e. rw e) (λ e. by-test (leb (P .d i j) u) (λ c. rw (e, c)) (λ c. rw (e, c))))
 
-position-low : (y : Layout) → refusalOf y ≡ 0 → (i : ℕ) → i < y .count → tapIn (y .stations) i .position ≤ 255
+position-low : (y : Layout) → refusalOf y ≡ 0 → (i : ℕ) → i < y .count → tapIn (y .stations) i .position ≤ maxPosition
 unfolding lay.tapAt
 position-low y ok i h = sound y ok .position i h
 
 fresh-same : (p q : List ℕ) → p ≡ q → freshStation p ≡ freshStation q
 fresh-same p q e = ap freshStation e
 
-module _ (y : Layout) (d : ℕ) (ds : List (List ℕ)) (a : List ℕ) (big : areaSize ≤ length a) (ok : refusalOf y ≡ 0) (low : 1 ≤ d) (high : d ≤ 16) (w : Proper y) where
-  few : y .count ≤ 16
+module _ (y : Layout) (d : ℕ) (ds : List (List ℕ)) (a : List ℕ) (big : areaSize ≤ length a) (ok : refusalOf y ≡ 0)
+    (low : 1 ≤ d) (high : d ≤ maxDraws) (w : Proper y) where
+  few : y .count ≤ maxStations
   few = sound y ok .count .1
 
   passing : Passing (fresh y d ds a)
@@ -177,10 +181,12 @@ module _ (y : Layout) (d : ℕ) (ds : List (List ℕ)) (a : List ℕ) (big : are
         time = fresh-clock y d ds a big few high (w .six);
         state = λ i hi.
             let k : i < y .count = omega (arith, count-there) in
-            start-station y d ds a big ok low high (w .six) i k ∙ fresh-same (lay.addressAt y i) (addressAt (fresh y d ds a) i) (sym (address-there i k));
+            start-station y d ds a big ok low high (w .six) i k
+            ∙ fresh-same (lay.addressAt y i) (addressAt (fresh y d ds a) i) (sym (address-there i k));
         buffers = λ i hi. refl;
         frames = λ i hi h. absurd (true≢false (sym h));
         ends = λ i s l. refl;
         line = λ j u hj lo hi.
-            fresh-arrival y d ds a big few high (w .six) j u (omega (arith, count-there, few)) ∙ sym (silent (netOf (fresh y d ds a)) j u);
+            fresh-arrival y d ds a big few high (w .six) j u (omega (arith, count-there, few))
+            ∙ sym (silent (netOf (fresh y d ds a)) j u);
       }

@@ -1,5 +1,5 @@
--- Document 01's two stations: their sheet is read and fits, and a fresh start on it is accepted, so demand 3 holds of every list of calls
--- on them. Assumes nothing.
+-- Document 01's two stations: their sheet is read and fits, and a fresh start on it is accepted, so demand 3 holds of
+-- every list of calls on them. Assumes nothing.
 use Prim.Native.Nat.{ℕ, zero, suc, _<_}
 use mathlib.Core.Path.{_≡_, refl, sym}
 use mathlib.Core.Bool.{Bool, true, false, true≢false}
@@ -43,8 +43,10 @@ all (x ∷ l) = pick (leb x 255) (all l) false
 all-octets : (l : List ℕ) → all l ≡ true → (k : ℕ) → getD l k 0 < 256
 unfolding all
 all-octets [] h k = omega arith
-all-octets (x ∷ l) h zero = by-test (leb x 255) (λ c. let q = leb-true x 255 c in omega arith) (λ c. absurd (true≢false (sym (rw c at h))))
-all-octets (x ∷ l) h (suc k) = by-test (leb x 255) (λ c. all-octets l (rw c at h) k) (λ c. absurd (true≢false (sym (rw c at h))))
+all-octets (x ∷ l) h zero =
+    by-test (leb x 255) (λ c. let q = leb-true x 255 c in omega arith) (λ c. absurd (true≢false (sym (rw c at h))))
+all-octets (x ∷ l) h (suc k) =
+    by-test (leb x 255) (λ c. all-octets l (rw c at h) k) (λ c. absurd (true≢false (sym (rw c at h))))
 
 two-octets : Octets two
 unfolding two all
@@ -70,5 +72,6 @@ two-starts : started blank (readSheet two .layout) 1 draws .answer ≡ accepted 
 unfolding started outside
 two-starts = rw (le-ltb (length blank) areaSize (omega (arith, blank-long)), two-passes) refl
 
-pub two-demand : (cs : List Call) → AllFair cs → Demand3For (readSheet two .layout) (started blank (readSheet two .layout) 1 draws .octets) cs
+pub two-demand : (cs : List Call) → AllFair cs
+    → Demand3For (readSheet two .layout) (started blank (readSheet two .layout) 1 draws .octets) cs
 two-demand cs fair = demand-3 two two-octets 16 two-read blank 1 draws two-starts cs fair two-fits

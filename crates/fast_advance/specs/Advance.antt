@@ -11,7 +11,8 @@ use Rattle.bus_spec.specs.Run.{runOf}
 use Rattle.bus_spec.specs.Until.{untilEvent}
 use Rattle.bus_spec.specs.UntilLaws.{plus}
 
--- b is what r steps leave of a, none of which has an event: a run counts nothing in them, and a stretch until an event goes on past them
+-- b is what r steps leave of a, none of which has an event: a run counts nothing in them, and a stretch until an event
+-- goes on past them
 pub record Quiet (r : ℕ) (a b : List ℕ) : Type 0 where
   pub ready : Readiness b
   pub time : clockAt b ≡ clockAt a + r

@@ -1,4 +1,5 @@
--- A law for each way through the code that goes on; what follows of it for a run and for steps until an event. Assumes nothing.
+-- A law for each way through the code that goes on; what follows of it for a run and for steps until an event. Assumes
+-- nothing.
 use Prim.Native.Nat.{ℕ, zero, suc, _+_, _-_, _*_, _≤_, _<_}
 use mathlib.Core.Path.{_≡_, refl, sym, _∙_, ap, subst}
 use mathlib.Core.Bool.{Bool, true, false, true≢false}
@@ -9,7 +10,7 @@ use lib.ListN.{replicate, getD}
 use Rattle.octets.specs.Base.{accepted}
 use Rattle.octets.specs.Filled.{blank-at}
 use Rattle.octets.specs.Turns.{turns}
-use Rattle.station_tally.specs.Tally.{sentCounted, gotCounted, isLate}
+use Rattle.station_tally.specs.Tally.{counted}
 use Rattle.station_tally.specs.TallyLaws.{Bounded}
 use Rattle.area.specs.Area.{clockAt}
 use Rattle.bus_spec.specs.declared.Events.{Events}
@@ -29,7 +30,8 @@ use Rattle.fast_silence.specs.Bound.{silentFor, silent-most, skipped, silence-r
 use Rattle.fast_heard.specs.Hearing.{planOf}
 use Rattle.fast_window.specs.Window.{Passed}
 use Rattle.fast_advance.specs.Advance.{Quiet, Leap, Advance, quiet, stepped, Leapt, Advanced}
-use Rattle.sheet_layout.specs.Limits.{lastClock}
+use Rattle.sheet_layout.specs.Limits.{lastClock, maxStations}
+use Rattle.station_tally.specs.Words.{endsRun}
 
 -- ---- many steps at once
 
@@ -88,7 +90,8 @@ module _ (left : ℕ) (a : List ℕ) (h : Runnable left a) where
     window-quiet z k x p ne =
         let early : clockAt b + k ≤ lastClock = omega (arith, unmoved-room z, p .within) in
         let rd : Readiness b = rw (unmoved z) (h .0) in
-        let w : Planned b (planOf b) k (steps k b) = plan-happens b (planOf b) k rd early (calm-holds b (planOf b) k (p .calm)) in
+        let w : Planned b (planOf b) k (steps k b) = plan-happens b (planOf b) k rd early
+        (calm-holds b (planOf b) k (p .calm)) in
         subst (λ (y : List ℕ). Quiet k y x) (unmoved z)
         (subst (Quiet k b) (sym (p .made))
         (record {
@@ -144,17 +147,21 @@ module _ (n t r : ℕ) (es : List Events) (a b : List ℕ) where
 
   -- ---- until an event
 
-  module _ (R : Stretched) (h : Runnable (n - t) a) (lt : t < n) (le : r ≤ n - t) (p : plus t (untilEvent (n - t) a) ≡ R) where
-    pub until-hit : Advanced r es a b → (c : Bool) → c ≡ eventful es → c ≡ true → record { steps = t + r; events = es; octets = b } ≡ R
+  module _ (R : Stretched) (h : Runnable (n - t) a) (lt : t < n) (le : r ≤ n - t)
+      (p : plus t (untilEvent (n - t) a) ≡ R) where
+    pub until-hit : Advanced r es a b → (c : Bool) → c ≡ eventful es → c ≡ true
+        → record { steps = t + r; events = es; octets = b } ≡ R
     unfolding Advanced
     until-hit (quiet ee q) c ec et = absurd (true≢false (sym et ∙ ec ∙ ap eventful ee ∙ none-eventful))
     until-hit (stepped er ee eb) c ec et = rw er (stretch-hit n t a R lt p es b c eb ee ec et)
 
-    pub until-on : Advanced r es a b → (c : Bool) → c ≡ eventful es → c ≡ false → plus (t + r) (untilEvent (n - (t + r)) b) ≡ R
+    pub until-on : Advanced r es a b → (c : Bool) → c ≡ eventful es → c ≡ false
+        → plus (t + r) (untilEvent (n - (t + r)) b) ≡ R
     unfolding Advanced
     until-on (quiet ee q) c ec et =
         let z : r + (n - (t + r)) ≡ n - t = omega arith in
-        twice (untilEvent (n - (t + r)) b) ∙ ap (plus t) (sym (q .until (n - (t + r))) ∙ ap (λ (k : ℕ). untilEvent k a) z) ∙ p
+        twice (untilEvent (n - (t + r)) b)
+        ∙ ap (plus t) (sym (q .until (n - (t + r))) ∙ ap (λ (k : ℕ). untilEvent k a) z) ∙ p
       where
         twice : (s : Stretched) → plus (t + r) s ≡ plus t (plus r s)
         twice s = λ i. record { steps = w (s .steps) i; events = s .events; octets = s .octets }
@@ -166,18 +173,19 @@ module _ (n t r : ℕ) (es : List Events) (a b : List ℕ) where
 -- ---- a run
 
 none-tallied : (n : ℕ) (ws : List ℕ) → tallied (replicate 16 noEvents) n ws ≡ ws
-unfolding tallied turns sentCounted gotCounted
+unfolding tallied turns counted
 none-tallied zero ws = refl
 none-tallied (suc n) ws = rw (blank-at 16 n noEvents) (none-tallied n ws)
 
 none-late : (i : ℕ) → lateAt (replicate 16 noEvents) i ≡ false
 unfolding lateAt
-none-late i = ap (λ (e : Events). isLate (e .sent)) (blank-at 16 i noEvents)
+none-late i = ap (λ (e : Events). endsRun (e .sent)) (blank-at 16 i noEvents)
 
 module _ (n t r : ℕ) (es : List Events) (a b ws vs : List ℕ) (R : Ran) (lt : t < n) (le : r ≤ n - t)
     (p : runOf (n - t) t ws a ≡ R) (ev : vs ≡ tallied es 16 ws) where
   -- no station has a late collision: the run goes on
-  pub run-goes-on : Advanced r es a b → (i : ℕ) → NoneLate es i → i ≤ 16 → 16 ≤ i → runOf (n - (t + r)) (t + r) vs b ≡ R
+  pub run-goes-on : Advanced r es a b → (i : ℕ) → NoneLate es i → i ≤ maxStations → 16 ≤ i
+      → runOf (n - (t + r)) (t + r) vs b ≡ R
   unfolding Advanced
   run-goes-on (quiet ee q) i h lo up =
       let z : r + (n - (t + r)) ≡ n - t = omega arith in
@@ -186,16 +194,19 @@ module _ (n t r : ℕ) (es : List Events) (a b ws vs : List ℕ) (R : Ran) (lt :
   run-goes-on (stepped er ee eb) i h lo up = rw er (run-searched n t ws a R es vs b i eb ee ev h lo up lt p)
 
   -- one has: the run ends
-  pub run-stops : Advanced r es a b → (i : ℕ) (e : Events) (c : Bool) (w : Ended) → c ≡ isLate (e .sent) → e ≡ eventAt es i → c ≡ true
-      → w ≡ how.Late (t + r - 1) i → NoneLate es i → i < 16
+  pub run-stops : Advanced r es a b → (i : ℕ) (e : Events) (c : Bool) (w : Ended) → c ≡ endsRun (e .sent)
+      → e ≡ eventAt es i → c ≡ true
+      → w ≡ how.Late (t + r - 1) i → NoneLate es i → i < maxStations
       → record { answer = accepted []; steps = t + r; words = vs; ended = w; octets = b } ≡ R
   unfolding Advanced lateAt
   run-stops (quiet ee q) i e c w ec eq et ew h hi =
-      absurd (true≢false (sym et ∙ ec ∙ ap (λ (x : Events). isLate (x .sent)) (eq ∙ ap (λ (x : List Events). eventAt x i) ee) ∙ none-late i))
+      absurd (true≢false (sym et ∙ ec ∙ ap (λ (x : Events). endsRun (x .sent))
+      (eq ∙ ap (λ (x : List Events). eventAt x i) ee) ∙ none-late i))
   run-stops (stepped er ee eb) i e c w ec eq et ew h hi =
       rw er (run-found es i e c ec eq n t ws a vs b R w et (rw er at ew) eb ee ev h hi lt p)
 
 -- the words have room
-pub run-bounded : (t r : ℕ) (es : List Events) (ws vs : List ℕ) → vs ≡ tallied es 16 ws → Bounded ws (32 * t) → 0 < r → Bounded vs (32 * (t + r))
+pub run-bounded : (t r : ℕ) (es : List Events) (ws vs : List ℕ) → vs ≡ tallied es 16 ws → Bounded ws (32 * t) → 0 < r
+    → Bounded vs (32 * (t + r))
 unfolding Bounded
 run-bounded t r es ws vs ev h pos j = rw ev (omega (arith, tallied-bounded es 16 (32 * t) ws h j))

@@ -14,7 +14,10 @@ fn has_event(e: Events) -> bool
 {
     let sent = e.sent;
     let got = e.got;
-    octets::either(bus_turn::is_transmit(sent), bus_turn::is_receive(got))
+    octets::either(
+        station_tally::is_transmit(sent),
+        station_tally::is_receive(got),
+    )
 }
 
 // Whether some station has an event.
@@ -22,7 +25,7 @@ fn is_eventful(events: [Events; 16]) -> bool
     ensures { λ r. ⌜ r ≡ eventful events ⌝ }
 {
     let mut i: usize = 0;
-    while i < 16 {
+    while i < sheet_layout::MAX_STATIONS {
         let e = events[i];
         if has_event(e) {
             return true;

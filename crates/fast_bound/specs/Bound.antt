@@ -1,5 +1,5 @@
--- How long a window may be: of a run of steps of one kind those in which a station starts nothing and reports nothing, or goes on emitting.
--- Assumes nothing.
+-- How long a window may be: of a run of steps of one kind those in which a station starts nothing and reports nothing,
+-- or goes on emitting. Assumes nothing.
 use Prim.Native.Nat.{ℕ, _+_, _≤_, _<_, min}
 use mathlib.Core.Path.{_≡_}
 use mathlib.Core.Bool.{Bool, true, false, not, _||_, _&&_}
@@ -11,7 +11,8 @@ use Rattle.station_symbols.specs.Packet.{hearsAny}
 use Rattle.station_state.specs.declared.Deference.{Deference}
 use Rattle.station_state.specs.declared.Deference.the-variants.{Quiet, Busy, Gap}
 use Rattle.station_state.specs.declared.Transmitter.{Transmitter}
-use Rattle.station_state.specs.declared.Transmitter.the-variants.{NoFrame, Waiting, BackingOff, Sending, Heading, Jamming}
+use Rattle.station_state.specs.declared.Transmitter.the-variants.{NoFrame, Waiting, BackingOff, Sending, Heading}
+use Rattle.station_state.specs.declared.Transmitter.the-variants.{Jamming}
 use Rattle.station_state.specs.declared.Receiver.{Receiver}
 use Rattle.station_state.specs.declared.Station.{Station}
 use Rattle.station_receive.specs.Receive.{bitsIn}
@@ -24,27 +25,42 @@ use Rattle.fast_silence.specs.Bound.{framesRest, idle}
 use Rattle.fast_station.specs.Forms.{heardDeference, heardRest, emitsFor}
 use Rattle.fast_heard.specs.declared.Near.{Near}
 use Rattle.fast_heard.specs.declared.Kind.{Kind}
-use Rattle.fast_heard.specs.declared.Kind.the-variants.{Silent, Line, From, Spoiled}
+use Rattle.fast_heard.specs.declared.Kind.the-variants.{Silent, Line, From, Mixed}
 use Rattle.fast_heard.specs.Hearing.{planOf, emitsAt, nearestOf, nearBit}
 use Rattle.fast_bound.specs.declared.Ahead.{Ahead}
 use Rattle.fast_bound.specs.Foresee.{Foreseen}
+use Rattle.frame_build.specs.Limits.{shortestFrame}
 
 -- ---- a station that emits nothing, by its deference, its transmitter and the most bits that it may have collected
 
--- "under 512 collected bits .. nothing": where nothing is heard a reception of fewer bits ends and reports nothing, and so does one that may not
--- report, b
+-- "under 512 collected bits .. nothing": where nothing is heard a reception of fewer bits ends and reports nothing, and
+-- so does one that may not report, b
 unfoldable pub restSteps : Figures → (m : ℕ) → Deference → Transmitter → (q : ℕ) → (b : Bool) → ℕ
-restSteps f m d x q b = pick (b || ltb q 512) (min m (framesRest f m d x)) 0
+restSteps f m d x q b = pick (b || ltb q shortestFrame) (min m (framesRest f m d x)) 0
 
 unfoldable pub hearSteps : Figures → (m : ℕ) → Deference → Transmitter → ℕ
 hearSteps f m d x = min m (heardRest f m d x)
 
 -- k steps in which nothing is heard, and k in which others are
 unfoldable pub restedTo : Figures → (k : ℕ) → Ahead → Ahead
-restedTo f k g = record { len = k; deference = restedDeference f k (g .deference); transmitter = restedTransmitter k (g .transmitter); bits = 0; harmless = false }
+restedTo f k g =
+    record {
+      len = k;
+      deference = restedDeference f k (g .deference);
+      transmitter = restedTransmitter k (g .transmitter);
+      bits = 0;
+      harmless = false;
+    }
 
 unfoldable pub heardTo : Figures → (k : ℕ) → Ahead → Ahead
-heardTo f k g = record { len = k; deference = heardDeference f k (g .deference); transmitter = restedTransmitter k (g .transmitter); bits = g .bits + k; harmless = g .harmless }
+heardTo f k g =
+    record {
+      len = k;
+      deference = heardDeference f k (g .deference);
+      transmitter = restedTransmitter k (g .transmitter);
+      bits = g .bits + k;
+      harmless = g .harmless;
+    }
 
 unfoldable pub restAhead : Figures → (m : ℕ) → Ahead → Ahead
 restAhead f m g = restedTo f (restSteps f m (g .deference) (g .transmitter) (g .bits) (g .harmless)) g
@@ -57,11 +73,18 @@ unfoldable pub ahead : Figures → Kind → (m : ℕ) → Ahead → Ahead
 ahead f Silent m g = restAhead f m g
 ahead f Line m g = hearAhead f m g
 ahead f From m g = hearAhead f m g
-ahead f Spoiled m g = hearAhead f m g
+ahead f Mixed m g = hearAhead f m g
 
 -- where it begins
 unfoldable pub aheadOf : Station → (b : Bool) → Ahead
-aheadOf s b = record { len = 0; deference = s .deference; transmitter = s .transmitter; bits = bitsIn (s .receiver); harmless = b }
+aheadOf s b =
+    record {
+      len = 0;
+      deference = s .deference;
+      transmitter = s .transmitter;
+      bits = bitsIn (s .receiver);
+      harmless = b;
+    }
 
 -- ---- a station that emits
 
@@ -77,7 +100,7 @@ sends Waiting = false
 sends (BackingOff w) = false
 sends (Sending k) = true
 sends (Heading k) = false
-sends (Jamming n) = false
+sends (Jamming n ends) = false
 
 -- nothing heard ends no reception of it, where q; others heard make no collision
 unfoldable pub unhurt : (q : Bool) → Receiver → Transmitter → Bool
@@ -96,7 +119,7 @@ unfoldable pub isLike : Kind → (q : Bool) → Bool
 isLike Silent q = q
 isLike Line q = not q
 isLike From q = not q
-isLike Spoiled q = not q
+isLike Mixed q = not q
 
 -- ---- on the area
 
@@ -122,7 +145,8 @@ CalmAmong a q i k = (j : ℕ) → j < i → CalmIf a q j k
 
 -- each emitter emits through all of k steps
 unfoldable pub AllLast : List ℕ → (k : ℕ) → Type 0
-AllLast a k = (j : ℕ) → j < countAt a → emitsAt a j ≡ true → k ≤ emitsFor (stationAt a j .frame) (stationAt a j .transmitter)
+AllLast a k =
+    (j : ℕ) → j < countAt a → emitsAt a j ≡ true → k ≤ emitsFor (stationAt a j .frame) (stationAt a j .transmitter)
 
 -- what is read of a ready area before the stations are looked at
 pub record Read (a : List ℕ) (f : Figures) (n t : ℕ) : Type 0 where
@@ -147,4 +171,6 @@ NearTo a f j t w k = Seen a f j t w k
 
 -- a silent station after s of m steps, as it was foreseen
 unfoldable pub Underway : List ℕ → (j m s : ℕ) → Ahead → Type 0
-Underway a j m s g = (r : Readiness a) (hj : j < countAt a) → Foreseen a r j hj m s (g .deference) (g .transmitter) (g .bits) (g .harmless)
+Underway a j m s g =
+    (r : Readiness a) (hj : j < countAt a)
+    → Foreseen a r j hj m s (g .deference) (g .transmitter) (g .bits) (g .harmless)

@@ -7,7 +7,8 @@ use Rattle.sheet_layout.specs.declared.Figures.{Figures}
 use Rattle.station_state.specs.declared.Deference.{Deference}
 use Rattle.station_state.specs.declared.Deference.the-variants.{Quiet, Busy, Gap}
 use Rattle.station_state.specs.declared.Transmitter.{Transmitter}
-use Rattle.station_state.specs.declared.Transmitter.the-variants.{NoFrame, Waiting, BackingOff, Sending, Heading, Jamming}
+use Rattle.station_state.specs.declared.Transmitter.the-variants.{NoFrame, Waiting, BackingOff, Sending, Heading}
+use Rattle.station_state.specs.declared.Transmitter.the-variants.{Jamming}
 use Rattle.station_state.specs.declared.Receiver.{Receiver}
 use Rattle.station_state.specs.declared.Receiver.the-variants.{Listening, Readable, Seeking, Collecting}
 use Rattle.station_state.specs.declared.Station.{Station}
@@ -16,18 +17,21 @@ use Rattle.fast_silence.specs.Rested.{restedDeference, restedTransmitter}
 use Rattle.fast_silence.specs.Bound.{framesRest, idle}
 use Rattle.fast_station.specs.Forms.{heardDeference, heardRest, emitsFor}
 use Rattle.fast_heard.specs.declared.Kind.{Kind}
-use Rattle.fast_heard.specs.declared.Kind.the-variants.{Silent, Line, From, Spoiled}
+use Rattle.fast_heard.specs.declared.Kind.the-variants.{Silent, Line, From, Mixed}
 use Rattle.fast_bound.specs.declared.Ahead.{Ahead}
-use Rattle.fast_bound.specs.Bound.{restSteps, hearSteps, restedTo, heardTo, restAhead, hearAhead, ahead, aheadOf, ownBusy, sends, unhurt, emitsWith, emitSteps, isLike}
+use Rattle.fast_bound.specs.Bound.{restSteps, hearSteps, restedTo, heardTo, restAhead, hearAhead, ahead, aheadOf}
+use Rattle.fast_bound.specs.Bound.{ownBusy, sends, unhurt, emitsWith, emitSteps, isLike}
+use Rattle.frame_build.specs.Limits.{shortestFrame}
 
 -- ---- the code by value: a station that emits nothing
 
 module _ (f : Figures) (m : ℕ) (d : Deference) (x : Transmitter) where
-  pub rest-many : (q : ℕ) (b c : Bool) → c ≡ (b || ltb q 512) → c ≡ false → 0 ≡ restSteps f m d x q b
+  pub rest-many : (q : ℕ) (b c : Bool) → c ≡ (b || ltb q shortestFrame) → c ≡ false → 0 ≡ restSteps f m d x q b
   unfolding restSteps
   rest-many q b c e h = rw (← e, h)
 
-  pub rest-few : (q : ℕ) (b c : Bool) (k y : ℕ) → c ≡ (b || ltb q 512) → c ≡ true → k ≡ min m y → y ≡ framesRest f m d x
+  pub rest-few : (q : ℕ) (b c : Bool) (k y : ℕ) → c ≡ (b || ltb q shortestFrame) → c ≡ true → k ≡ min m y
+      → y ≡ framesRest f m d x
       → k ≡ restSteps f m d x q b
   unfolding restSteps
   rest-few q b c k y e h n p = rw (← e, h) (n ∙ ap (min m) p)
@@ -62,7 +66,7 @@ module _ (f : Figures) (c : Kind) (m : ℕ) (g r : Ahead) where
   unfolding ahead
   ahead-from e p = rw e p
 
-  pub ahead-spoiled : c ≡ Spoiled → r ≡ hearAhead f m g → r ≡ ahead f c m g
+  pub ahead-spoiled : c ≡ Mixed → r ≡ hearAhead f m g → r ≡ ahead f c m g
   unfolding ahead
   ahead-spoiled e p = rw e p
 
@@ -120,9 +124,9 @@ module _ (x : Transmitter) where
   unfolding sends
   sends-heads k e = rw e
 
-  pub sends-jams : (k : ℕ) → x ≡ Jamming k → false ≡ sends x
+  pub sends-jams : (k : ℕ) (ends : Bool) → x ≡ Jamming k ends → false ≡ sends x
   unfolding sends
-  sends-jams k e = rw e
+  sends-jams k ends e = rw e
 
 module _ (q : Bool) (r : Receiver) (x : Transmitter) (b : Bool) where
   pub unhurt-quiet : q ≡ true → b ≡ idle r → b ≡ unhurt q r x
@@ -160,6 +164,6 @@ module _ (c : Kind) (q : Bool) where
   unfolding isLike
   like-from e = rw e
 
-  pub like-spoiled : c ≡ Spoiled → not q ≡ isLike c q
+  pub like-spoiled : c ≡ Mixed → not q ≡ isLike c q
   unfolding isLike
   like-spoiled e = rw e

@@ -1,4 +1,5 @@
--- How long a window may be, on the area: what is foreseen run by run of what a station hears, and of all stations. Assumes nothing.
+-- How long a window may be, on the area: what is foreseen run by run of what a station hears, and of all stations.
+-- Assumes nothing.
 use Prim.Native.Nat.{ℕ, _+_, _-_, _≤_, _<_, min}
 use mathlib.Core.Path.{_≡_, refl, sym, _∙_, ap, subst}
 use mathlib.Core.Bool.{Bool, true, false, not, _||_, _&&_, true≢false}
@@ -10,12 +11,13 @@ use lib.ListN.{getD}
 use Rattle.octets.specs.BaseLaws.{by-test, by-eq}
 use Rattle.sheet_layout.specs.declared.Figures.{Figures}
 use Rattle.station_symbols.specs.declared.Heard.{Heard}
-use Rattle.station_symbols.specs.declared.Heard.the-variants.{Nothing, Clean, Jammed, Several}
+use Rattle.station_symbols.specs.declared.Heard.the-variants.{Nothing, Clean, Spoiled}
 use Rattle.station_symbols.specs.Packet.{hearsAny}
 use Rattle.station_state.specs.declared.Deference.{Deference}
 use Rattle.station_state.specs.declared.Deference.the-variants.{Quiet, Busy, Gap}
 use Rattle.station_state.specs.declared.Transmitter.{Transmitter}
-use Rattle.station_state.specs.declared.Transmitter.the-variants.{NoFrame, Waiting, BackingOff, Sending, Heading, Jamming}
+use Rattle.station_state.specs.declared.Transmitter.the-variants.{NoFrame, Waiting, BackingOff, Sending, Heading}
+use Rattle.station_state.specs.declared.Transmitter.the-variants.{Jamming}
 use Rattle.station_state.specs.declared.Receiver.{Receiver}
 use Rattle.station_state.specs.declared.Station.{Station}
 use Rattle.station_receive.specs.Receive.{bitsIn}
@@ -29,10 +31,10 @@ use Rattle.fast_silence.specs.Bound.{framesRest, frames-last, is-idle}
 use Rattle.fast_station.specs.Forms.{heardRest, emitsFor}
 use Rattle.fast_receive.specs.Received.{mayReport}
 use Rattle.fast_segment.specs.Alone.{address-in}
-use Rattle.fast_line.specs.LineLaws.{by-clean, by-spoiled}
+use Rattle.fast_line.specs.LineLaws.{by-clean, heard-spoiled}
 use Rattle.fast_heard.specs.declared.Near.{Near}
 use Rattle.fast_heard.specs.declared.Kind.{Kind}
-use Rattle.fast_heard.specs.declared.Kind.the-variants.{Silent, Line, From, Spoiled}
+use Rattle.fast_heard.specs.declared.Kind.the-variants.{Silent, Line, From, Mixed}
 use Rattle.fast_heard.specs.declared.Segment.{Segment}
 use Rattle.fast_heard.specs.Hearing.{planOf, heldAt, emits, emitsAt, nearestOf, nearBit, Says, Segmented}
 use Rattle.fast_heard.specs.NearLaws.{silent-by-code, emits-by-code}
@@ -41,10 +43,14 @@ use Rattle.fast_heard.specs.Sights.{sightBy, sightOf, blankSight, sightsOf}
 use Rattle.fast_heard.specs.SightLaws.{sight-at}
 use Rattle.fast_heard.specs.HearingLaws.{segment-hears}
 use Rattle.fast_bound.specs.declared.Ahead.{Ahead}
-use Rattle.fast_bound.specs.Foresee.{Foreseen, bits-clock, foreseen-start, foreseen-heard, foreseen-rest, emits-unheard, emits-heard}
-use Rattle.fast_bound.specs.Bound.{restSteps, hearSteps, restedTo, heardTo, restAhead, hearAhead, ahead, aheadOf, ownBusy, sends, unhurt, emitsWith, emitSteps, isLike, Alike, CalmFor, CalmIf, CalmAmong, AllLast, ReadFrom, NearTo, Underway}
+use Rattle.fast_bound.specs.Foresee.{Foreseen, bits-clock, foreseen-start, foreseen-heard, foreseen-rest}
+use Rattle.fast_bound.specs.Foresee.{emits-unheard, emits-heard}
+use Rattle.fast_bound.specs.Bound.{restSteps, hearSteps, restedTo, heardTo, restAhead, hearAhead, ahead, aheadOf}
+use Rattle.fast_bound.specs.Bound.{ownBusy, sends, unhurt, emitsWith, emitSteps, isLike, Alike, CalmFor, CalmIf}
+use Rattle.fast_bound.specs.Bound.{CalmAmong, AllLast, ReadFrom, NearTo, Underway}
 use Rattle.sheet_layout.specs.Limits.{lastClock}
-use Rattle.frame_build.specs.Limits.{bufferOctets}
+use Rattle.frame_build.specs.Limits.{bufferOctets, shortestFrame}
+use Rattle.area_record.specs.Words.{phaseWord}
 
 -- ---- in a run of any kind but silence others are heard
 
@@ -55,17 +61,17 @@ module _ (H L : ℕ → Heard) (F : List ℕ) (k d s m : ℕ) where
   from-any : Says H L F k d s From m → (v : ℕ) → v < m → hearsAny (H (s + v)) ≡ true
   from-any h v l = ap hearsAny (h .2 v l)
 
-  spoiled-any : Says H L F k d s Spoiled m → (v : ℕ) → v < m → hearsAny (H (s + v)) ≡ true
-  spoiled-any h v l = by-spoiled (H (s + v)) (h v l) (λ e. ap hearsAny e) (λ e. ap hearsAny e)
+  spoiled-any : Says H L F k d s Mixed m → (v : ℕ) → v < m → hearsAny (H (s + v)) ≡ true
+  spoiled-any h v l = ap hearsAny (heard-spoiled (H (s + v)) (h v l))
 
 -- ---- a station that emits nothing
 
 rest-within : (f : Figures) (m : ℕ) (d : Deference) (x : Transmitter) (q : ℕ) (b : Bool) (k : ℕ)
     → k ≡ restSteps f m d x q b → 0 < k
-    → ((b || ltb q 512) ≡ true) × (k ≤ m) × (k ≤ framesRest f m d x)
+    → ((b || ltb q shortestFrame) ≡ true) × (k ≤ m) × (k ≤ framesRest f m d x)
 unfolding restSteps
 rest-within f m d x q b k e p =
-    by-test (b || ltb q 512)
+    by-test (b || ltb q shortestFrame)
     (λ c. let y : k ≡ min m (framesRest f m d x) = rw c at e in (c, omega arith, omega arith))
     (λ c. let y : k ≡ 0 = rw c at e in absurd (omega arith))
 
@@ -105,37 +111,49 @@ module _ (a : List ℕ) (r : Readiness a) (j : ℕ) (hj : j < countAt a) (off : 
   run-goes : (L : ℕ → Heard) (F : List ℕ) (k d : ℕ) (c : Kind) → Says (hears a (planOf a) j) L F k d s c n
       → 0 < ahead (figuresAt a) c n g .len → Next (ahead (figuresAt a) c n g)
   unfolding ahead restAhead hearAhead restedTo heardTo
-  run-goes L F k d Silent h pos = rest-goes h (restSteps (figuresAt a) n (g .deference) (g .transmitter) (g .bits) (g .harmless)) refl pos
+  run-goes L F k d Silent h pos =
+      rest-goes h (restSteps (figuresAt a) n (g .deference) (g .transmitter) (g .bits) (g .harmless)) refl pos
   run-goes L F k d Line h pos =
       hear-goes (line-any (hears a (planOf a) j) L F k d s n h)
       (hearSteps (figuresAt a) n (g .deference) (g .transmitter)) refl pos
   run-goes L F k d From h pos =
       hear-goes (from-any (hears a (planOf a) j) L F k d s n h)
       (hearSteps (figuresAt a) n (g .deference) (g .transmitter)) refl pos
-  run-goes L F k d Spoiled h pos =
+  run-goes L F k d Mixed h pos =
       hear-goes (spoiled-any (hears a (planOf a) j) L F k d s n h)
       (hearSteps (figuresAt a) n (g .deference) (g .transmitter)) refl pos
 
 module _ (a : List ℕ) (j : ℕ) where
   pub calm-zero : CalmFor a j 0
   unfolding CalmFor
-  calm-zero = record { calm = calm-none (figuresAt a) (depthAt a) j (hears a (planOf a) j) (planOf a j) a; lasts = λ e. omega arith }
+  calm-zero =
+      record {
+        calm = calm-none (figuresAt a) (depthAt a) j (hears a (planOf a) j) (planOf a j) a;
+        lasts = λ e. omega arith;
+      }
 
   pub under-start : (m : ℕ) (s : Station) (g : Ahead) (x : Receiver) (c : Bool) → s ≡ stationAt a j → x ≡ s .receiver
       → c ≡ mayReport (addressAt a j) (bufferAt a j) m x → g ≡ aheadOf s (not c) → s .emitted ≡ false
       → Underway a j m 0 g
   unfolding Underway aheadOf
   under-start m s g x c es ex ec eg e =
-      λ r hj. subst (λ (y : Ahead). Foreseen a r j hj m 0 (y .deference) (y .transmitter) (y .bits) (y .harmless)) (sym (eg ∙ ap (λ (y : Station). aheadOf y (not c)) es))
+      λ r hj. subst (λ (y : Ahead). Foreseen a r j hj m 0 (y .deference) (y .transmitter) (y .bits) (y .harmless))
+      (sym (eg ∙ ap (λ (y : Station). aheadOf y (not c)) es))
       (foreseen-start a r j hj m (not c) (ap (λ (y : Station). y .emitted) (sym es) ∙ e)
       (λ h. let z : x ≡ stationAt a j .receiver = ex ∙ ap (λ (y : Station). y .receiver) es in
-      ap (λ (y : List ℕ). mayReport y (bufferAt a j) m (stationAt a j .receiver)) (address-in a j) ∙ ap (mayReport (addressAt a j) (bufferAt a j) m) (sym z) ∙ sym ec ∙ not-true c h))
+      ap (λ (y : List ℕ). mayReport y (bufferAt a j) m (stationAt a j .receiver)) (address-in a j)
+      ∙ ap (mayReport (addressAt a j) (bufferAt a j) m) (sym z) ∙ sym ec ∙ not-true c h))
 
 module _ (a : List ℕ) (f : Figures) (j t : ℕ) (w : Near) (k : ℕ) (v : NearTo a f j t w k) where
   bits-most : bitsIn (stationAt a j .receiver) ≤ t
   unfolding NearTo
   bits-most =
-      omega (arith, v .read .clock, bits-clock (clockAt a) (stationAt a j .receiver) (v .read .ready .fine j (v .station) .receiver))
+      omega (
+        arith,
+        v .read .clock,
+        bits-clock (clockAt a) (stationAt a j .receiver)
+            (v .read .ready .fine j (v .station) .receiver),
+      )
 
   pub bits-room : (m : ℕ) (s : Station) (x : Receiver) → s ≡ stationAt a j → x ≡ s .receiver → t + m ≤ lastClock
       → bitsIn x + m < 4294967296
@@ -146,18 +164,22 @@ module _ (a : List ℕ) (f : Figures) (j t : ℕ) (w : Near) (k : ℕ) (v : Near
   pub start-bits : (s : Station) (b : Bool) (g : Ahead) → s ≡ stationAt a j → g ≡ aheadOf s b → g .bits ≤ t + 0
   unfolding aheadOf
   start-bits s b g es eg =
-      let y : g .bits ≡ bitsIn (stationAt a j .receiver) = ap (λ (z : Ahead). z .bits) (eg ∙ ap (λ (z : Station). aheadOf z b) es) in
+      let y : g .bits ≡ bitsIn (stationAt a j .receiver) = ap (λ (z : Ahead). z .bits)
+      (eg ∙ ap (λ (z : Station). aheadOf z b) es) in
       omega (arith, y, bits-most)
 
   pub calm-end : emitsAt a j ≡ false → (m s : ℕ) (g : Ahead) → Underway a j m s g → CalmFor a j s
   unfolding NearTo Underway CalmFor
-  calm-end off m s g u = record { calm = u (v .read .ready) (v .station) .calm; lasts = λ e. absurd (true≢false (sym e ∙ off)) }
+  calm-end off m s g u =
+      record { calm = u (v .read .ready) (v .station) .calm; lasts = λ e. absurd (true≢false (sym e ∙ off)) }
 
   -- what a run says of what is heard
   run-says : (s : ℕ) (run : Segment) → Segmented a j t w k s run
-      → Says (hears a (planOf a) j) (λ u. arrivalAt a j (clockAt a + u)) (heldAt a (w .from)) k (w .d1) s (run .kind) (run .len)
+      → Says (hears a (planOf a) j) (λ u. arrivalAt a j (clockAt a + u)) (heldAt a (w .from)) k (w .d1) s (run .kind)
+      (run .len)
   unfolding NearTo
-  run-says s run h = segment-hears a a j t w k (v .read .ready) (v .station) (v .nearest) (v .bit) (v .read .clock) (λ u. refl) s run h
+  run-says s run h =
+      segment-hears a a j t w k (v .read .ready) (v .station) (v .nearest) (v .bit) (v .read .clock) (λ u. refl) s run h
 
   module _ (off : emitsAt a j ≡ false) (m s : ℕ) (run : Segment) (h : Segmented a j t w k s run) (g next : Ahead)
       (u : Underway a j m s g) (e : next ≡ ahead f (run .kind) (run .len) g)
@@ -165,9 +187,12 @@ module _ (a : List ℕ) (f : Figures) (j t : ℕ) (w : Near) (k : ℕ) (v : Near
     under-on : 0 < next .len → Underway a j m (s + next .len) next
     unfolding NearTo Underway Next
     under-on pos =
-        let p : next ≡ ahead (figuresAt a) (run .kind) (run .len) g = e ∙ ap (λ (y : Figures). ahead y (run .kind) (run .len) g) (v .read .figures) in
-        λ r hj. subst (λ (y : Ahead). Foreseen a r j hj m (s + y .len) (y .deference) (y .transmitter) (y .bits) (y .harmless)) (sym p)
-        (run-goes a r j hj off m s (run .len) (omega (arith, v .read .clock)) (omega arith) g (u r hj) (λ u. arrivalAt a j (clockAt a + u)) (heldAt a (w .from)) k (w .d1) (run .kind) (run-says s run h)
+        let p : next ≡ ahead (figuresAt a) (run .kind) (run .len) g = e
+        ∙ ap (λ (y : Figures). ahead y (run .kind) (run .len) g) (v .read .figures) in
+        λ r hj. subst (λ (y : Ahead). Foreseen a r j hj m (s + y .len) (y .deference) (y .transmitter) (y .bits)
+        (y .harmless)) (sym p)
+        (run-goes a r j hj off m s (run .len) (omega (arith, v .read .clock)) (omega arith) g (u r hj)
+        (λ u. arrivalAt a j (clockAt a + u)) (heldAt a (w .from)) k (w .d1) (run .kind) (run-says s run h)
         (subst (λ (y : Ahead). 0 < y .len) p pos))
 
     pub under-again : 0 < run .len → run .len ≤ next .len → Underway a j m (s + next .len) next
@@ -197,9 +222,10 @@ frame-held Waiting z e h = h .1
 frame-held (BackingOff w) z e h = h .1
 frame-held (Sending k) z e h = h .1
 frame-held (Heading k) z e h = h .1
-frame-held (Jamming k) z e h = h .1
+frame-held (Jamming k ends) z e h = h .1
 
-frame-most : (a : List ℕ) (r : Readiness a) (j : ℕ) → j < countAt a → emitsAt a j ≡ true → stationAt a j .frame ≤ bufferOctets
+frame-most : (a : List ℕ) (r : Readiness a) (j : ℕ) → j < countAt a → emitsAt a j ≡ true
+    → stationAt a j .frame ≤ bufferOctets
 unfolding emitsAt
 frame-most a r j hj on = frame-held (stationAt a j .transmitter) (stationAt a j .frame) on (r .fine j hj .frame)
 
@@ -214,8 +240,7 @@ emit-within q s k p h =
 hears-none : (h : Heard) → hearsAny h ≡ false → h ≡ Nothing
 hears-none Nothing e = refl
 hears-none (Clean b) e = absurd (true≢false e)
-hears-none Jammed e = absurd (true≢false e)
-hears-none Several e = absurd (true≢false e)
+hears-none Spoiled e = absurd (true≢false e)
 
 -- what a run says of whether others are heard
 run-any : (H L : ℕ → Heard) (F : List ℕ) (k d s m : ℕ) (c : Kind) (q : Bool) → Says H L F k d s c m → isLike c q ≡ true
@@ -224,7 +249,7 @@ unfolding isLike
 run-any H L F k d s m Silent q h e v l = ap hearsAny (h v l) ∙ sym (ap not e)
 run-any H L F k d s m Line q h e v l = line-any H L F k d s m h v l ∙ sym e
 run-any H L F k d s m From q h e v l = from-any H L F k d s m h v l ∙ sym e
-run-any H L F k d s m Spoiled q h e v l = spoiled-any H L F k d s m h v l ∙ sym e
+run-any H L F k d s m Mixed q h e v l = spoiled-any H L F k d s m h v l ∙ sym e
 
 module _ (a : List ℕ) (j : ℕ) (q : Bool) where
   pub alike-none : Alike a j q 0
@@ -232,7 +257,8 @@ module _ (a : List ℕ) (j : ℕ) (q : Bool) where
   alike-none = λ v l. absurd (omega arith)
 
   pub alike-more : (t : ℕ) (w : Near) (k : ℕ) → NearTo a (figuresAt a) j t w k → (s : ℕ) (run : Segment) (b : Bool)
-      → Segmented a j t w k s run → b ≡ isLike (run .kind) q → not b ≡ false → Alike a j q s → Alike a j q (s + run .len)
+      → Segmented a j t w k s run → b ≡ isLike (run .kind) q → not b ≡ false → Alike a j q s
+      → Alike a j q (s + run .len)
   unfolding Alike
   alike-more t w k n s run b h e p al =
       λ v l. by-test (ltb v s)
@@ -240,11 +266,13 @@ module _ (a : List ℕ) (j : ℕ) (q : Bool) where
       (λ c. let g = ltb-false v s c in
       let z : s + (v - s) ≡ v = omega arith in
       subst (λ (y : ℕ). hearsAny (hears a (planOf a) j y) ≡ not q) z
-      (run-any (hears a (planOf a) j) (λ u. arrivalAt a j (clockAt a + u)) (heldAt a (w .from)) k (w .d1) s (run .len) (run .kind) q
+      (run-any (hears a (planOf a) j) (λ u. arrivalAt a j (clockAt a + u)) (heldAt a (w .from)) k (w .d1) s (run .len)
+      (run .kind) q
       (run-says a (figuresAt a) j t w k n s run h) (sym e ∙ not-false b p) (v - s) (omega arith)))
 
 module _ (a : List ℕ) (r : Readiness a) (j : ℕ) (hj : j < countAt a) (on : emitsAt a j ≡ true) (k : ℕ) (pos : 0 < k)
-    (early : clockAt a + k ≤ lastClock) (emitted : stationAt a j .emitted ≡ true) (busy : stationAt a j .deference ≡ Busy true)
+    (early : clockAt a + k ≤ lastClock) (emitted : stationAt a j .emitted ≡ true)
+    (busy : stationAt a j .deference ≡ Busy true)
     (lasts : k ≤ emitsFor (stationAt a j .frame) (stationAt a j .transmitter)) where
   emit-goes : (q : Bool) → ((v : ℕ) → v < k → hearsAny (hears a (planOf a) j v) ≡ not q)
       → unhurt q (stationAt a j .receiver) (stationAt a j .transmitter) ≡ true → CalmFor a j k
@@ -257,7 +285,9 @@ module _ (a : List ℕ) (r : Readiness a) (j : ℕ) (hj : j < countAt a) (on : e
       }
   emit-goes false al e =
       record {
-        calm = emits-heard a r j hj k pos early busy emitted lasts (frame-most a r j hj on) al (not-sending (stationAt a j .transmitter) e);
+        calm =
+            emits-heard a r j hj k pos early busy emitted lasts (frame-most a r j hj on) al
+            (not-sending (stationAt a j .transmitter) e);
         lasts = λ w. lasts;
       }
 
@@ -297,7 +327,8 @@ module _ (a : List ℕ) (f : Figures) (n t : ℕ) where
       subst (λ (g : Figures). g .gap1 + g .gap2 < 65536) (sym (v .figures))
       (omega (arith, v .ready .figures .gap1, v .ready .figures .gap2))
 
-  pub near-to : (j : ℕ) (w : Near) (k : ℕ) → ReadFrom a f n t → j < n → w ≡ nearestOf a n j → k ≡ nearBit a w → NearTo a f j t w k
+  pub near-to : (j : ℕ) (w : Near) (k : ℕ) → ReadFrom a f n t → j < n → w ≡ nearestOf a n j → k ≡ nearBit a w
+      → NearTo a f j t w k
   unfolding ReadFrom NearTo
   near-to j w k v hj ew ek =
       record {
@@ -320,7 +351,8 @@ module _ (a : List ℕ) (f : Figures) (n t : ℕ) where
       }
 
 -- what station j hears of
-module _ (a : List ℕ) (f : Figures) (n t j : ℕ) (ws : List Sight) (w : Sight) (v : ReadFrom a f n t) (es : ws ≡ sightsOf a n) (ew : w ≡ getD ws j blankSight) (hj : j < n) where
+module _ (a : List ℕ) (f : Figures) (n t j : ℕ) (ws : List Sight) (w : Sight) (v : ReadFrom a f n t)
+    (es : ws ≡ sightsOf a n) (ew : w ≡ getD ws j blankSight) (hj : j < n) where
   is-sight : w ≡ sightOf a n j
   is-sight = sight-at a n j ws w hj es ew
 
@@ -340,11 +372,11 @@ module _ (a : List ℕ) (f : Figures) (n t j : ℕ) (ws : List Sight) (w : Sight
 
 module _ (a : List ℕ) where
   -- one that is of the other sort
-  pub if-silent : (j r c : ℕ) → c ≡ getD (recordAt a j) 3 0 → c < 3 → CalmIf a true j r
+  pub if-silent : (j r c : ℕ) → c ≡ getD (recordAt a j) phaseWord 0 → c < 3 → CalmIf a true j r
   unfolding CalmIf
   if-silent j r c e h on = absurd (true≢false (sym on ∙ silent-by-code a j c e h))
 
-  pub if-emits : (j r c : ℕ) → c ≡ getD (recordAt a j) 3 0 → 3 ≤ c → CalmIf a false j r
+  pub if-emits : (j r c : ℕ) → c ≡ getD (recordAt a j) phaseWord 0 → 3 ≤ c → CalmIf a false j r
   unfolding CalmIf
   if-emits j r c e h off = absurd (true≢false (sym (emits-by-code a j c e h) ∙ off))
 
@@ -379,7 +411,8 @@ module _ (a : List ℕ) where
     pub among-end : (n i k : ℕ) → i ≤ n → n ≤ i → CalmAmong a q i k → CalmAmong a q n k
     among-end n i k lo up b = let z : i ≡ n = omega arith in subst (λ (y : ℕ). CalmAmong a q y k) z b
 
-  module _ (f : Figures) (n t k r : ℕ) (v : ReadFrom a f n t) (b : CalmAmong a true n k) (c : CalmAmong a false n r) (h : r ≤ k) where
+  module _ (f : Figures) (n t k r : ℕ) (v : ReadFrom a f n t) (b : CalmAmong a true n k) (c : CalmAmong a false n r)
+      (h : r ≤ k) where
     each : (j : ℕ) → j < countAt a → CalmFor a j r
     unfolding CalmAmong CalmIf ReadFrom
     each j l =

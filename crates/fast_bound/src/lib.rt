@@ -17,8 +17,10 @@ ghost use Rattle.area.specs.Area.{figuresAt};
 ghost use Rattle.fast_plan.specs.Calm.{AllCalm};
 ghost use Rattle.fast_heard.specs.Hearing.{planOf, emitsAt};
 ghost use Rattle.fast_heard.specs.Sights.{sightsOf};
-ghost use Rattle.fast_bound.specs.Bound.{restSteps, hearSteps, restAhead, hearAhead, ahead, aheadOf, ownBusy, sends, unhurt, emitSteps, isLike, Alike, CalmFor, CalmIf, CalmAmong, AllLast, ReadFrom, NearTo, Underway};
-ghost use Rattle.sheet_layout.specs.Limits.{lastClock};
+ghost use Rattle.fast_bound.specs.Bound.{restSteps, hearSteps, restAhead, hearAhead, ahead, aheadOf, ownBusy};
+ghost use Rattle.fast_bound.specs.Bound.{sends, unhurt, emitSteps, isLike, Alike, CalmFor, CalmIf, CalmAmong};
+ghost use Rattle.fast_bound.specs.Bound.{AllLast, ReadFrom, NearTo, Underway};
+ghost use Rattle.sheet_layout.specs.Limits.{lastClock, maxStations};
 ghost use Rattle.area.specs.Offsets.{areaSize};
 
 // Fewer steps than these are not worth a window.
@@ -43,7 +45,7 @@ fn rest_steps(f: Figures, m: u32, d: Deference, x: Transmitter, q: u32, harmless
     ensures same { λ r. ⌜ r ≡ restSteps f m d x q harmless ⌝ }
     ensures bound { λ r. ⌜ r ≤ m ⌝ }
 {
-    if octets::either(harmless, q < 512) {
+    if octets::either(harmless, q < frame_build::limits::SHORTEST_FRAME) {
         return fast_rest::smaller(m, fast_rest::frames_rest(f, m, d, x));
     }
     0
@@ -106,7 +108,7 @@ fn foresee(f: Figures, kind: Kind, m: u32, at: Ahead) -> Ahead
         Kind::Silent => rest_ahead(f, m, at),
         Kind::Line => hear_ahead(f, m, at),
         Kind::From => hear_ahead(f, m, at),
-        Kind::Spoiled => hear_ahead(f, m, at),
+        Kind::Mixed => hear_ahead(f, m, at),
     }
 }
 
@@ -151,7 +153,7 @@ fn is_sending(x: Transmitter) -> bool
         Transmitter::BackingOff(_) => false,
         Transmitter::Sending(_) => true,
         Transmitter::Heading(_) => false,
-        Transmitter::Jamming(_) => false,
+        Transmitter::Jamming { left: _, ends: _ } => false,
     }
 }
 
@@ -211,7 +213,9 @@ fn silent_runs(
     first: Ahead,
     m: u32,
 ) -> u32
-    requires { ⌜ (j < 16) × (areaSize ≤ length (now area)) × (t + m ≤ lastClock) × (f .gap1 + f .gap2 < 65536) × NearTo (now area) f j t near bit × (emitsAt (now area) j ≡ false) × (first .bits ≤ t + 0) × Underway (now area) j m 0 first ⌝ }
+    requires { ⌜ (j < maxStations) × (areaSize ≤ length (now area)) × (t + m ≤ lastClock) × (f .gap1 + f .gap2 < 65536)
+        × NearTo (now area) f j t near bit × (emitsAt (now area) j ≡ false) × (first .bits ≤ t + 0)
+        × Underway (now area) j m 0 first ⌝ }
     ensures calm { λ r. ⌜ CalmFor (now (area .entry)) j r ⌝ }
     ensures bound { λ r. ⌜ r ≤ m ⌝ }
 {
@@ -241,7 +245,8 @@ fn silent_runs(
 
 // A station that emits nothing: at most m steps in which it starts nothing and has no event.
 fn silent_bound(area: &[u8], f: Figures, j: usize, t: u32, near: Near, bit: u32, m: u32) -> u32
-    requires { ⌜ (j < 16) × (areaSize ≤ length (now area)) × (t + m ≤ lastClock) × (f .gap1 + f .gap2 < 65536) × NearTo (now area) f j t near bit × (emitsAt (now area) j ≡ false) ⌝ }
+    requires { ⌜ (j < maxStations) × (areaSize ≤ length (now area)) × (t + m ≤ lastClock) × (f .gap1 + f .gap2 < 65536)
+        × NearTo (now area) f j t near bit × (emitsAt (now area) j ≡ false) ⌝ }
     ensures calm { λ r. ⌜ CalmFor (now (area .entry)) j r ⌝ }
     ensures bound { λ r. ⌜ r ≤ m ⌝ }
 {
@@ -263,13 +268,14 @@ fn is_like(kind: Kind, quiet: bool) -> bool
         Kind::Silent => quiet,
         Kind::Line => !quiet,
         Kind::From => !quiet,
-        Kind::Spoiled => !quiet,
+        Kind::Mixed => !quiet,
     }
 }
 
 // Of m steps those before station j hears something, where `quiet`, or before it hears nothing.
 fn alike_for(area: &[u8], j: usize, t: u32, near: Near, bit: u32, quiet: bool, m: u32) -> u32
-    requires { ⌜ (j < 16) × (areaSize ≤ length (now area)) × (t + m ≤ lastClock) × NearTo (now area) (figuresAt (now area)) j t near bit ⌝ }
+    requires { ⌜ (j < maxStations) × (areaSize ≤ length (now area)) × (t + m ≤ lastClock)
+        × NearTo (now area) (figuresAt (now area)) j t near bit ⌝ }
     ensures alike { λ r. ⌜ Alike (now (area .entry)) j quiet r ⌝ }
     ensures bound { λ r. ⌜ r ≤ m ⌝ }
 {
@@ -295,7 +301,8 @@ fn alike_for(area: &[u8], j: usize, t: u32, near: Near, bit: u32, quiet: bool, m
 
 // A station that emits: at most m steps through which it goes on and has no event.
 fn emit_bound(area: &[u8], j: usize, t: u32, near: Near, bit: u32, m: u32) -> u32
-    requires { ⌜ (j < 16) × (areaSize ≤ length (now area)) × (t + m ≤ lastClock) × NearTo (now area) (figuresAt (now area)) j t near bit × (emitsAt (now area) j ≡ true) ⌝ }
+    requires { ⌜ (j < maxStations) × (areaSize ≤ length (now area)) × (t + m ≤ lastClock)
+        × NearTo (now area) (figuresAt (now area)) j t near bit × (emitsAt (now area) j ≡ true) ⌝ }
     ensures calm { λ r. ⌜ CalmFor (now (area .entry)) j r ⌝ }
     ensures bound { λ r. ⌜ r ≤ m ⌝ }
 {
@@ -310,11 +317,12 @@ fn emit_bound(area: &[u8], j: usize, t: u32, near: Near, bit: u32, m: u32) -> u3
 
 // Station j, if it emits: at most m steps through which it goes on and has no event.
 fn emitter_bound(area: &[u8], j: usize, t: u32, w: Sight, m: u32) -> u32
-    requires { ⌜ (j < 16) × (areaSize ≤ length (now area)) × (t + m ≤ lastClock) × NearTo (now area) (figuresAt (now area)) j t (w .near) (w .bit) ⌝ }
+    requires { ⌜ (j < maxStations) × (areaSize ≤ length (now area)) × (t + m ≤ lastClock)
+        × NearTo (now area) (figuresAt (now area)) j t (w .near) (w .bit) ⌝ }
     ensures calm { λ r. ⌜ CalmIf (now (area .entry)) true j r ⌝ }
     ensures bound { λ r. ⌜ r ≤ m ⌝ }
 {
-    let phase = area::read_word(area, j, 3);
+    let phase = area::read_word(area, j, area_record::words::PHASE);
     if phase < 3 {
         return m;
     }
@@ -324,11 +332,12 @@ fn emitter_bound(area: &[u8], j: usize, t: u32, w: Sight, m: u32) -> u32
 
 // Station j, if it emits nothing: at most m steps in which it starts nothing and has no event.
 fn listener_bound(area: &[u8], f: Figures, j: usize, t: u32, w: Sight, m: u32) -> u32
-    requires { ⌜ (j < 16) × (areaSize ≤ length (now area)) × (t + m ≤ lastClock) × (f .gap1 + f .gap2 < 65536) × NearTo (now area) f j t (w .near) (w .bit) ⌝ }
+    requires { ⌜ (j < maxStations) × (areaSize ≤ length (now area)) × (t + m ≤ lastClock) × (f .gap1 + f .gap2 < 65536)
+        × NearTo (now area) f j t (w .near) (w .bit) ⌝ }
     ensures calm { λ r. ⌜ CalmIf (now (area .entry)) false j r ⌝ }
     ensures bound { λ r. ⌜ r ≤ m ⌝ }
 {
-    if area::read_word(area, j, 3) < 3 {
+    if area::read_word(area, j, area_record::words::PHASE) < 3 {
         let near = w.near;
         return silent_bound(area, f, j, t, near, w.bit, m);
     }
@@ -337,7 +346,8 @@ fn listener_bound(area: &[u8], f: Figures, j: usize, t: u32, w: Sight, m: u32) -
 
 // Of m steps those through which each of n stations that emits goes on and has no event; none where they are few.
 fn emitters_bound(area: &[u8], n: usize, t: u32, seen: [Sight; 16], m: u32) -> u32
-    requires { ⌜ (n ≤ 16) × (areaSize ≤ length (now area)) × (t + m ≤ lastClock) × ReadFrom (now area) (figuresAt (now area)) n t × (seen ≡ sightsOf (now area) n) ⌝ }
+    requires { ⌜ (n ≤ maxStations) × (areaSize ≤ length (now area)) × (t + m ≤ lastClock)
+        × ReadFrom (now area) (figuresAt (now area)) n t × (seen ≡ sightsOf (now area) n) ⌝ }
     ensures calm { λ r. ⌜ CalmAmong (now (area .entry)) true n r ⌝ }
     ensures bound { λ r. ⌜ r ≤ m ⌝ }
 {
@@ -357,7 +367,8 @@ fn emitters_bound(area: &[u8], n: usize, t: u32, seen: [Sight; 16], m: u32) -> u
 // Of m steps those in which each of n stations that emits nothing starts nothing and has no event; none where they are
 // few.
 fn listeners_bound(area: &[u8], f: Figures, n: usize, t: u32, seen: [Sight; 16], m: u32) -> u32
-    requires { ⌜ (n ≤ 16) × (areaSize ≤ length (now area)) × (t + m ≤ lastClock) × (f .gap1 + f .gap2 < 65536) × ReadFrom (now area) f n t × (seen ≡ sightsOf (now area) n) ⌝ }
+    requires { ⌜ (n ≤ maxStations) × (areaSize ≤ length (now area)) × (t + m ≤ lastClock) × (f .gap1 + f .gap2 < 65536)
+        × ReadFrom (now area) f n t × (seen ≡ sightsOf (now area) n) ⌝ }
     ensures calm { λ r. ⌜ CalmAmong (now (area .entry)) false n r ⌝ }
     ensures bound { λ r. ⌜ r ≤ m ⌝ }
 {
@@ -374,10 +385,11 @@ fn listeners_bound(area: &[u8], f: Figures, n: usize, t: u32, seen: [Sight; 16],
     left
 }
 
-// How long a window of n stations may be, of m steps from clock t on. Emitters are looked at first: they allow the fewest
-// steps, and the others need not be looked at past those.
+// How long a window of n stations may be, of m steps from clock t on. Emitters are looked at first: they allow the
+// fewest steps, and the others need not be looked at past those.
 pub fn bound(area: &[u8], f: Figures, n: usize, t: u32, seen: [Sight; 16], m: u32) -> u32
-    requires { ⌜ (n ≤ 16) × (areaSize ≤ length (now area)) × (t + m ≤ lastClock) × ReadFrom (now area) f n t × (seen ≡ sightsOf (now area) n) ⌝ }
+    requires { ⌜ (n ≤ maxStations) × (areaSize ≤ length (now area)) × (t + m ≤ lastClock) × ReadFrom (now area) f n t
+        × (seen ≡ sightsOf (now area) n) ⌝ }
     ensures calm { λ r. ⌜ AllCalm (now (area .entry)) (planOf (now (area .entry))) r ⌝ }
     ensures last { λ r. ⌜ AllLast (now (area .entry)) r ⌝ }
     ensures bound { λ r. ⌜ r ≤ m ⌝ }

@@ -8,16 +8,23 @@ use Rattle.area.specs.Area.{stationAt}
 use Rattle.fast_heard.specs.declared.Near.{Near}
 use Rattle.fast_heard.specs.declared.Sight.{Sight}
 use Rattle.fast_heard.specs.Hearing.{nearestOf, nearBit}
+use Rattle.area.specs.Offsets.{ring}
 
 -- what station j, of n, hears of: the nearest emitters, and the frame of the nearest, where it sends one
 unfoldable pub sightBy : List ℕ → Near → (k : ℕ) → Sight
-sightBy a w k = record { near = w; bit = k; from = pick (eqb k 0) 0 (w .from); octets = pick (eqb k 0) 0 (stationAt a (w .from) .frame) }
+sightBy a w k =
+    record {
+      near = w;
+      bit = k;
+      from = pick (eqb k 0) 0 (w .from);
+      octets = pick (eqb k 0) 0 (stationAt a (w .from) .frame);
+    }
 
 unfoldable pub sightOf : List ℕ → (n j : ℕ) → Sight
 sightOf a n j = sightBy a (nearestOf a n j) (nearBit a (nearestOf a n j))
 
 abbrev pub unseen : Sight
-unseen = record { near = record { from = 16; d1 = 256; d2 = 256 }; bit = 0; from = 0; octets = 0 }
+unseen = record { near = record { from = 16; d1 = ring; d2 = ring }; bit = 0; from = 0; octets = 0 }
 
 -- a place of an array that holds nothing
 abbrev pub blankSight : Sight

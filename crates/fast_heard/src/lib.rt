@@ -10,8 +10,10 @@ ghost use lib.ListN.{length};
 ghost use Rattle.octets.specs.Base.{pick};
 ghost use Rattle.area.specs.Area.{positionAt};
 ghost use Rattle.fast_heard.specs.Sights.{sightOf, sightsOf};
-ghost use Rattle.fast_heard.specs.Hearing.{emitsAt, nearer, noted, spaceTo, Lists, nearestOf, nearBit, begun, before, lineFrom, RunOf, kindNear, kindHeard, Segmented};
-ghost use Rattle.area.specs.Offsets.{areaSize};
+ghost use Rattle.fast_heard.specs.Hearing.{emitsAt, nearer, noted, spaceTo, Lists, nearestOf, nearBit, begun};
+ghost use Rattle.fast_heard.specs.Hearing.{before, lineFrom, RunOf, kindNear, kindHeard, Segmented};
+ghost use Rattle.area.specs.Offsets.{areaSize, ring};
+ghost use Rattle.sheet_layout.specs.Limits.{maxStations};
 
 // The nearest other emitter and its distance, and the distance of the second nearest; 256 where there is none.
 pub struct Near {
@@ -26,7 +28,7 @@ pub enum Kind {
     Silent,
     Line,
     From,
-    Spoiled,
+    Mixed,
 }
 
 pub struct Segment {
@@ -57,7 +59,7 @@ fn nearer_with(near: Near, i: usize, d: usize) -> Near
 
 // So many emitters, or one more, by the code of a station's phase.
 fn counted(count: usize, code: u32) -> usize
-    requires { ⌜ count < 16 ⌝ }
+    requires { ⌜ count < maxStations ⌝ }
     ensures { λ r. ⌜ r ≡ pick (leb 3 code) (count + 1) count ⌝ }
     ensures bound { λ r. ⌜ r ≤ count + 1 ⌝ }
 {
@@ -69,7 +71,7 @@ fn counted(count: usize, code: u32) -> usize
 
 // Lists those of n stations that emit, in their order; says how many. Each is written, and counted if it emits.
 fn emitters(area: &[u8], n: usize, list: &mut [usize]) -> usize
-    requires { ⌜ (n ≤ 16) × (areaSize ≤ length (now area)) × (length (now list) ≡ 16) ⌝ }
+    requires { ⌜ (n ≤ maxStations) × (areaSize ≤ length (now area)) × (length (now list) ≡ 16) ⌝ }
     ensures { λ r. ⌜ Lists (now (area .entry)) n (now (list .exit)) r ⌝ }
     ensures bound { λ r. ⌜ r ≤ n ⌝ }
 {
@@ -77,7 +79,7 @@ fn emitters(area: &[u8], n: usize, list: &mut [usize]) -> usize
     let mut i: usize = 0;
     while i < n {
         list[count] = i;
-        count = counted(count, area::read_word(area, i, 3));
+        count = counted(count, area::read_word(area, i, area_record::words::PHASE));
         i += 1;
     }
     count
@@ -85,7 +87,8 @@ fn emitters(area: &[u8], n: usize, list: &mut [usize]) -> usize
 
 // With emitter i more, seen from station j, which is at p.
 fn note(area: &[u8], j: usize, p: u32, i: usize, near: Near) -> Near
-    requires { ⌜ (i < 16) × (areaSize ≤ length (now area)) × (p ≡ positionAt (now area) j) × (emitsAt (now area) i ≡ true) ⌝ }
+    requires { ⌜ (i < maxStations) × (areaSize ≤ length (now area)) × (p ≡ positionAt (now area) j)
+        × (emitsAt (now area) i ≡ true) ⌝ }
     ensures { λ r. ⌜ r ≡ noted (emitsAt (now (area .entry))) (spaceTo (now (area .entry)) j) j i near ⌝ }
 {
     if i == j {
@@ -97,14 +100,15 @@ fn note(area: &[u8], j: usize, p: u32, i: usize, near: Near) -> Near
 
 // The emitters nearest to station j, of those of n stations that are listed.
 fn nearest(area: &[u8], n: usize, j: usize, list: &[usize], count: usize) -> Near
-    requires { ⌜ (j < 16) × (n ≤ 16) × (areaSize ≤ length (now area)) × (length (now list) ≡ 16) × (count ≤ n) × Lists (now area) n (now list) count ⌝ }
+    requires { ⌜ (j < maxStations) × (n ≤ maxStations) × (areaSize ≤ length (now area)) × (length (now list) ≡ 16)
+        × (count ≤ n) × Lists (now area) n (now list) count ⌝ }
     ensures { λ r. ⌜ r ≡ nearestOf (now (area .entry)) n j ⌝ }
 {
     let p = area::read_position(area, j);
     let mut near = Near {
         from: 16,
-        d1: 256,
-        d2: 256,
+        d1: area::RING,
+        d2: area::RING,
     };
     let mut k: usize = 0;
     while k < count {
@@ -117,10 +121,10 @@ fn nearest(area: &[u8], n: usize, j: usize, list: &[usize], count: usize) -> Nea
 
 // The next packet bit of the nearest emitter; 0 where there is none, or it jams.
 fn near_bit(area: &[u8], near: Near) -> u32
-    requires { ⌜ (areaSize ≤ length (now area)) × (near .d1 < 256 → near .from < 16) ⌝ }
+    requires { ⌜ (areaSize ≤ length (now area)) × (near .d1 < ring → near .from < maxStations) ⌝ }
     ensures { λ r. ⌜ r ≡ nearBit (now (area .entry)) near ⌝ }
 {
-    if 256 <= near.d1 {
+    if area::RING <= near.d1 {
         return 0;
     }
     let phase = area::read_word(area, near.from, 3);
@@ -137,7 +141,7 @@ fn near_bit(area: &[u8], near: Near) -> u32
 fn has_begun(d: usize, s: usize) -> bool
     ensures { λ r. ⌜ r ≡ begun d s ⌝ }
 {
-    octets::both(d < 256, d <= s)
+    octets::both(d < area::RING, d <= s)
 }
 
 // Of m steps from s on, those in which it does not change whether an emitter at distance d is heard.
@@ -157,11 +161,11 @@ fn steps_before(d: usize, s: usize, m: usize) -> usize
 
 // The line of station j at step t, from s steps on: it holds nothing after 256 steps.
 fn line_ahead(area: &[u8], j: usize, t: usize, s: usize, m: usize) -> LineRun
-    requires { ⌜ (j < 16) × (areaSize ≤ length (now area)) × (t + s + m < 4294967296) × (0 < m) ⌝ }
+    requires { ⌜ (j < maxStations) × (areaSize ≤ length (now area)) × (t + s + m < 4294967296) × (0 < m) ⌝ }
     ensures run { λ r. ⌜ RunOf (lineFrom (now (area .entry)) j t) s r ⌝ }
     ensures bound { λ r. ⌜ (0 < r .len) × (r .len ≤ m) ⌝ }
 {
-    if 256 <= s {
+    if area::RING <= s {
         return LineRun { kind: 0, len: m };
     }
     if s == 0 {
@@ -169,7 +173,7 @@ fn line_ahead(area: &[u8], j: usize, t: usize, s: usize, m: usize) -> LineRun
             return LineRun { kind: 0, len: m };
         }
     }
-    let most = bus_quick::capped(256 - s, m);
+    let most = bus_quick::capped(area::RING - s, m);
     fast_line::line_run(area, j, t + s, most)
 }
 
@@ -178,10 +182,10 @@ fn kind_near(line: u8, bit: u32) -> Kind
     ensures { λ r. ⌜ r ≡ kindNear line bit ⌝ }
 {
     if line != 0 {
-        return Kind::Spoiled;
+        return Kind::Mixed;
     }
     if bit == 0 {
-        return Kind::Spoiled;
+        return Kind::Mixed;
     }
     Kind::From
 }
@@ -199,7 +203,7 @@ fn kind_heard(line: u8, near: bool, bit: u32) -> Kind
     if line == 1 {
         return Kind::Line;
     }
-    Kind::Spoiled
+    Kind::Mixed
 }
 
 // What station j hears from step s on, counted from step t, where its line stands in the area as it was at t: a run of
@@ -213,13 +217,13 @@ pub fn heard_run(
     s: usize,
     m: usize,
 ) -> Segment
-    requires { ⌜ (j < 16) × (areaSize ≤ length (now area)) × (t + s + m < 4294967296) × (0 < m) ⌝ }
+    requires { ⌜ (j < maxStations) × (areaSize ≤ length (now area)) × (t + s + m < 4294967296) × (0 < m) ⌝ }
     ensures says { λ r. ⌜ Segmented (now (area .entry)) j t near bit s r ⌝ }
     ensures bound { λ r. ⌜ (0 < r .len) × (r .len ≤ m) ⌝ }
 {
     if has_begun(near.d2, s) {
         return Segment {
-            kind: Kind::Spoiled,
+            kind: Kind::Mixed,
             len: m,
         };
     }
@@ -243,7 +247,8 @@ pub struct Sight {
 
 // What station j, of n, hears of, by the list of those that emit.
 fn see(area: &[u8], n: usize, j: usize, list: &[usize], count: usize) -> Sight
-    requires { ⌜ (j < 16) × (n ≤ 16) × (areaSize ≤ length (now area)) × (length (now list) ≡ 16) × (count ≤ n) × Lists (now area) n (now list) count ⌝ }
+    requires { ⌜ (j < maxStations) × (n ≤ maxStations) × (areaSize ≤ length (now area)) × (length (now list) ≡ 16)
+        × (count ≤ n) × Lists (now area) n (now list) count ⌝ }
     ensures { λ r. ⌜ r ≡ sightOf (now (area .entry)) n j ⌝ }
 {
     let near = nearest(area, n, j, list, count);
@@ -257,7 +262,7 @@ fn see(area: &[u8], n: usize, j: usize, list: &[usize], count: usize) -> Sight
         };
     }
     let from = near.from;
-    let octets = area::read_word(area, from, 9);
+    let octets = area::read_word(area, from, area_record::words::FRAME);
     Sight {
         near,
         bit,
@@ -268,15 +273,15 @@ fn see(area: &[u8], n: usize, j: usize, list: &[usize], count: usize) -> Sight
 
 // What each of n stations hears of: to be taken before they move on.
 pub fn sights(area: &[u8], n: usize) -> [Sight; 16]
-    requires { ⌜ (n ≤ 16) × (areaSize ≤ length (now area)) ⌝ }
+    requires { ⌜ (n ≤ maxStations) × (areaSize ≤ length (now area)) ⌝ }
     ensures { λ r. ⌜ r ≡ sightsOf (now (area .entry)) n ⌝ }
 {
     let mut list = [0usize; 16];
     let count = emitters(area, n, &mut list);
     let near = Near {
         from: 16,
-        d1: 256,
-        d2: 256,
+        d1: area::RING,
+        d2: area::RING,
     };
     let unseen = Sight {
         near,

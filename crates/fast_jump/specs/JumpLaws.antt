@@ -14,12 +14,12 @@ use Rattle.area.specs.AreaLaws.{station-by}
 use Rattle.fast_silence.specs.Rested.{rested}
 use Rattle.fast_silence.specs.Jump.{restedAll, jumped, rested-length, rested-keeps}
 use Rattle.fast_silence.specs.Bound.{silentFor, silent-most, skipped}
-use Rattle.sheet_layout.specs.Limits.{lastClock}
+use Rattle.sheet_layout.specs.Limits.{lastClock, maxStations}
 use Rattle.area.specs.Offsets.{areaSize}
 
 module _ (a : List ℕ) (m : ℕ) where
   -- a station that is not written yet is as it was
-  still-there : (k : ℕ) → k < 16 → areaSize ≤ length a → stationAt (restedAll a m k a) k ≡ stationAt a k
+  still-there : (k : ℕ) → k < maxStations → areaSize ≤ length a → stationAt (restedAll a m k a) k ≡ stationAt a k
   still-there k hk room =
       station-by (restedAll a m k a) a k hk (omega (arith, rested-length a m k)) room
       (rested-keeps a m layout k (λ i h p q. omega arith)) (rested-keeps a m (station k) k (λ i h p q. omega arith))
@@ -28,7 +28,7 @@ module _ (a : List ℕ) (m : ℕ) where
   unfolding restedAll
   all-none = turns-none _ a
 
-  pub all-more : (k c : ℕ) (x b : List ℕ) (s n : Station) (f : Figures) → k < c → c ≤ 16 → areaSize ≤ length a
+  pub all-more : (k c : ℕ) (x b : List ℕ) (s n : Station) (f : Figures) → k < c → c ≤ maxStations → areaSize ≤ length a
       → x ≡ restedAll a m k a → f ≡ figuresAt a → s ≡ stationAt x k → n ≡ rested f m s → b ≡ withStation x k n
       → b ≡ restedAll a m (k + 1) a
   unfolding restedAll

@@ -8,12 +8,13 @@ ghost use Rattle.area.specs.Area.{clockAt, figuresAt};
 ghost use Rattle.bus_spec.specs.Ready.{Ready};
 ghost use Rattle.fast_silence.specs.Jump.{restedAll, jumped};
 ghost use Rattle.fast_silence.specs.Bound.{silentFor, skipped};
-ghost use Rattle.sheet_layout.specs.Limits.{lastClock};
+ghost use Rattle.sheet_layout.specs.Limits.{lastClock, maxStations};
 ghost use Rattle.area.specs.Offsets.{areaSize};
 
 // Each of n stations after m steps of silence.
 fn rest_all(area: &mut [u8], n: usize, m: u32, f: Figures)
-    requires { ⌜ (n ≤ 16) × (areaSize ≤ length (now area)) × (f .gap1 + f .gap2 < 65536) × (f ≡ figuresAt (now area)) ⌝ }
+    requires { ⌜ (n ≤ maxStations) × (areaSize ≤ length (now area)) × (f .gap1 + f .gap2 < 65536)
+        × (f ≡ figuresAt (now area)) ⌝ }
     ensures { λ r. ⌜ now (area .exit) ≡ restedAll (now (area .entry)) m n (now (area .entry)) ⌝ }
 {
     let mut i: usize = 0;

@@ -9,12 +9,13 @@ use lib.ListN.{getD}
 use Rattle.octets.specs.Base.{pick, some}
 use Rattle.octets.specs.Turns.{turns}
 use Rattle.station_symbols.specs.declared.Heard.{Heard}
-use Rattle.station_symbols.specs.declared.Heard.the-variants.{Nothing, Clean, Jammed, Several}
+use Rattle.station_symbols.specs.declared.Heard.the-variants.{Nothing, Clean, Spoiled}
 use Rattle.station_symbols.specs.declared.Symbol.{Symbol}
 use Rattle.station_symbols.specs.declared.Symbol.the-variants.{Bit, Jam}
 use Rattle.station_symbols.specs.Packet.{hearsAny, packetBit}
 use Rattle.area.specs.Area.{arrivalAt, heardCode, alone, withSymbol}
 use Rattle.fast_line.specs.declared.LineRun.{LineRun}
+use Rattle.area.specs.Offsets.{ring}
 
 -- ---- kinds
 
@@ -22,8 +23,7 @@ use Rattle.fast_line.specs.declared.LineRun.{LineRun}
 abbrev pub kindOf : Heard → ℕ
 kindOf Nothing = 0
 kindOf (Clean b) = 1
-kindOf Jammed = 2
-kindOf Several = 2
+kindOf Spoiled = 2
 
 unfoldable pub kindAt : List ℕ → (j u : ℕ) → ℕ
 kindAt a j u = kindOf (arrivalAt a j u)
@@ -56,7 +56,7 @@ inUse a j u = hearsAny (arrivalAt a j u)
 
 -- nothing is on its way to station j
 unfoldable pub isClear : List ℕ → ℕ → Bool
-isClear a j = not (some (inUse a j) 256)
+isClear a j = not (some (inUse a j) ring)
 
 -- ---- what a sender emits
 
@@ -72,7 +72,9 @@ jams s = Jam
 
 -- the codes of Q 0 .. Q (K - 1), or of the last 256 of them, end at place `at` + 256 of cs; none is silence
 unfoldable pub Coded : (cs : List ℕ) (at K : ℕ) → (ℕ → Symbol) → Type 0
-Coded cs at K Q = (s : ℕ) → s < K → K ≤ s + 256 → (getD cs (at + (256 + s - K)) 0 ≡ heardCode (alone (Q s))) × (heardCode (alone (Q s)) ≡ 0 → ⊥)
+Coded cs at K Q =
+    (s : ℕ) → s < K → K ≤ s + ring
+    → (getD cs (at + (ring + s - K)) 0 ≡ heardCode (alone (Q s))) × (heardCode (alone (Q s)) ≡ 0 → ⊥)
 
 -- the first `at` are as they were
 unfoldable pub Below : (at : ℕ) → (ds cs : List ℕ) → Type 0

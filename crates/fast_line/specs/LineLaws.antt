@@ -7,7 +7,8 @@ use mathlib.Core.List.{List}
 use native.Mathlib.Nat.{mod-lt}
 use native.Mathlib.Numerals.{add-one}
 use native.Mathlib.Omega.{arith}
-use borrow.Author.Tests.{eq-eqb, ne-eqb, eqb-true, eqb-false, not-true, not-false, leb-true, leb-false, ltb-true, ltb-false}
+use borrow.Author.Tests.{eq-eqb, ne-eqb, eqb-true, eqb-false, not-true, not-false, leb-true, leb-false, ltb-true}
+use borrow.Author.Tests.{ltb-false}
 use lib.Dec.{eqb, leb, ltb}
 use lib.Bits.{bitOr, bitXor, or-add-and, xor-add-and, and-le-l, and-le-r}
 use lib.ListN.{length, getD, set}
@@ -17,20 +18,22 @@ use Rattle.octets.specs.BaseLaws.{by-test, by-eq, neither, none-below, some-hit
 use Rattle.octets.specs.Store.{length-part}
 use Rattle.octets.specs.Turns.{turns, turns-none, turns-more, turns-end}
 use Rattle.station_symbols.specs.declared.Heard.{Heard}
-use Rattle.station_symbols.specs.declared.Heard.the-variants.{Nothing, Clean, Jammed, Several}
+use Rattle.station_symbols.specs.declared.Heard.the-variants.{Nothing, Clean, Spoiled}
 use Rattle.station_symbols.specs.declared.Symbol.{Symbol}
 use Rattle.station_symbols.specs.declared.Symbol.the-variants.{Silence, Bit}
 use Rattle.station_symbols.specs.Packet.{hearsAny, packetBit}
 use Rattle.station_symbols.specs.PacketLaws.{frame-bit, bit-alternates, bit-delimits, bit-of-frame}
 use Rattle.area.specs.Places.{frame}
-use Rattle.area.specs.Area.{frameAt, heardOf, heardCode, symbolAt, arrivalAt, withArrival, alone, withSymbol}
+use Rattle.area.specs.Area.{frameAt, heardOf, heardCode, symbolAt, arrivalAt, withArrival, alone, withSymbol, maxCode}
 use Rattle.area.specs.AreaLaws.{frame-by, arrival-turn}
-use Rattle.area.specs.CodeLaws.{heard-nothing, heard-zero, heard-one, heard-jam, heard-several, joined-code}
+use Rattle.area.specs.CodeLaws.{heard-nothing, heard-zero, heard-one, heard-spoiled as code-spoiled, joined-code}
 use Rattle.bus_meeting.specs.Gather.{joined-none}
 use Rattle.fast_plan.specs.Push.{cleared, joinedAt, onWay}
 use Rattle.fast_plan.specs.Placed.{way-only}
-use Rattle.fast_line.specs.Line.{kindOf, kindAt, firstOf, otherKind, lasts, runAt, AllOf, inUse, isClear, bitsFrom, jams, Coded, Below, codesPut}
-use Rattle.area.specs.Offsets.{areaSize}
+use Rattle.fast_line.specs.Line.{kindOf, kindAt, firstOf, otherKind, lasts, runAt, AllOf, inUse, isClear}
+use Rattle.fast_line.specs.Line.{bitsFrom, jams, Coded, Below, codesPut}
+use Rattle.area.specs.Offsets.{areaSize, ring, from, theLine, theFrame, frameRoom}
+use Rattle.sheet_layout.specs.Limits.{maxStations}
 
 -- ---- the first that passes a test
 
@@ -41,7 +44,8 @@ module _ (t : ℕ → Bool) where
   first-hit (suc m) s h n e =
       by-eq s m
       (λ z. let p : some t m ≡ false = rw z at n in let q : t m ≡ true = rw z at e in rw (p, q) z)
-      (λ z. let p : some t m ≡ true = sym (some-hit t m s (t s) refl e (omega arith)) in rw p (first-hit m s (omega arith) n e))
+      (λ z. let p : some t m ≡ true = sym (some-hit t m s (t s) refl e (omega arith)) in rw p
+      (first-hit m s (omega arith) n e))
 
   first-none : (m : ℕ) → some t m ≡ false → m ≡ firstOf t m
   unfolding firstOf some
@@ -65,12 +69,14 @@ module _ (t : ℕ → Bool) where
   unfolding firstOf
   first-most zero = omega arith
   first-most (suc m) =
-      by-test (some t m) (λ p. rw p (omega (arith, first-most m))) (λ p. by-test (t m) (λ q. rw (p, q) (omega arith)) (λ q. rw (p, q) (omega arith)))
+      by-test (some t m) (λ p. rw p (omega (arith, first-most m)))
+      (λ p. by-test (t m) (λ q. rw (p, q) (omega arith)) (λ q. rw (p, q) (omega arith)))
 
   first-there : (m : ℕ) → some t m ≡ true → t (firstOf t m) ≡ true
   unfolding firstOf some
   first-there zero h = absurd (true≢false (sym h))
-  first-there (suc m) h = by-test (some t m) (λ p. rw p (first-there m p)) (λ p. let q : t m ≡ true = rw p at h in rw (p, q) q)
+  first-there (suc m) h =
+      by-test (some t m) (λ p. rw p (first-there m p)) (λ p. let q : t m ≡ true = rw p at h in rw (p, q) q)
 
   pub first-at : (m : ℕ) → firstOf t m < m → t (firstOf t m) ≡ true
   first-at m h = by-test (some t m) (λ p. first-there m p) (λ p. absurd (omega (arith, first-none m p)))
@@ -82,32 +88,30 @@ module _ (c : ℕ) where
   kind-none p = ap kindOf (heard-nothing c p)
 
   pub kind-clean : (c ≡ 0 → ⊥) → c ≤ 2 → 1 ≡ kindOf (heardOf c)
-  kind-clean p q = by-eq c 1 (λ e. ap kindOf (heard-zero c p e)) (λ e. ap kindOf (heard-one c p e (omega (arith, p, e))))
+  kind-clean p q =
+      by-eq c 1 (λ e. ap kindOf (heard-zero c p e)) (λ e. ap kindOf (heard-one c p e (omega (arith, p, e))))
 
   pub kind-spoiled : 2 < c → 2 ≡ kindOf (heardOf c)
   kind-spoiled q =
       let a : (c ≡ 0 → ⊥) = λ e. omega arith in
       let b : (c ≡ 1 → ⊥) = λ e. omega arith in
       let d : (c ≡ 2 → ⊥) = λ e. omega arith in
-      by-eq c 3 (λ e. ap kindOf (heard-jam c a b d e)) (λ e. ap kindOf (heard-several c a b d e))
+      ap kindOf (code-spoiled c a b d)
 
 pub kind-nothing : (h : Heard) → kindOf h ≡ 0 → h ≡ Nothing
 kind-nothing Nothing e = refl
 kind-nothing (Clean b) e = absurd (omega (arith, e))
-kind-nothing Jammed e = absurd (omega (arith, e))
-kind-nothing Several e = absurd (omega (arith, e))
+kind-nothing Spoiled e = absurd (omega (arith, e))
 
 pub by-clean : {C : Type 0} (h : Heard) → kindOf h ≡ 1 → ((b : Bool) → h ≡ Clean b → C) → C
 by-clean Nothing e f = absurd (omega (arith, e))
 by-clean (Clean b) e f = f b refl
-by-clean Jammed e f = absurd (omega (arith, e))
-by-clean Several e f = absurd (omega (arith, e))
+by-clean Spoiled e f = absurd (omega (arith, e))
 
-pub by-spoiled : {C : Type 0} (h : Heard) → kindOf h ≡ 2 → (h ≡ Jammed → C) → (h ≡ Several → C) → C
-by-spoiled Nothing e f g = absurd (omega (arith, e))
-by-spoiled (Clean b) e f g = absurd (omega (arith, e))
-by-spoiled Jammed e f g = f refl
-by-spoiled Several e f g = g refl
+pub heard-spoiled : (h : Heard) → kindOf h ≡ 2 → h ≡ Spoiled
+heard-spoiled Nothing e = absurd (omega (arith, e))
+heard-spoiled (Clean b) e = absurd (omega (arith, e))
+heard-spoiled Spoiled e = refl
 
 -- ---- how long a kind lasts
 
@@ -125,14 +129,17 @@ module _ (a : List ℕ) (j u : ℕ) where
   unfolding kindAt arrivalAt
   read-kind x c s ex ec = sym (ex ∙ ap (λ (y : ℕ). kindOf (heardOf y)) ec)
 
-  pub lasts-more : (k s x c : ℕ) → x ≡ kindOf (heardOf c) → c ≡ symbolAt a j (u + s) → x ≡ k → some (otherKind a j u k) s ≡ false → some (otherKind a j u k) (s + 1) ≡ false
+  pub lasts-more : (k s x c : ℕ) → x ≡ kindOf (heardOf c) → c ≡ symbolAt a j (u + s) → x ≡ k
+      → some (otherKind a j u k) s ≡ false → some (otherKind a j u k) (s + 1) ≡ false
   unfolding some otherKind
   lasts-more k s x c ex ec ek n = rw (add-one s, n, eq-eqb (kindAt a j (u + s)) k (read-kind x c s ex ec ∙ ek))
 
-  pub lasts-hit : (k m s x c : ℕ) → x ≡ kindOf (heardOf c) → c ≡ symbolAt a j (u + s) → (x ≡ k → ⊥) → s < m → some (otherKind a j u k) s ≡ false → s ≡ lasts a j u k m
+  pub lasts-hit : (k m s x c : ℕ) → x ≡ kindOf (heardOf c) → c ≡ symbolAt a j (u + s) → (x ≡ k → ⊥) → s < m
+      → some (otherKind a j u k) s ≡ false → s ≡ lasts a j u k m
   unfolding lasts otherKind
   lasts-hit k m s x c ex ec ne h n =
-      first-hit (otherKind a j u k) m s h n (ap not (ne-eqb (kindAt a j (u + s)) k (λ z. ne (sym (read-kind x c s ex ec) ∙ z))))
+      first-hit (otherKind a j u k) m s h n
+      (ap not (ne-eqb (kindAt a j (u + s)) k (λ z. ne (sym (read-kind x c s ex ec) ∙ z))))
 
   pub lasts-end : (k m s : ℕ) → s ≤ m → m ≤ s → some (otherKind a j u k) s ≡ false → s ≡ lasts a j u k m
   unfolding lasts
@@ -142,7 +149,8 @@ module _ (a : List ℕ) (j u : ℕ) where
   unfolding kindAt arrivalAt
   here x c ex ec = ex ∙ ap (λ (y : ℕ). kindOf (heardOf y)) ec
 
-  pub run-is : (m x c l : ℕ) → l ≡ lasts a j u x m → x ≡ kindOf (heardOf c) → c ≡ symbolAt a j u → record { kind = x; len = l } ≡ runAt a j u m
+  pub run-is : (m x c l : ℕ) → l ≡ lasts a j u x m → x ≡ kindOf (heardOf c) → c ≡ symbolAt a j u
+      → record { kind = x; len = l } ≡ runAt a j u m
   unfolding runAt
   run-is m x c l el ex ec =
       let e : x ≡ kindAt a j u = here x c ex ec in
@@ -154,8 +162,7 @@ module _ (a : List ℕ) (j u : ℕ) where
       low : (h : Heard) → kindOf h ≤ 2
       low Nothing = omega arith
       low (Clean b) = omega arith
-      low Jammed = omega arith
-      low Several = omega arith
+      low Spoiled = omega arith
 
   pub run-some : (m x c l : ℕ) → l ≡ lasts a j u x m → x ≡ kindOf (heardOf c) → c ≡ symbolAt a j u → 0 < m → 0 < l
   run-some m x c l el ex ec h =
@@ -190,9 +197,9 @@ or-none x y e =
     let r = and-le-r x y in
     (omega arith, omega arith)
 
-pub code-is : (a : List ℕ) (j p c : ℕ) → p < 256 → c ≡ getD a (4096 + 256 * j + p) 0 → c ≡ symbolAt a j p
+pub code-is : (a : List ℕ) (j p c : ℕ) → p < ring → c ≡ getD a (from (theLine j) + p) 0 → c ≡ symbolAt a j p
 unfolding symbolAt
-code-is a j p c h e = let z : p % 256 ≡ p = omega arith in e ∙ ap (λ (k : ℕ). getD a (4096 + 256 * j + k) 0) (sym z)
+code-is a j p c h e = let z : p % ring ≡ p = omega arith in e ∙ ap (λ (k : ℕ). getD a (from (theLine j) + k) 0) (sym z)
 
 -- where all that differs is nothing, n places are of kind k
 abbrev pub Differ : List ℕ → (j p k n other : ℕ) → Type 0
@@ -203,7 +210,8 @@ module _ (a : List ℕ) (j p k : ℕ) where
   unfolding AllOf
   differ-none e = λ i h. absurd (omega arith)
 
-  pub differ-more : (n other c next : ℕ) → k ≤ 2 → c ≡ symbolAt a j (p + n) → next ≡ bitOr other (bitXor (c / 2 + c % 2) k) → Differ a j p k n other → Differ a j p k (n + 1) next
+  pub differ-more : (n other c next : ℕ) → k ≤ 2 → c ≡ symbolAt a j (p + n)
+      → next ≡ bitOr other (bitXor (c / 2 + c % 2) k) → Differ a j p k n other → Differ a j p k (n + 1) next
   unfolding AllOf kindAt arrivalAt
   differ-more n other c next h ec en d e =
       let q = or-none other (bitXor (c / 2 + c % 2) k) (sym en ∙ e) in
@@ -222,7 +230,8 @@ module _ (a : List ℕ) (j p k : ℕ) where
   unfolding AllOf
   alike-none = λ i h. absurd (omega arith)
 
-  pub alike-more : (s n : ℕ) (b : Bool) → AllOf a j p k s → (b ≡ true → AllOf a j (p + s) k n) → not b ≡ false → AllOf a j p k (s + n)
+  pub alike-more : (s n : ℕ) (b : Bool) → AllOf a j p k s → (b ≡ true → AllOf a j (p + s) k n) → not b ≡ false
+      → AllOf a j p k (s + n)
   unfolding AllOf
   alike-more s n b h f e =
       let t : b ≡ true = not-false b e in
@@ -245,7 +254,8 @@ module _ (a : List ℕ) (j p k : ℕ) where
   unfolding lasts otherKind
   lasts-is m s le al ne =
       by-test (ltb s m)
-      (λ c. let h = ltb-true s m c in first-hit (otherKind a j p k) m s h (alike-some s al) (ap not (ne-eqb (kindAt a j (p + s)) k (ne h))))
+      (λ c. let h = ltb-true s m c in first-hit (otherKind a j p k) m s h (alike-some s al)
+      (ap not (ne-eqb (kindAt a j (p + s)) k (ne h))))
       (λ c. let h = ltb-false s m c in first-end (otherKind a j p k) m s le (omega arith) (alike-some s al))
 
   each-is : (m s : ℕ) → s ≡ lasts a j p k m → AllOf a j p k s
@@ -257,11 +267,12 @@ module _ (a : List ℕ) (j p k : ℕ) where
 
 -- ---- a place is one of 256
 
-kind-row : (a : List ℕ) (j u v : ℕ) → u % 256 ≡ v % 256 → kindAt a j u ≡ kindAt a j v
+kind-row : (a : List ℕ) (j u v : ℕ) → u % ring ≡ v % ring → kindAt a j u ≡ kindAt a j v
 unfolding kindAt
 kind-row a j u v e = ap kindOf (arrival-turn a j u v e)
 
-module _ (a : List ℕ) (j u k p row m s : ℕ) (ep : p ≡ u % 256) (er : row ≡ min (256 - p) m) (es : s ≡ lasts a j p k row) where
+module _ (a : List ℕ) (j u k p row m s : ℕ) (ep : p ≡ u % ring) (er : row ≡ min (ring - p) m)
+    (es : s ≡ lasts a j p k row) where
   row-alike : AllOf a j u k s
   unfolding AllOf
   row-alike i h = kind-row a j (u + i) (p + i) (omega arith) ∙ each-is a j p k row s es i h
@@ -288,7 +299,7 @@ unfolding heardOf
 used-code c =
     by-test (eqb c 0) (λ p. rw p)
     (λ p. by-test (eqb c 1) (λ q. rw (p, q))
-    (λ q. by-test (eqb c 2) (λ r. rw (p, q, r)) (λ r. by-test (eqb c 3) (λ z. rw (p, q, r, z)) (λ z. rw (p, q, r, z)))))
+    (λ q. by-test (eqb c 2) (λ r. rw (p, q, r)) (λ r. rw (p, q, r))))
 
 or-over : (x c : ℕ) → not (eqb (bitOr x c) 0) ≡ (not (eqb x 0) || not (eqb c 0))
 or-over x c =
@@ -308,28 +319,30 @@ not-not false = refl
 unused : (h : Heard) → hearsAny h ≡ false → h ≡ Nothing
 unused Nothing e = refl
 unused (Clean b) e = absurd (true≢false e)
-unused Jammed e = absurd (true≢false e)
-unused Several e = absurd (true≢false e)
+unused Spoiled e = absurd (true≢false e)
 
 module _ (a : List ℕ) (j : ℕ) where
   pub clear-none : some (inUse a j) 0 ≡ not (eqb 0 0)
   unfolding some
   clear-none = refl
 
-  pub clear-more : (u c x : ℕ) → c ≡ symbolAt a j u → some (inUse a j) u ≡ not (eqb x 0) → some (inUse a j) (u + 1) ≡ not (eqb (bitOr x c) 0)
+  pub clear-more : (u c x : ℕ) → c ≡ symbolAt a j u → some (inUse a j) u ≡ not (eqb x 0)
+      → some (inUse a j) (u + 1) ≡ not (eqb (bitOr x c) 0)
   unfolding some inUse arrivalAt
   clear-more u c x ec h = rw (add-one u, h, ← ec, used-code c) (sym (or-over x c))
 
-  pub clear-end : (u x : ℕ) → u ≤ 256 → 256 ≤ u → some (inUse a j) u ≡ not (eqb x 0) → eqb x 0 ≡ isClear a j
+  pub clear-end : (u x : ℕ) → u ≤ ring → ring ≤ u → some (inUse a j) u ≡ not (eqb x 0) → eqb x 0 ≡ isClear a j
   unfolding isClear
-  clear-end u x p q h = let e : u ≡ 256 = omega arith in let g : some (inUse a j) 256 ≡ not (eqb x 0) = rw e at h in sym (ap not g ∙ not-not (eqb x 0))
+  clear-end u x p q h =
+      let e : u ≡ ring = omega arith in let g : some (inUse a j) ring ≡ not
+      (eqb x 0) = rw e at h in sym (ap not g ∙ not-not (eqb x 0))
 
   -- nothing at any place
   pub clear-line : isClear a j ≡ true → (u : ℕ) → arrivalAt a j u ≡ Nothing
   unfolding isClear inUse
   clear-line h u =
-      arrival-turn a j u (u % 256) (omega arith)
-      ∙ unused (arrivalAt a j (u % 256)) (none-below (inUse a j) 256 (u % 256) (not-true _ h) (omega arith))
+      arrival-turn a j u (u % ring) (omega arith)
+      ∙ unused (arrivalAt a j (u % ring)) (none-below (inUse a j) ring (u % ring) (not-true _ h) (omega arith))
 
 -- ---- places cleared
 
@@ -338,7 +351,8 @@ module _ (t j : ℕ) (x : List ℕ) where
   unfolding cleared
   cleared-none = turns-none _ x
 
-  pub cleared-more : (s : ℕ) (y z : List ℕ) → z ≡ withArrival y j (t + s) Nothing → y ≡ cleared t j s x → z ≡ cleared t j (s + 1) x
+  pub cleared-more : (s : ℕ) (y z : List ℕ) → z ≡ withArrival y j (t + s) Nothing → y ≡ cleared t j s x
+      → z ≡ cleared t j (s + 1) x
   unfolding cleared
   cleared-more s y z p q = turns-more _ s x y z p q
 
@@ -347,11 +361,12 @@ module _ (t j : ℕ) (x : List ℕ) where
   cleared-end m s y p q r = turns-end _ m s x y p q r
 
 -- a place of a row
-pub cleared-row : (u j : ℕ) (x : List ℕ) (s n p : ℕ) (y : List ℕ) → p ≡ 4096 + 256 * j + u % 256 → u % 256 + n ≤ 256 → s < n → y ≡ cleared u j s x
+pub cleared-row : (u j : ℕ) (x : List ℕ) (s n p : ℕ) (y : List ℕ) → p ≡ from (theLine j) + u % ring
+    → u % ring + n ≤ ring → s < n → y ≡ cleared u j s x
     → set y (p + s) 0 ≡ cleared u j (s + 1) x
 unfolding withArrival
 cleared-row u j x s n p y ep h hs ey =
-    let e : p + s ≡ 4096 + 256 * j + (u + s) % 256 = omega arith in
+    let e : p + s ≡ from (theLine j) + (u + s) % ring = omega arith in
     cleared-more u j x s y (set y (p + s) 0) (ap (λ (k : ℕ). set y k 0) e) ey
 
 -- one row after the other
@@ -365,7 +380,8 @@ cleared-after t j s (suc n) x =
     ∙ cleared-more t j x (s + n) (cleared t j (s + n) x) _ refl refl
     ∙ ap (λ (k : ℕ). cleared t j k x) g
 
-pub cleared-rows : (t j : ℕ) (x : List ℕ) (s n : ℕ) (y z : List ℕ) → z ≡ cleared (t + s) j n y → y ≡ cleared t j s x → z ≡ cleared t j (s + n) x
+pub cleared-rows : (t j : ℕ) (x : List ℕ) (s n : ℕ) (y z : List ℕ) → z ≡ cleared (t + s) j n y → y ≡ cleared t j s x
+    → z ≡ cleared t j (s + n) x
 cleared-rows t j x s n y z ez ey = ez ∙ ap (cleared (t + s) j n) ey ∙ cleared-after t j s n x
 
 -- ---- the code of a packet's bit
@@ -404,40 +420,53 @@ module _ (cs : List ℕ) (p m K : ℕ) (Q : ℕ → Symbol) where
   pub noted-none : Noted cs p m K Q 0
   noted-none v h = absurd (omega arith)
 
-  noted-more : (n c : ℕ) → p + n < length cs → c ≡ heardCode (alone (Q (K - m + n))) → Noted cs p m K Q n → Noted (set cs (p + n) c) p m K Q (n + 1)
+  noted-more : (n c : ℕ) → p + n < length cs → c ≡ heardCode (alone (Q (K - m + n))) → Noted cs p m K Q n
+      → Noted (set cs (p + n) c) p m K Q (n + 1)
   noted-more n c room e h v hv =
       by-eq v n
       (λ z. rw z (getD-set-same cs (p + n) c 0 room ∙ e))
       (λ z. getD-set-other cs (p + n) (p + v) c 0 (λ w. z (omega arith)) ∙ h v (omega (arith, z)))
 
-note-fits : (cs ds : List ℕ) (at p m K n : ℕ) → length cs ≡ length ds → at + 256 ≤ length ds → p ≡ at + (256 - m) → m ≡ min 256 K → n < m → p + n < length cs
+note-fits : (cs ds : List ℕ) (at p m K n : ℕ) → length cs ≡ length ds → at + ring ≤ length ds → p ≡ at + (ring - m)
+    → m ≡ min ring K → n < m → p + n < length cs
 note-fits cs ds at p m K n l h ep em hn = omega arith
 
-pub bits-noted : (cs ds F : List ℕ) (at p m f K k n c : ℕ) → c ≡ heardCode (alone (Bit (packetBit F (k + (f + n))))) → f ≡ K - m → length cs ≡ length ds → at + 256 ≤ length ds
-    → p ≡ at + (256 - m) → m ≡ min 256 K → n < m → Noted cs p m K (bitsFrom F k) n → Noted (set cs (p + n) c) p m K (bitsFrom F k) (n + 1)
+pub bits-noted : (cs ds F : List ℕ) (at p m f K k n c : ℕ) → c ≡ heardCode (alone (Bit (packetBit F (k + (f + n)))))
+    → f ≡ K - m → length cs ≡ length ds → at + ring ≤ length ds
+    → p ≡ at + (ring - m) → m ≡ min ring K → n < m → Noted cs p m K (bitsFrom F k) n
+    → Noted (set cs (p + n) c) p m K (bitsFrom F k) (n + 1)
 unfolding bitsFrom
 bits-noted cs ds F at p m f K k n c e ef l room ep em hn h =
-    noted-more cs p m K (bitsFrom F k) n c (note-fits cs ds at p m K n l room ep em hn) (e ∙ ap (λ (g : ℕ). heardCode (alone (Bit (packetBit F (k + (g + n)))))) ef) h
+    noted-more cs p m K (bitsFrom F k) n c (note-fits cs ds at p m K n l room ep em hn)
+    (e ∙ ap (λ (g : ℕ). heardCode (alone (Bit (packetBit F (k + (g + n)))))) ef) h
 
-pub jam-noted : (cs ds : List ℕ) (at p m K n : ℕ) → length cs ≡ length ds → at + 256 ≤ length ds → p ≡ at + (256 - m) → m ≡ min 256 K → n < m → Noted cs p m K jams n
+pub jam-noted : (cs ds : List ℕ) (at p m K n : ℕ) → length cs ≡ length ds → at + ring ≤ length ds → p ≡ at + (ring - m)
+    → m ≡ min ring K → n < m → Noted cs p m K jams n
     → Noted (set cs (p + n) 3) p m K jams (n + 1)
 unfolding jams
-jam-noted cs ds at p m K n l room ep em hn h = noted-more cs p m K jams n 3 (note-fits cs ds at p m K n l room ep em hn) refl h
+jam-noted cs ds at p m K n l room ep em hn h =
+    noted-more cs p m K jams n 3 (note-fits cs ds at p m K n l room ep em hn) refl h
 
-coded-by : (cs : List ℕ) (at p m K : ℕ) (Q : ℕ → Symbol) (n : ℕ) → m ≡ min 256 K → p ≡ at + (256 - m) → m ≤ n → ((s : ℕ) → heardCode (alone (Q s)) ≡ 0 → ⊥)
+coded-by : (cs : List ℕ) (at p m K : ℕ) (Q : ℕ → Symbol) (n : ℕ) → m ≡ min ring K → p ≡ at + (ring - m) → m ≤ n
+    → ((s : ℕ) → heardCode (alone (Q s)) ≡ 0 → ⊥)
     → Noted cs p m K Q n → Coded cs at K Q
 unfolding Coded
 coded-by cs at p m K Q n em ep hn ne h s hs hk =
-    let w : p + (s - (K - m)) ≡ at + (256 + s - K) = omega arith in
-    let z : K - m + (s - (K - m)) ≡ s = omega arith in
-    (ap (λ (k : ℕ). getD cs k 0) (sym w) ∙ h (s - (K - m)) (omega arith) ∙ ap (λ (k : ℕ). heardCode (alone (Q k))) z, ne s)
+    let w : p + (s - (K - m)) ≡ at + (ring + s - K) = omega arith in
+    let z : K - m + (s - (K - m)) ≡ s = omega arith in (
+      ap (λ (k : ℕ). getD cs k 0) (sym w) ∙ h (s - (K - m)) (omega arith)
+          ∙ ap (λ (k : ℕ). heardCode (alone (Q k))) z,
+      ne s,
+    )
 
-pub bits-coded : (cs F G : List ℕ) (at p m K k n : ℕ) → m ≡ min 256 K → p ≡ at + (256 - m) → m ≤ n → F ≡ G → Noted cs p m K (bitsFrom F k) n → Coded cs at K (bitsFrom G k)
+pub bits-coded : (cs F G : List ℕ) (at p m K k n : ℕ) → m ≡ min ring K → p ≡ at + (ring - m) → m ≤ n → F ≡ G
+    → Noted cs p m K (bitsFrom F k) n → Coded cs at K (bitsFrom G k)
 unfolding bitsFrom
 bits-coded cs F G at p m K k n em ep hn e h =
     coded-by cs at p m K (bitsFrom G k) n em ep hn (λ s. bit-sounds (packetBit G (k + s))) (rw e at h)
 
-pub jam-coded : (cs : List ℕ) (at p m K n : ℕ) → m ≡ min 256 K → p ≡ at + (256 - m) → m ≤ n → Noted cs p m K jams n → Coded cs at K jams
+pub jam-coded : (cs : List ℕ) (at p m K n : ℕ) → m ≡ min ring K → p ≡ at + (ring - m) → m ≤ n → Noted cs p m K jams n
+    → Coded cs at K jams
 unfolding jams
 jam-coded cs at p m K n em ep hn h = coded-by cs at p m K jams n em ep hn (λ s z. omega (arith, z)) h
 
@@ -446,20 +475,23 @@ pub below-same : (at : ℕ) (cs : List ℕ) → Below at cs cs
 unfolding Below
 below-same at cs p h = refl
 
-pub below-more : (at p n c m : ℕ) (ds cs : List ℕ) → p ≡ at + (256 - m) → Below at ds cs → Below at ds (set cs (p + n) c)
+pub below-more : (at p n c m : ℕ) (ds cs : List ℕ) → p ≡ at + (ring - m) → Below at ds cs
+    → Below at ds (set cs (p + n) c)
 unfolding Below
 below-more at p n c m ds cs ep h q hq = getD-set-other cs (p + n) q c 0 (λ w. omega arith) ∙ h q hq
 
-pub below-coded : (at b K : ℕ) (Q : ℕ → Symbol) (ds cs : List ℕ) → Below b ds cs → at + 256 ≤ b → Coded ds at K Q → Coded cs at K Q
+pub below-coded : (at b K : ℕ) (Q : ℕ → Symbol) (ds cs : List ℕ) → Below b ds cs → at + ring ≤ b → Coded ds at K Q
+    → Coded cs at K Q
 unfolding Below Coded
-below-coded at b K Q ds cs h le c s hs hk = (h (at + (256 + s - K)) (omega arith) ∙ c s hs hk .0, c s hs hk .1)
+below-coded at b K Q ds cs h le c s hs hk = (h (at + (ring + s - K)) (omega arith) ∙ c s hs hk .0, c s hs hk .1)
 
 -- the frame has the bits that are noted
-pub note-room : (x F : List ℕ) (i n k K m f s : ℕ) → F ≡ frameAt x i n → i < 16 → n ≤ 1536 → areaSize ≤ length x → m ≡ min 256 K → f ≡ K - m → s < m → k + K ≤ 65 + 8 * n
+pub note-room : (x F : List ℕ) (i n k K m f s : ℕ) → F ≡ frameAt x i n → i < maxStations → n ≤ frameRoom
+    → areaSize ≤ length x → m ≡ min ring K → f ≡ K - m → s < m → k + K ≤ 65 + 8 * n
     → k + (f + s) < 65 + 8 * length F
 unfolding frameAt
 note-room x F i n k K m f s e hi hn room em ef hs hk =
-    let z : length F ≡ n = ap length e ∙ length-part x (8192 + 1536 * i) n (omega arith) in
+    let z : length F ≡ n = ap length e ∙ length-part x (from (theFrame i)) n (omega arith) in
     omega arith
 
 -- ---- symbols put
@@ -470,15 +502,15 @@ module _ (j u : ℕ) (cs : List ℕ) (at : ℕ) (x : List ℕ) where
   codes-none = turns-none _ x
 
   -- a place of a row
-  pub codes-row : (s n p c v : ℕ) (y : List ℕ) → p ≡ 4096 + 256 * j + u % 256 → u % 256 + n ≤ 256 → s < n
-      → v ≡ pick (eqb (getD y (p + s) 0) 0) c 4 → c ≡ getD cs (at + s) 0 → y ≡ codesPut j u cs at s x
+  pub codes-row : (s n p c v : ℕ) (y : List ℕ) → p ≡ from (theLine j) + u % ring → u % ring + n ≤ ring → s < n
+      → v ≡ pick (eqb (getD y (p + s) 0) 0) c maxCode → c ≡ getD cs (at + s) 0 → y ≡ codesPut j u cs at s x
       → set y (p + s) v ≡ codesPut j u cs at (s + 1) x
   unfolding codesPut withSymbol symbolAt
   codes-row s n p c v y ep h hs ev ec ey =
-      let e : p + s ≡ 4096 + 256 * j + (u + s) % 256 = omega arith in
+      let e : p + s ≡ from (theLine j) + (u + s) % ring = omega arith in
       turns-more _ s x y (set y (p + s) v)
       (ap (set y (p + s)) (ev ∙ ap (pick (eqb (getD y (p + s) 0) 0) _) refl)
-      ∙ ap₂ (λ (k d : ℕ). set y k (pick (eqb (getD y k 0) 0) d 4)) e ec)
+      ∙ ap₂ (λ (k d : ℕ). set y k (pick (eqb (getD y k 0) 0) d maxCode)) e ec)
       ey
 
   pub codes-end : (n s : ℕ) (y : List ℕ) → s ≤ n → n ≤ s → y ≡ codesPut j u cs at s x → y ≡ codesPut j u cs at n x
@@ -503,58 +535,63 @@ both-rows m w n e = omega arith
 first-step : (t d K m : ℕ) → m ≡ min d K → t + (K - m + d) ≡ t + (K - d + d)
 first-step t d K m e = omega arith
 
-pub codes-rows : (j t d K at m u k n : ℕ) (cs x y z : List ℕ) → m ≡ min d K → u ≡ t + (K - m + d) → k ≡ at + (256 - m) → n ≡ min (256 - u % 256) m
+pub codes-rows : (j t d K at m u k n : ℕ) (cs x y z : List ℕ) → m ≡ min d K → u ≡ t + (K - m + d) → k ≡ at + (ring - m)
+    → n ≡ min (ring - u % ring) m
     → y ≡ codesPut j u cs k n x → z ≡ codesPut j (u + n) cs (k + n) (m - n) y
-    → z ≡ codesPut j (t + (K - d + d)) cs (at + (256 - min d K)) (min d K) x
+    → z ≡ codesPut j (t + (K - d + d)) cs (at + (ring - min d K)) (min d K) x
 codes-rows j t d K at m u k n cs x y z em eu ek en ey ez =
-    let a : n + (m - n) ≡ min d K = both-rows m (256 - u % 256) n en ∙ em in
+    let a : n + (m - n) ≡ min d K = both-rows m (ring - u % ring) n en ∙ em in
     let b : u ≡ t + (K - d + d) = eu ∙ first-step t d K m em in
-    let c : k ≡ at + (256 - min d K) = ek ∙ ap (λ (i : ℕ). at + (256 - i)) em in
+    let c : k ≡ at + (ring - min d K) = ek ∙ ap (λ (i : ℕ). at + (ring - i)) em in
     ez ∙ ap (codesPut j (u + n) cs (k + n) (m - n)) ey ∙ codes-after j u cs k x n (m - n)
     ∙ ap (λ (i : ℕ). codesPut j u cs k i x) a
     ∙ ap₂ (λ (v w : ℕ). codesPut j v cs w (min d K) x) b c
 
 -- where the codes are those of what is emitted
-pub way-coded : (t d K : ℕ) (Q : ℕ → Symbol) (j : ℕ) (cs : List ℕ) (at : ℕ) (x : List ℕ) (m : ℕ) → d ≤ 256 → m ≤ min d K → Coded cs at K Q
-    → codesPut j (t + (K - d + d)) cs (at + (256 - min d K)) m x ≡ onWay t d K Q j m x
+pub way-coded : (t d K : ℕ) (Q : ℕ → Symbol) (j : ℕ) (cs : List ℕ) (at : ℕ) (x : List ℕ) (m : ℕ) → d ≤ ring
+    → m ≤ min d K → Coded cs at K Q
+    → codesPut j (t + (K - d + d)) cs (at + (ring - min d K)) m x ≡ onWay t d K Q j m x
 unfolding codesPut onWay turns joinedAt Coded
 way-coded t d K Q j cs at x zero hd h c = refl
 way-coded t d K Q j cs at x (suc m) hd h c =
     let q = K - d + m in
     let e : t + (K - d + d) + m ≡ t + (q + d) = omega arith in
-    let f : at + (256 - min d K) + m ≡ at + (256 + q - K) = omega arith in
+    let f : at + (ring - min d K) + m ≡ at + (ring + q - K) = omega arith in
     let b = c q (omega arith) (omega arith) in
     let y = onWay t d K Q j m x in
-    ap₂ (λ (v : ℕ) (l : List ℕ). withSymbol l j v (getD cs (at + (256 - min d K) + m) 0)) e (way-coded t d K Q j cs at x m hd (omega arith) c)
+    ap₂ (λ (v : ℕ) (l : List ℕ). withSymbol l j v (getD cs (at + (ring - min d K) + m) 0)) e
+    (way-coded t d K Q j cs at x m hd (omega arith) c)
     ∙ ap (λ (i : ℕ). withSymbol y j (t + (q + d)) (getD cs i 0)) f
-    ∙ joined-code y j (t + (q + d)) (Q q) (getD cs (at + (256 + q - K)) 0) (b .0) (λ z. b .1 (sym (b .0) ∙ z))
+    ∙ joined-code y j (t + (q + d)) (Q q) (getD cs (at + (ring + q - K)) 0) (b .0) (λ z. b .1 (sym (b .0) ∙ z))
 
 -- only what is emitted matters
-pub way-same : (t d K : ℕ) (Q R : ℕ → Symbol) (j m : ℕ) (x : List ℕ) → m ≤ min d K → ((s : ℕ) → s < K → Q s ≡ R s) → onWay t d K Q j m x ≡ onWay t d K R j m x
+pub way-same : (t d K : ℕ) (Q R : ℕ → Symbol) (j m : ℕ) (x : List ℕ) → m ≤ min d K → ((s : ℕ) → s < K → Q s ≡ R s)
+    → onWay t d K Q j m x ≡ onWay t d K R j m x
 unfolding onWay turns
 way-same t d K Q R j zero x h e = refl
 way-same t d K Q R j (suc m) x h e =
-    ap₂ (λ (q : Symbol) (y : List ℕ). joinedAt j (t + (K - d + m + d)) q y) (e (K - d + m) (omega arith)) (way-same t d K Q R j m x (omega arith) e)
+    ap₂ (λ (q : Symbol) (y : List ℕ). joinedAt j (t + (K - d + m + d)) q y) (e (K - d + m) (omega arith))
+    (way-same t d K Q R j m x (omega arith) e)
 
 -- ---- what changes nothing, where the codes are those of what is heard
 
-code-back : (c : ℕ) → c ≤ 4 → heardCode (heardOf c) ≡ c
+code-back : (c : ℕ) → c ≤ maxCode → heardCode (heardOf c) ≡ c
 code-back c h =
     by-eq c 0 (λ p. ap heardCode (sym (heard-nothing c p)) ∙ sym p)
     (λ p. by-eq c 1 (λ q. ap heardCode (sym (heard-zero c p q)) ∙ sym q)
     (λ q. by-eq c 2 (λ r. ap heardCode (sym (heard-one c p q r)) ∙ sym r)
-    (λ r. by-eq c 3 (λ z. ap heardCode (sym (heard-jam c p q r z)) ∙ sym z) (λ z. ap heardCode (sym (heard-several c p q r z)) ∙ sym (last c h (p, q, r, z))))))
-  where
-    last : (c : ℕ) → c ≤ 4 → (c ≡ 0 → ⊥) × (c ≡ 1 → ⊥) × (c ≡ 2 → ⊥) × (c ≡ 3 → ⊥) → c ≡ 4
-    last c h n = omega (arith, n .0, n .1, n .2, n .3)
+    (λ r. ap heardCode (sym (code-spoiled c p q r)) ∙ omega (arith, p, q, r))))
 
 -- what is there, put again
-put-back : (x : List ℕ) (j u : ℕ) → symbolAt x j u ≤ 4 → withArrival x j u (arrivalAt x j u) ≡ x
+put-back : (x : List ℕ) (j u : ℕ) → symbolAt x j u ≤ maxCode → withArrival x j u (arrivalAt x j u) ≡ x
 unfolding withArrival arrivalAt symbolAt
-put-back x j u h = ap (set x (4096 + 256 * j + u % 256)) (code-back (getD x (4096 + 256 * j + u % 256) 0) h) ∙ set-getD x (4096 + 256 * j + u % 256) 0
+put-back x j u h =
+    ap (set x (from (theLine j) + u % ring)) (code-back (getD x (from (theLine j) + u % ring) 0) h)
+    ∙ set-getD x (from (theLine j) + u % ring) 0
 
 -- silence
-pub way-silent : (t d K : ℕ) (Q : ℕ → Symbol) (j m : ℕ) (x : List ℕ) → m ≤ min d K → ((s : ℕ) → s < K → Q s ≡ Silence) → ((u : ℕ) → symbolAt x j u ≤ 4) → onWay t d K Q j m x ≡ x
+pub way-silent : (t d K : ℕ) (Q : ℕ → Symbol) (j m : ℕ) (x : List ℕ) → m ≤ min d K → ((s : ℕ) → s < K → Q s ≡ Silence)
+    → ((u : ℕ) → symbolAt x j u ≤ maxCode) → onWay t d K Q j m x ≡ x
 unfolding onWay turns joinedAt
 way-silent t d K Q j zero x h e codes = refl
 way-silent t d K Q j (suc m) x h e codes =
@@ -565,7 +602,8 @@ way-silent t d K Q j (suc m) x h e codes =
     ∙ put-back x j u (codes u)
 
 -- places that hold nothing, cleared
-pub cleared-same : (t j m : ℕ) (x : List ℕ) → ((s : ℕ) → s < m → arrivalAt x j (t + s) ≡ Nothing) → ((u : ℕ) → symbolAt x j u ≤ 4) → cleared t j m x ≡ x
+pub cleared-same : (t j m : ℕ) (x : List ℕ) → ((s : ℕ) → s < m → arrivalAt x j (t + s) ≡ Nothing)
+    → ((u : ℕ) → symbolAt x j u ≤ maxCode) → cleared t j m x ≡ x
 unfolding cleared turns
 cleared-same t j zero x e codes = refl
 cleared-same t j (suc m) x e codes =

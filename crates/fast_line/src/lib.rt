@@ -12,8 +12,10 @@ ghost use Rattle.station_symbols.specs.declared.Symbol.the-variants.{Bit};
 ghost use Rattle.station_symbols.specs.Packet.{packetBit};
 ghost use Rattle.area.specs.Area.{heardOf, heardCode, symbolAt, alone, frameAt};
 ghost use Rattle.fast_plan.specs.Push.{cleared};
-ghost use Rattle.fast_line.specs.Line.{kindOf, lasts, runAt, AllOf, isClear, bitsFrom, jams, Coded, Below, codesPut};
-ghost use Rattle.area.specs.Offsets.{areaSize};
+ghost use Rattle.fast_line.specs.Line.{kindOf, lasts, runAt, AllOf, isClear, bitsFrom, jams, Coded, Below};
+ghost use Rattle.fast_line.specs.Line.{codesPut};
+ghost use Rattle.area.specs.Offsets.{areaSize, ring, frameRoom};
+ghost use Rattle.sheet_layout.specs.Limits.{maxStations};
 
 // Places of one kind, and how many: 0 nothing, 1 clean bits, 2 spoiled.
 pub struct LineRun {
@@ -23,12 +25,12 @@ pub struct LineRun {
 
 // Whether nothing is on its way to station j. The codes are put together without a branch: many are looked at at once.
 pub fn is_clear(area: &[u8], j: usize) -> bool
-    requires { ⌜ (j < 16) × (areaSize ≤ length (now area)) ⌝ }
+    requires { ⌜ (j < maxStations) × (areaSize ≤ length (now area)) ⌝ }
     ensures { λ r. ⌜ r ≡ isClear (now (area .entry)) j ⌝ }
 {
     let mut all: u8 = 0;
     let mut u: usize = 0;
-    while u < 256 {
+    while u < area::RING {
         all = all | area_line::read_symbol(area, j, u);
         u += 1;
     }
@@ -49,16 +51,16 @@ fn kind_of(code: u8) -> u8
 
 // The code at place p of the line of station j.
 fn code_at(area: &[u8], j: usize, p: usize) -> u8
-    requires { ⌜ (j < 16) × (areaSize ≤ length (now area)) × (p < 256) ⌝ }
+    requires { ⌜ (j < maxStations) × (areaSize ≤ length (now area)) × (p < ring) ⌝ }
     ensures { λ r. ⌜ r ≡ symbolAt (now (area .entry)) j p ⌝ }
 {
-    area[4096 + 256 * j + p]
+    area[area::LINES_AT + area::RING * j + p]
 }
 
-// Whether the n places from p on are of this kind. Without a branch: they are looked at at once. Half of a code, rounded
-// up, is its kind.
+// Whether the n places from p on are of this kind. Without a branch: they are looked at at once. Half of a code,
+// rounded up, is its kind.
 fn are_alike(area: &[u8], j: usize, p: usize, kind: u8, n: usize) -> bool
-    requires { ⌜ (j < 16) × (areaSize ≤ length (now area)) × (p + n ≤ 256) × (kind ≤ 2) ⌝ }
+    requires { ⌜ (j < maxStations) × (areaSize ≤ length (now area)) × (p + n ≤ ring) × (kind ≤ 2) ⌝ }
     ensures { λ r. ⌜ (r ≡ true → AllOf (now (area .entry)) j p kind n) ⌝ }
 {
     let mut other: u8 = 0;
@@ -73,7 +75,8 @@ fn are_alike(area: &[u8], j: usize, p: usize, kind: u8, n: usize) -> bool
 
 // Of the m places from p on, the first s of which are of this kind, n more at a time as long as all of them are.
 fn go_on(area: &[u8], j: usize, p: usize, kind: u8, m: usize, s: usize, n: usize) -> usize
-    requires { ⌜ (j < 16) × (areaSize ≤ length (now area)) × (p + m ≤ 256) × (kind ≤ 2) × (s ≤ m) × (0 < n) × (n ≤ 16) × AllOf (now area) j p kind s ⌝ }
+    requires { ⌜ (j < maxStations) × (areaSize ≤ length (now area)) × (p + m ≤ ring) × (kind ≤ 2) × (s ≤ m) × (0 < n)
+        × (n ≤ 16) × AllOf (now area) j p kind s ⌝ }
     ensures alike { λ r. ⌜ AllOf (now (area .entry)) j p kind r ⌝ }
     ensures bound { λ r. ⌜ r ≤ m ⌝ }
 {
@@ -89,7 +92,7 @@ fn go_on(area: &[u8], j: usize, p: usize, kind: u8, m: usize, s: usize, n: usize
 
 // How many of the m places from p on, which lie in a row, are of this kind, up to the first that is not.
 fn lasting_row(area: &[u8], j: usize, p: usize, kind: u8, m: usize) -> usize
-    requires { ⌜ (j < 16) × (areaSize ≤ length (now area)) × (p + m ≤ 256) × (kind ≤ 2) ⌝ }
+    requires { ⌜ (j < maxStations) × (areaSize ≤ length (now area)) × (p + m ≤ ring) × (kind ≤ 2) ⌝ }
     ensures same { λ r. ⌜ r ≡ lasts (now (area .entry)) j p kind m ⌝ }
     ensures bound { λ r. ⌜ r ≤ m ⌝ }
 {
@@ -108,12 +111,12 @@ fn lasting_row(area: &[u8], j: usize, p: usize, kind: u8, m: usize) -> usize
 
 // How many of the m places from u on are of this kind, up to the first that is not.
 fn lasting(area: &[u8], j: usize, u: usize, kind: u8, m: usize) -> usize
-    requires { ⌜ (j < 16) × (areaSize ≤ length (now area)) × (m ≤ 256) × (kind ≤ 2) ⌝ }
+    requires { ⌜ (j < maxStations) × (areaSize ≤ length (now area)) × (m ≤ ring) × (kind ≤ 2) ⌝ }
     ensures same { λ r. ⌜ r ≡ lasts (now (area .entry)) j u kind m ⌝ }
     ensures bound { λ r. ⌜ r ≤ m ⌝ }
 {
-    let p = u % 256;
-    let row = bus_quick::capped(256 - p, m);
+    let p = u % area::RING;
+    let row = bus_quick::capped(area::RING - p, m);
     let s = lasting_row(area, j, p, kind, row);
     if s < row {
         return s;
@@ -123,7 +126,7 @@ fn lasting(area: &[u8], j: usize, u: usize, kind: u8, m: usize) -> usize
 
 // The kind of place u, and how many of the m places from there on have it.
 pub fn line_run(area: &[u8], j: usize, u: usize, m: usize) -> LineRun
-    requires { ⌜ (j < 16) × (areaSize ≤ length (now area)) × (m ≤ 256) × (0 < m) ⌝ }
+    requires { ⌜ (j < maxStations) × (areaSize ≤ length (now area)) × (m ≤ ring) × (0 < m) ⌝ }
     ensures run { λ r. ⌜ r ≡ runAt (now (area .entry)) j u m ⌝ }
     ensures bound { λ r. ⌜ (0 < r .len) × (r .len ≤ m) ⌝ }
 {
@@ -134,10 +137,10 @@ pub fn line_run(area: &[u8], j: usize, u: usize, m: usize) -> LineRun
 
 // The n places of station j from step u on, which lie in a row, become nothing.
 fn clear_row(area: &mut [u8], j: usize, u: usize, n: usize)
-    requires { ⌜ (j < 16) × (areaSize ≤ length (now area)) × (u % 256 + n ≤ 256) ⌝ }
+    requires { ⌜ (j < maxStations) × (areaSize ≤ length (now area)) × (u % ring + n ≤ ring) ⌝ }
     ensures { λ r. ⌜ now (area .exit) ≡ cleared u j n (now (area .entry)) ⌝ }
 {
-    let first = 4096 + 256 * j + u % 256;
+    let first = area::LINES_AT + area::RING * j + u % area::RING;
     let mut s: usize = 0;
     while s < n {
         area[first + s] = 0;
@@ -147,13 +150,13 @@ fn clear_row(area: &mut [u8], j: usize, u: usize, n: usize)
 
 // The m places of station j from step t on become nothing.
 pub fn clear(area: &mut [u8], j: usize, t: usize, m: usize)
-    requires { ⌜ (j < 16) × (areaSize ≤ length (now area)) × (t + m < 4294967296) ⌝ }
+    requires { ⌜ (j < maxStations) × (areaSize ≤ length (now area)) × (t + m < 4294967296) ⌝ }
     ensures { λ r. ⌜ now (area .exit) ≡ cleared t j m (now (area .entry)) ⌝ }
 {
     let mut s: usize = 0;
     while s < m {
         let u = t + s;
-        let n = bus_quick::capped(256 - u % 256, m - s);
+        let n = bus_quick::capped(area::RING - u % area::RING, m - s);
         clear_row(area, j, u, n);
         s += n;
     }
@@ -190,14 +193,15 @@ pub fn note_bits(
     codes: &mut [u8],
     at: usize,
 )
-    requires { ⌜ (i < 16) × (octets ≤ 1536) × (areaSize ≤ length (now area)) × (at + 256 ≤ length (now codes)) × (k + steps ≤ 65 + 8 * octets) ⌝ }
+    requires { ⌜ (i < maxStations) × (octets ≤ frameRoom) × (areaSize ≤ length (now area))
+        × (at + ring ≤ length (now codes)) × (k + steps ≤ 65 + 8 * octets) ⌝ }
     ensures coded { λ r. ⌜ Coded (now (codes .exit)) at steps (bitsFrom (frameAt (now (area .entry)) i octets) k) ⌝ }
     ensures kept { λ r. ⌜ Below at (now (codes .entry)) (now (codes .exit)) ⌝ }
 {
     let frame = area_buffers::frame(area, i, octets);
-    let m = bus_quick::capped(256, steps);
+    let m = bus_quick::capped(area::RING, steps);
     let from = steps - m;
-    let first = at + (256 - m);
+    let first = at + (area::RING - m);
     let mut put: usize = 0;
     while put < m {
         codes[first + put] = bit_code(frame, k + (from + put));
@@ -207,12 +211,12 @@ pub fn note_bits(
 
 // The same of jam.
 pub fn note_jam(steps: usize, codes: &mut [u8], at: usize)
-    requires { ⌜ at + 256 ≤ length (now codes) ⌝ }
+    requires { ⌜ at + ring ≤ length (now codes) ⌝ }
     ensures coded { λ r. ⌜ Coded (now (codes .exit)) at steps jams ⌝ }
     ensures kept { λ r. ⌜ Below at (now (codes .entry)) (now (codes .exit)) ⌝ }
 {
-    let m = bus_quick::capped(256, steps);
-    let first = at + (256 - m);
+    let m = bus_quick::capped(area::RING, steps);
+    let first = at + (area::RING - m);
     let mut s: usize = 0;
     while s < m {
         codes[first + s] = 3;
@@ -220,22 +224,16 @@ pub fn note_jam(steps: usize, codes: &mut [u8], at: usize)
     }
 }
 
-// The code of one symbol more where this one is.
-fn mixed(there: u8, code: u8) -> u8
-    ensures { λ r. ⌜ r ≡ pick (eqb there 0) code 4 ⌝ }
-{
-    if there == 0 { code } else { 4 }
-}
-
 // Puts n codes, from the one at `at` on, on the line of station j from step u on; the places lie in a row.
 fn put_row(area: &mut [u8], j: usize, u: usize, codes: &[u8], at: usize, n: usize)
-    requires { ⌜ (j < 16) × (areaSize ≤ length (now area)) × (u % 256 + n ≤ 256) × (at + n ≤ length (now codes)) ⌝ }
+    requires { ⌜ (j < maxStations) × (areaSize ≤ length (now area)) × (u % ring + n ≤ ring)
+        × (at + n ≤ length (now codes)) ⌝ }
     ensures { λ r. ⌜ now (area .exit) ≡ codesPut j u (now (codes .entry)) at n (now (area .entry)) ⌝ }
 {
-    let first = 4096 + 256 * j + u % 256;
+    let first = area::LINES_AT + area::RING * j + u % area::RING;
     let mut s: usize = 0;
     while s < n {
-        area[first + s] = mixed(area[first + s], codes[at + s]);
+        area[first + s] = area_line::mixed(area[first + s], codes[at + s]);
         s += 1;
     }
 }
@@ -251,13 +249,15 @@ pub fn push_codes(
     codes: &[u8],
     at: usize,
 )
-    requires { ⌜ (j < 16) × (areaSize ≤ length (now area)) × (t + steps + d < 4294967296) × (d ≤ 256) × (at + 256 ≤ length (now codes)) ⌝ }
-    ensures { λ r. ⌜ now (area .exit) ≡ codesPut j (t + (steps - d + d)) (now (codes .entry)) (at + (256 - min d steps)) (min d steps) (now (area .entry)) ⌝ }
+    requires { ⌜ (j < maxStations) × (areaSize ≤ length (now area)) × (t + steps + d < 4294967296) × (d ≤ ring)
+        × (at + ring ≤ length (now codes)) ⌝ }
+    ensures { λ r. ⌜ now (area .exit)
+        ≡ codesPut j (t + (steps - d + d)) (now (codes .entry)) (at + (ring - min d steps)) (min d steps) (now (area .entry)) ⌝ }
 {
     let m = bus_quick::capped(d, steps);
     let u = t + (steps - m + d);
-    let k = at + (256 - m);
-    let n = bus_quick::capped(256 - u % 256, m);
+    let k = at + (area::RING - m);
+    let n = bus_quick::capped(area::RING - u % area::RING, m);
     put_row(area, j, u, codes, k, n);
     put_row(area, j, u + n, codes, k + n, m - n);
 }

@@ -16,11 +16,13 @@ use Rattle.station_symbols.specs.declared.Symbol.{Symbol}
 use Rattle.station_symbols.specs.declared.Symbol.the-variants.{Silence, Bit}
 use Rattle.station_symbols.specs.Packet.{packetBit, symbolOf}
 use Rattle.station_state.specs.declared.Transmitter.{Transmitter}
-use Rattle.station_state.specs.declared.Transmitter.the-variants.{NoFrame, Waiting, BackingOff, Sending, Heading, Jamming}
+use Rattle.station_state.specs.declared.Transmitter.the-variants.{NoFrame, Waiting, BackingOff, Sending, Heading}
+use Rattle.station_state.specs.declared.Transmitter.the-variants.{Jamming}
 use Rattle.station_transmit.specs.Transmit.{octetsHeld}
 use Rattle.area_record.specs.Codec.{transmitterOf, decoded}
 use Rattle.area.specs.Places.{Part, clock, layout, frame, place, Keeps}
-use Rattle.area.specs.Area.{clockAt, figuresAt, countAt, positionAt, distance, spaceAt, recordAt, stationAt, frameAt, symbolAt}
+use Rattle.area.specs.Area.{clockAt, figuresAt, countAt, positionAt, distance, spaceAt, recordAt, stationAt, frameAt}
+use Rattle.area.specs.Area.{symbolAt, maxCode}
 use Rattle.area.specs.AreaLaws.{clock-by, count-by, space-by, symbol-by, frame-by}
 use Rattle.area.specs.CodeLaws.{space-is}
 use Rattle.sheet_layout.specs.declared.Figures.{Figures}
@@ -37,8 +39,11 @@ use Rattle.fast_line.specs.LineLaws.{clear-line, way-same, way-silent, way-code
 use Rattle.fast_station.specs.Forms.{emitsFor}
 use Rattle.fast_heard.specs.Hearing.{goesOn, heldAt, planOf, emits}
 use Rattle.fast_lines.specs.declared.Emitter.{Emitter}
-use Rattle.fast_lines.specs.Lines.{silent, emitterOf, emitterAt, emittersOf, silence, emitted, planBy, Enough, AllEnough, CodedFrom, AllCoded, Pushes, pushedFrom, Settles}
-use Rattle.sheet_layout.specs.Limits.{lastClock}
+use Rattle.fast_lines.specs.Lines.{silent, emitterOf, emitterAt, emittersOf, silence, emitted, planBy, Enough}
+use Rattle.fast_lines.specs.Lines.{AllEnough, CodedFrom, AllCoded, Pushes, pushedFrom, Settles}
+use Rattle.sheet_layout.specs.Limits.{lastClock, maxStations}
+use Rattle.area.specs.Offsets.{ring, frameRoom}
+use Rattle.area_record.specs.Words.{phaseWord, phaseNumberWord, frameWord}
 
 -- ---- the code: what a station is about to emit
 
@@ -54,7 +59,14 @@ code-silent c m z h =
 code-jams : (c m z : ℕ) → 4 < c → record { kind = 2; bit = 0; octets = 0 } ≡ emitterOf (transmitterOf c m) z
 unfolding transmitterOf
 code-jams c m z h =
-    rw (ne-eqb c 0 (λ y. omega arith), ne-eqb c 1 (λ y. omega arith), ne-eqb c 2 (λ y. omega arith), ne-eqb c 3 (λ y. omega arith), ne-eqb c 4 (λ y. omega arith))
+    rw (
+      ne-eqb c 0 (λ y. omega arith),
+      ne-eqb c 1 (λ y. omega arith),
+      ne-eqb c 2 (λ y. omega arith),
+      ne-eqb c 3
+          (λ y. omega arith),
+      ne-eqb c 4 (λ y. omega arith),
+    )
 
 code-sends : (c m z : ℕ) → 3 ≤ c → c ≤ 4 → record { kind = 1; bit = m; octets = z } ≡ emitterOf (transmitterOf c m) z
 unfolding transmitterOf
@@ -67,20 +79,31 @@ code-sends c m z h g =
     (λ y. let w : eqb c 4 ≡ true = eq-eqb c 4 (omega (arith, eqb-false c 3 y)) in rw (p, q, r, y, w))
 
 module _ (a : List ℕ) (i : ℕ) where
-  by-words : emitterOf (transmitterOf (getD (recordAt a i) 3 0) (getD (recordAt a i) 4 0)) (getD (recordAt a i) 9 0) ≡ emitterAt a i
+  by-words : emitterOf (transmitterOf (getD (recordAt a i) phaseWord 0) (getD (recordAt a i) phaseNumberWord 0))
+      (getD (recordAt a i) frameWord 0)
+      ≡ emitterAt a i
   unfolding emitterAt stationAt decoded
   by-words = refl
 
-  pub emitter-silent : (c : ℕ) → c ≡ getD (recordAt a i) 3 0 → c < 3 → record { kind = 0; bit = 0; octets = 0 } ≡ emitterAt a i
-  emitter-silent c e h = code-silent (getD (recordAt a i) 3 0) (getD (recordAt a i) 4 0) (getD (recordAt a i) 9 0) (omega arith) ∙ by-words
+  pub emitter-silent : (c : ℕ) → c ≡ getD (recordAt a i) phaseWord 0 → c < 3
+      → record { kind = 0; bit = 0; octets = 0 } ≡ emitterAt a i
+  emitter-silent c e h =
+      code-silent (getD (recordAt a i) phaseWord 0) (getD (recordAt a i) phaseNumberWord 0)
+      (getD (recordAt a i) frameWord 0) (omega arith) ∙ by-words
 
-  pub emitter-jams : (c : ℕ) → c ≡ getD (recordAt a i) 3 0 → 4 < c → record { kind = 2; bit = 0; octets = 0 } ≡ emitterAt a i
-  emitter-jams c e h = code-jams (getD (recordAt a i) 3 0) (getD (recordAt a i) 4 0) (getD (recordAt a i) 9 0) (omega arith) ∙ by-words
+  pub emitter-jams : (c : ℕ) → c ≡ getD (recordAt a i) phaseWord 0 → 4 < c
+      → record { kind = 2; bit = 0; octets = 0 } ≡ emitterAt a i
+  emitter-jams c e h =
+      code-jams (getD (recordAt a i) phaseWord 0) (getD (recordAt a i) phaseNumberWord 0)
+      (getD (recordAt a i) frameWord 0) (omega arith) ∙ by-words
 
-  pub emitter-sends : (c m z : ℕ) → z ≡ getD (recordAt a i) 9 0 → m ≡ getD (recordAt a i) 4 0 → c ≡ getD (recordAt a i) 3 0 → 3 ≤ c → c ≤ 4 → record { kind = 1; bit = m; octets = z } ≡ emitterAt a i
+  pub emitter-sends : (c m z : ℕ) → z ≡ getD (recordAt a i) frameWord 0 → m ≡ getD (recordAt a i) phaseNumberWord 0
+      → c ≡ getD (recordAt a i) phaseWord 0 → 3 ≤ c → c ≤ 4 → record { kind = 1; bit = m; octets = z } ≡ emitterAt a i
   emitter-sends c m z ez em e lo up =
       (λ k. record { kind = 1; bit = em k; octets = ez k })
-      ∙ code-sends (getD (recordAt a i) 3 0) (getD (recordAt a i) 4 0) (getD (recordAt a i) 9 0) (omega arith) (omega arith)
+      ∙ code-sends (getD (recordAt a i) phaseWord 0) (getD (recordAt a i) phaseNumberWord 0)
+      (getD (recordAt a i) frameWord 0) (omega arith)
+      (omega arith)
       ∙ by-words
 
 pub emitters-end : (a : List ℕ) (n i : ℕ) (es : List Emitter) → i ≤ n → n ≤ i → es ≡ filled silent (emitterAt a) i
@@ -93,15 +116,20 @@ emitters-end a n i es p q r = filled-end silent (emitterAt a) n i es p q r
 module _ (F : List ℕ) (e : Emitter) where
   emitted-none : e .kind ≡ 0 → emitted F e ≡ silence
   unfolding emitted
-  emitted-none h = ap (λ (b : Bool). pick b silence (pick (eqb (e .kind) 1) (bitsFrom F (e .bit)) jams)) (eq-eqb (e .kind) 0 h)
+  emitted-none h =
+      ap (λ (b : Bool). pick b silence (pick (eqb (e .kind) 1) (bitsFrom F (e .bit)) jams)) (eq-eqb (e .kind) 0 h)
 
   emitted-bits : (e .kind ≡ 0 → ⊥) → e .kind ≡ 1 → emitted F e ≡ bitsFrom F (e .bit)
   unfolding emitted
-  emitted-bits p q = ap₂ (λ (b c : Bool). pick b silence (pick c (bitsFrom F (e .bit)) jams)) (ne-eqb (e .kind) 0 p) (eq-eqb (e .kind) 1 q)
+  emitted-bits p q =
+      ap₂ (λ (b c : Bool). pick b silence (pick c (bitsFrom F (e .bit)) jams)) (ne-eqb (e .kind) 0 p)
+      (eq-eqb (e .kind) 1 q)
 
   emitted-jam : (e .kind ≡ 0 → ⊥) → (e .kind ≡ 1 → ⊥) → emitted F e ≡ jams
   unfolding emitted
-  emitted-jam p q = ap₂ (λ (b c : Bool). pick b silence (pick c (bitsFrom F (e .bit)) jams)) (ne-eqb (e .kind) 0 p) (ne-eqb (e .kind) 1 q)
+  emitted-jam p q =
+      ap₂ (λ (b c : Bool). pick b silence (pick c (bitsFrom F (e .bit)) jams)) (ne-eqb (e .kind) 0 p)
+      (ne-eqb (e .kind) 1 q)
 
 none-silent : (s : ℕ) → silence s ≡ Silence
 unfolding silence
@@ -125,24 +153,27 @@ module _ (j t K i : ℕ) (e : Emitter) (x : List ℕ) where
   push-by : (d : ℕ) (Q : ℕ → Symbol) (z : List ℕ) → (i ≡ j → ⊥) → d ≡ spaceAt x i j
       → emitted (frameAt x i (e .octets)) e ≡ Q → z ≡ onWay t d K Q j (min d K) x → z ≡ pushedFrom j t K i e x
   unfolding pushedFrom
-  push-by d Q z ne ed eQ ez = rw (ne-eqb i j ne) (ez ∙ ap₂ (λ (g : ℕ) (R : ℕ → Symbol). onWay t g K R j (min g K) x) ed (sym eQ))
+  push-by d Q z ne ed eQ ez =
+      rw (ne-eqb i j ne) (ez ∙ ap₂ (λ (g : ℕ) (R : ℕ → Symbol). onWay t g K R j (min g K) x) ed (sym eQ))
 
   pub push-coded : (cs : List ℕ) (d p q : ℕ) (z : List ℕ) → Pushes j t K i e x → CodedFrom cs K i e x
-      → z ≡ codesPut j (t + (K - d + d)) cs (256 * i + (256 - min d K)) (min d K) x → d ≡ distance p q
+      → z ≡ codesPut j (t + (K - d + d)) cs (256 * i + (ring - min d K)) (min d K) x → d ≡ distance p q
       → q ≡ positionAt x j → p ≡ positionAt x i
       → (e .kind ≡ 0 → ⊥) → (i ≡ j → ⊥) → z ≡ pushedFrom j t K i e x
   unfolding CodedFrom
   push-coded cs d p q z h c ez ed eq ep some ne =
       let Q = emitted (frameAt x i (e .octets)) e in
       let w = space-is x i j d p q ed eq ep in
-      push-by d Q z ne w refl (ez ∙ way-coded t d K Q j cs (256 * i) x (min d K) (omega (arith, w, h .near)) (omega arith) (c some))
+      push-by d Q z ne w refl (ez ∙ way-coded t d K Q j cs (ring * i) x (min d K) (omega (arith, w, h .near))
+      (omega arith) (c some))
 
   -- how far the code's sums go
   pub push-near : Pushes j t K i e x → (d p q : ℕ) → d ≡ distance p q → q ≡ positionAt x j → p ≡ positionAt x i
       → t + K + d < 4294967296
   push-near h d p q ed eq ep = omega (arith, space-is x i j d p q ed eq ep, h .near, h .early)
 
-  pub push-close : Pushes j t K i e x → (d p q : ℕ) → d ≡ distance p q → q ≡ positionAt x j → p ≡ positionAt x i → d ≤ 256
+  pub push-close : Pushes j t K i e x → (d p q : ℕ) → d ≡ distance p q → q ≡ positionAt x j → p ≡ positionAt x i
+      → d ≤ ring
   push-close h d p q ed eq ep = omega (arith, space-is x i j d p q ed eq ep, h .near)
 
 -- ---- the code: the codes of what is emitted
@@ -152,15 +183,18 @@ module _ (K i : ℕ) (e : Emitter) (x cs : List ℕ) where
   unfolding CodedFrom
   note-silent h = λ ne. absurd (ne h)
 
-  pub note-sends : Coded cs (256 * i) K (bitsFrom (frameAt x i (e .octets)) (e .bit)) → e .kind ≡ 1 → (e .kind ≡ 0 → ⊥) → CodedFrom cs K i e x
+  pub note-sends : Coded cs (ring * i) K (bitsFrom (frameAt x i (e .octets)) (e .bit)) → e .kind ≡ 1 → (e .kind ≡ 0 → ⊥)
+      → CodedFrom cs K i e x
   unfolding CodedFrom
-  note-sends c one some = λ ne. subst (Coded cs (256 * i) K) (sym (emitted-bits (frameAt x i (e .octets)) e some one)) c
+  note-sends c one some =
+      λ ne. subst (Coded cs (ring * i) K) (sym (emitted-bits (frameAt x i (e .octets)) e some one)) c
 
-  pub note-jams : Coded cs (256 * i) K jams → (e .kind ≡ 1 → ⊥) → (e .kind ≡ 0 → ⊥) → CodedFrom cs K i e x
+  pub note-jams : Coded cs (ring * i) K jams → (e .kind ≡ 1 → ⊥) → (e .kind ≡ 0 → ⊥) → CodedFrom cs K i e x
   unfolding CodedFrom
-  note-jams c other some = λ ne. subst (Coded cs (256 * i) K) (sym (emitted-jam (frameAt x i (e .octets)) e some other)) c
+  note-jams c other some =
+      λ ne. subst (Coded cs (ring * i) K) (sym (emitted-jam (frameAt x i (e .octets)) e some other)) c
 
-  pub note-frame : Enough K e → e .octets ≤ 1536
+  pub note-frame : Enough K e → e .octets ≤ frameRoom
   note-frame h = h .frame
 
   pub note-enough : Enough K e → e .kind ≡ 1 → e .bit + K ≤ 65 + 8 * e .octets
@@ -171,12 +205,16 @@ module _ (K : ℕ) (es : List Emitter) (x : List ℕ) where
   unfolding AllCoded
   all-noted-none cs i h = absurd (omega arith)
 
-  pub all-noted-more : (n : ℕ) (ds cs : List ℕ) → AllCoded ds K es x n → Below (256 * n) ds cs → CodedFrom cs K n (getD es n silent) x → AllCoded cs K es x (n + 1)
+  pub all-noted-more : (n : ℕ) (ds cs : List ℕ) → AllCoded ds K es x n → Below (ring * n) ds cs
+      → CodedFrom cs K n (getD es n silent) x → AllCoded cs K es x (n + 1)
   unfolding AllCoded CodedFrom
   all-noted-more n ds cs a b c i h =
       by-test (eqb i n)
-      (λ p. let z : n ≡ i = sym (eqb-true i n p) in subst (λ (k : ℕ). (getD es k silent .kind ≡ 0 → ⊥) → Coded cs (256 * k) K (emitted (frameAt x k (getD es k silent .octets)) (getD es k silent))) z c)
-      (λ p. let z = eqb-false i n p in λ ne. below-coded (256 * i) (256 * n) K _ ds cs b (omega (arith, z)) (a i (omega (arith, z)) ne))
+      (λ p. let z : n ≡ i = sym (eqb-true i n p)
+      in subst (λ (k : ℕ). (getD es k silent .kind ≡ 0 → ⊥) → Coded cs (ring * k) K
+      (emitted (frameAt x k (getD es k silent .octets)) (getD es k silent))) z c)
+      (λ p. let z = eqb-false i n p in λ ne. below-coded (ring * i) (ring * n) K _ ds cs b (omega (arith, z))
+      (a i (omega (arith, z)) ne))
 
   pub all-noted-end : (m n : ℕ) (cs : List ℕ) → n ≤ m → m ≤ n → AllCoded cs K es x n → AllCoded cs K es x m
   all-noted-end m n cs p q a = let z : n ≡ m = omega arith in subst (AllCoded cs K es x) z a
@@ -188,11 +226,11 @@ module _ (K : ℕ) (es : List Emitter) (x : List ℕ) where
 -- ---- the code: a line cleared
 
 module _ (t j K : ℕ) (x : List ℕ) where
-  pub clear-left : (r : Bool) → r ≡ isClear x j → r ≡ true → ((u : ℕ) → symbolAt x j u ≤ 4)
-      → x ≡ cleared t j (min K 256) x
-  clear-left r e h codes = sym (cleared-same t j (min K 256) x (λ s l. clear-line x j (sym e ∙ h) (t + s)) codes)
+  pub clear-left : (r : Bool) → r ≡ isClear x j → r ≡ true → ((u : ℕ) → symbolAt x j u ≤ maxCode)
+      → x ≡ cleared t j (min K ring) x
+  clear-left r e h codes = sym (cleared-same t j (min K ring) x (λ s l. clear-line x j (sym e ∙ h) (t + s)) codes)
 
-  pub clear-made : (m : ℕ) (y : List ℕ) → y ≡ cleared t j m x → m ≡ min K 256 → y ≡ cleared t j (min K 256) x
+  pub clear-made : (m : ℕ) (y : List ℕ) → y ≡ cleared t j m x → m ≡ min K ring → y ≡ cleared t j (min K ring) x
   clear-made m y e h = e ∙ ap (λ (k : ℕ). cleared t j k x) h
 
 -- ---- what stays while lines are written
@@ -201,8 +239,8 @@ pub record Kept (n : ℕ) (x y : List ℕ) : Type 0 where
   pub long : length y ≡ length x
   pub time : Keeps clock y x
   pub plan : Keeps layout y x
-  pub frames : (i : ℕ) → i < 16 → Keeps (frame i) y x
-  pub codes : (i u : ℕ) → i < n → symbolAt y i u ≤ 4
+  pub frames : (i : ℕ) → i < maxStations → Keeps (frame i) y x
+  pub codes : (i u : ℕ) → i < n → symbolAt y i u ≤ maxCode
 
 module _ (n t K : ℕ) (es : List Emitter) (x : List ℕ) (s : Settles n t K es x) where
   settles-on : (y : List ℕ) → Kept n x y → Settles n t K es y
@@ -229,10 +267,11 @@ module _ (n t K : ℕ) (es : List Emitter) (x : List ℕ) (s : Settles n t K es 
   coded-on cs y k a i h =
       let few = s .few in
       let e = getD es i silent in
-      let frames = frame-by y x i (e .octets) (omega arith) (s .enough i h .frame) (omega (arith, k .long, s .long)) (s .long) (k .frames i (omega arith)) in
-      λ ne. subst (λ (F : List ℕ). Coded cs (256 * i) K (emitted F e)) (sym frames) (a i h ne)
+      let frames = frame-by y x i (e .octets) (omega arith) (s .enough i h .frame) (omega (arith, k .long, s .long))
+      (s .long) (k .frames i (omega arith)) in
+      λ ne. subst (λ (F : List ℕ). Coded cs (ring * i) K (emitted F e)) (sym frames) (a i h ne)
 
-  pub line-codes : (j : ℕ) → j < n → (u : ℕ) → symbolAt x j u ≤ 4
+  pub line-codes : (j : ℕ) → j < n → (u : ℕ) → symbolAt x j u ≤ maxCode
   line-codes j hj u = s .codes j u hj
 
   module _ (j : ℕ) (hj : j < n) where
@@ -257,7 +296,8 @@ module _ (n t K : ℕ) (es : List Emitter) (x : List ℕ) (s : Settles n t K es 
           time = done-keeps x P K (omega arith) clock j x le (λ i u h p q. omega arith);
           plan = done-keeps x P K (omega arith) layout j x le (λ i u h p q. omega arith);
           frames = λ i hi. done-keeps x P K (omega arith) (frame i) j x le (λ k u h p q. omega arith);
-          codes = λ i u hi. done-codes x P K (omega arith) j x le (s .long) (λ k v h. s .codes k v (omega arith)) i u (omega arith);
+          codes = λ i u hi. done-codes x P K (omega arith) j x le (s .long) (λ k v h. s .codes k v (omega arith)) i u
+              (omega arith);
         }
 
   -- ---- the code: the symbols of all stations to one
@@ -271,13 +311,22 @@ module _ (n t K : ℕ) (es : List Emitter) (x : List ℕ) (s : Settles n t K es 
       ways-kept : Kept n x y
       ways-kept =
           let few = s .few in
-          subst (Kept n x) (sym ey) (only-kept j hj (λ z. waysTo x (planBy x es) K j i z) (ways-only n j few hj x (planBy x es) K i))
+          subst (Kept n x) (sym ey) (only-kept j hj (λ z. waysTo x (planBy x es) K j i z)
+          (ways-only n j few hj x (planBy x es) K i))
 
       pub ways-asks : Pushes j t K i (getD es i silent) y
       ways-asks =
           let few = s .few in
           let r = settles-on y ways-kept in
-          record { from = omega arith; to = omega arith; long = r .long; near = r .near i j hi hj; early = r .early; codes = λ u. r .codes j u hj; enough = r .enough i hi }
+          record {
+            from = omega arith;
+            to = omega arith;
+            long = r .long;
+            near = r .near i j hi hj;
+            early = r .early;
+            codes = λ u. r .codes j u hj;
+            enough = r .enough i hi;
+          }
 
       pub ways-coded : (cs : List ℕ) → AllCoded cs K es x n → CodedFrom cs K i (getD es i silent) y
       unfolding AllCoded
@@ -292,7 +341,8 @@ module _ (n t K : ℕ) (es : List Emitter) (x : List ℕ) (s : Settles n t K es 
           let e = getD es i silent in
           let time = s .time in
           let space = space-by y x i j (omega arith) (omega arith) (k .plan) in
-          let frames = frame-by y x i (e .octets) (omega arith) (s .enough i hi .frame) (omega (arith, k .long, s .long)) (s .long) (k .frames i (omega arith)) in
+          let frames = frame-by y x i (e .octets) (omega arith) (s .enough i hi .frame)
+          (omega (arith, k .long, s .long)) (s .long) (k .frames i (omega arith)) in
           turns-more _ i x y z
           (ez ∙ (λ m. pick (eqb i j) y (onWay (time m) (space m) K (emitted (frames m) e) j (min (space m) K) y)))
           ey
@@ -321,21 +371,24 @@ module _ (K j : ℕ) (a : List ℕ) (P : Plan) (b : List ℕ) (Q : Plan) (h : Al
       let time = h .time in
       let space = h .space k l in
       (λ m. pick (eqb k j) (ih m) (onWay (time m) (space m) K (P k) j (min (space m) K) (ih m)))
-      ∙ ap (pick (eqb k j) y) (way-same (clockAt b) d K (P k) (Q k) j (min d K) y (omega arith) (λ s g. h .plan k s l g))
+      ∙ ap (pick (eqb k j) y) (way-same (clockAt b) d K (P k) (Q k) j (min d K) y (omega arith)
+      (λ s g. h .plan k s l g))
 
   line-same : (x : List ℕ) → lineDone a P K j x ≡ lineDone b Q K j x
   unfolding lineDone
   line-same x =
       let time = h .time in
       let count = h .count in
-      (λ m. waysTo a P K j (count m) (cleared (time m) j (min K 256) x)) ∙ ways-same (countAt b) (cleared (clockAt b) j (min K 256) x) (omega arith)
+      (λ m. waysTo a P K j (count m) (cleared (time m) j (min K ring) x))
+      ∙ ways-same (countAt b) (cleared (clockAt b) j (min K ring) x) (omega arith)
 
 lines-same : (K : ℕ) (a : List ℕ) (P : Plan) (b : List ℕ) (Q : Plan) (k : ℕ) (x : List ℕ)
     → ((j : ℕ) → j < k → Alike K j a P b Q) → linesDone a P K k x ≡ linesDone b Q K k x
 unfolding linesDone turns
 lines-same K a P b Q zero x h = refl
 lines-same K a P b Q (suc k) x h =
-    ap (lineDone a P K k) (lines-same K a P b Q k x (λ j l. h j (omega arith))) ∙ line-same K k a P b Q (h k (omega arith)) (linesDone b Q K k x)
+    ap (lineDone a P K k) (lines-same K a P b Q k x (λ j l. h j (omega arith)))
+    ∙ line-same K k a P b Q (h k (omega arith)) (linesDone b Q K k x)
 
 -- ---- the code: a line, and all lines
 
@@ -352,12 +405,15 @@ module _ (n t K : ℕ) (es : List Emitter) (x : List ℕ) (s : Settles n t K es 
         space = λ i hi. space-by y x i j (omega arith) (omega arith) (k .plan);
         plan = λ i u hi hu.
             ap (λ (F : List ℕ). emitted F (getD es i silent) u)
-            (frame-by y x i (getD es i silent .octets) (omega arith) (s .enough i (omega arith) .frame) (omega (arith, k .long, s .long)) (s .long) (k .frames i (omega arith)));
+            (frame-by y x i (getD es i silent .octets) (omega arith) (s .enough i (omega arith) .frame)
+            (omega (arith, k .long, s .long)) (s .long) (k .frames i (omega arith)));
       }
 
-  module _ (j : ℕ) (hj : j < n) (y : List ℕ) (ey : y ≡ cleared t j (min K 256) x) where
+  module _ (j : ℕ) (hj : j < n) (y : List ℕ) (ey : y ≡ cleared t j (min K ring) x) where
     clear-kept : Kept n x y
-    clear-kept = let few = s .few in subst (Kept n x) (sym ey) (only-kept n t K es x s j hj (λ z. cleared t j (min K 256) z) (clear-only n j few hj t (min K 256)))
+    clear-kept =
+        let few = s .few in subst (Kept n x) (sym ey)
+        (only-kept n t K es x s j hj (λ z. cleared t j (min K ring) z) (clear-only n j few hj t (min K ring)))
 
     pub line-asks : Settles n t K es y
     line-asks = settles-on n t K es x s y clear-kept
@@ -372,7 +428,8 @@ module _ (n t K : ℕ) (es : List Emitter) (x : List ℕ) (s : Settles n t K es 
         let time = s .time in
         ez
         ∙ ways-same K j y (planBy y es) x (planBy x es) (kept-alike y clear-kept j hj) n y (omega arith)
-        ∙ ap₂ (λ (m : ℕ) (w : List ℕ). waysTo x (planBy x es) K j m w) count (ey ∙ ap (λ (u : ℕ). cleared u j (min K 256) x) time)
+        ∙ ap₂ (λ (m : ℕ) (w : List ℕ). waysTo x (planBy x es) K j m w) count
+        (ey ∙ ap (λ (u : ℕ). cleared u j (min K ring) x) time)
 
   pub lines-none : x ≡ linesDone x (planBy x es) K 0 x
   unfolding linesDone
@@ -390,7 +447,8 @@ module _ (n t K : ℕ) (es : List Emitter) (x : List ℕ) (s : Settles n t K es 
 
     pub lines-more : (z : List ℕ) → z ≡ lineDone y (planBy y es) K j y → z ≡ linesDone x (planBy x es) K (j + 1) x
     unfolding linesDone
-    lines-more z ez = turns-more _ j x y z (ez ∙ line-same K j y (planBy y es) x (planBy x es) (kept-alike y lines-here j hj) y) ey
+    lines-more z ez =
+        turns-more _ j x y z (ez ∙ line-same K j y (planBy y es) x (planBy x es) (kept-alike y lines-here j hj) y) ey
 
   pub lines-end : (j : ℕ) (y : List ℕ) → j ≤ n → n ≤ j → y ≡ linesDone x (planBy x es) K j x
       → y ≡ linesDone x (planBy x es) K n x
@@ -400,18 +458,19 @@ module _ (n t K : ℕ) (es : List Emitter) (x : List ℕ) (s : Settles n t K es 
 -- ---- the code's plan is the window's: the emitters are those before it, the frames are as they were
 
 emitter-plan : (x a : List ℕ) (i s : ℕ) (p : Transmitter) (z : ℕ) → FrameIn p z
-    → (z ≤ 1536 → frameAt x i z ≡ frameAt a i z)
-    → emitted (frameAt x i (emitterOf p z .octets)) (emitterOf p z) s ≡ symbolOf (frameAt a i (octetsHeld p z)) (goesOn p s)
+    → (z ≤ frameRoom → frameAt x i z ≡ frameAt a i z)
+    → emitted (frameAt x i (emitterOf p z .octets)) (emitterOf p z) s ≡ symbolOf (frameAt a i (octetsHeld p z))
+    (goesOn p s)
 unfolding emitted silence bitsFrom jams
 emitter-plan x a i s NoFrame z f h = refl
 emitter-plan x a i s Waiting z f h = refl
 emitter-plan x a i s (BackingOff w) z f h = refl
 emitter-plan x a i s (Sending k) z f h = ap (λ (F : List ℕ). Bit (packetBit F (k + s))) (h (omega (arith, f .1)))
 emitter-plan x a i s (Heading k) z f h = ap (λ (F : List ℕ). Bit (packetBit F (k + s))) (h (omega (arith, f .1)))
-emitter-plan x a i s (Jamming n) z f h = refl
+emitter-plan x a i s (Jamming n ends) z f h = refl
 
 plan-same : (x a : List ℕ) (n i s : ℕ) → i < n → FrameIn (stationAt a i .transmitter) (stationAt a i .frame)
-    → ((z : ℕ) → z ≤ 1536 → frameAt x i z ≡ frameAt a i z) → planBy x (emittersOf a n) i s ≡ planOf a i s
+    → ((z : ℕ) → z ≤ frameRoom → frameAt x i z ≡ frameAt a i z) → planBy x (emittersOf a n) i s ≡ planOf a i s
 unfolding planBy emittersOf planOf heldAt emitterAt
 plan-same x a n i s hi f h =
     ap (λ (e : Emitter). emitted (frameAt x i (e .octets)) e s) (filled-at silent (emitterAt a) n i silent hi)
@@ -426,24 +485,40 @@ emitter-enough f K Waiting z n h l = record { frame = omega arith; bits = λ e. 
 emitter-enough f K (BackingOff w) z n h l = record { frame = omega arith; bits = λ e. absurd (omega arith) }
 emitter-enough f K (Sending k) z n h l = record { frame = omega (arith, h .1); bits = λ e. omega (arith, l refl, n .1) }
 emitter-enough f K (Heading k) z n h l = record { frame = omega (arith, h .1); bits = λ e. omega (arith, l refl, n .1) }
-emitter-enough f K (Jamming m) z n h l = record { frame = omega arith; bits = λ e. absurd (omega arith) }
+emitter-enough f K (Jamming m ends) z n h l = record { frame = omega arith; bits = λ e. absurd (omega arith) }
 
 -- the stations have moved on by themselves: what the code asks for, and that it makes the lines of the window
 module _ (a : List ℕ) (r : Readiness a) (P : Plan) (K : ℕ) where
-  moved-keeps : (p : Part) → ((j : ℕ) → j < 16 → Others p j) → Keeps p (ownAll a P K (countAt a) a) a
+  moved-keeps : (p : Part) → ((j : ℕ) → j < maxStations → Others p j) → Keeps p (ownAll a P K (countAt a) a) a
   moved-keeps p o = let few = r .spread .few in own-keeps p a P K (countAt a) a (λ j h. o j (omega arith))
 
   moved-clock : Keeps clock (ownAll a P K (countAt a) a) a
-  moved-clock = moved-keeps clock (λ j h. record { station = λ p q. omega arith; counters = λ p q. omega arith; buffer = λ p q. omega arith })
+  moved-clock =
+      moved-keeps clock (λ j h. record {
+        station = λ p q. omega arith;
+        counters = λ p q. omega arith;
+        buffer = λ p q. omega arith;
+      })
 
   moved-layout : Keeps layout (ownAll a P K (countAt a) a) a
-  moved-layout = moved-keeps layout (λ j h. record { station = λ p q. omega arith; counters = λ p q. omega arith; buffer = λ p q. omega arith })
+  moved-layout =
+      moved-keeps layout (λ j h. record {
+        station = λ p q. omega arith;
+        counters = λ p q. omega arith;
+        buffer = λ p q. omega arith;
+      })
 
-  moved-frame : (i : ℕ) → i < 16 → Keeps (frame i) (ownAll a P K (countAt a) a) a
-  moved-frame i hi = moved-keeps (frame i) (λ j h. record { station = λ p q. omega arith; counters = λ p q. omega arith; buffer = λ p q. omega arith })
+  moved-frame : (i : ℕ) → i < maxStations → Keeps (frame i) (ownAll a P K (countAt a) a) a
+  moved-frame i hi =
+      moved-keeps (frame i) (λ j h. record {
+        station = λ p q. omega arith;
+        counters = λ p q. omega arith;
+        buffer = λ p q. omega arith;
+      })
 
   pub moved-settles : clockAt a + K ≤ lastClock
-      → ((i : ℕ) → i < countAt a → emits (stationAt a i .transmitter) ≡ true → K ≤ emitsFor (stationAt a i .frame) (stationAt a i .transmitter))
+      → ((i : ℕ) → i < countAt a → emits (stationAt a i .transmitter) ≡ true → K ≤ emitsFor (stationAt a i .frame)
+      (stationAt a i .transmitter))
       → Settles (countAt a) (clockAt a) K (emittersOf a (countAt a)) (ownAll a P K (countAt a) a)
   unfolding emittersOf emitterAt
   moved-settles early lasts =
@@ -460,10 +535,13 @@ module _ (a : List ℕ) (r : Readiness a) (P : Plan) (K : ℕ) where
         codes = λ i u hi. rw (symbol-by x a i u (all-line a P K n i u (omega arith) few)) (r .codes i u hi);
         enough = λ i hi.
             subst (Enough K) (sym (filled-at silent (emitterAt a) n i silent hi))
-            (emitter-enough (figuresAt a) K (stationAt a i .transmitter) (stationAt a i .frame) (r .fine i hi .number) (r .fine i hi .frame) (lasts i hi));
+            (emitter-enough (figuresAt a) K (stationAt a i .transmitter) (stationAt a i .frame) (r .fine i hi .number)
+            (r .fine i hi .frame) (lasts i hi));
       }
 
-  pub moved-lines : (y : List ℕ) → let x = ownAll a P K (countAt a) a in linesDone x (planBy x (emittersOf a (countAt a))) K (countAt a) y ≡ linesDone a (planOf a) K (countAt a) y
+  pub moved-lines : (y : List ℕ)
+      → let x = ownAll a P K (countAt a) a in linesDone x (planBy x (emittersOf a (countAt a))) K (countAt a) y
+      ≡ linesDone a (planOf a) K (countAt a) y
   moved-lines y =
       let n = countAt a in
       let few = r .spread .few in
@@ -473,5 +551,8 @@ module _ (a : List ℕ) (r : Readiness a) (P : Plan) (K : ℕ) where
         time = clock-by x a moved-clock;
         count = count-by x a moved-layout;
         space = λ i hi. space-by x a i j (omega arith) (omega arith) moved-layout;
-        plan = λ i s hi hs. plan-same x a n i s hi (r .fine i hi .frame) (λ z hz. frame-by x a i z (omega arith) hz (omega (arith, length-own a P K n a, r .long)) (r .long) (moved-frame i (omega arith)));
+        plan =
+            λ i s hi hs. plan-same x a n i s hi (r .fine i hi .frame)
+            (λ z hz. frame-by x a i z (omega arith) hz (omega (arith, length-own a P K n a, r .long)) (r .long)
+            (moved-frame i (omega arith)));
       })

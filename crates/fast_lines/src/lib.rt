@@ -4,13 +4,14 @@
 ghost use mathlib.Core.Path.{_≡_};
 ghost use Prim.Native.Nat.{ℕ, _+_, _*_, _<_, _≤_, min};
 ghost use lib.ListN.{length};
-ghost use Rattle.area.specs.Area.{symbolAt};
+ghost use Rattle.area.specs.Area.{symbolAt, maxCode};
 ghost use Rattle.fast_plan.specs.Push.{cleared, waysTo, lineDone};
 ghost use Rattle.fast_plan.specs.Placed.{linesDone};
 ghost use Rattle.fast_line.specs.Line.{Below};
-ghost use Rattle.fast_lines.specs.Lines.{emitterAt, emittersOf, planBy, Enough, AllEnough, CodedFrom, AllCoded, Pushes, pushedFrom, Settles};
-ghost use Rattle.sheet_layout.specs.Limits.{lastClock};
-ghost use Rattle.area.specs.Offsets.{areaSize};
+ghost use Rattle.fast_lines.specs.Lines.{emitterAt, emittersOf, planBy, Enough, AllEnough, CodedFrom, AllCoded};
+ghost use Rattle.fast_lines.specs.Lines.{Pushes, pushedFrom, Settles};
+ghost use Rattle.sheet_layout.specs.Limits.{lastClock, maxStations};
+ghost use Rattle.area.specs.Offsets.{areaSize, ring};
 
 // What a station emits in a window. Kind 0: nothing. Kind 1: its packet's bits from `bit` on, of the frame of so many
 // octets. Kind 2: jam.
@@ -22,10 +23,10 @@ pub struct Emitter {
 
 // What station i is about to emit.
 fn read_emitter(area: &[u8], i: usize) -> Emitter
-    requires { ⌜ (i < 16) × (areaSize ≤ length (now area)) ⌝ }
+    requires { ⌜ (i < maxStations) × (areaSize ≤ length (now area)) ⌝ }
     ensures { λ r. ⌜ r ≡ emitterAt (now (area .entry)) i ⌝ }
 {
-    let phase = area::read_word(area, i, 3);
+    let phase = area::read_word(area, i, area_record::words::PHASE);
     if phase < 3 {
         return Emitter {
             kind: 0,
@@ -40,8 +41,8 @@ fn read_emitter(area: &[u8], i: usize) -> Emitter
             octets: 0,
         };
     }
-    let bit = area::read_word(area, i, 4);
-    let octets = area::read_word(area, i, 9);
+    let bit = area::read_word(area, i, area_record::words::PHASE_NUMBER);
+    let octets = area::read_word(area, i, area_record::words::FRAME);
     Emitter {
         kind: 1,
         bit,
@@ -51,7 +52,7 @@ fn read_emitter(area: &[u8], i: usize) -> Emitter
 
 // What the first n stations are about to emit: to be taken before the stations move on.
 pub fn emitters(area: &[u8], n: usize) -> [Emitter; 16]
-    requires { ⌜ (n ≤ 16) × (areaSize ≤ length (now area)) ⌝ }
+    requires { ⌜ (n ≤ maxStations) × (areaSize ≤ length (now area)) ⌝ }
     ensures { λ r. ⌜ r ≡ emittersOf (now (area .entry)) n ⌝ }
 {
     let silent = Emitter {
@@ -71,11 +72,12 @@ pub fn emitters(area: &[u8], n: usize) -> [Emitter; 16]
 
 // Notes the codes of what station i emits in so many steps, in its 256 places.
 fn note_from(area: &[u8], steps: usize, i: usize, e: Emitter, codes: &mut [u8])
-    requires { ⌜ (i < 16) × (areaSize ≤ length (now area)) × (256 * i + 256 ≤ length (now codes)) × Enough steps e ⌝ }
+    requires { ⌜ (i < maxStations) × (areaSize ≤ length (now area)) × (256 * i + ring ≤ length (now codes))
+        × Enough steps e ⌝ }
     ensures coded { λ r. ⌜ CodedFrom (now (codes .exit)) steps i e (now (area .entry)) ⌝ }
-    ensures kept { λ r. ⌜ Below (256 * i) (now (codes .entry)) (now (codes .exit)) ⌝ }
+    ensures kept { λ r. ⌜ Below (ring * i) (now (codes .entry)) (now (codes .exit)) ⌝ }
 {
-    let at = 256 * i;
+    let at = area::RING * i;
     if e.kind == 0 {
         return;
     }
@@ -88,7 +90,8 @@ fn note_from(area: &[u8], steps: usize, i: usize, e: Emitter, codes: &mut [u8])
 
 // The same of all n stations.
 fn note_all(area: &[u8], n: usize, steps: usize, from: [Emitter; 16], codes: &mut [u8])
-    requires { ⌜ (n ≤ 16) × (areaSize ≤ length (now area)) × (256 * n ≤ length (now codes)) × AllEnough steps from n ⌝ }
+    requires { ⌜ (n ≤ maxStations) × (areaSize ≤ length (now area)) × (ring * n ≤ length (now codes))
+        × AllEnough steps from n ⌝ }
     ensures { λ r. ⌜ AllCoded (now (codes .exit)) steps from (now (area .entry)) n ⌝ }
 {
     let mut i: usize = 0;
@@ -101,7 +104,8 @@ fn note_all(area: &[u8], n: usize, steps: usize, from: [Emitter; 16], codes: &mu
 
 // Puts the symbols of station i that are on their way to station j after so many steps from t on.
 fn push_from(area: &mut [u8], j: usize, t: usize, steps: usize, i: usize, e: Emitter, codes: &[u8])
-    requires { ⌜ Pushes j t steps i e (now area) × (256 * i + 256 ≤ length (now codes)) × CodedFrom (now codes) steps i e (now area) ⌝ }
+    requires { ⌜ Pushes j t steps i e (now area) × (256 * i + ring ≤ length (now codes))
+        × CodedFrom (now codes) steps i e (now area) ⌝ }
     ensures { λ r. ⌜ now (area .exit) ≡ pushedFrom j t steps i e (now (area .entry)) ⌝ }
 {
     if i == j {
@@ -113,18 +117,19 @@ fn push_from(area: &mut [u8], j: usize, t: usize, steps: usize, i: usize, e: Emi
     let p = area::read_position(area, i);
     let q = area::read_position(area, j);
     let d = area::apart(p, q) as usize;
-    fast_line::push_codes(area, j, t, d, steps, codes, 256 * i);
+    fast_line::push_codes(area, j, t, d, steps, codes, area::RING * i);
 }
 
 // Clears the places of so many steps from t on, all 256 at most. A line that holds nothing is left alone.
 fn clear_line(area: &mut [u8], j: usize, t: usize, steps: usize)
-    requires { ⌜ (j < 16) × (areaSize ≤ length (now area)) × (t ≤ lastClock) × ((u : ℕ) → symbolAt (now area) j u ≤ 4) ⌝ }
-    ensures { λ r. ⌜ now (area .exit) ≡ cleared t j (min steps 256) (now (area .entry)) ⌝ }
+    requires { ⌜ (j < maxStations) × (areaSize ≤ length (now area)) × (t ≤ lastClock)
+        × ((u : ℕ) → symbolAt (now area) j u ≤ maxCode) ⌝ }
+    ensures { λ r. ⌜ now (area .exit) ≡ cleared t j (min steps ring) (now (area .entry)) ⌝ }
 {
     if fast_line::is_clear(area, j) {
         return;
     }
-    let m = bus_quick::capped(steps, 256);
+    let m = bus_quick::capped(steps, area::RING);
     fast_line::clear(area, j, t, m);
 }
 
@@ -138,8 +143,10 @@ fn push_all(
     from: [Emitter; 16],
     codes: &[u8],
 )
-    requires { ⌜ (j < n) × Settles n t steps from (now area) × (256 * n ≤ length (now codes)) × AllCoded (now codes) steps from (now area) n ⌝ }
-    ensures { λ r. ⌜ now (area .exit) ≡ waysTo (now (area .entry)) (planBy (now (area .entry)) from) steps j n (now (area .entry)) ⌝ }
+    requires { ⌜ (j < n) × Settles n t steps from (now area) × (ring * n ≤ length (now codes))
+        × AllCoded (now codes) steps from (now area) n ⌝ }
+    ensures { λ r. ⌜ now (area .exit)
+        ≡ waysTo (now (area .entry)) (planBy (now (area .entry)) from) steps j n (now (area .entry)) ⌝ }
 {
     let mut i: usize = 0;
     while i < n {
@@ -159,8 +166,10 @@ fn settle_line(
     from: [Emitter; 16],
     codes: &[u8],
 )
-    requires { ⌜ (j < n) × Settles n t steps from (now area) × (256 * n ≤ length (now codes)) × AllCoded (now codes) steps from (now area) n ⌝ }
-    ensures { λ r. ⌜ now (area .exit) ≡ lineDone (now (area .entry)) (planBy (now (area .entry)) from) steps j (now (area .entry)) ⌝ }
+    requires { ⌜ (j < n) × Settles n t steps from (now area) × (ring * n ≤ length (now codes))
+        × AllCoded (now codes) steps from (now area) n ⌝ }
+    ensures { λ r. ⌜ now (area .exit)
+        ≡ lineDone (now (area .entry)) (planBy (now (area .entry)) from) steps j (now (area .entry)) ⌝ }
 {
     clear_line(area, j, t, steps);
     push_all(area, n, j, t, steps, from, codes);
@@ -176,8 +185,9 @@ fn settle_with(
     from: [Emitter; 16],
     codes: &mut [u8],
 )
-    requires { ⌜ Settles n t steps from (now area) × (256 * n ≤ length (now codes)) ⌝ }
-    ensures { λ r. ⌜ now (area .exit) ≡ linesDone (now (area .entry)) (planBy (now (area .entry)) from) steps n (now (area .entry)) ⌝ }
+    requires { ⌜ Settles n t steps from (now area) × (ring * n ≤ length (now codes)) ⌝ }
+    ensures { λ r. ⌜ now (area .exit)
+        ≡ linesDone (now (area .entry)) (planBy (now (area .entry)) from) steps n (now (area .entry)) ⌝ }
 {
     note_all(area, n, steps, from, codes);
     let mut j: usize = 0;
@@ -190,7 +200,8 @@ fn settle_with(
 // The same, with places of its own: half as many where few stations are.
 pub fn settle_lines(area: &mut [u8], n: usize, t: usize, steps: usize, from: [Emitter; 16])
     requires { ⌜ Settles n t steps from (now area) ⌝ }
-    ensures { λ r. ⌜ now (area .exit) ≡ linesDone (now (area .entry)) (planBy (now (area .entry)) from) steps n (now (area .entry)) ⌝ }
+    ensures { λ r. ⌜ now (area .exit)
+        ≡ linesDone (now (area .entry)) (planBy (now (area .entry)) from) steps n (now (area .entry)) ⌝ }
 {
     if n <= 8 {
         let mut few = [0u8; 2048];

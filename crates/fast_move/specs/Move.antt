@@ -11,30 +11,32 @@ use Rattle.station_symbols.specs.declared.Heard.the-variants.{Nothing}
 use Rattle.station_state.specs.declared.Deference.{Deference}
 use Rattle.station_state.specs.declared.Deference.the-variants.{Quiet, Busy, Gap}
 use Rattle.station_state.specs.declared.Transmitter.{Transmitter}
-use Rattle.station_state.specs.declared.Transmitter.the-variants.{NoFrame, Waiting, BackingOff, Sending, Heading, Jamming}
+use Rattle.station_state.specs.declared.Transmitter.the-variants.{NoFrame, Waiting, BackingOff, Sending, Heading}
+use Rattle.station_state.specs.declared.Transmitter.the-variants.{Jamming}
 use Rattle.station_state.specs.declared.Station.{Station}
 use Rattle.area.specs.Area.{addressAt, bufferAt, stationAt}
 use Rattle.fast_silence.specs.Bound.{framesRest, idle}
 use Rattle.fast_station.specs.Forms.{heardRest, emitsFor}
 use Rattle.fast_receive.specs.Received.{spoils, lineFrom, bitsFrom, AllHeard, mayReport}
 use Rattle.fast_heard.specs.declared.Kind.{Kind}
-use Rattle.fast_heard.specs.declared.Kind.the-variants.{Silent, Line, From, Spoiled}
+use Rattle.fast_heard.specs.declared.Kind.the-variants.{Silent, Line, From, Mixed}
 use Rattle.fast_stretch.specs.Stretch.{heardStretch, quietStretch}
 use Rattle.fast_segment.specs.Alone.{Moves}
 
--- steps of this kind: nothing; its line from step u on; bits of the packet that carries F from bit b on; spoiled symbols
+-- steps of this kind: nothing; its line from step u on; bits of the packet that carries F from bit b on; spoiled
+-- symbols
 abbrev pub heardIn : Kind → List ℕ → (j u : ℕ) → (F : List ℕ) (b : ℕ) → ℕ → Heard
 heardIn Silent x j u F b = λ k. Nothing
 heardIn Line x j u F b = lineFrom x j u
 heardIn From x j u F b = bitsFrom F b
-heardIn Spoiled x j u F b = spoils
+heardIn Mixed x j u F b = spoils
 
 -- whether anything is heard
 abbrev pub isHeard : Kind → Bool
 isHeard Silent = false
 isHeard Line = true
 isHeard From = true
-isHeard Spoiled = true
+isHeard Mixed = true
 
 -- whether it emits; whether it sends, and has no collision yet
 abbrev pub emitting : Transmitter → Bool
@@ -43,7 +45,7 @@ emitting Waiting = false
 emitting (BackingOff w) = false
 emitting (Sending k) = true
 emitting (Heading k) = true
-emitting (Jamming l) = true
+emitting (Jamming l ends) = true
 
 abbrev pub sending : Transmitter → Bool
 sending NoFrame = false
@@ -51,7 +53,7 @@ sending Waiting = false
 sending (BackingOff w) = false
 sending (Sending k) = true
 sending (Heading k) = false
-sending (Jamming l) = false
+sending (Jamming l ends) = false
 
 abbrev pub isBusyOwn : Deference → Bool
 isBusyOwn Quiet = false
@@ -72,7 +74,8 @@ unfoldable pub emitsAll : (m : ℕ) → (heard : Bool) → Station → Bool
 emitsAll m heard s =
     s .emitted
     && (isBusyOwn (s .deference)
-    && (leb m (emitsFor (s .frame) (s .transmitter)) && pick heard (not (sending (s .transmitter))) (idle (s .receiver))))
+    && (leb m (emitsFor (s .frame) (s .transmitter)) && pick heard (not (sending (s .transmitter)))
+    (idle (s .receiver))))
 
 -- all of that
 unfoldable pub canMove : Figures → (m : ℕ) → Kind → List ℕ → (j : ℕ) → Bool

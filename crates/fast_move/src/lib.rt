@@ -16,8 +16,9 @@ ghost use Rattle.fast_plan.specs.Own.{byItself};
 ghost use Rattle.fast_silence.specs.Bound.{idle};
 ghost use Rattle.area.specs.Area.{stationAt};
 ghost use Rattle.fast_stretch.specs.Stretch.{Movable};
-ghost use Rattle.fast_move.specs.Move.{heardIn, isHeard, emitting, sending, isBusyOwn, restsAll, hearsAll, emitsAll, canMove, stretched, Moving, Audible, Held};
-ghost use Rattle.sheet_layout.specs.Limits.{lastClock};
+ghost use Rattle.fast_move.specs.Move.{heardIn, isHeard, emitting, sending, isBusyOwn, restsAll, hearsAll};
+ghost use Rattle.fast_move.specs.Move.{emitsAll, canMove, stretched, Moving, Audible, Held};
+ghost use Rattle.sheet_layout.specs.Limits.{lastClock, maxStations};
 ghost use Rattle.area.specs.Offsets.{areaSize};
 
 fn is_heard(kind: Kind) -> bool
@@ -27,7 +28,7 @@ fn is_heard(kind: Kind) -> bool
         Kind::Silent => false,
         Kind::Line => true,
         Kind::From => true,
-        Kind::Spoiled => true,
+        Kind::Mixed => true,
     }
 }
 
@@ -40,7 +41,7 @@ fn is_emitting(x: Transmitter) -> bool
         Transmitter::BackingOff(_) => false,
         Transmitter::Sending(_) => true,
         Transmitter::Heading(_) => true,
-        Transmitter::Jamming(_) => true,
+        Transmitter::Jamming { left: _, ends: _ } => true,
     }
 }
 
@@ -53,7 +54,7 @@ fn is_sending(x: Transmitter) -> bool
         Transmitter::BackingOff(_) => false,
         Transmitter::Sending(_) => true,
         Transmitter::Heading(_) => false,
-        Transmitter::Jamming(_) => false,
+        Transmitter::Jamming { left: _, ends: _ } => false,
     }
 }
 
@@ -67,7 +68,8 @@ fn is_busy_own(d: Deference) -> bool
     }
 }
 
-// A station that emits nothing hears nothing for m steps: none starts, and its reception, if any, ends without a report.
+// A station that emits nothing hears nothing for m steps: none starts, and its reception, if any, ends without a
+// report.
 fn rests_all(f: Figures, m: u32, report: bool, s: Station) -> bool
     requires { ⌜ f .gap1 + f .gap2 < 65536 ⌝ }
     ensures { λ r. ⌜ r ≡ restsAll f m report s ⌝ }
@@ -120,7 +122,8 @@ fn emits_all(m: u32, heard: bool, s: Station) -> bool
 
 // Whether station j, which is s, can go over m steps of a kind at once.
 fn can_move(area: &[u8], f: Figures, m: u32, kind: Kind, j: usize, s: Station) -> bool
-    requires { ⌜ (j < 16) × (areaSize ≤ length (now area)) × (f .gap1 + f .gap2 < 65536) × Movable f m (now area) j × Held s × (s ≡ stationAt (now area) j) ⌝ }
+    requires { ⌜ (j < maxStations) × (areaSize ≤ length (now area)) × (f .gap1 + f .gap2 < 65536)
+        × Movable f m (now area) j × Held s × (s ≡ stationAt (now area) j) ⌝ }
     ensures { λ r. ⌜ r ≡ canMove f m kind (now (area .entry)) j ⌝ }
 {
     let heard = is_heard(kind);
@@ -149,20 +152,21 @@ fn move_at_once(
     m: u32,
     s: Station,
 )
-    requires { ⌜ (j < 16) × (areaSize ≤ length (now area)) × Movable f m (now area) j × (s ≡ stationAt (now area) j) × (u + m < 4294967296) × (b + m < 4294967296) × Audible kind (now area) j u m ⌝ }
+    requires { ⌜ (j < maxStations) × (areaSize ≤ length (now area)) × Movable f m (now area) j
+        × (s ≡ stationAt (now area) j) × (u + m < 4294967296) × (b + m < 4294967296) × Audible kind (now area) j u m ⌝ }
     ensures { λ r. ⌜ now (area .exit) ≡ stretched f e kind m j (now (area .entry)) u (now (frame .entry)) b ⌝ }
 {
     match kind {
         Kind::Silent => fast_stretch::hear_nothing(area, j, f, e, m, s),
         Kind::Line => fast_stretch::hear_line(area, j, f, e, u as usize, m, s),
         Kind::From => fast_stretch::hear_packet(area, j, f, e, frame, b, m, s),
-        Kind::Spoiled => fast_stretch::hear_spoiled(area, j, f, e, m, s),
+        Kind::Mixed => fast_stretch::hear_spoiled(area, j, f, e, m, s),
     }
 }
 
 // What station j hears in the first step of a kind.
 fn heard_first(area: &[u8], kind: Kind, j: usize, u: usize, frame: &[u8], b: u32) -> Heard
-    requires { ⌜ (j < 16) × (areaSize ≤ length (now area)) ⌝ }
+    requires { ⌜ (j < maxStations) × (areaSize ≤ length (now area)) ⌝ }
     ensures { λ r. ⌜ r ≡ heardIn kind (now (area .entry)) j u (now (frame .entry)) b 0 ⌝ }
 {
     match kind {
@@ -172,7 +176,7 @@ fn heard_first(area: &[u8], kind: Kind, j: usize, u: usize, frame: &[u8], b: u32
             let one = station_symbols::packet_bit(frame, b);
             Heard::Clean(one)
         }
-        Kind::Spoiled => Heard::Several,
+        Kind::Mixed => Heard::Spoiled,
     }
 }
 
@@ -189,8 +193,11 @@ pub fn advance(
     b: u32,
     m: u32,
 ) -> u32
-    requires { ⌜ (j < 16) × (areaSize ≤ length (now area)) × (0 < m) × (u + m ≤ lastClock) × (b + m < 4294967296) × (f .gap1 + f .gap2 < 65536) × Moving f depth j u (now area) × Audible kind (now area) j u m ⌝ }
-    ensures moved { λ r. ⌜ now (area .exit) ≡ byItself f depth j (heardIn kind (now (area .entry)) j u (now (frame .entry)) b) r (now (area .entry)) ⌝ }
+    requires { ⌜ (j < maxStations) × (areaSize ≤ length (now area)) × (0 < m) × (u + m ≤ lastClock)
+        × (b + m < 4294967296) × (f .gap1 + f .gap2 < 65536) × Moving f depth j u (now area)
+        × Audible kind (now area) j u m ⌝ }
+    ensures moved { λ r. ⌜ now (area .exit)
+        ≡ byItself f depth j (heardIn kind (now (area .entry)) j u (now (frame .entry)) b) r (now (area .entry)) ⌝ }
     ensures bound { λ r. ⌜ (0 < r) × (r ≤ m) ⌝ }
 {
     let s = area::read_station(area, j);

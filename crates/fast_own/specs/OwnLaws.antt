@@ -14,7 +14,8 @@ use Rattle.bus_spec.specs.InPlace.{Kept}
 use Rattle.fast_plan.specs.Own.{outcomeOn, actOn, ownLeft, ownTurn, on-kept}
 
 module _ (f : Figures) (d i : ℕ) (h : Heard) (a : List ℕ) where
-  pub outcome-is : (s : Station) (w : ℕ) (b : List ℕ) (r : Stepped) → s ≡ stationAt a i → w ≡ drawAt a i (s .draw) → b ≡ bufferAt a i → r ≡ stepped f s d w b h → r ≡ outcomeOn f d i h a
+  pub outcome-is : (s : Station) (w : ℕ) (b : List ℕ) (r : Stepped) → s ≡ stationAt a i → w ≡ drawAt a i (s .draw)
+      → b ≡ bufferAt a i → r ≡ stepped f s d w b h → r ≡ outcomeOn f d i h a
   unfolding outcomeOn
   outcome-is s w b r p q e g = g ∙ rw (q, e, p)
 
@@ -26,6 +27,7 @@ module _ (f : Figures) (d i : ℕ) (h : Heard) (a : List ℕ) where
   unfolding ownTurn actOn
   turn-is o b e g = g ∙ ap (λ (x : Stepped). ownLeft i x a) e
 
-pub left-is : (i : ℕ) (o : Stepped) (a x y z : List ℕ) → z ≡ withStored i (o .stored) y → y ≡ withCounted i o x → x ≡ withStation a i (o .station) → z ≡ ownLeft i o a
+pub left-is : (i : ℕ) (o : Stepped) (a x y z : List ℕ) → z ≡ withStored i (o .stored) y → y ≡ withCounted i o x
+    → x ≡ withStation a i (o .station) → z ≡ ownLeft i o a
 unfolding ownLeft
 left-is i o a x y z p q r = p ∙ rw (q, r)

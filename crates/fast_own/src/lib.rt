@@ -10,10 +10,11 @@ ghost use Rattle.bus_spec.specs.InPlace.{Kept};
 ghost use Rattle.bus_spec.specs.Ready.{Able};
 ghost use Rattle.fast_plan.specs.Own.{outcomeOn, ownLeft, ownTurn};
 ghost use Rattle.area.specs.Offsets.{areaSize};
+ghost use Rattle.sheet_layout.specs.Limits.{maxStations};
 
 // What station i does on hearing h.
 fn outcome(area: &[u8], f: Figures, depth: u32, i: usize, h: Heard) -> Stepped
-    requires { ⌜ (i < 16) × (areaSize ≤ length (now area)) × Able f (now area) i ⌝ }
+    requires { ⌜ (i < maxStations) × (areaSize ≤ length (now area)) × Able f (now area) i ⌝ }
     ensures { λ r. ⌜ r ≡ outcomeOn f depth i h (now (area .entry)) ⌝ }
 {
     let s = area::read_station(area, i);
@@ -23,7 +24,7 @@ fn outcome(area: &[u8], f: Figures, depth: u32, i: usize, h: Heard) -> Stepped
 
 // What it leaves of its own: its record, its counters, the bit that it collected.
 fn leave(area: &mut [u8], i: usize, o: Stepped)
-    requires { ⌜ (i < 16) × (areaSize ≤ length (now area)) × Kept (o .stored) ⌝ }
+    requires { ⌜ (i < maxStations) × (areaSize ≤ length (now area)) × Kept (o .stored) ⌝ }
     ensures { λ r. ⌜ now (area .exit) ≡ ownLeft i o (now (area .entry)) ⌝ }
 {
     let next = o.station;
@@ -34,7 +35,7 @@ fn leave(area: &mut [u8], i: usize, o: Stepped)
 }
 
 pub fn turn_alone(area: &mut [u8], f: Figures, depth: u32, i: usize, h: Heard)
-    requires { ⌜ (i < 16) × (areaSize ≤ length (now area)) × Able f (now area) i ⌝ }
+    requires { ⌜ (i < maxStations) × (areaSize ≤ length (now area)) × Able f (now area) i ⌝ }
     ensures { λ r. ⌜ now (area .exit) ≡ ownTurn f depth i h (now (area .entry)) ⌝ }
 {
     let o = outcome(area, f, depth, i, h);

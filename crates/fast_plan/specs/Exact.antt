@@ -1,4 +1,5 @@
--- What K steps by a plan leave, as a list of octets: two areas that are so described are one, and one is built. Assumes nothing.
+-- What K steps by a plan leave, as a list of octets: two areas that are so described are one, and one is built. Assumes
+-- nothing.
 use Prim.Native.Nat.{ℕ, zero, suc, _+_, _-_, _%_, _≤_, _<_}
 use mathlib.Core.Path.{_≡_, refl, sym, _∙_, ap, subst}
 use mathlib.Core.List.{List}
@@ -11,27 +12,28 @@ use Rattle.octets.specs.Turns.{turns, length-turns}
 use Rattle.station_symbols.specs.declared.Heard.{Heard}
 use Rattle.area.specs.Places.{Part, clock, layout, draws, counters, station, frame, buffer, Keeps}
 use Rattle.area.specs.Whole.{Still, area-same}
-use Rattle.area.specs.Area.{clockAt, withClock, depthAt, figuresAt, countAt, stationAt, heardOf, heardCode, symbolAt, arrivalAt, withArrival}
+use Rattle.area.specs.Area.{clockAt, withClock, depthAt, figuresAt, countAt, stationAt, heardOf, heardCode, symbolAt}
+use Rattle.area.specs.Area.{arrivalAt, withArrival, maxCode}
 use Rattle.area.specs.AreaLaws.{keeps-refl, keeps-trans, keeps-sym, place-keeps, symbol-turn, count-by, length-arrival}
 use Rattle.bus_spec.specs.Ready.{Readiness}
-use Rattle.fast_plan.specs.Own.{actOn, ownTurn, byItself, on-kept, length-itself, Others, itself-keeps, OwnSame, own-trans, Stays, Drawn, itself-same}
+use Rattle.fast_plan.specs.Own.{actOn, ownTurn, byItself, on-kept, length-itself, Others, itself-keeps, OwnSame}
+use Rattle.fast_plan.specs.Own.{own-trans, Stays, Drawn, itself-same}
 use Rattle.fast_plan.specs.Plan.{Plan, hears, lineAfter, ownAfter, steps, Planned}
 use Rattle.fast_plan.specs.Happens.{left-still, planned-station, drawn}
-use Rattle.area.specs.Offsets.{areaSize}
+use Rattle.area.specs.Offsets.{areaSize, ring}
+use Rattle.sheet_layout.specs.Limits.{maxStations}
 
 -- ---- codes
 
-code-back : (c : ℕ) → c ≤ 4 → heardCode (heardOf c) ≡ c
+code-back : (c : ℕ) → c ≤ maxCode → heardCode (heardOf c) ≡ c
 unfolding heardOf
 code-back c h =
     by-test (eqb c 0) (λ e. rw e (sym (eqb-true c 0 e)))
     (λ e₀. by-test (eqb c 1) (λ e. rw (e₀, e) (sym (eqb-true c 1 e)))
     (λ e₁. by-test (eqb c 2) (λ e. rw (e₀, e₁, e) (sym (eqb-true c 2 e)))
-    (λ e₂. by-test (eqb c 3) (λ e. rw (e₀, e₁, e₂, e) (sym (eqb-true c 3 e)))
-    (λ e₃. rw (e₀, e₁, e₂, e₃)
-    (omega (arith, eqb-false c 0 e₀, eqb-false c 1 e₁, eqb-false c 2 e₂, eqb-false c 3 e₃))))))
+    (λ e₂. rw (e₀, e₁, e₂) (omega (arith, eqb-false c 0 e₀, eqb-false c 1 e₁, eqb-false c 2 e₂)))))
 
-pub symbol-code : (x : List ℕ) (j u : ℕ) → symbolAt x j u ≤ 4 → symbolAt x j u ≡ heardCode (arrivalAt x j u)
+pub symbol-code : (x : List ℕ) (j u : ℕ) → symbolAt x j u ≤ maxCode → symbolAt x j u ≡ heardCode (arrivalAt x j u)
 unfolding arrivalAt
 symbol-code x j u h = sym (code-back (symbolAt x j u) h)
 
@@ -41,7 +43,7 @@ pub record Left (a : List ℕ) (P : Plan) (K : ℕ) (x : List ℕ) : Type 0 wher
   pub long : length x ≡ length a
   pub stamp : Keeps clock x (withClock a (clockAt a + K))
   pub own : (i : ℕ) → i < countAt a → OwnSame i x (ownAfter a P i K)
-  pub line : (j v : ℕ) → j < countAt a → K ≤ v → v < K + 256
+  pub line : (j v : ℕ) → j < countAt a → K ≤ v → v < K + ring
       → symbolAt x j (clockAt a + v) ≡ heardCode (lineAfter a P K j v)
   pub rest : (k : ℕ) → Still (countAt a) k → getD x k 0 ≡ getD a k 0
 
@@ -59,10 +61,12 @@ planned-left a P K x h w =
     }
 
 -- two that are so described are one
-pub left-same-area : (a : List ℕ) (P : Plan) (K : ℕ) (x y : List ℕ) → countAt a ≤ 16 → Left a P K x → Left a P K y
+pub left-same-area : (a : List ℕ) (P : Plan) (K : ℕ) (x y : List ℕ) → countAt a ≤ maxStations → Left a P K x
+    → Left a P K y
     → x ≡ y
 left-same-area a P K x y few p q =
-    area-same (countAt a) x y few (p .long ∙ sym (q .long)) (both clock (withClock a (clockAt a + K)) (p .stamp) (q .stamp))
+    area-same (countAt a) x y few (p .long ∙ sym (q .long))
+    (both clock (withClock a (clockAt a + K)) (p .stamp) (q .stamp))
     (λ i hi. both (station i) (ownAfter a P i K) (p .own i hi .station) (q .own i hi .station))
     (λ i hi. both (counters i) (ownAfter a P i K) (p .own i hi .counters) (q .own i hi .counters))
     (λ i hi. both (buffer i) (ownAfter a P i K) (p .own i hi .buffer) (q .own i hi .buffer))
@@ -74,8 +78,8 @@ left-same-area a P K x y few p q =
     line : (i u : ℕ) → i < countAt a → symbolAt x i u ≡ symbolAt y i u
     line i u hi =
         let t = clockAt a in
-        let v = K + (u + (256 - (t + K) % 256)) % 256 in
-        let z : u % 256 ≡ (t + v) % 256 = omega arith in
+        let v = K + (u + (ring - (t + K) % ring)) % ring in
+        let z : u % ring ≡ (t + v) % ring = omega arith in
         symbol-turn x i u (t + v) z ∙ p .line i v hi (omega arith) (omega arith)
         ∙ sym (q .line i v hi (omega arith) (omega arith)) ∙ sym (symbol-turn y i u (t + v) z)
 
@@ -91,7 +95,7 @@ lineOf j u g m x = turns (λ v y. withArrival y j (u + v) (g v)) m x
 
 -- all lines after K steps
 unfoldable pub linesAll : List ℕ → Plan → (K k : ℕ) → List ℕ → List ℕ
-linesAll a P K k x = turns (λ j y. lineOf j (clockAt a + K) (λ v. lineAfter a P K j (K + v)) 256 y) k x
+linesAll a P K k x = turns (λ j y. lineOf j (clockAt a + K) (λ v. lineAfter a P K j (K + v)) ring y) k x
 
 unfoldable pub planned : List ℕ → Plan → ℕ → List ℕ
 planned a P K = withClock (linesAll a P K (countAt a) (ownAll a P K (countAt a) a)) (clockAt a + K)
@@ -109,7 +113,8 @@ pub length-own : (a : List ℕ) (P : Plan) (m k : ℕ) (x : List ℕ) → length
 unfolding ownAll
 length-own a P m k x = length-turns _ k x (λ i y. length-itself (figuresAt a) (depthAt a) i (hears a P i) m y)
 
-pub own-keeps : (p : Part) (a : List ℕ) (P : Plan) (m k : ℕ) (x : List ℕ) → ((j : ℕ) → j < k → Others p j) → Keeps p (ownAll a P m k x) x
+pub own-keeps : (p : Part) (a : List ℕ) (P : Plan) (m k : ℕ) (x : List ℕ) → ((j : ℕ) → j < k → Others p j)
+    → Keeps p (ownAll a P m k x) x
 unfolding ownAll turns
 own-keeps p a P m zero x o = keeps-refl p x
 own-keeps p a P m (suc k) x o =
@@ -119,7 +124,7 @@ own-keeps p a P m (suc k) x o =
     (own-keeps p a P m k x (λ j h. o j (omega arith)))
 
 -- those after it leave its parts alone, and those before it too
-own-ahead : (a : List ℕ) (P : Plan) (m k : ℕ) (x : List ℕ) (i : ℕ) → i < 16 → k ≤ i
+own-ahead : (a : List ℕ) (P : Plan) (m k : ℕ) (x : List ℕ) (i : ℕ) → i < maxStations → k ≤ i
     → OwnSame i (ownAll a P m k x) x × Stays i (ownAll a P m k x) x
 own-ahead a P m k x i hi hk = (
   record {
@@ -140,7 +145,8 @@ own-ahead a P m k x i hi hk = (
   },
 )
 
-pub own-built : (a : List ℕ) (P : Plan) (m k : ℕ) (i : ℕ) → i < k → k ≤ 16 → areaSize ≤ length a → ((s : ℕ) → s < m → Drawn (stationAt (ownAfter a P i s) i)) → OwnSame i (ownAll a P m k a) (ownAfter a P i m)
+pub own-built : (a : List ℕ) (P : Plan) (m k : ℕ) (i : ℕ) → i < k → k ≤ maxStations → areaSize ≤ length a
+    → ((s : ℕ) → s < m → Drawn (stationAt (ownAfter a P i s) i)) → OwnSame i (ownAll a P m k a) (ownAfter a P i m)
 unfolding ownAll turns ownAfter
 own-built a P m zero i hi hk room dr = absurd (omega arith)
 own-built a P m (suc k) i hi hk room dr =
@@ -163,7 +169,7 @@ own-built a P m (suc k) i hi hk room dr =
     })
     (own-built a P m k i (omega arith) (omega arith) room dr))
 
-itself-still : (n k : ℕ) (few : n ≤ 16) → Still n k → (a : List ℕ) (P : Plan) (i m : ℕ) (x : List ℕ) → i < n
+itself-still : (n k : ℕ) (few : n ≤ maxStations) → Still n k → (a : List ℕ) (P : Plan) (i m : ℕ) (x : List ℕ) → i < n
     → getD (byItself (figuresAt a) (depthAt a) i (hears a P i) m x) k 0 ≡ getD x k 0
 unfolding byItself turns ownTurn
 itself-still n k few st a P i zero x hi = refl
@@ -173,7 +179,8 @@ itself-still n k few st a P i (suc m) x hi =
     (on-kept (figuresAt a) (depthAt a) i (hears a P i m) y)
     ∙ itself-still n k few st a P i m x hi
 
-pub own-still : (n k : ℕ) (few : n ≤ 16) → Still n k → (a : List ℕ) (P : Plan) (m c : ℕ) (x : List ℕ) → c ≤ n → getD (ownAll a P m c x) k 0 ≡ getD x k 0
+pub own-still : (n k : ℕ) (few : n ≤ maxStations) → Still n k → (a : List ℕ) (P : Plan) (m c : ℕ) (x : List ℕ) → c ≤ n
+    → getD (ownAll a P m c x) k 0 ≡ getD x k 0
 unfolding ownAll turns
 own-still n k few st a P m zero x hc = refl
 own-still n k few st a P m (suc c) x hc =
@@ -183,7 +190,9 @@ own-still n k few st a P m (suc c) x hc =
 
 -- ---- Theorem 1, as octets
 
-pub own-drawn : (a : List ℕ) (P : Plan) (s i : ℕ) → Readiness a → Planned a P s (steps s a) → i < countAt a → Drawn (stationAt (ownAfter a P i s) i)
+pub own-drawn : (a : List ℕ) (P : Plan) (s i : ℕ) → Readiness a → Planned a P s (steps s a) → i < countAt a
+    → Drawn (stationAt (ownAfter a P i s) i)
 own-drawn a P s i r w hi =
     let few = r .spread .few in
-    subst Drawn (planned-station a (r .spread) P s (steps s a) w i (omega arith) hi) (drawn (steps s a) (w .ready) i (omega (arith, count-by (steps s a) a (w .stays 0 (omega arith) .layout))))
+    subst Drawn (planned-station a (r .spread) P s (steps s a) w i (omega arith) hi)
+    (drawn (steps s a) (w .ready) i (omega (arith, count-by (steps s a) a (w .stays 0 (omega arith) .layout))))

@@ -1,5 +1,5 @@
--- Many turns of a station by itself, where its state goes on in closed form and nothing is counted: the record is written once, and the bits
--- that it collected are stored. Assumes nothing.
+-- Many turns of a station by itself, where its state goes on in closed form and nothing is counted: the record is
+-- written once, and the bits that it collected are stored. Assumes nothing.
 use Prim.Native.Nat.{ℕ, zero, suc, _≤_, _<_}
 use mathlib.Core.Path.{_≡_, refl, _∙_, ap}
 use mathlib.Core.List.{List}
@@ -19,13 +19,15 @@ use Rattle.station_spec.specs.Step.{stepped}
 use Rattle.area_record.specs.CodecLaws.{Fit}
 use Rattle.area.specs.Places.{Part, layout, station, frame, buffer, Off, Keeps}
 use Rattle.area.specs.Area.{drawAt, addressAt, stationAt, withStation, frameAt, bufferAt}
-use Rattle.area.specs.AreaLaws.{keeps-refl, keeps-trans, station-by, frame-by, station-keeps, station-same, length-station}
+use Rattle.area.specs.AreaLaws.{keeps-refl, keeps-trans, station-by, frame-by, station-keeps, station-same}
+use Rattle.area.specs.AreaLaws.{length-station}
 use Rattle.area.specs.Written.{station-over, station-bit}
 use Rattle.bus_spec.specs.BitTime.{withStored, happened, withCounted}
 use Rattle.bus_spec.specs.InPlace.{Kept, length-stored, stored-keeps}
 use Rattle.bus_quick.specs.Quick.{quietly}
 use Rattle.fast_plan.specs.Own.{outcomeOn, actOn, ownLeft, ownTurn, byItself}
-use Rattle.area.specs.Offsets.{areaSize}
+use Rattle.area.specs.Offsets.{areaSize, frameRoom}
+use Rattle.sheet_layout.specs.Limits.{maxStations}
 
 -- the bits of m steps
 unfoldable pub storedAll : ℕ → (ℕ → Stored) → (m : ℕ) → List ℕ → List ℕ
@@ -52,20 +54,24 @@ all-keeps p i st (suc m) x k o = keeps-trans p (storedAll i st (suc m) x) (store
     (stored-keeps p i (st m) (storedAll i st m x) (k m) o) (all-keeps p i st m x k o)
 
 -- a record written before or after
-station-stored : (i : ℕ) (o : Stored) (s : Station) (x : List ℕ) → i < 16
+station-stored : (i : ℕ) (o : Stored) (s : Station) (x : List ℕ) → i < maxStations
     → withStation (withStored i o x) i s ≡ withStored i o (withStation x i s)
 station-stored i NoStore s x hi = refl
 station-stored i (Store k b) s x hi = station-bit x i hi s k b
 
-pub station-all : (i : ℕ) (st : ℕ → Stored) (m : ℕ) (s : Station) (x : List ℕ) → i < 16 → withStation (storedAll i st m x) i s ≡ storedAll i st m (withStation x i s)
+pub station-all : (i : ℕ) (st : ℕ → Stored) (m : ℕ) (s : Station) (x : List ℕ) → i < maxStations
+    → withStation (storedAll i st m x) i s ≡ storedAll i st m (withStation x i s)
 unfolding storedAll turns
 station-all i st zero s x hi = refl
 station-all i st (suc m) s x hi =
     station-stored i (st m) s (storedAll i st m x) hi ∙ ap (withStored i (st m)) (station-all i st m s x hi)
 
-module _ (f : Figures) (d i : ℕ) (a : List ℕ) (K : ℕ) (hi : i < 16) (room : areaSize ≤ length a) (on : ℕ → Station) (H : ℕ → Heard) (em : ℕ → Emission) (st : ℕ → Stored)
-    (begins : stationAt a i ≡ on 0) (fit : (m : ℕ) → m ≤ K → Fit (on m)) (address : (m : ℕ) → on m .address ≡ addressAt a i) (kept : (m : ℕ) → Kept (st m))
-    (step : (m draw : ℕ) (buf : List ℕ) → m < K → (m ≡ 0 → buf ≡ bufferAt a i) → stepped f (on m) d draw buf (H m) ≡ quietly (on (suc m)) (em m) (st m)) where
+module _ (f : Figures) (d i : ℕ) (a : List ℕ) (K : ℕ) (hi : i < maxStations) (room : areaSize ≤ length a)
+    (on : ℕ → Station) (H : ℕ → Heard) (em : ℕ → Emission) (st : ℕ → Stored)
+    (begins : stationAt a i ≡ on 0) (fit : (m : ℕ) → m ≤ K → Fit (on m))
+    (address : (m : ℕ) → on m .address ≡ addressAt a i) (kept : (m : ℕ) → Kept (st m))
+    (step : (m draw : ℕ) (buf : List ℕ) → m < K → (m ≡ 0 → buf ≡ bufferAt a i) → stepped f (on m) d draw buf (H m)
+    ≡ quietly (on (suc m)) (em m) (st m)) where
   after : ℕ → List ℕ
   after m = storedAll i st m (withStation a i (on m))
 
@@ -91,13 +97,18 @@ module _ (f : Figures) (d i : ℕ) (a : List ℕ) (K : ℕ) (hi : i < 16) (room 
   unfolding First
   is-first z = refl
 
-  outcome-by : (m : ℕ) (x : List ℕ) → m < K → stationAt x i ≡ on m → First m x → actOn f d i (H m) x .outcome ≡ quietly (on (suc m)) (em m) (st m)
+  outcome-by : (m : ℕ) (x : List ℕ) → m < K → stationAt x i ≡ on m → First m x
+      → actOn f d i (H m) x .outcome ≡ quietly (on (suc m)) (em m) (st m)
   unfolding actOn outcomeOn First
-  outcome-by m x h e z = ap (λ (s : Station). stepped f s d (drawAt x i (s .draw)) (bufferAt x i) (H m)) e ∙ step m (drawAt x i (on m .draw)) (bufferAt x i) h z
+  outcome-by m x h e z =
+      ap (λ (s : Station). stepped f s d (drawAt x i (s .draw)) (bufferAt x i) (H m)) e
+      ∙ step m (drawAt x i (on m .draw)) (bufferAt x i) h z
 
-  turn-by : (m : ℕ) (x : List ℕ) → m < K → stationAt x i ≡ on m → First m x → ownTurn f d i (H m) x ≡ withStored i (st m) (withStation x i (on (suc m)))
+  turn-by : (m : ℕ) (x : List ℕ) → m < K → stationAt x i ≡ on m → First m x
+      → ownTurn f d i (H m) x ≡ withStored i (st m) (withStation x i (on (suc m)))
   unfolding ownTurn
-  turn-by m x h e z = ap (λ (o : Stepped). ownLeft i o x) (outcome-by m x h e z) ∙ quiet-left i (on (suc m)) (em m) (st m) x
+  turn-by m x h e z =
+      ap (λ (o : Stepped). ownLeft i o x) (outcome-by m x h e z) ∙ quiet-left i (on (suc m)) (em m) (st m) x
 
   pub goes-on : (m : ℕ) → suc m ≤ K → byItself f d i H (suc m) a ≡ wentTo i st (suc m) (on (suc m)) a
   unfolding byItself turns storedAll after wentTo
@@ -114,12 +125,15 @@ module _ (f : Figures) (d i : ℕ) (a : List ℕ) (K : ℕ) (hi : i < 16) (room 
   unfolding wentTo after
   goes-there m h = ap (λ (x : List ℕ). stationAt x i) (goes-on m h) ∙ there (suc m) h
 
-  pub goes-act : (m : ℕ) → m < K → actOn f d i (H m) (byItself f d i H m a) .outcome ≡ quietly (on (suc m)) (em m) (st m)
+  pub goes-act : (m : ℕ) → m < K
+      → actOn f d i (H m) (byItself f d i H m a) .outcome ≡ quietly (on (suc m)) (em m) (st m)
   unfolding byItself turns after wentTo
   goes-act zero h = outcome-by 0 a h begins is-first
-  goes-act (suc m) h = ap (λ (x : List ℕ). actOn f d i (H (suc m)) x .outcome) (goes-on m (omega arith)) ∙ outcome-by (suc m) (after (suc m)) h (there (suc m) (omega arith)) (not-first m (after (suc m)))
+  goes-act (suc m) h =
+      ap (λ (x : List ℕ). actOn f d i (H (suc m)) x .outcome) (goes-on m (omega arith))
+      ∙ outcome-by (suc m) (after (suc m)) h (there (suc m) (omega arith)) (not-first m (after (suc m)))
 
-  frame-after : (m z : ℕ) → z ≤ 1536 → frameAt (after m) i z ≡ frameAt a i z
+  frame-after : (m z : ℕ) → z ≤ frameRoom → frameAt (after m) i z ≡ frameAt a i z
   unfolding after
   frame-after m z hz =
       let y = withStation a i (on m) in
@@ -128,17 +142,22 @@ module _ (f : Figures) (d i : ℕ) (a : List ℕ) (K : ℕ) (hi : i < 16) (room 
       (keeps-trans (frame i) (storedAll i st m y) y a (all-keeps (frame i) i st m y kept (λ p q. omega arith))
       (station-keeps (frame i) a i (on m) (λ p q. omega arith)))
 
-  symbol-by : (m : ℕ) (x : List ℕ) → m < K → stationAt x i ≡ on m → First m x → actOn f d i (H m) x .symbol ≡ symbolOf (frameAt x i (octetsHeld (on m .transmitter) (on m .frame))) (em m)
+  symbol-by : (m : ℕ) (x : List ℕ) → m < K → stationAt x i ≡ on m → First m x
+      → actOn f d i (H m) x .symbol ≡ symbolOf (frameAt x i (octetsHeld (on m .transmitter) (on m .frame))) (em m)
   unfolding actOn outcomeOn quietly First
   symbol-by m x h e z =
-      ap (λ (o : Stepped). symbolOf (frameAt x i (octetsHeld (stationAt x i .transmitter) (stationAt x i .frame))) (o .emission))
-      (ap (λ (s : Station). stepped f s d (drawAt x i (s .draw)) (bufferAt x i) (H m)) e ∙ step m (drawAt x i (on m .draw)) (bufferAt x i) h z)
+      ap (λ (o : Stepped). symbolOf (frameAt x i (octetsHeld (stationAt x i .transmitter) (stationAt x i .frame)))
+      (o .emission))
+      (ap (λ (s : Station). stepped f s d (drawAt x i (s .draw)) (bufferAt x i) (H m)) e ∙ step m
+      (drawAt x i (on m .draw)) (bufferAt x i) h z)
       ∙ ap (λ (s : Station). symbolOf (frameAt x i (octetsHeld (s .transmitter) (s .frame))) (em m)) e
 
-  pub goes-symbol : (m z : ℕ) → m < K → z ≤ 1536 → octetsHeld (on m .transmitter) (on m .frame) ≡ z
+  pub goes-symbol : (m z : ℕ) → m < K → z ≤ frameRoom → octetsHeld (on m .transmitter) (on m .frame) ≡ z
       → actOn f d i (H m) (byItself f d i H m a) .symbol ≡ symbolOf (frameAt a i z) (em m)
   unfolding byItself turns after wentTo
   goes-symbol zero z h hz e = symbol-by 0 a h begins is-first ∙ ap (λ (w : ℕ). symbolOf (frameAt a i w) (em 0)) e
   goes-symbol (suc m) z h hz e =
-      ap (λ (x : List ℕ). actOn f d i (H (suc m)) x .symbol) (goes-on m (omega arith)) ∙ symbol-by (suc m) (after (suc m)) h (there (suc m) (omega arith)) (not-first m (after (suc m)))
-      ∙ ap (λ (w : ℕ). symbolOf (frameAt (after (suc m)) i w) (em (suc m))) e ∙ ap (λ (l : List ℕ). symbolOf l (em (suc m))) (frame-after (suc m) z hz)
+      ap (λ (x : List ℕ). actOn f d i (H (suc m)) x .symbol) (goes-on m (omega arith))
+      ∙ symbol-by (suc m) (after (suc m)) h (there (suc m) (omega arith)) (not-first m (after (suc m)))
+      ∙ ap (λ (w : ℕ). symbolOf (frameAt (after (suc m)) i w) (em (suc m))) e
+      ∙ ap (λ (l : List ℕ). symbolOf l (em (suc m))) (frame-after (suc m) z hz)

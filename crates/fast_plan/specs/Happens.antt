@@ -17,9 +17,10 @@ use Rattle.station_receive.specs.declared.Stored.{Stored}
 use Rattle.station_receive.specs.declared.Stored.the-variants.{NoStore, Store}
 use Rattle.station_spec.specs.declared.Stepped.{Stepped}
 use Rattle.area.specs.Places.{Part, clock, depth, layout, draws, counters, station, frame, buffer, place, Off, Keeps}
-use Rattle.area.specs.Area.{clockAt, withClock, depthAt, figuresAt, countAt, spaceAt, stationAt, arrivalAt}
+use Rattle.area.specs.Area.{clockAt, withClock, depthAt, figuresAt, countAt, spaceAt, stationAt, arrivalAt, met}
 use Rattle.area.specs.Whole.{Still, clock-still, station-still, counters-still, bit-still, arrival-still, clock-on}
-use Rattle.area.specs.AreaLaws.{keeps-refl, keeps-trans, depth-by, figures-by, count-by, space-by, station-by, arrival-by, arrival-turn, arrival-keeps, clock-keeps}
+use Rattle.area.specs.AreaLaws.{keeps-refl, keeps-trans, depth-by, figures-by, count-by, space-by, station-by}
+use Rattle.area.specs.AreaLaws.{arrival-by, arrival-turn, arrival-keeps, clock-keeps}
 use Rattle.bus_spec.specs.Medium.{sendTo, isSilence, pushed}
 use Rattle.bus_spec.specs.declared.Act.{Act}
 use Rattle.bus_spec.specs.BitTime.{actIn, actAt, withStored, happened, withCounted, placed, settled, stepArea}
@@ -30,12 +31,15 @@ use Rattle.bus_spec.specs.After.{length-after, own, ahead}
 use Rattle.bus_spec.specs.Stays.{step-length, step-layout, step-depth, step-draws, step-frame, step-clock, step-ready}
 use Rattle.bus_meeting.specs.Net.{Net, gathered, reaches, heard, grown}
 use Rattle.bus_meeting.specs.Gather.{gathered-same, gathered-none}
-use Rattle.bus_meeting.specs.Meet.{met, met-none, met-group, adds, heard-grown, heard-far}
+use Rattle.bus_meeting.specs.Meet.{met-none, met-group, adds, heard-grown, heard-far}
 use Rattle.bus_meeting.specs.Lines.{share, share-adds, line-all, clear-all}
-use Rattle.fast_plan.specs.Own.{actOn, ownLeft, ownTurn, byItself, by-itself-more, act-heard, length-itself, OwnSame, own-refl, own-sym, own-trans, left-same, Stays, stays-refl, stays-trans, stays-sym, Drawn, on-same, itself-stays}
-use Rattle.fast_plan.specs.Plan.{Plan, cut, netOf, lineNow, hears, lineAfter, ownAfter, actAfter, Holds, steps, Planned}
-use Rattle.sheet_layout.specs.Limits.{lastClock}
-use Rattle.area.specs.Offsets.{areaSize}
+use Rattle.fast_plan.specs.Own.{actOn, ownLeft, ownTurn, byItself, by-itself-more, act-heard, length-itself}
+use Rattle.fast_plan.specs.Own.{OwnSame, own-refl, own-sym, own-trans, left-same, Stays, stays-refl, stays-trans}
+use Rattle.fast_plan.specs.Own.{stays-sym, Drawn, on-same, itself-stays}
+use Rattle.fast_plan.specs.Plan.{Plan, cut, netOf, lineNow, hears, lineAfter, ownAfter, actAfter, Holds, steps}
+use Rattle.fast_plan.specs.Plan.{Planned}
+use Rattle.sheet_layout.specs.Limits.{lastClock, maxStations}
+use Rattle.area.specs.Offsets.{areaSize, ring}
 
 -- ---- the plan's symbols on their way
 
@@ -103,24 +107,24 @@ module _ (a : List ℕ) (sp : Spread (countAt a) a) (P : Plan) where
       (gathered (countAt a) (adds (spaceAt a) K (λ i. P i K) j v)))
 
   -- the place that is free again
-  line-free : (K j : ℕ) → j < countAt a → lineAfter a P (suc K) j (K + 256) ≡ Nothing
+  line-free : (K j : ℕ) → j < countAt a → lineAfter a P (suc K) j (K + ring) ≡ Nothing
   unfolding lineAfter lineNow netOf
   line-free K j hj =
-      rw (le-ltb (K + 256) 256 (omega arith))
-      (heard-far (netOf a) (suc K) (cut (suc K) P) j (K + 256) (λ i s h. cut-none P (suc K) i s h)
+      rw (le-ltb (K + ring) ring (omega arith))
+      (heard-far (netOf a) (suc K) (cut (suc K) P) j (K + ring) (λ i s h. cut-none P (suc K) i s h)
       (λ i hi. omega (arith, sp .near i j hi hj)))
 
-  line-start : (j v : ℕ) → v < 256 → lineAfter a P 0 j v ≡ arrivalAt a j (clockAt a + v)
+  line-start : (j v : ℕ) → v < ring → lineAfter a P 0 j v ≡ arrivalAt a j (clockAt a + v)
   unfolding lineAfter lineNow netOf
   line-start j v h =
-      rw (lt-ltb v 256 h)
+      rw (lt-ltb v ring h)
       (ap (met (arrivalAt a j (clockAt a + v)))
       (heard-none (netOf a) (cut 0 P) j v (λ i s. cut-none P 0 i s (omega arith)))
       ∙ met-none (arrivalAt a j (clockAt a + v)))
 
 -- ---- octets that no turn writes
 
-module _ (n k : ℕ) (few : n ≤ 16) (still : Still n k) where
+module _ (n k : ℕ) (few : n ≤ maxStations) (still : Still n k) where
   send-still : (t i : ℕ) (s : Symbol) (j : ℕ) (x : List ℕ) → j < n → getD (sendTo t i s j x) k 0 ≡ getD x k 0
   unfolding sendTo
   send-still t i s j x hj = by-test (eqb j i) (λ e. rw e) (λ e. rw e (arrival-still n k still x j _ _ hj))
@@ -145,7 +149,8 @@ module _ (n k : ℕ) (few : n ≤ 16) (still : Still n k) where
 
   pub left-still : (i : ℕ) (o : Stepped) (x : List ℕ) → i < n → Kept (o .stored) → getD (ownLeft i o x) k 0 ≡ getD x k 0
   unfolding ownLeft
-  left-still i o x hi h = stored-still i (o .stored) _ hi h ∙ counted-still i o _ hi ∙ station-still n k still x i (o .station) hi
+  left-still i o x hi h =
+      stored-still i (o .stored) _ hi h ∙ counted-still i o _ hi ∙ station-still n k still x i (o .station) hi
 
   settled-still : (t i : ℕ) (r : Act) (x : List ℕ) → i < n → Kept (r .outcome .stored)
       → getD (settled n t i r x) k 0 ≡ getD x k 0
@@ -250,14 +255,14 @@ module _ (a : List ℕ) (sp : Spread (countAt a) a) (P : Plan) (K : ℕ) (x : Li
   unfolding ownAfter
   own-room i = omega (arith, length-itself (figuresAt a) (depthAt a) i (hears a P i) K a, w .long, room)
 
-  own-stays : (i : ℕ) → i < 16 → Stays i (ownAfter a P i K) x
+  own-stays : (i : ℕ) → i < maxStations → Stays i (ownAfter a P i K) x
   unfolding ownAfter
   own-stays i hi =
       stays-trans i (byItself (figuresAt a) (depthAt a) i (hears a P i) K a) a x
       (itself-stays (figuresAt a) (depthAt a) i (hears a P i) K a hi) (stays-sym i x a (w .stays i hi))
 
   -- each station is what it is by itself
-  pub planned-station : (i : ℕ) → i < 16 → i < countAt a → stationAt x i ≡ stationAt (ownAfter a P i K) i
+  pub planned-station : (i : ℕ) → i < maxStations → i < countAt a → stationAt x i ≡ stationAt (ownAfter a P i K) i
   planned-station i hi h = sym
       (station-by (ownAfter a P i K) x i hi (own-room i) room (own-stays i hi .layout)
       (own-sym i x (ownAfter a P i K) (w .own i h) .station))
@@ -267,7 +272,7 @@ module _ (a : List ℕ) (sp : Spread (countAt a) a) (P : Plan) (K : ℕ) (x : Li
   unfolding actAt actAfter
   act-planned i h =
       let few = sp .few in
-      let hi : i < 16 = omega arith in
+      let hi : i < maxStations = omega arith in
       let f : figuresAt x ≡ figuresAt a = figures-by x a lay in
       let d : depthAt x ≡ depthAt a = depth-by x a (w .depth) in
       let e : arrivalAt x i (clockAt x) ≡ hears a P i K = ap (arrivalAt x i) (w .time) ∙ w .line i K h (omega arith)
@@ -286,7 +291,7 @@ module _ (a : List ℕ) (sp : Spread (countAt a) a) (P : Plan) (K : ℕ) (x : Li
   unfolding stepArea turned ownAfter ownTurn actAfter
   next-own i h =
       let few = sp .few in
-      let hi : i < 16 = omega arith in
+      let hi : i < maxStations = omega arith in
       let n = countAt x in
       let r = w .ready in
       let y = turns (λ j z. settled n (clockAt x) j (actAt x j) z) i x in
@@ -323,7 +328,7 @@ module _ (a : List ℕ) (sp : Spread (countAt a) a) (P : Plan) (K : ℕ) (x : Li
       arrival-by (stepArea x) turned j u (clock-keeps (place j u) turned (clockAt x + 1) (λ p q. omega arith))
 
   module _ (holds : (i : ℕ) → i < countAt a → actAfter a P i K .symbol ≡ P i K) where
-    one-share : (j v i : ℕ) → j < countAt a → i < countAt a → K < v → v < K + 256
+    one-share : (j v i : ℕ) → j < countAt a → i < countAt a → K < v → v < K + ring
         → share (clockAt x) (spaceAt x i j) i (actAt x i .symbol) j (clockAt a + v) ≡ adds (spaceAt a) K (λ m. P m K) j
         v i
     one-share j v i hj hi lo up =
@@ -335,7 +340,7 @@ module _ (a : List ℕ) (sp : Spread (countAt a) a) (P : Plan) (K : ℕ) (x : Li
         ∙ share-adds (spaceAt a) (clockAt a) K (λ m. P m K) j v i _ _ refl refl (sp .pos i j hi hj) (sp .near i j hi hj)
         lo up
 
-    line-turned : (j v : ℕ) → j < countAt a → K < v → v < K + 256
+    line-turned : (j v : ℕ) → j < countAt a → K < v → v < K + ring
         → arrivalAt turned j (clockAt a + v) ≡ lineAfter a P (suc K) j v
     unfolding turned
     line-turned j v hj lo up =
@@ -350,26 +355,28 @@ module _ (a : List ℕ) (sp : Spread (countAt a) a) (P : Plan) (K : ℕ) (x : Li
         (adds (spaceAt a) K (λ m. P m K) j v) (λ i hi. one-share j v i hj hi lo up))
         ∙ sym (line-grown a sp P K j v)
 
-    line-last : (j : ℕ) → j < countAt a → arrivalAt turned j (clockAt a + (K + 256)) ≡ lineAfter a P (suc K) j (K + 256)
+    line-last : (j : ℕ) → j < countAt a
+        → arrivalAt turned j (clockAt a + (K + ring)) ≡ lineAfter a P (suc K) j (K + ring)
     unfolding turned
     line-last j hj =
         let r = w .ready in
-        arrival-turn turned j (clockAt a + (K + 256)) (clockAt x) (omega (arith, w .time))
+        arrival-turn turned j (clockAt a + (K + ring)) (clockAt x) (omega (arith, w .time))
         ∙ clear-all (countAt x) (clockAt x) (actAt x) x (r .spread) (kept-at x) room (countAt x) j (omega arith)
         (below j hj)
         ∙ sym (line-free a sp P K j hj)
 
-    next-line : (j v : ℕ) → j < countAt a → suc K ≤ v → v < suc K + 256
+    next-line : (j v : ℕ) → j < countAt a → suc K ≤ v → v < suc K + ring
         → arrivalAt (stepArea x) j (clockAt a + v) ≡ lineAfter a P (suc K) j v
     next-line j v hj lo up =
         after-clock j (clockAt a + v)
-        ∙ by-eq v (K + 256) (λ z. rw z (line-last j hj)) (λ z. line-turned j v hj lo (omega arith))
+        ∙ by-eq v (K + ring) (λ z. rw z (line-last j hj)) (λ z. line-turned j v hj lo (omega arith))
 
     next-rest : (k : ℕ) → Still (countAt a) k → getD (stepArea x) k 0 ≡ getD a k 0
     unfolding stepArea
     next-rest k st =
         clock-still (countAt a) k st _ (clockAt x + 1)
-        ∙ turns-still (countAt x) k (omega (arith, sp .few, count-same)) (subst (λ (m : ℕ). Still m k) (sym count-same) st)
+        ∙ turns-still (countAt x) k (omega (arith, sp .few, count-same))
+        (subst (λ (m : ℕ). Still m k) (sym count-same) st)
         (clockAt x) (actAt x) (countAt x) x (omega arith) (kept-at x)
         ∙ w .rest k st
 

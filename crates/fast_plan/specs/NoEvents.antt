@@ -17,7 +17,7 @@ use Rattle.station_symbols.specs.declared.Emission.the-variants.{Rest}
 use Rattle.station_symbols.specs.Packet.{symbolOf}
 use Rattle.station_receive.specs.declared.Stored.{Stored}
 use Rattle.station_transmit.specs.Transmit.{octetsHeld}
-use Rattle.station_tally.specs.Tally.{sentCounted, gotCounted}
+use Rattle.station_tally.specs.Tally.{counted}
 use Rattle.station_state.specs.declared.Station.{Station}
 use Rattle.station_spec.specs.declared.Stepped.{Stepped}
 use Rattle.area.specs.Area.{stationAt, frameAt}
@@ -27,7 +27,8 @@ use Rattle.bus_spec.specs.Run.{tallied}
 use Rattle.bus_quick.specs.Quick.{quietly}
 use Rattle.fast_plan.specs.Own.{actOn}
 
-pub quiet-events : (r : Act) (s : Station) (e : Emission) (o : Stored) → r .outcome ≡ quietly s e o → eventsOf r ≡ noEvents
+pub quiet-events : (r : Act) (s : Station) (e : Emission) (o : Stored) → r .outcome ≡ quietly s e o
+    → eventsOf r ≡ noEvents
 unfolding quietly
 quiet-events r s e o h = ap (λ (c : Stepped). record { sent = c .sent; got = c .got }) h
 
@@ -47,6 +48,6 @@ none-at n k =
     ∙ filled-past noEvents (λ i. noEvents) n (k - n))
 
 pub nothing-tallied : (n m : ℕ) (ws : List ℕ) → tallied (filled noEvents (λ i. noEvents) n) m ws ≡ ws
-unfolding tallied turns sentCounted gotCounted
+unfolding tallied turns counted
 nothing-tallied n zero ws = refl
 nothing-tallied n (suc m) ws = rw (none-at n m) (nothing-tallied n m ws)

@@ -1,5 +1,5 @@
--- A station by itself: its turns on what it is told that it hears, with no line read or written. What they leave of its own parts goes by
--- these parts alone. Assumes nothing.
+-- A station by itself: its turns on what it is told that it hears, with no line read or written. What they leave of its
+-- own parts goes by these parts alone. Assumes nothing.
 use Prim.Native.Nat.{ℕ, zero, suc, _+_, _≤_, _<_}
 use mathlib.Core.Path.{_≡_, refl, sym, _∙_, ap, ap₂, subst}
 use mathlib.Core.List.{List}
@@ -19,13 +19,15 @@ use Rattle.station_spec.specs.Step.{stepped}
 use Rattle.station_spec.specs.Count.{counted}
 use Rattle.area.specs.Places.{Part, layout, draws, counters, station, frame, buffer, Off, Keeps}
 use Rattle.area.specs.Area.{drawAt, countersAt, stationAt, withStation, frameAt, bufferAt, arrivalAt}
-use Rattle.area.specs.AreaLaws.{keeps-refl, keeps-trans, keeps-sym, draw-by, counters-by, station-by, frame-by, buffer-by, station-keeps, length-station}
+use Rattle.area.specs.AreaLaws.{keeps-refl, keeps-trans, keeps-sym, draw-by, counters-by, station-by, frame-by}
+use Rattle.area.specs.AreaLaws.{buffer-by, station-keeps, length-station}
 use Rattle.area.specs.Whole.{station-on, counters-on, bit-on}
 use Rattle.bus_spec.specs.declared.Act.{Act}
 use Rattle.bus_spec.specs.BitTime.{outcomeIn, actIn, withStored, happened, withCounted}
 use Rattle.bus_spec.specs.Ready.{receive-kept}
 use Rattle.bus_spec.specs.InPlace.{Kept, length-stored, length-counted, stored-keeps, counted-keeps}
-use Rattle.area.specs.Offsets.{areaSize}
+use Rattle.area.specs.Offsets.{areaSize, frameRoom}
+use Rattle.sheet_layout.specs.Limits.{maxStations, maxDraws}
 
 -- ---- a turn on what is heard
 
@@ -157,7 +159,7 @@ own-sym i x y p = record {
   buffer = keeps-sym (buffer i) x y (p .buffer);
 }
 
-module _ (i : ℕ) (hi : i < 16) (x y : List ℕ) (lx : areaSize ≤ length x) (ly : areaSize ≤ length y) where
+module _ (i : ℕ) (hi : i < maxStations) (x y : List ℕ) (lx : areaSize ≤ length x) (ly : areaSize ≤ length y) where
   counted-on : (o : Stepped) → Keeps (counters i) x y → Keeps (counters i) (withCounted i o x) (withCounted i o y)
   unfolding withCounted
   counted-on o e =
@@ -170,7 +172,8 @@ module _ (i : ℕ) (hi : i < 16) (x y : List ℕ) (lx : areaSize ≤ length x) (
   stored-on (Store m b) h e = bit-on i hi x y lx ly m b h e
 
 -- what it leaves of its own goes by that
-pub left-same : (i : ℕ) (o : Stepped) (x y : List ℕ) → i < 16 → areaSize ≤ length x → areaSize ≤ length y → Kept (o .stored)
+pub left-same : (i : ℕ) (o : Stepped) (x y : List ℕ) → i < maxStations → areaSize ≤ length x → areaSize ≤ length y
+    → Kept (o .stored)
     → OwnSame i x y → OwnSame i (ownLeft i o x) (ownLeft i o y)
 unfolding ownLeft
 left-same i o x y hi lx ly k e =
@@ -232,10 +235,11 @@ stays-sym i x y p = record {
 
 -- its draw and its frame are such as the area has
 pub record Drawn (s : Station) : Type 0 where
-  pub draw : s .draw < 16
-  pub held : octetsHeld (s .transmitter) (s .frame) ≤ 1536
+  pub draw : s .draw < maxDraws
+  pub held : octetsHeld (s .transmitter) (s .frame) ≤ frameRoom
 
-pub on-same : (f : Figures) (d i : ℕ) (h : Heard) (x y : List ℕ) → i < 16 → areaSize ≤ length x → areaSize ≤ length y
+pub on-same : (f : Figures) (d i : ℕ) (h : Heard) (x y : List ℕ) → i < maxStations → areaSize ≤ length x
+    → areaSize ≤ length y
     → Drawn (stationAt y i) → Stays i x y → OwnSame i x y → actOn f d i h x ≡ actOn f d i h y
 unfolding actOn outcomeOn
 on-same f d i h x y hi lx ly dr q e =
@@ -248,7 +252,7 @@ on-same f d i h x y hi lx ly dr q e =
     frame-by x y i (octetsHeld (stationAt y i .transmitter) (stationAt y i .frame)) hi (dr .held) lx ly (q .frame) in
     rw (s, b, w, z)
 
-pub itself-stays : (f : Figures) (d i : ℕ) (H : ℕ → Heard) (m : ℕ) (x : List ℕ) → i < 16
+pub itself-stays : (f : Figures) (d i : ℕ) (H : ℕ → Heard) (m : ℕ) (x : List ℕ) → i < maxStations
     → Stays i (byItself f d i H m x) x
 itself-stays f d i H m x hi =
     record {
@@ -261,7 +265,7 @@ itself-stays f d i H m x hi =
     }
 
 -- so do many turns
-pub itself-same : (f : Figures) (d i : ℕ) (H : ℕ → Heard) (m : ℕ) (x y : List ℕ) → i < 16 → areaSize ≤ length x
+pub itself-same : (f : Figures) (d i : ℕ) (H : ℕ → Heard) (m : ℕ) (x y : List ℕ) → i < maxStations → areaSize ≤ length x
     → areaSize ≤ length y → ((s : ℕ) → s < m → Drawn (stationAt (byItself f d i H s y) i))
     → Stays i x y → OwnSame i x y → OwnSame i (byItself f d i H m x) (byItself f d i H m y)
 unfolding byItself turns ownTurn

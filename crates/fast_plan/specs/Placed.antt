@@ -1,4 +1,5 @@
--- The whole area as code makes it: each station's own update, each line cleared and pushed to, the clock. Assumes nothing.
+-- The whole area as code makes it: each station's own update, each line cleared and pushed to, the clock. Assumes
+-- nothing.
 use Prim.Native.Nat.{ℕ, zero, suc, _+_, _-_, _≤_, _<_, min}
 use mathlib.Core.Path.{_≡_, refl, sym, _∙_, subst}
 use mathlib.Core.Bool.{Bool}
@@ -13,23 +14,25 @@ use Rattle.station_symbols.specs.declared.Heard.{Heard}
 use Rattle.station_symbols.specs.declared.Heard.the-variants.{Nothing}
 use Rattle.station_symbols.specs.declared.Symbol.{Symbol}
 use Rattle.area.specs.Places.{Part, place, Off, Keeps}
-use Rattle.area.specs.Area.{clockAt, countAt, spaceAt, symbolAt, arrivalAt, withArrival, joined}
+use Rattle.area.specs.Area.{clockAt, countAt, spaceAt, symbolAt, arrivalAt, withArrival, joined, maxCode}
 use Rattle.area.specs.Whole.{Still, arrival-still}
-use Rattle.area.specs.AreaLaws.{keeps-refl, keeps-trans, arrival-by, arrival-keeps, symbol-same, code-small, length-arrival}
+use Rattle.area.specs.AreaLaws.{keeps-refl, keeps-trans, arrival-by, arrival-keeps, symbol-same, code-small}
+use Rattle.area.specs.AreaLaws.{length-arrival}
 use Rattle.bus_spec.specs.InPlace.{Spread}
 use Rattle.fast_plan.specs.Plan.{Plan, lineAfter}
 use Rattle.fast_plan.specs.Push.{cleared, joinedAt, onWay, waysTo, lineDone, pushed-line}
-use Rattle.area.specs.Offsets.{areaSize}
+use Rattle.area.specs.Offsets.{areaSize, ring}
+use Rattle.sheet_layout.specs.Limits.{maxStations}
 
 -- U writes places of the line of station j, codes of symbols all of them
 pub record LineOnly (n j : ℕ) (U : List ℕ → List ℕ) : Type 0 where
   pub long : (x : List ℕ) → length (U x) ≡ length x
   pub off : (p : Part) (x : List ℕ) → ((u : ℕ) → Off p (place j u)) → Keeps p (U x) x
   pub still : (k : ℕ) (x : List ℕ) → Still n k → getD (U x) k 0 ≡ getD x k 0
-  pub codes : (x : List ℕ) → areaSize ≤ length x → ((i u : ℕ) → i < n → symbolAt x i u ≤ 4) → (i u : ℕ) → i < n
-      → symbolAt (U x) i u ≤ 4
+  pub codes : (x : List ℕ) → areaSize ≤ length x → ((i u : ℕ) → i < n → symbolAt x i u ≤ maxCode) → (i u : ℕ) → i < n
+      → symbolAt (U x) i u ≤ maxCode
 
-module _ (n j : ℕ) (few : n ≤ 16) (hj : j < n) where
+module _ (n j : ℕ) (few : n ≤ maxStations) (hj : j < n) where
   none-only : LineOnly n j (λ x. x)
   none-only = record { long = λ x. refl; off = λ p x o. keeps-refl p x; still = λ k x s. refl; codes = λ x room c. c }
 
@@ -39,7 +42,8 @@ module _ (n j : ℕ) (few : n ≤ 16) (hj : j < n) where
         long = λ x. length-arrival x j u (h x);
         off = λ p x o. arrival-keeps p x j u (h x) (o u);
         still = λ k x s. arrival-still n k s x j u (h x) hj;
-        codes = λ x room c i v hi. symbol-same x room j u i v (h x) 4 (omega arith) (omega arith) (code-small (h x))
+        codes =
+            λ x room c i v hi. symbol-same x room j u i v (h x) maxCode (omega arith) (omega arith) (code-small (h x))
             (c i v hi);
       }
 
@@ -68,23 +72,29 @@ module _ (n j : ℕ) (few : n ≤ 16) (hj : j < n) where
 
   pub way-only : (t d K : ℕ) (Q : ℕ → Symbol) (m : ℕ) → LineOnly n j (λ x. onWay t d K Q j m x)
   unfolding onWay joinedAt
-  way-only t d K Q m = turns-only _ (λ u. one-only (t + (K - d + u + d)) (λ x. joined (arrivalAt x j (t + (K - d + u + d))) (Q (K - d + u)))) m
+  way-only t d K Q m =
+      turns-only _ (λ u. one-only (t + (K - d + u + d))
+      (λ x. joined (arrivalAt x j (t + (K - d + u + d))) (Q (K - d + u)))) m
 
   pub ways-only : (a : List ℕ) (P : Plan) (K k : ℕ) → LineOnly n j (λ x. waysTo a P K j k x)
   unfolding waysTo
   ways-only a P K k =
-      turns-only _ (λ i. pick-only (eqb i j) (λ x. onWay (clockAt a) (spaceAt a i j) K (P i) j (min (spaceAt a i j) K) x) (way-only (clockAt a) (spaceAt a i j) K (P i) (min (spaceAt a i j) K))) k
+      turns-only _ (λ i. pick-only (eqb i j)
+      (λ x. onWay (clockAt a) (spaceAt a i j) K (P i) j (min (spaceAt a i j) K) x)
+      (way-only (clockAt a) (spaceAt a i j) K (P i) (min (spaceAt a i j) K))) k
 
   pub done-only : (a : List ℕ) (P : Plan) (K : ℕ) → LineOnly n j (λ x. lineDone a P K j x)
   unfolding lineDone
-  done-only a P K = both-only (λ x. waysTo a P K j (countAt a) x) (λ x. cleared (clockAt a) j (min K 256) x) (ways-only a P K (countAt a)) (clear-only (clockAt a) (min K 256))
+  done-only a P K =
+      both-only (λ x. waysTo a P K j (countAt a) x) (λ x. cleared (clockAt a) j (min K ring) x)
+      (ways-only a P K (countAt a)) (clear-only (clockAt a) (min K ring))
 
 -- ---- all lines
 
 unfoldable pub linesDone : List ℕ → Plan → (K k : ℕ) → List ℕ → List ℕ
 linesDone a P K k x = turns (λ j y. lineDone a P K j y) k x
 
-module _ (a : List ℕ) (P : Plan) (K : ℕ) (few : countAt a ≤ 16) where
+module _ (a : List ℕ) (P : Plan) (K : ℕ) (few : countAt a ≤ maxStations) where
   only : (j : ℕ) → j < countAt a → LineOnly (countAt a) j (λ x. lineDone a P K j x)
   only j hj = done-only (countAt a) j few hj a P K
 
@@ -93,7 +103,8 @@ module _ (a : List ℕ) (P : Plan) (K : ℕ) (few : countAt a ≤ 16) where
   done-long zero x h = refl
   done-long (suc k) x h = only k h .long (linesDone a P K k x) ∙ done-long k x (omega arith)
 
-  pub done-keeps : (p : Part) (k : ℕ) (x : List ℕ) → k ≤ countAt a → ((j u : ℕ) → j < k → Off p (place j u)) → Keeps p (linesDone a P K k x) x
+  pub done-keeps : (p : Part) (k : ℕ) (x : List ℕ) → k ≤ countAt a → ((j u : ℕ) → j < k → Off p (place j u))
+      → Keeps p (linesDone a P K k x) x
   unfolding linesDone turns
   done-keeps p zero x h o = keeps-refl p x
   done-keeps p (suc k) x h o =
@@ -101,18 +112,22 @@ module _ (a : List ℕ) (P : Plan) (K : ℕ) (few : countAt a ≤ 16) where
       (only k h .off p (linesDone a P K k x) (λ u. o k u (omega arith)))
       (done-keeps p k x (omega arith) (λ j u l. o j u (omega arith)))
 
-  pub done-still : (m k : ℕ) (x : List ℕ) → k ≤ countAt a → Still (countAt a) m → getD (linesDone a P K k x) m 0 ≡ getD x m 0
+  pub done-still : (m k : ℕ) (x : List ℕ) → k ≤ countAt a → Still (countAt a) m
+      → getD (linesDone a P K k x) m 0 ≡ getD x m 0
   unfolding linesDone turns
   done-still m zero x h s = refl
   done-still m (suc k) x h s = only k h .still m (linesDone a P K k x) s ∙ done-still m k x (omega arith) s
 
-  pub done-codes : (k : ℕ) (x : List ℕ) → k ≤ countAt a → areaSize ≤ length x → ((i u : ℕ) → i < countAt a → symbolAt x i u ≤ 4) → (i u : ℕ) → i < countAt a → symbolAt (linesDone a P K k x) i u ≤ 4
+  pub done-codes : (k : ℕ) (x : List ℕ) → k ≤ countAt a → areaSize ≤ length x
+      → ((i u : ℕ) → i < countAt a → symbolAt x i u ≤ maxCode) → (i u : ℕ) → i < countAt a
+      → symbolAt (linesDone a P K k x) i u ≤ maxCode
   unfolding linesDone turns
   done-codes zero x h room c = c
   done-codes (suc k) x h room c = only k h .codes (linesDone a P K k x) (omega (arith, done-long k x (omega arith)))
       (done-codes k x (omega arith) room c)
 
-  pub done-line : (sp : Spread (countAt a) a) (k j v : ℕ) (x : List ℕ) → k ≤ countAt a → j < k → areaSize ≤ length x → ((i u : ℕ) → i < countAt a → arrivalAt x i u ≡ arrivalAt a i u) → K ≤ v → v < K + 256
+  pub done-line : (sp : Spread (countAt a) a) (k j v : ℕ) (x : List ℕ) → k ≤ countAt a → j < k → areaSize ≤ length x
+      → ((i u : ℕ) → i < countAt a → arrivalAt x i u ≡ arrivalAt a i u) → K ≤ v → v < K + ring
       → arrivalAt (linesDone a P K k x) j (clockAt a + v) ≡ lineAfter a P K j v
   unfolding linesDone turns
   done-line sp zero j v x hk hj room same lo up = absurd (omega arith)

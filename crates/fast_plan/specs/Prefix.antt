@@ -1,5 +1,5 @@
--- Theorem 2: a plan holds as far as no station deviates from it; any lower bound of each station's first deviation will do.
--- And a plan's later steps do not matter: two that agree on the first K steps hold alike there. Assumes nothing.
+-- Theorem 2: a plan holds as far as no station deviates from it; any lower bound of each station's first deviation will
+-- do. And a plan's later steps do not matter: two that agree on the first K steps hold alike there. Assumes nothing.
 use Prim.Native.Nat.{ℕ, zero, suc, _-_, _≤_, _<_, min}
 use mathlib.Core.Path.{_≡_, refl, sym, ap}
 use mathlib.Core.Bool.{Bool, true, false, not, _||_, true≢false}
@@ -12,9 +12,9 @@ use Rattle.octets.specs.BaseLaws.{by-test, by-eq, neither}
 use Rattle.octets.specs.Turns.{turns}
 use Rattle.station_symbols.specs.declared.Symbol.{Symbol}
 use Rattle.station_symbols.specs.declared.Symbol.the-variants.{Silence, Bit, Jam}
-use Rattle.station_tally.specs.Tally.{isLate}
 use Rattle.area.specs.Area.{countAt}
 use Rattle.fast_plan.specs.Plan.{Plan, actAfter, Holds}
+use Rattle.station_tally.specs.Words.{endsRun}
 
 -- ---- a station's first deviation
 
@@ -52,11 +52,11 @@ same-is Jam Jam e = refl
 
 -- no late collision in K steps
 unfoldable pub Unhurt : List ℕ → Plan → ℕ → Type 0
-Unhurt a P K = (s i : ℕ) → s < K → i < countAt a → isLate (actAfter a P i s .outcome .sent) ≡ false
+Unhurt a P K = (s i : ℕ) → s < K → i < countAt a → endsRun (actAfter a P i s .outcome .sent) ≡ false
 
 -- station i deviates in step s, or collides late
 unfoldable pub deviates : List ℕ → Plan → (i s : ℕ) → Bool
-deviates a P i s = not (same (actAfter a P i s .symbol) (P i s)) || isLate (actAfter a P i s .outcome .sent)
+deviates a P i s = not (same (actAfter a P i s .symbol) (P i s)) || endsRun (actAfter a P i s .outcome .sent)
 
 -- the first number below m that passes the test, m where none does
 unfoldable pub until : (ℕ → Bool) → ℕ → ℕ

@@ -1,5 +1,5 @@
--- The lines after K steps as code makes them: the places of the K steps are cleared, and of each station the symbols that are still on their
--- way are put there. Assumes nothing.
+-- The lines after K steps as code makes them: the places of the K steps are cleared, and of each station the symbols
+-- that are still on their way are put there. Assumes nothing.
 use Prim.Native.Nat.{ℕ, zero, suc, _+_, _-_, _%_, _≤_, _<_, min}
 use mathlib.Core.Path.{_≡_, refl, sym, _∙_, ap, ap₂}
 use mathlib.Core.List.{List}
@@ -15,14 +15,15 @@ use Rattle.station_symbols.specs.declared.Heard.the-variants.{Nothing}
 use Rattle.station_symbols.specs.declared.Symbol.{Symbol}
 use Rattle.station_symbols.specs.declared.Symbol.the-variants.{Silence}
 use Rattle.area.specs.Places.{place}
-use Rattle.area.specs.Area.{clockAt, countAt, spaceAt, arrivalAt, withArrival, alone, joined}
+use Rattle.area.specs.Area.{clockAt, countAt, spaceAt, arrivalAt, withArrival, alone, joined, met}
 use Rattle.area.specs.AreaLaws.{arrival-by, arrival-same, arrival-turn, arrival-keeps, length-arrival}
 use Rattle.bus_spec.specs.InPlace.{Spread}
 use Rattle.bus_meeting.specs.Net.{gathered, reaches, heard}
 use Rattle.bus_meeting.specs.Gather.{joined-none}
-use Rattle.bus_meeting.specs.Meet.{met, met-none, met-group, joined-met}
+use Rattle.bus_meeting.specs.Meet.{met-none, met-group}
 use Rattle.fast_plan.specs.Plan.{Plan, cut, netOf, lineNow, lineAfter}
-use Rattle.area.specs.Offsets.{areaSize}
+use Rattle.area.specs.Offsets.{areaSize, ring}
+use Rattle.sheet_layout.specs.Limits.{maxStations}
 
 -- ---- places cleared
 
@@ -34,12 +35,12 @@ length-cleared : (t j m : ℕ) (x : List ℕ) → length (cleared t j m x) ≡ l
 unfolding cleared
 length-cleared t j m x = length-turns _ m x (λ s y. length-arrival y j (t + s) Nothing)
 
-arrival-off : (x : List ℕ) (j u : ℕ) (h : Heard) (i v : ℕ) → (j ≡ i → u % 256 ≡ v % 256 → ⊥)
+arrival-off : (x : List ℕ) (j u : ℕ) (h : Heard) (i v : ℕ) → (j ≡ i → u % ring ≡ v % ring → ⊥)
     → arrivalAt (withArrival x j u h) i v ≡ arrivalAt x i v
 arrival-off x j u h i v ne =
     arrival-by (withArrival x j u h) x i v (arrival-keeps (place i v) x j u h (λ p q. ne (omega arith) (omega arith)))
 
-cleared-other : (t j m : ℕ) (x : List ℕ) (v : ℕ) → ((s : ℕ) → s < m → (t + s) % 256 ≡ v % 256 → ⊥)
+cleared-other : (t j m : ℕ) (x : List ℕ) (v : ℕ) → ((s : ℕ) → s < m → (t + s) % ring ≡ v % ring → ⊥)
     → arrivalAt (cleared t j m x) j v ≡ arrivalAt x j v
 unfolding cleared turns
 cleared-other t j zero x v h = refl
@@ -47,7 +48,7 @@ cleared-other t j (suc m) x v h =
     arrival-off (cleared t j m x) j (t + m) Nothing j v (λ e z. h m (omega arith) z)
     ∙ cleared-other t j m x v (λ s l. h s (omega arith))
 
-cleared-there : (t j m : ℕ) (x : List ℕ) (s : ℕ) → j < 16 → areaSize ≤ length x → m ≤ 256 → s < m
+cleared-there : (t j m : ℕ) (x : List ℕ) (s : ℕ) → j < maxStations → areaSize ≤ length x → m ≤ ring → s < m
     → arrivalAt (cleared t j m x) j (t + s) ≡ Nothing
 unfolding cleared turns
 cleared-there t j zero x s hj room hm h = absurd (omega arith)
@@ -59,18 +60,19 @@ cleared-there t j (suc m) x s hj room hm h =
     room (omega arith) (omega arith))
 
 -- what is left is what was on its way; x has the line of a
-pub cleared-line : (a x : List ℕ) (K j v : ℕ) → j < 16 → areaSize ≤ length x
-    → ((u : ℕ) → arrivalAt x j u ≡ arrivalAt a j u) → K ≤ v → v < K + 256
-    → arrivalAt (cleared (clockAt a) j (min K 256) x) j (clockAt a + v) ≡ lineNow a j v
+pub cleared-line : (a x : List ℕ) (K j v : ℕ) → j < maxStations → areaSize ≤ length x
+    → ((u : ℕ) → arrivalAt x j u ≡ arrivalAt a j u) → K ≤ v → v < K + ring
+    → arrivalAt (cleared (clockAt a) j (min K ring) x) j (clockAt a + v) ≡ lineNow a j v
 unfolding lineNow
 cleared-line a x K j v hj room same lo up =
     let t = clockAt a in
-    by-test (ltb v 256)
-    (λ c. let g = ltb-true v 256 c in rw c
-    (cleared-other t j (min K 256) x (t + v) (λ s l z. omega arith) ∙ same (t + v)))
-    (λ c. let g = ltb-false v 256 c in
-    rw c (arrival-turn (cleared t j (min K 256) x) j (t + v) (t + v % 256) (omega arith) ∙ cleared-there t j (min K 256)
-    x (v % 256) hj room (omega arith) (omega arith)))
+    by-test (ltb v ring)
+    (λ c. let g = ltb-true v ring c in rw c
+    (cleared-other t j (min K ring) x (t + v) (λ s l z. omega arith) ∙ same (t + v)))
+    (λ c. let g = ltb-false v ring c in
+    rw c (arrival-turn (cleared t j (min K ring) x) j (t + v) (t + v % ring) (omega arith) ∙ cleared-there t j
+    (min K ring)
+    x (v % ring) hj room (omega arith) (omega arith)))
 
 -- ---- symbols put
 
@@ -126,8 +128,9 @@ gets-more d K Q m v ne =
     (λ c. let p = leb-false d v c in gets-none d K Q (suc m) v (λ x y z. omega arith) ∙ sym
     (gets-none d K Q m v (λ x y z. omega arith)))
 
-pub way-line : (t d K : ℕ) (Q : ℕ → Symbol) (j m : ℕ) (x : List ℕ) (v : ℕ) → j < 16 → areaSize ≤ length x → d < 256
-    → m ≤ min d K → K ≤ v → v < K + 256
+pub way-line : (t d K : ℕ) (Q : ℕ → Symbol) (j m : ℕ) (x : List ℕ) (v : ℕ) → j < maxStations → areaSize ≤ length x
+    → d < ring
+    → m ≤ min d K → K ≤ v → v < K + ring
     → arrivalAt (onWay t d K Q j m x) j (t + v) ≡ joined (arrivalAt x j (t + v)) (gets d K Q m v)
 unfolding onWay turns joinedAt
 way-line t d K Q j zero x v hj room hd hm lo up = sym
@@ -137,7 +140,7 @@ way-line t d K Q j (suc m) x v hj room hd hm lo up =
     let y = onWay t d K Q j m x in
     let u = t + (K - d + m + d) in
     by-eq v (K - d + m + d)
-    (λ z. let e : u % 256 ≡ (t + v) % 256 = ap (λ (w : ℕ). (t + w) % 256) (sym z) in
+    (λ z. let e : u % ring ≡ (t + v) % ring = ap (λ (w : ℕ). (t + w) % ring) (sym z) in
     let n : v - d ≡ K - d + m = omega arith in
     arrival-same y (omega (arith, length-way t d K Q j m x)) j u (t + v) (joined (arrivalAt y j u) (Q (K - d + m))) hj e
     ∙ ap₂ joined (arrival-turn y j u (t + v) e ∙ way-line t d K Q j m x v hj room hd (omega arith) lo up ∙ ap
@@ -181,8 +184,8 @@ own-none : (a : List ℕ) (P : Plan) (K j v i : ℕ) → i ≡ j → reaches (sp
 unfolding reaches
 own-none a P K j v i z = rw (eq-eqb i j z)
 
-ways-line : (a : List ℕ) (P : Plan) (K j k : ℕ) (x : List ℕ) (v : ℕ) → j < 16 → areaSize ≤ length x
-    → ((i : ℕ) → i < k → spaceAt a i j < 256) → K ≤ v → v < K + 256
+ways-line : (a : List ℕ) (P : Plan) (K j k : ℕ) (x : List ℕ) (v : ℕ) → j < maxStations → areaSize ≤ length x
+    → ((i : ℕ) → i < k → spaceAt a i j < ring) → K ≤ v → v < K + ring
     → arrivalAt (waysTo a P K j k x) j (clockAt a + v) ≡ met (arrivalAt x j (clockAt a + v))
     (gathered k (reaches (spaceAt a) (cut K P) j v))
 unfolding waysTo turns gathered
@@ -205,22 +208,20 @@ ways-line a P K j (suc k) x v hj room near lo up =
     ∙ ap (joined (arrivalAt y j u)) (gets-reaches a P K j v k z lo))) in
     one
     ∙ ap (λ (h : Heard). joined h s) ih
-    ∙ joined-met (met (arrivalAt x j u) g) s
     ∙ met-group (arrivalAt x j u) g (alone s)
-    ∙ ap (met (arrivalAt x j u)) (sym (joined-met g s))
 
 -- the whole of a line
 unfoldable pub lineDone : List ℕ → Plan → (K j : ℕ) → List ℕ → List ℕ
-lineDone a P K j x = waysTo a P K j (countAt a) (cleared (clockAt a) j (min K 256) x)
+lineDone a P K j x = waysTo a P K j (countAt a) (cleared (clockAt a) j (min K ring) x)
 
 pub pushed-line : (a x : List ℕ) (P : Plan) (K j v : ℕ) → Spread (countAt a) a → j < countAt a → areaSize ≤ length x
-    → ((u : ℕ) → arrivalAt x j u ≡ arrivalAt a j u) → K ≤ v → v < K + 256
+    → ((u : ℕ) → arrivalAt x j u ≡ arrivalAt a j u) → K ≤ v → v < K + ring
     → arrivalAt (lineDone a P K j x) j (clockAt a + v) ≡ lineAfter a P K j v
 unfolding lineAfter heard netOf lineDone
 pushed-line a x P K j v sp hj room same lo up =
     let few = sp .few in
-    let y = cleared (clockAt a) j (min K 256) x in
-    ways-line a P K j (countAt a) y v (omega arith) (omega (arith, length-cleared (clockAt a) j (min K 256) x))
+    let y = cleared (clockAt a) j (min K ring) x in
+    ways-line a P K j (countAt a) y v (omega arith) (omega (arith, length-cleared (clockAt a) j (min K ring) x))
     (λ i l. sp .near i j l hj) lo up
     ∙ ap (λ (h : Heard). met h (gathered (countAt a) (reaches (spaceAt a) (cut K P) j v)))
     (cleared-line a x K j v (omega arith) room same lo up)

@@ -11,7 +11,6 @@ use borrow.Author.Tests.{ltb-true, ltb-false}
 use lib.Dec.{ltb}
 use Rattle.octets.specs.Filled.{filled, filled-same, filled-at, filled-past}
 use Rattle.octets.specs.Turns.{turns}
-use Rattle.station_tally.specs.Tally.{isLate}
 use Rattle.area.specs.Area.{clockAt, countAt}
 use Rattle.area.specs.AreaLaws.{count-by}
 use Rattle.bus_spec.specs.declared.Events.{Events}
@@ -24,6 +23,7 @@ use Rattle.fast_plan.specs.Plan.{Plan, actAfter, Holds, steps, Planned}
 use Rattle.fast_plan.specs.Happens.{plan-happens, plan-acts}
 use Rattle.fast_plan.specs.Prefix.{Unhurt, holds-less}
 use Rattle.sheet_layout.specs.Limits.{lastClock}
+use Rattle.station_tally.specs.Words.{endsRun}
 
 -- those of step s, by the plan
 unfoldable pub eventsBy : List ℕ → Plan → ℕ → List Events
@@ -45,13 +45,13 @@ none-late a P K s u hs =
     below-none (lateAt (eventsBy a P s)) 16
     (λ i h. by-test (ltb i (countAt a))
     (λ c. let l = ltb-true i (countAt a) c in
-    ap (λ (e : Events). isLate (e .sent))
+    ap (λ (e : Events). endsRun (e .sent))
     (filled-at noEvents (λ j. eventsOf (actAfter a P j s)) (countAt a) i noEvents l)
     ∙ u s i hs l)
     (λ c. let l = ltb-false i (countAt a) c in
     let z : i ≡ countAt a + (i - countAt a) = omega arith in
-    ap (λ (m : ℕ). isLate (getD (filled noEvents (λ j. eventsOf (actAfter a P j s)) (countAt a)) m noEvents .sent)) z
-    ∙ ap (λ (e : Events). isLate (e .sent))
+    ap (λ (m : ℕ). endsRun (getD (filled noEvents (λ j. eventsOf (actAfter a P j s)) (countAt a)) m noEvents .sent)) z
+    ∙ ap (λ (e : Events). endsRun (e .sent))
     (filled-past noEvents (λ j. eventsOf (actAfter a P j s)) (countAt a) (i - countAt a))))
 
 -- the words of K steps
@@ -64,7 +64,8 @@ unfolding runOf
 run-one k m ws a e = rw e
 
 -- K steps of a run
-pub run-steps : (a : List ℕ) (P : Plan) (K r m : ℕ) (ws : List ℕ) → Readiness a → clockAt a + K ≤ lastClock → Holds a P K
+pub run-steps : (a : List ℕ) (P : Plan) (K r m : ℕ) (ws : List ℕ) → Readiness a → clockAt a + K ≤ lastClock
+    → Holds a P K
     → Unhurt a P K
     → runOf (K + r) m ws a ≡ runOf r (m + K) (talliedBy a P K ws) (steps K a)
 unfolding talliedBy turns steps Unhurt

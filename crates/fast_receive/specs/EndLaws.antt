@@ -15,55 +15,57 @@ use Rattle.octets.specs.Store.{part, length-part}
 use Rattle.octets.specs.Turns.{turns}
 use Rattle.frame_open.specs.Open.{destinationOf}
 use Rattle.station_symbols.specs.declared.Heard.{Heard}
-use Rattle.station_symbols.specs.declared.Heard.the-variants.{Nothing, Clean, Jammed, Several}
+use Rattle.station_symbols.specs.declared.Heard.the-variants.{Nothing, Clean, Spoiled}
 use Rattle.station_symbols.specs.Packet.{hearsAny}
 use Rattle.station_state.specs.declared.Receiver.{Receiver}
 use Rattle.station_state.specs.declared.Receiver.the-variants.{Listening, Readable, Seeking, Collecting}
 use Rattle.station_receive.specs.declared.ReceiveEvent.the-variants.{NoReceive}
 use Rattle.station_receive.specs.declared.Stored.{Stored}
 use Rattle.station_receive.specs.declared.Stored.the-variants.{NoStore, Store}
-use Rattle.station_receive.specs.Receive.{rowIn, bitsIn, nextRow, storedBit, seek, seekBit, collect, collectBit, hear, addressed, deciding, decide, ended, receive}
+use Rattle.station_receive.specs.Receive.{rowIn, bitsIn, nextRow, storedBit, seek, seekBit, collect, collectBit, hear}
+use Rattle.station_receive.specs.Receive.{addressed, deciding, decide, ended, receive, rowLimit}
 use Rattle.area.specs.Area.{bufferAt, withBit, addressAt}
 use Rattle.bus_spec.specs.BitTime.{withStored}
 use Rattle.fast_plan.specs.Goes.{storedAll, length-all}
 use Rattle.fast_receive.specs.Received.{receivedBy, keptBy, AllHeard, mayReport, calmed}
 use Rattle.fast_receive.specs.ReceivedLaws.{received-range}
-use Rattle.area.specs.Offsets.{areaSize}
-use Rattle.frame_build.specs.Limits.{bufferOctets, bufferBits}
+use Rattle.area.specs.Offsets.{areaSize, from, theBuffer}
+use Rattle.frame_build.specs.Limits.{bufferOctets, bufferBits, shortestFrame}
+use Rattle.sheet_layout.specs.Limits.{maxStations}
 
 -- ---- a law for each way through the code
 
 module _ (address buffer : List ℕ) (more : ℕ) (r : Receiver) where
-  pub may-listening : r ≡ Listening → leb 512 more ≡ mayReport address buffer more r
+  pub may-listening : r ≡ Listening → leb shortestFrame more ≡ mayReport address buffer more r
   unfolding mayReport
   may-listening e = rw e
 
-  pub may-readable : (n : ℕ) → r ≡ Readable n → leb 512 more ≡ mayReport address buffer more r
+  pub may-readable : (n : ℕ) → r ≡ Readable n → leb shortestFrame more ≡ mayReport address buffer more r
   unfolding mayReport
   may-readable n e = rw e
 
-  pub may-seeking : (row : ℕ) (sp own b : Bool) → r ≡ Seeking row sp own → b ≡ (leb 512 more && not own)
+  pub may-seeking : (row : ℕ) (sp own b : Bool) → r ≡ Seeking row sp own → b ≡ (leb shortestFrame more && not own)
       → b ≡ mayReport address buffer more r
   unfolding mayReport
   may-seeking row sp own b e p = rw e p
 
   module _ (n : ℕ) (sp own : Bool) (e : r ≡ Collecting n sp own) where
-    pub may-short : n + more < 512 → false ≡ mayReport address buffer more r
+    pub may-short : n + more < shortestFrame → false ≡ mayReport address buffer more r
     unfolding mayReport
-    may-short h = rw (e, lt-leb 512 (n + more) h)
+    may-short h = rw (e, lt-leb shortestFrame (n + more) h)
 
-    pub may-own : 512 ≤ n + more → own ≡ true → false ≡ mayReport address buffer more r
+    pub may-own : shortestFrame ≤ n + more → own ≡ true → false ≡ mayReport address buffer more r
     unfolding mayReport
-    may-own h o = rw (e, le-leb 512 (n + more) h, o)
+    may-own h o = rw (e, le-leb shortestFrame (n + more) h, o)
 
-    pub may-early : 512 ≤ n + more → own ≡ false → n < 48 → true ≡ mayReport address buffer more r
+    pub may-early : shortestFrame ≤ n + more → own ≡ false → n < 48 → true ≡ mayReport address buffer more r
     unfolding mayReport
-    may-early h o l = rw (e, le-leb 512 (n + more) h, o, lt-ltb n 48 l)
+    may-early h o l = rw (e, le-leb shortestFrame (n + more) h, o, lt-ltb n 48 l)
 
-    pub may-addressed : (b : Bool) → 512 ≤ n + more → own ≡ false → 48 ≤ n → b ≡ addressed address buffer
+    pub may-addressed : (b : Bool) → shortestFrame ≤ n + more → own ≡ false → 48 ≤ n → b ≡ addressed address buffer
         → b ≡ mayReport address buffer more r
     unfolding mayReport
-    may-addressed b h o l p = rw (e, le-leb 512 (n + more) h, o, le-ltb n 48 l) p
+    may-addressed b h o l p = rw (e, le-leb shortestFrame (n + more) h, o, le-ltb n 48 l) p
 
 -- ---- its first six octets stay
 
@@ -90,41 +92,44 @@ far-step (Readable n) h e p v = absurd v
 far-step (Seeking row sp own) h e p v = absurd v
 far-step (Collecting n sp own) Nothing e p v = absurd (true≢false (sym p))
 far-step (Collecting n sp own) (Clean b) e p v = (omega arith, stored-past n b v)
-far-step (Collecting n sp own) Jammed e p v = (omega arith, stored-past n false v)
-far-step (Collecting n sp own) Several e p v = (omega arith, stored-past n false v)
+far-step (Collecting n sp own) Spoiled e p v = (omega arith, stored-past n false v)
 
 past-kept : (j k : ℕ) (o : Stored) (x : List ℕ) → Past o → k < 6
-    → getD (withStored j o x) (32768 + 1536 * j + k) 0 ≡ getD x (32768 + 1536 * j + k) 0
+    → getD (withStored j o x) (from (theBuffer j) + k) 0 ≡ getD x (from (theBuffer j) + k) 0
 unfolding withBit
 past-kept j k NoStore x p h = refl
-past-kept j k (Store n b) x p h = getD-set-other x (32768 + 1536 * j + n / 8) (32768 + 1536 * j + k) _ 0 (λ z. omega arith)
+past-kept j k (Store n b) x p h =
+    getD-set-other x (from (theBuffer j) + n / 8) (from (theBuffer j) + k) _ 0 (λ z. omega arith)
 
 module _ (e : Bool) (H : ℕ → Heard) (r : Receiver) (v : Far r) where
   far-all : (m : ℕ) → AllHeard H m → Far (receivedBy e H m r)
   unfolding receivedBy turns AllHeard
   far-all zero a = v
-  far-all (suc m) a = far-step (receivedBy e H m r) (H m) e (a m (omega arith)) (far-all m (λ s l. a s (omega arith))) .0
+  far-all (suc m) a =
+      far-step (receivedBy e H m r) (H m) e (a m (omega arith)) (far-all m (λ s l. a s (omega arith))) .0
 
   first-six : (j k m : ℕ) (x : List ℕ) → AllHeard H m → k < 6
-      → getD (storedAll j (keptBy e H r) m x) (32768 + 1536 * j + k) 0 ≡ getD x (32768 + 1536 * j + k) 0
+      → getD (storedAll j (keptBy e H r) m x) (from (theBuffer j) + k) 0 ≡ getD x (from (theBuffer j) + k) 0
   unfolding storedAll turns keptBy AllHeard
   first-six j k zero x a h = refl
   first-six j k (suc m) x a h =
-      past-kept j k (keptBy e H r m) (storedAll j (keptBy e H r) m x) (far-step (receivedBy e H m r) (H m) e (a m (omega arith)) (far-all m (λ s l. a s (omega arith))) .1) h
+      past-kept j k (keptBy e H r m) (storedAll j (keptBy e H r) m x)
+      (far-step (receivedBy e H m r) (H m) e (a m (omega arith)) (far-all m (λ s l. a s (omega arith))) .1) h
       ∙ first-six j k m x (λ s l. a s (omega arith)) h
 
-  destination-stays : (address : List ℕ) (j m : ℕ) (x : List ℕ) → j < 16 → areaSize ≤ length x → AllHeard H m
+  destination-stays : (address : List ℕ) (j m : ℕ) (x : List ℕ) → j < maxStations → areaSize ≤ length x → AllHeard H m
       → addressed address (bufferAt (storedAll j (keptBy e H r) m x) j) ≡ addressed address (bufferAt x j)
   unfolding addressed destinationOf bufferAt Same
   destination-stays address j m x hj room a =
       let y = storedAll j (keptBy e H r) m x in
       let ly : length y ≡ length x = length-all j (keptBy e H r) m x in
-      let at = 32768 + 1536 * j in
+      let at = from (theBuffer j) in
       let lb : length (part y at bufferOctets) ≡ bufferOctets = length-part y at bufferOctets (omega arith) in
       let lc : length (part x at bufferOctets) ≡ bufferOctets = length-part x at bufferOctets (omega arith) in
       ap (λ (d : List ℕ). equal d address || equal d (replicate 6 255))
       (part-goes-by 6 0 (part y at bufferOctets) (part x at bufferOctets) (omega arith) (omega arith)
-      (λ k lo up. getD-take bufferOctets (drop at y) k 0 (omega arith) ∙ getD-drop at y k 0 ∙ first-six j k m x a (omega arith)
+      (λ k lo up. getD-take bufferOctets (drop at y) k 0 (omega arith) ∙ getD-drop at y k 0 ∙ first-six j k m x a
+      (omega arith)
       ∙ sym (getD-take bufferOctets (drop at x) k 0 (omega arith) ∙ getD-drop at x k 0)))
 
 -- ---- the station's own emission stays known
@@ -155,13 +160,13 @@ owns-step : (q : Receiver) (h : Heard) (e : Bool) → hearsAny h ≡ true → Ow
 unfolding receive
 owns-step q Nothing e p v = absurd (true≢false (sym p))
 owns-step q (Clean b) e p v = hear-owns q true b e v
-owns-step q Jammed e p v = hear-owns q false false e v
-owns-step q Several e p v = hear-owns q false false e v
+owns-step q Spoiled e p v = hear-owns q false false e v
 
 pub owns-all : (e : Bool) (H : ℕ → Heard) (r : Receiver) (m : ℕ) → AllHeard H m → Owns r → Owns (receivedBy e H m r)
 unfolding receivedBy turns AllHeard
 owns-all e H r zero a v = v
-owns-all e H r (suc m) a v = owns-step (receivedBy e H m r) (H m) e (a m (omega arith)) (owns-all e H r m (λ s l. a s (omega arith)) v)
+owns-all e H r (suc m) a v =
+    owns-step (receivedBy e H m r) (H m) e (a m (omega arith)) (owns-all e H r m (λ s l. a s (omega arith)) v)
 
 -- one step in which it hears others and emits is enough
 seek-emits : (row : ℕ) (sp clean b : Bool) → Owns (seek row sp true clean b .receiver)
@@ -178,8 +183,7 @@ receive-emits : (q : Receiver) (h : Heard) → hearsAny h ≡ true → Owns (rec
 unfolding receive
 receive-emits q Nothing p = absurd (true≢false (sym p))
 receive-emits q (Clean b) p = hear-emits q true b
-receive-emits q Jammed p = hear-emits q false false
-receive-emits q Several p = hear-emits q false false
+receive-emits q Spoiled p = hear-emits q false false
 
 pub emits-owns : (H : ℕ → Heard) (r : Receiver) (m : ℕ) → AllHeard H (suc m) → Owns (receivedBy true H (suc m) r)
 unfolding receivedBy turns AllHeard
@@ -189,19 +193,19 @@ emits-owns H r m a = receive-emits (receivedBy true H m r) (H m) (a m (omega ari
 
 module _ (address buf : List ℕ) (more : ℕ) where
   -- fewer than 512 bits come together
-  pub may-few : (q : Receiver) → bitsIn q + more < 512 → mayReport address buf more q ≡ false
+  pub may-few : (q : Receiver) → bitsIn q + more < shortestFrame → mayReport address buf more q ≡ false
   unfolding mayReport
-  may-few Listening h = lt-leb 512 more (omega arith)
-  may-few (Readable n) h = lt-leb 512 more (omega arith)
-  may-few (Seeking row sp own) h = rw (lt-leb 512 more (omega arith))
-  may-few (Collecting n sp own) h = rw (lt-leb 512 (n + more) h)
+  may-few Listening h = lt-leb shortestFrame more (omega arith)
+  may-few (Readable n) h = lt-leb shortestFrame more (omega arith)
+  may-few (Seeking row sp own) h = rw (lt-leb shortestFrame more (omega arith))
+  may-few (Collecting n sp own) h = rw (lt-leb shortestFrame (n + more) h)
 
   may-owned : (q : Receiver) → Owns q → mayReport address buf more q ≡ false
   unfolding mayReport
   may-owned Listening v = absurd v
   may-owned (Readable n) v = absurd v
-  may-owned (Seeking row sp own) v = by-test (leb 512 more) (λ c. rw (c, v)) (λ c. rw c)
-  may-owned (Collecting n sp own) v = by-test (leb 512 (n + more)) (λ c. rw (c, v)) (λ c. rw c)
+  may-owned (Seeking row sp own) v = by-test (leb shortestFrame more) (λ c. rw (c, v)) (λ c. rw c)
+  may-owned (Collecting n sp own) v = by-test (leb shortestFrame (n + more)) (λ c. rw (c, v)) (λ c. rw c)
 
   may-other : (q : Receiver) → Far q → addressed address buf ≡ false → mayReport address buf more q ≡ false
   unfolding mayReport
@@ -209,24 +213,26 @@ module _ (address buf : List ℕ) (more : ℕ) where
   may-other (Readable n) v h = absurd v
   may-other (Seeking row sp own) v h = absurd v
   may-other (Collecting n sp own) v h =
-      by-test (leb 512 (n + more))
+      by-test (leb shortestFrame (n + more))
       (λ c. by-test own (λ o. rw (c, o)) (λ o. rw (c, o, le-ltb n 48 v, h)))
       (λ c. rw c)
 
   -- a reception that may not report ends and reports nothing
-  pub silent-ends : (q : Receiver) → mayReport address buf more q ≡ false → ended address buf q ≡ deciding (calmed 1 q) NoReceive
+  pub silent-ends : (q : Receiver) → mayReport address buf more q ≡ false
+      → ended address buf q ≡ deciding (calmed 1 q) NoReceive
   unfolding mayReport ended calmed decide
   silent-ends Listening h = refl
   silent-ends (Readable n) h = refl
   silent-ends (Seeking row sp own) h = refl
   silent-ends (Collecting n sp own) h =
-      by-test (ltb n 512)
+      by-test (ltb n shortestFrame)
       (λ c. rw c)
-      (λ c. let g = ltb-false n 512 c in
+      (λ c. let g = ltb-false n shortestFrame c in
       by-test own
       (λ o. rw (c, o))
       (λ o. by-test (addressed address buf)
-      (λ p. absurd (true≢false (rw (le-leb 512 (n + more) (omega arith), o, le-ltb n 48 (omega arith), p) at h)))
+      (λ p. absurd (true≢false (rw (le-leb shortestFrame (n + more) (omega arith), o, le-ltb n 48 (omega arith), p) at
+      h)))
       (λ p. rw (c, o, p))))
 
 not-both : (a b : Bool) → (a && b) ≡ false → a ≡ true → b ≡ false
@@ -242,37 +248,45 @@ not-not true h = refl
 not-not false h = absurd (true≢false h)
 
 -- it still may not after m steps in which others are heard
-module _ (address : List ℕ) (j : ℕ) (e : Bool) (H : ℕ → Heard) (m more : ℕ) (x : List ℕ) (hj : j < 16) (room : areaSize ≤ length x) (a : AllHeard H m) (few : m ≤ more) where
-  short : (r : Receiver) → rowIn r < 512 → bitsIn r + more < 512 → mayReport address (bufferAt (storedAll j (keptBy e H r) m x) j) (more - m) (receivedBy e H m r) ≡ false
-  short r w h = may-few address (bufferAt (storedAll j (keptBy e H r) m x) j) (more - m) (receivedBy e H m r) (omega (arith, received-range e H m r a w .1))
+module _ (address : List ℕ) (j : ℕ) (e : Bool) (H : ℕ → Heard) (m more : ℕ) (x : List ℕ) (hj : j < maxStations)
+    (room : areaSize ≤ length x) (a : AllHeard H m) (few : m ≤ more) where
+  short : (r : Receiver) → rowIn r < rowLimit → bitsIn r + more < shortestFrame
+      → mayReport address (bufferAt (storedAll j (keptBy e H r) m x) j) (more - m) (receivedBy e H m r) ≡ false
+  short r w h =
+      may-few address (bufferAt (storedAll j (keptBy e H r) m x) j) (more - m) (receivedBy e H m r)
+      (omega (arith, received-range e H m r a w .1))
 
-  pub silent-still : (r : Receiver) → rowIn r < 512 → mayReport address (bufferAt x j) more r ≡ false
+  pub silent-still : (r : Receiver) → rowIn r < rowLimit → mayReport address (bufferAt x j) more r ≡ false
       → mayReport address (bufferAt (storedAll j (keptBy e H r) m x) j) (more - m) (receivedBy e H m r) ≡ false
   unfolding mayReport
-  silent-still Listening w h = short Listening w (omega (arith, leb-false 512 more h))
-  silent-still (Readable n) w h = short (Readable n) w (omega (arith, leb-false 512 more h))
+  silent-still Listening w h = short Listening w (omega (arith, leb-false shortestFrame more h))
+  silent-still (Readable n) w h = short (Readable n) w (omega (arith, leb-false shortestFrame more h))
   silent-still (Seeking row sp own) w h =
       let r : Receiver = Seeking row sp own in
-      by-test (leb 512 more)
-      (λ c. may-owned address (bufferAt (storedAll j (keptBy e H r) m x) j) (more - m) (receivedBy e H m r) (owns-all e H r m a (not-not own (not-both (leb 512 more) (not own) h c))))
-      (λ c. short r w (omega (arith, leb-false 512 more c)))
+      by-test (leb shortestFrame more)
+      (λ c. may-owned address (bufferAt (storedAll j (keptBy e H r) m x) j) (more - m) (receivedBy e H m r)
+      (owns-all e H r m a (not-not own (not-both (leb shortestFrame more) (not own) h c))))
+      (λ c. short r w (omega (arith, leb-false shortestFrame more c)))
   silent-still (Collecting n sp own) w h =
       let r : Receiver = Collecting n sp own in
       let b = bufferAt (storedAll j (keptBy e H r) m x) j in
-      by-test (leb 512 (n + more))
-      (λ c. let rest : (not own && (ltb n 48 || addressed address (bufferAt x j))) ≡ false = not-both (leb 512 (n + more)) (not own && (ltb n 48 || addressed address (bufferAt x j))) h c in
+      by-test (leb shortestFrame (n + more))
+      (λ c. let rest : (not own && (ltb n 48 || addressed address (bufferAt x j))) ≡ false = not-both
+      (leb shortestFrame (n + more)) (not own && (ltb n 48 || addressed address (bufferAt x j))) h c in
       by-test own
       (λ o. may-owned address b (more - m) (receivedBy e H m r) (owns-all e H r m a o))
-      (λ o. let p = not-first (ltb n 48) (addressed address (bufferAt x j)) (not-both (not own) (ltb n 48 || addressed address (bufferAt x j)) rest (ap not o)) in
+      (λ o. let p = not-first (ltb n 48) (addressed address (bufferAt x j))
+      (not-both (not own) (ltb n 48 || addressed address (bufferAt x j)) rest (ap not o)) in
       let far = ltb-false n 48 (p .0) in
-      may-other address b (more - m) (receivedBy e H m r) (far-all e H r far m a) (destination-stays e H r far address j m x hj room a ∙ p .1)))
-      (λ c. short r w (omega (arith, leb-false 512 (n + more) c)))
+      may-other address b (more - m) (receivedBy e H m r) (far-all e H r far m a)
+      (destination-stays e H r far address j m x hj room a ∙ p .1)))
+      (λ c. short r w (omega (arith, leb-false shortestFrame (n + more) c)))
 
 -- ---- the code's own
 
-pub six-long : (x b : List ℕ) (j : ℕ) → b ≡ bufferAt x j → j < 16 → areaSize ≤ length x → 6 ≤ length b
+pub six-long : (x b : List ℕ) (j : ℕ) → b ≡ bufferAt x j → j < maxStations → areaSize ≤ length x → 6 ≤ length b
 unfolding bufferAt
-six-long x b j e hj room = omega (arith, ap length e, length-part x (32768 + 1536 * j) bufferOctets (omega arith))
+six-long x b j e hj room = omega (arith, ap length e, length-part x (from (theBuffer j)) bufferOctets (omega arith))
 
 pub destination-is : (x address b : List ℕ) (j : ℕ) (r : Bool) → r ≡ addressed address b → address ≡ addressAt x j
     → b ≡ bufferAt x j → r ≡ addressed (addressAt x j) (bufferAt x j)

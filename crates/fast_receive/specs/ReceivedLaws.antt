@@ -1,4 +1,5 @@
--- The fold: a step of it is a step of the receiver, whatever the buffer holds; it falls into parts; its numbers stay in range. Assumes nothing.
+-- The fold: a step of it is a step of the receiver, whatever the buffer holds; it falls into parts; its numbers stay in
+-- range. Assumes nothing.
 use Prim.Native.Nat.{ℕ, zero, suc, _+_, _-_, _*_, _^_, _≤_, _<_}
 use mathlib.Core.Path.{_≡_, refl, sym, _∙_, ap, ap₂}
 use mathlib.Core.Bool.{Bool, true, false, _||_, true≢false}
@@ -11,19 +12,22 @@ use Rattle.octets.specs.BaseLaws.{by-test}
 use Rattle.octets.specs.Bits.{digit}
 use Rattle.octets.specs.Turns.{turns}
 use Rattle.station_symbols.specs.declared.Heard.{Heard}
-use Rattle.station_symbols.specs.declared.Heard.the-variants.{Nothing, Clean, Jammed, Several}
+use Rattle.station_symbols.specs.declared.Heard.the-variants.{Nothing, Clean, Spoiled}
 use Rattle.station_symbols.specs.Packet.{hearsAny}
 use Rattle.station_state.specs.declared.Receiver.{Receiver}
 use Rattle.station_state.specs.declared.Receiver.the-variants.{Listening, Readable, Seeking, Collecting}
 use Rattle.station_receive.specs.declared.Received.{Received}
-use Rattle.station_receive.specs.Receive.{rowIn, bitsIn, nextRow, hearing, seekBit, seek, collect, collectBit, hear, receive}
+use Rattle.station_receive.specs.Receive.{rowIn, bitsIn, nextRow, hearing, seekBit, seek, collect, collectBit, hear}
+use Rattle.station_receive.specs.Receive.{receive, rowLimit}
 use Rattle.area_record.specs.Codec.{receiverNumber}
 use Rattle.area.specs.Places.{Part, buffer, Off, Keeps}
 use Rattle.area.specs.AreaLaws.{keeps-refl, keeps-trans}
 use Rattle.bus_spec.specs.InPlace.{Kept, length-stored, stored-keeps}
 use Rattle.bus_spec.specs.Ready.{receive-kept}
 use Rattle.fast_plan.specs.Goes.{storedAll}
-use Rattle.fast_receive.specs.Received.{Taken, taken, stepTaken, heardAll, receivedBy, keptBy, spoils, bitsFrom, AllHeard}
+use Rattle.fast_receive.specs.Received.{Taken, taken, stepTaken, heardAll, receivedBy, keptBy, spoils, bitsFrom}
+use Rattle.fast_receive.specs.Received.{AllHeard}
+use Rattle.frame_build.specs.Limits.{shortestFrame}
 
 -- ---- a step in which others are heard looks at no address and no octets, and has no event
 
@@ -46,23 +50,7 @@ pub heard-alone : (address buf : List ℕ) (r : Receiver) (h : Heard) (e : Bool)
 unfolding receive
 heard-alone address buf r Nothing e p = absurd (true≢false (sym p))
 heard-alone address buf r (Clean b) e p = hear-is r true b e
-heard-alone address buf r Jammed e p = hear-is r false false e
-heard-alone address buf r Several e p = hear-is r false false e
-
--- a symbol that is heard and not clean: jam and several are alike
-abbrev pub Spoiled : Heard → Type 0
-Spoiled Nothing = ⊥
-Spoiled (Clean b) = ⊥
-Spoiled Jammed = Unit {0}
-Spoiled Several = Unit {0}
-
-pub spoiled-is : (address buf : List ℕ) (r : Receiver) (h : Heard) (e : Bool) → Spoiled h
-    → receive address buf r h e ≡ receive address buf r Several e
-unfolding receive
-spoiled-is address buf r Nothing e p = absurd p
-spoiled-is address buf r (Clean b) e p = absurd p
-spoiled-is address buf r Jammed e p = refl
-spoiled-is address buf r Several e p = refl
+heard-alone address buf r Spoiled e p = hear-is r false false e
 
 -- ---- the fold
 
@@ -79,7 +67,9 @@ module _ (e : Bool) (H : ℕ → Heard) (r : Receiver) where
   pub received-step : (m : ℕ) (address buf : List ℕ) → hearsAny (H m) ≡ true
       → receive address buf (receivedBy e H m r) (H m) e ≡ hearing (receivedBy e H (suc m) r) (keptBy e H r m)
   unfolding keptBy
-  received-step m address buf p = heard-alone address buf (receivedBy e H m r) (H m) e p ∙ ap (λ (q : Receiver). hearing q (receive [] [] (receivedBy e H m r) (H m) e .stored)) (sym (received-more m))
+  received-step m address buf p =
+      heard-alone address buf (receivedBy e H m r) (H m) e p
+      ∙ ap (λ (q : Receiver). hearing q (receive [] [] (receivedBy e H m r) (H m) e .stored)) (sym (received-more m))
 
   pub kept-by : (m : ℕ) → Kept (keptBy e H r m)
   unfolding keptBy
@@ -90,9 +80,11 @@ pub heard-all : (j : ℕ) (e : Bool) (H : ℕ → Heard) (m : ℕ) (r : Receiver
     → heardAll j e H m (taken r x) ≡ taken (receivedBy e H m r) (storedAll j (keptBy e H r) m x)
 unfolding heardAll stepTaken receivedBy keptBy storedAll turns
 heard-all j e H zero r x = refl
-heard-all j e H (suc m) r x = ap (λ (q : Taken). stepTaken j (receive [] [] (q .receiver) (H m) e) (q .octets)) (heard-all j e H m r x)
+heard-all j e H (suc m) r x =
+    ap (λ (q : Taken). stepTaken j (receive [] [] (q .receiver) (H m) e) (q .octets)) (heard-all j e H m r x)
 
-module _ (j : ℕ) (e : Bool) (H : ℕ → Heard) (m : ℕ) (r q : Receiver) (x y : List ℕ) (p : taken q y ≡ heardAll j e H m (taken r x)) where
+module _ (j : ℕ) (e : Bool) (H : ℕ → Heard) (m : ℕ) (r q : Receiver) (x y : List ℕ)
+    (p : taken q y ≡ heardAll j e H m (taken r x)) where
   pub heard-receiver : q ≡ receivedBy e H m r
   heard-receiver = ap (λ (t : Taken). t .receiver) (p ∙ heard-all j e H m r x)
 
@@ -105,23 +97,16 @@ pub heard-same : (j : ℕ) (e : Bool) (H G : ℕ → Heard) (m : ℕ) (p : Taken
 unfolding heardAll turns
 heard-same j e H G zero p h = refl
 heard-same j e H G (suc m) p h =
-    ap₂ (λ (k : Heard) (q : Taken). stepTaken j (receive [] [] (q .receiver) k e) (q .octets)) (h m (omega arith)) (heard-same j e H G m p (λ s l. h s (omega arith)))
-
--- jam for several, in any of them
-pub heard-spoiled : (j : ℕ) (e : Bool) (H : ℕ → Heard) (m : ℕ) (p : Taken) → ((s : ℕ) → s < m → Spoiled (H s))
-    → heardAll j e H m p ≡ heardAll j e spoils m p
-unfolding heardAll turns spoils
-heard-spoiled j e H zero p h = refl
-heard-spoiled j e H (suc m) p h =
-    ap (λ (q : Taken). stepTaken j (receive [] [] (q .receiver) (H m) e) (q .octets)) (heard-spoiled j e H m p (λ s l. h s (omega arith)))
-    ∙ ap (λ (o : Received). stepTaken j o (heardAll j e spoils m p .octets)) (spoiled-is [] [] (heardAll j e spoils m p .receiver) (H m) e (h m (omega arith)))
+    ap₂ (λ (k : Heard) (q : Taken). stepTaken j (receive [] [] (q .receiver) k e) (q .octets)) (h m (omega arith))
+    (heard-same j e H G m p (λ s l. h s (omega arith)))
 
 -- some steps, and then others
 pub turns-add : {A : Type 0} (f : ℕ → A → A) (a b : ℕ) (x : A)
     → turns f (a + b) x ≡ turns (λ s y. f (a + s) y) b (turns f a x)
 unfolding turns
 turns-add f a zero x = let e : a + 0 ≡ a = omega arith in ap (λ (k : ℕ). turns f k x) e
-turns-add f a (suc b) x = let e : a + suc b ≡ suc (a + b) = omega arith in ap (λ (k : ℕ). turns f k x) e ∙ ap (f (a + b)) (turns-add f a b x)
+turns-add f a (suc b) x =
+    let e : a + suc b ≡ suc (a + b) = omega arith in ap (λ (k : ℕ). turns f k x) e ∙ ap (f (a + b)) (turns-add f a b x)
 
 pub heard-split : (j : ℕ) (e : Bool) (H : ℕ → Heard) (a b : ℕ) (p : Taken)
     → heardAll j e H (a + b) p ≡ heardAll j e (λ s. H (a + s)) b (heardAll j e H a p)
@@ -135,7 +120,8 @@ pub length-heard : (j : ℕ) (e : Bool) (H : ℕ → Heard) (m : ℕ) (p : Taken
 unfolding heardAll turns stepTaken
 length-heard j e H zero p = refl
 length-heard j e H (suc m) p =
-    let y = heardAll j e H m p in length-stored j (receive [] [] (y .receiver) (H m) e .stored) (y .octets) ∙ length-heard j e H m p
+    let y = heardAll j e H m p in length-stored j (receive [] [] (y .receiver) (H m) e .stored) (y .octets)
+    ∙ length-heard j e H m p
 
 pub heard-keeps : (u : Part) (j : ℕ) (e : Bool) (H : ℕ → Heard) (m : ℕ) (p : Taken) → Off u (buffer j)
     → Keeps u (heardAll j e H m p .octets) (p .octets)
@@ -143,7 +129,9 @@ unfolding heardAll turns stepTaken
 heard-keeps u j e H zero p o = keeps-refl u (p .octets)
 heard-keeps u j e H (suc m) p o =
     let y = heardAll j e H m p in
-    keeps-trans u _ (y .octets) (p .octets) (stored-keeps u j (receive [] [] (y .receiver) (H m) e .stored) (y .octets) (receive-kept [] [] (y .receiver) (H m) e) o) (heard-keeps u j e H m p o)
+    keeps-trans u _ (y .octets) (p .octets)
+    (stored-keeps u j (receive [] [] (y .receiver) (H m) e .stored) (y .octets)
+    (receive-kept [] [] (y .receiver) (H m) e) o) (heard-keeps u j e H m p o)
 
 -- ---- what is always heard
 
@@ -157,19 +145,22 @@ bits-heard F a m s h = refl
 
 -- ---- ranges
 
-row-next : (row : ℕ) (b : Bool) → nextRow row b < 512
+row-next : (row : ℕ) (b : Bool) → nextRow row b < rowLimit
 unfolding nextRow
-row-next row b = by-test (ltb (2 * row + digit b) 512) (λ c. rw c (ltb-true (2 * row + digit b) 512 c)) (λ c. rw c (omega arith))
+row-next row b =
+    by-test (ltb (2 * row + digit b) rowLimit) (λ c. rw c (ltb-true (2 * row + digit b) rowLimit c))
+    (λ c. rw c (omega arith))
 
 seek-range : (row n : ℕ) (sp own clean b : Bool)
-    → (rowIn (seek row sp own clean b .receiver) < 512) × (bitsIn (seek row sp own clean b .receiver) ≤ n)
+    → (rowIn (seek row sp own clean b .receiver) < rowLimit) × (bitsIn (seek row sp own clean b .receiver) ≤ n)
 unfolding seek seekBit
-seek-range row n sp own true b = by-test (eqb (nextRow row b) 427) (λ c. rw c (omega arith, omega arith)) (λ c. rw c (row-next row b, omega arith))
+seek-range row n sp own true b =
+    by-test (eqb (nextRow row b) 427) (λ c. rw c (omega arith, omega arith)) (λ c. rw c (row-next row b, omega arith))
 seek-range row n sp own false b = (omega arith, omega arith)
 
 -- a row is below 512, and there is at most one bit more
 pub hear-range : (r : Receiver) (clean b e : Bool)
-    → (rowIn (hear r clean b e .receiver) < 512) × (bitsIn (hear r clean b e .receiver) ≤ bitsIn r + 1)
+    → (rowIn (hear r clean b e .receiver) < rowLimit) × (bitsIn (hear r clean b e .receiver) ≤ bitsIn r + 1)
 unfolding hear collect collectBit
 hear-range Listening clean b e = seek-range 1 1 false e clean b
 hear-range (Readable n) clean b e = seek-range 1 1 false e clean b
@@ -177,15 +168,14 @@ hear-range (Seeking row sp own) clean b e = seek-range row 1 sp (own || e) clean
 hear-range (Collecting n sp own) clean b e = (omega arith, omega arith)
 
 receive-range : (r : Receiver) (h : Heard) (e : Bool) → hearsAny h ≡ true
-    → (rowIn (receive [] [] r h e .receiver) < 512) × (bitsIn (receive [] [] r h e .receiver) ≤ bitsIn r + 1)
+    → (rowIn (receive [] [] r h e .receiver) < rowLimit) × (bitsIn (receive [] [] r h e .receiver) ≤ bitsIn r + 1)
 unfolding receive
 receive-range r Nothing e p = absurd (true≢false (sym p))
 receive-range r (Clean b) e p = hear-range r true b e
-receive-range r Jammed e p = hear-range r false false e
-receive-range r Several e p = hear-range r false false e
+receive-range r Spoiled e p = hear-range r false false e
 
-pub received-range : (e : Bool) (H : ℕ → Heard) (m : ℕ) (r : Receiver) → AllHeard H m → rowIn r < 512
-    → (rowIn (receivedBy e H m r) < 512) × (bitsIn (receivedBy e H m r) ≤ bitsIn r + m)
+pub received-range : (e : Bool) (H : ℕ → Heard) (m : ℕ) (r : Receiver) → AllHeard H m → rowIn r < rowLimit
+    → (rowIn (receivedBy e H m r) < rowLimit) × (bitsIn (receivedBy e H m r) ≤ bitsIn r + m)
 unfolding receivedBy turns AllHeard
 received-range e H zero r a h = (h, omega arith)
 received-range e H (suc m) r a h =
@@ -194,12 +184,12 @@ received-range e H (suc m) r a h =
     (q .0, omega (arith, p .1, q .1))
 
 -- so the receiver's number fits its word
-seek-number : (row : ℕ) (sp own clean b : Bool) → receiverNumber (seek row sp own clean b .receiver) < 512
+seek-number : (row : ℕ) (sp own clean b : Bool) → receiverNumber (seek row sp own clean b .receiver) < shortestFrame
 unfolding seek seekBit
 seek-number row sp own true b = by-test (eqb (nextRow row b) 427) (λ c. rw c (omega arith)) (λ c. rw c (row-next row b))
 seek-number row sp own false b = omega arith
 
-hear-number : (r : Receiver) (n : ℕ) (clean b e : Bool) → bitsIn r < n → 512 ≤ n
+hear-number : (r : Receiver) (n : ℕ) (clean b e : Bool) → bitsIn r < n → shortestFrame ≤ n
     → receiverNumber (hear r clean b e .receiver) ≤ n
 unfolding hear collect collectBit
 hear-number Listening n clean b e h g = omega (arith, seek-number 1 false e clean b)
@@ -207,19 +197,19 @@ hear-number (Readable k) n clean b e h g = omega (arith, seek-number 1 false e c
 hear-number (Seeking row sp own) n clean b e h g = omega (arith, seek-number row sp (own || e) clean b)
 hear-number (Collecting k sp own) n clean b e h g = omega arith
 
-receive-number : (r : Receiver) (n : ℕ) (h : Heard) (e : Bool) → hearsAny h ≡ true → bitsIn r < n → 512 ≤ n
+receive-number : (r : Receiver) (n : ℕ) (h : Heard) (e : Bool) → hearsAny h ≡ true → bitsIn r < n → shortestFrame ≤ n
     → receiverNumber (receive [] [] r h e .receiver) ≤ n
 unfolding receive
 receive-number r n Nothing e p = absurd (true≢false (sym p))
 receive-number r n (Clean b) e p = hear-number r n true b e
-receive-number r n Jammed e p = hear-number r n false false e
-receive-number r n Several e p = hear-number r n false false e
+receive-number r n Spoiled e p = hear-number r n false false e
 
-pub received-fits : (e : Bool) (H : ℕ → Heard) (m : ℕ) (r : Receiver) → AllHeard H m → rowIn r < 512
+pub received-fits : (e : Bool) (H : ℕ → Heard) (m : ℕ) (r : Receiver) → AllHeard H m → rowIn r < rowLimit
     → bitsIn r + m < 256 ^ 4 → receiverNumber r < 256 ^ 4 → receiverNumber (receivedBy e H m r) < 256 ^ 4
 unfolding receivedBy turns AllHeard
 received-fits e H zero r a h n w = w
 received-fits e H (suc m) r a h n w =
     let p = received-range e H m r (λ s l. a s (omega arith)) h in
-    let q = receive-number (receivedBy e H m r) (256 ^ 4 - 1) (H m) e (a m (omega arith)) (omega (arith, p .1)) (omega arith) in
+    let q = receive-number (receivedBy e H m r) (256 ^ 4 - 1) (H m) e (a m (omega arith)) (omega (arith, p .1))
+    (omega arith) in
     omega (arith, q)

@@ -1,20 +1,23 @@
-// A receiver over many steps in each of which others are heard: it looks for the delimiter, then collects; the bits are stored in the area.
+// A receiver over many steps in each of which others are heard: it looks for the delimiter, then collects; the bits are
+// stored in the area.
 
 use station_state::Receiver;
 ghost use mathlib.Core.Path.{_≡_};
 ghost use Prim.Native.Nat.{_+_, _-_, _*_, _/_, _%_, _<_, _≤_};
 ghost use lib.ListN.{length};
-ghost use Rattle.station_receive.specs.Receive.{rowIn, bitsIn, hear, addressed};
+ghost use Rattle.station_receive.specs.Receive.{rowIn, bitsIn, hear, addressed, rowLimit};
 ghost use Rattle.area.specs.Area.{addressAt, bufferAt, symbolAt};
 ghost use Rattle.station_state.specs.declared.Receiver.the-variants.{Seeking, Collecting};
-ghost use Rattle.fast_receive.specs.Received.{taken, stepTaken, heardAll, spoils, lineFrom, bitsFrom, AllHeard, copied, mayReport};
+ghost use Rattle.fast_receive.specs.Received.{taken, stepTaken, heardAll, spoils, lineFrom, bitsFrom, AllHeard};
+ghost use Rattle.fast_receive.specs.Received.{copied, mayReport};
 ghost use Rattle.fast_receive.specs.Strides.{Passes, CleanBits};
 ghost use Rattle.fast_receive.specs.Zeros.{lowKept, blanks, zeroedUpTo};
 ghost use Rattle.area.specs.Offsets.{areaSize};
 ghost use Rattle.frame_build.specs.Limits.{bufferOctets};
+ghost use Rattle.sheet_layout.specs.Limits.{maxStations};
 
 // So many bits collected, and the buffer has room for eight more.
-const LAST_OCTET: u32 = 12136;
+const LAST_OCTET: u32 = 12168;
 
 // The row after a spoiled symbol: no symbol stands in it.
 const NO_ROW: u32 = 1;
@@ -29,9 +32,9 @@ struct Part {
 
 // A step in which others are heard.
 fn hear_one(area: &mut [u8], j: usize, r: Receiver, clean: bool, one: bool, e: bool) -> Receiver
-    requires { ⌜ (j < 16) × (areaSize ≤ length (now area)) × (rowIn r < 512) × (bitsIn r < 4294967295) ⌝ }
+    requires { ⌜ (j < maxStations) × (areaSize ≤ length (now area)) × (rowIn r < rowLimit) × (bitsIn r < 4294967295) ⌝ }
     ensures heard { λ q. ⌜ taken q (now (area .exit)) ≡ stepTaken j (hear r clean one e) (now (area .entry)) ⌝ }
-    ensures range { λ q. ⌜ (rowIn q < 512) × (bitsIn q ≤ bitsIn r + 1) ⌝ }
+    ensures range { λ q. ⌜ (rowIn q < rowLimit) × (bitsIn q ≤ bitsIn r + 1) ⌝ }
 {
     let o = station_receive::hear(r, clean, one, e);
     let next = o.receiver;
@@ -44,7 +47,7 @@ fn hear_one(area: &mut [u8], j: usize, r: Receiver, clean: bool, one: bool, e: b
 
 // The code of what reaches station j in step u, as a wider number.
 fn code_at(area: &[u8], j: usize, u: usize) -> u32
-    requires { ⌜ (j < 16) × (areaSize ≤ length (now area)) ⌝ }
+    requires { ⌜ (j < maxStations) × (areaSize ≤ length (now area)) ⌝ }
     ensures value { λ c. ⌜ c ≡ symbolAt (now (area .entry)) j u ⌝ }
     ensures small { λ c. ⌜ c < 256 ⌝ }
 {
@@ -54,7 +57,8 @@ fn code_at(area: &[u8], j: usize, u: usize) -> u32
 // Four clean bits of the line of station j from step u on, the first lowest; 16 or more where one of the symbols is
 // spoiled.
 fn four_bits(area: &[u8], j: usize, u: usize) -> u32
-    requires { ⌜ (j < 16) × (areaSize ≤ length (now area)) × (u + 4 ≤ 4294967296) × AllHeard (lineFrom (now area) j u) 4 ⌝ }
+    requires { ⌜ (j < maxStations) × (areaSize ≤ length (now area)) × (u + 4 ≤ 4294967296)
+        × AllHeard (lineFrom (now area) j u) 4 ⌝ }
     ensures { λ v. ⌜ (v < 16 → CleanBits (now (area .entry)) j u 4 v) ⌝ }
     ensures small { λ v. ⌜ v < 65536 ⌝ }
 {
@@ -68,7 +72,8 @@ fn four_bits(area: &[u8], j: usize, u: usize) -> u32
 
 // Eight clean bits of it as an octet; 256 where one of the symbols is spoiled.
 fn line_octet(area: &[u8], j: usize, u: usize) -> u32
-    requires { ⌜ (j < 16) × (areaSize ≤ length (now area)) × (u + 8 ≤ 4294967296) × AllHeard (lineFrom (now area) j u) 8 ⌝ }
+    requires { ⌜ (j < maxStations) × (areaSize ≤ length (now area)) × (u + 8 ≤ 4294967296)
+        × AllHeard (lineFrom (now area) j u) 8 ⌝ }
     ensures { λ v. ⌜ (v < 256 → CleanBits (now (area .entry)) j u 8 v) ⌝ }
 {
     let low = four_bits(area, j, u);
@@ -93,9 +98,12 @@ fn collect_eight(
     own: bool,
     m: u32,
 ) -> Part
-    requires { ⌜ (j < 16) × (areaSize ≤ length (now area)) × (u + m < 4294967296) × (bits + m < 4294967296) × AllHeard (lineFrom (now area) j u) m ⌝ }
-    ensures heard { λ t. ⌜ taken (t .receiver) (now (area .exit)) ≡ heardAll j e (lineFrom (now (area .entry)) j u) (t .steps) (taken (Collecting bits spoiled own) (now (area .entry))) ⌝ }
-    ensures range { λ t. ⌜ (t .steps ≤ m) × (rowIn (t .receiver) < 512) × (bitsIn (t .receiver) ≤ bits + t .steps) ⌝ }
+    requires { ⌜ (j < maxStations) × (areaSize ≤ length (now area)) × (u + m < 4294967296) × (bits + m < 4294967296)
+        × AllHeard (lineFrom (now area) j u) m ⌝ }
+    ensures heard { λ t. ⌜ taken (t .receiver) (now (area .exit))
+        ≡ heardAll j e (lineFrom (now (area .entry)) j u) (t .steps) (taken (Collecting bits spoiled own) (now (area .entry))) ⌝ }
+    ensures range { λ t. ⌜ (t .steps ≤ m) × (rowIn (t .receiver) < rowLimit)
+        × (bitsIn (t .receiver) ≤ bits + t .steps) ⌝ }
 {
     if m < 8 {
         return stay(bits, spoiled, own);
@@ -123,9 +131,12 @@ fn collect_eight(
 
 // The same for any receiver.
 fn hear_eight(area: &mut [u8], j: usize, u: usize, e: bool, r: Receiver, m: u32) -> Part
-    requires { ⌜ (j < 16) × (areaSize ≤ length (now area)) × (u + m < 4294967296) × (rowIn r < 512) × (bitsIn r + m < 4294967296) × AllHeard (lineFrom (now area) j u) m ⌝ }
-    ensures heard { λ t. ⌜ taken (t .receiver) (now (area .exit)) ≡ heardAll j e (lineFrom (now (area .entry)) j u) (t .steps) (taken r (now (area .entry))) ⌝ }
-    ensures range { λ t. ⌜ (t .steps ≤ m) × (rowIn (t .receiver) < 512) × (bitsIn (t .receiver) ≤ bitsIn r + t .steps) ⌝ }
+    requires { ⌜ (j < maxStations) × (areaSize ≤ length (now area)) × (u + m < 4294967296) × (rowIn r < rowLimit)
+        × (bitsIn r + m < 4294967296) × AllHeard (lineFrom (now area) j u) m ⌝ }
+    ensures heard { λ t. ⌜ taken (t .receiver) (now (area .exit))
+        ≡ heardAll j e (lineFrom (now (area .entry)) j u) (t .steps) (taken r (now (area .entry))) ⌝ }
+    ensures range { λ t. ⌜ (t .steps ≤ m) × (rowIn (t .receiver) < rowLimit)
+        × (bitsIn (t .receiver) ≤ bitsIn r + t .steps) ⌝ }
 {
     let Receiver::Collecting { bits, spoiled, own } = r else {
         return Part {
@@ -138,9 +149,12 @@ fn hear_eight(area: &mut [u8], j: usize, u: usize, e: bool, r: Receiver, m: u32)
 
 // Station j hears some of m steps, of which there are some: eight, or one.
 fn hear_some(area: &mut [u8], j: usize, u: usize, e: bool, r: Receiver, m: u32) -> Part
-    requires { ⌜ (j < 16) × (areaSize ≤ length (now area)) × (u + m < 4294967296) × (rowIn r < 512) × (bitsIn r + m < 4294967296) × AllHeard (lineFrom (now area) j u) m × (0 < m) ⌝ }
-    ensures heard { λ t. ⌜ taken (t .receiver) (now (area .exit)) ≡ heardAll j e (lineFrom (now (area .entry)) j u) (t .steps) (taken r (now (area .entry))) ⌝ }
-    ensures range { λ t. ⌜ (0 < t .steps) × (t .steps ≤ m) × (rowIn (t .receiver) < 512) × (bitsIn (t .receiver) ≤ bitsIn r + t .steps) ⌝ }
+    requires { ⌜ (j < maxStations) × (areaSize ≤ length (now area)) × (u + m < 4294967296) × (rowIn r < rowLimit)
+        × (bitsIn r + m < 4294967296) × AllHeard (lineFrom (now area) j u) m × (0 < m) ⌝ }
+    ensures heard { λ t. ⌜ taken (t .receiver) (now (area .exit))
+        ≡ heardAll j e (lineFrom (now (area .entry)) j u) (t .steps) (taken r (now (area .entry))) ⌝ }
+    ensures range { λ t. ⌜ (0 < t .steps) × (t .steps ≤ m) × (rowIn (t .receiver) < rowLimit)
+        × (bitsIn (t .receiver) ≤ bitsIn r + t .steps) ⌝ }
 {
     let o = hear_eight(area, j, u, e, r, m);
     if o.steps != 0 {
@@ -157,9 +171,11 @@ fn hear_some(area: &mut [u8], j: usize, u: usize, e: bool, r: Receiver, m: u32) 
 
 // Station j hears for m steps what its line holds from step u on; e: whether it emits in them.
 pub fn hear_line(area: &mut [u8], j: usize, u: usize, e: bool, r: Receiver, m: u32) -> Receiver
-    requires { ⌜ (j < 16) × (areaSize ≤ length (now area)) × (u + m < 4294967296) × (rowIn r < 512) × (bitsIn r + m < 4294967296) × AllHeard (lineFrom (now area) j u) m ⌝ }
-    ensures heard { λ q. ⌜ taken q (now (area .exit)) ≡ heardAll j e (lineFrom (now (area .entry)) j u) m (taken r (now (area .entry))) ⌝ }
-    ensures range { λ q. ⌜ (rowIn q < 512) × (bitsIn q ≤ bitsIn r + m) ⌝ }
+    requires { ⌜ (j < maxStations) × (areaSize ≤ length (now area)) × (u + m < 4294967296) × (rowIn r < rowLimit)
+        × (bitsIn r + m < 4294967296) × AllHeard (lineFrom (now area) j u) m ⌝ }
+    ensures heard { λ q. ⌜ taken q (now (area .exit))
+        ≡ heardAll j e (lineFrom (now (area .entry)) j u) m (taken r (now (area .entry))) ⌝ }
+    ensures range { λ q. ⌜ (rowIn q < rowLimit) × (bitsIn q ≤ bitsIn r + m) ⌝ }
 {
     let mut q = r;
     let mut s: u32 = 0;
@@ -181,9 +197,11 @@ fn hear_bits(
     r: Receiver,
     m: u32,
 ) -> Receiver
-    requires { ⌜ (j < 16) × (areaSize ≤ length (now area)) × (a + m < 4294967296) × (rowIn r < 512) × (bitsIn r + m < 4294967296) ⌝ }
-    ensures heard { λ q. ⌜ taken q (now (area .exit)) ≡ heardAll j e (bitsFrom (now (frame .entry)) a) m (taken r (now (area .entry))) ⌝ }
-    ensures range { λ q. ⌜ (rowIn q < 512) × (bitsIn q ≤ bitsIn r + m) ⌝ }
+    requires { ⌜ (j < maxStations) × (areaSize ≤ length (now area)) × (a + m < 4294967296) × (rowIn r < rowLimit)
+        × (bitsIn r + m < 4294967296) ⌝ }
+    ensures heard { λ q. ⌜ taken q (now (area .exit))
+        ≡ heardAll j e (bitsFrom (now (frame .entry)) a) m (taken r (now (area .entry))) ⌝ }
+    ensures range { λ q. ⌜ (rowIn q < rowLimit) × (bitsIn q ≤ bitsIn r + m) ⌝ }
 {
     let mut q = r;
     let mut s: u32 = 0;
@@ -212,9 +230,9 @@ fn preamble_left(row: u32, a: u32, m: u32) -> u32
 
 // A receiver that seeks passes bits of a preamble at once: only the last eight matter.
 fn pass_row(row: u32, spoiled: bool, own: bool, a: u32, e: bool, m: u32) -> Part
-    requires { ⌜ (a + m < 4294967296) × (row < 512) ⌝ }
+    requires { ⌜ (a + m < 4294967296) × (row < rowLimit) ⌝ }
     ensures passed { λ t. ⌜ Passes a e (Seeking row spoiled own) (t .receiver) (t .steps) ⌝ }
-    ensures range { λ t. ⌜ (t .steps ≤ m) × (rowIn (t .receiver) < 512) × (bitsIn (t .receiver) ≤ 0) ⌝ }
+    ensures range { λ t. ⌜ (t .steps ≤ m) × (rowIn (t .receiver) < rowLimit) × (bitsIn (t .receiver) ≤ 0) ⌝ }
 {
     let n = preamble_left(row, a, m);
     if n == 0 {
@@ -235,9 +253,9 @@ fn pass_row(row: u32, spoiled: bool, own: bool, a: u32, e: bool, m: u32) -> Part
 
 // The same for any receiver.
 fn pass_preamble(r: Receiver, a: u32, e: bool, m: u32) -> Part
-    requires { ⌜ (a + m < 4294967296) × (rowIn r < 512) ⌝ }
+    requires { ⌜ (a + m < 4294967296) × (rowIn r < rowLimit) ⌝ }
     ensures passed { λ t. ⌜ Passes a e r (t .receiver) (t .steps) ⌝ }
-    ensures range { λ t. ⌜ (t .steps ≤ m) × (rowIn (t .receiver) < 512) × (bitsIn (t .receiver) ≤ bitsIn r) ⌝ }
+    ensures range { λ t. ⌜ (t .steps ≤ m) × (rowIn (t .receiver) < rowLimit) × (bitsIn (t .receiver) ≤ bitsIn r) ⌝ }
 {
     let Receiver::Seeking { row, spoiled, own } = r else {
         return Part {
@@ -250,9 +268,12 @@ fn pass_preamble(r: Receiver, a: u32, e: bool, m: u32) -> Part
 
 // Station j hears some of m bits of a packet from its bit a on: those of the preamble, or one.
 fn hear_next(area: &mut [u8], j: usize, frame: &[u8], a: u32, e: bool, r: Receiver, m: u32) -> Part
-    requires { ⌜ (j < 16) × (areaSize ≤ length (now area)) × (a + m < 4294967296) × (rowIn r < 512) × (bitsIn r + m < 4294967296) × (0 < m) ⌝ }
-    ensures heard { λ t. ⌜ taken (t .receiver) (now (area .exit)) ≡ heardAll j e (bitsFrom (now (frame .entry)) a) (t .steps) (taken r (now (area .entry))) ⌝ }
-    ensures range { λ t. ⌜ (0 < t .steps) × (t .steps ≤ m) × (rowIn (t .receiver) < 512) × (bitsIn (t .receiver) ≤ bitsIn r + t .steps) ⌝ }
+    requires { ⌜ (j < maxStations) × (areaSize ≤ length (now area)) × (a + m < 4294967296) × (rowIn r < rowLimit)
+        × (bitsIn r + m < 4294967296) × (0 < m) ⌝ }
+    ensures heard { λ t. ⌜ taken (t .receiver) (now (area .exit))
+        ≡ heardAll j e (bitsFrom (now (frame .entry)) a) (t .steps) (taken r (now (area .entry))) ⌝ }
+    ensures range { λ t. ⌜ (0 < t .steps) × (t .steps ≤ m) × (rowIn (t .receiver) < rowLimit)
+        × (bitsIn (t .receiver) ≤ bitsIn r + t .steps) ⌝ }
 {
     let p = pass_preamble(r, a, e, m);
     if p.steps != 0 {
@@ -294,9 +315,12 @@ fn hear_to_octet(
     r: Receiver,
     m: u32,
 ) -> Part
-    requires { ⌜ (j < 16) × (areaSize ≤ length (now area)) × (a + m < 4294967296) × (rowIn r < 512) × (bitsIn r + m < 4294967296) ⌝ }
-    ensures heard { λ p. ⌜ taken (p .receiver) (now (area .exit)) ≡ heardAll j e (bitsFrom (now (frame .entry)) a) (p .steps) (taken r (now (area .entry))) ⌝ }
-    ensures range { λ p. ⌜ (p .steps ≤ m) × (rowIn (p .receiver) < 512) × (bitsIn (p .receiver) ≤ bitsIn r + p .steps) ⌝ }
+    requires { ⌜ (j < maxStations) × (areaSize ≤ length (now area)) × (a + m < 4294967296) × (rowIn r < rowLimit)
+        × (bitsIn r + m < 4294967296) ⌝ }
+    ensures heard { λ p. ⌜ taken (p .receiver) (now (area .exit))
+        ≡ heardAll j e (bitsFrom (now (frame .entry)) a) (p .steps) (taken r (now (area .entry))) ⌝ }
+    ensures range { λ p. ⌜ (p .steps ≤ m) × (rowIn (p .receiver) < rowLimit)
+        × (bitsIn (p .receiver) ≤ bitsIn r + p .steps) ⌝ }
 {
     let mut q = r;
     let mut s: u32 = 0;
@@ -319,7 +343,8 @@ fn hear_to_octet(
 
 // Octets q, q + 1, .. of what station j collected are n octets of the frame, from octet p on.
 fn copy_octets(area: &mut [u8], j: usize, frame: &[u8], q: usize, p: usize, n: usize)
-    requires { ⌜ (j < 16) × (areaSize ≤ length (now area)) × (q + n ≤ bufferOctets) × (p + n ≤ length (now frame)) ⌝ }
+    requires { ⌜ (j < maxStations) × (areaSize ≤ length (now area)) × (q + n ≤ bufferOctets)
+        × (p + n ≤ length (now frame)) ⌝ }
     ensures { λ r. ⌜ now (area .exit) ≡ copied j q p n (now (frame .entry)) (now (area .entry)) ⌝ }
 {
     let mut k: usize = 0;
@@ -329,17 +354,21 @@ fn copy_octets(area: &mut [u8], j: usize, frame: &[u8], q: usize, p: usize, n: u
     }
 }
 
-// The least of the octets that m bits have, that the frame has from octet p on, and that the buffer has from octet q on.
+// The least of the octets that m bits have, that the frame has from octet p on, and that the buffer has from octet q
+// on.
 fn octets_left(size: usize, q: usize, p: usize, m: u32) -> usize
     ensures { λ r. ⌜ (8 * r ≤ m) × (r ≤ size - p) × (r ≤ bufferOctets - q) ⌝ }
 {
     if size <= p {
         return 0;
     }
-    if 1518 <= q {
+    if frame_build::limits::BUFFER <= q {
         return 0;
     }
-    bus_quick::capped((m / 8) as usize, bus_quick::capped(size - p, 1518 - q))
+    bus_quick::capped(
+        (m / 8) as usize,
+        bus_quick::capped(size - p, frame_build::limits::BUFFER - q),
+    )
 }
 
 // A receiver that has taken no step.
@@ -364,9 +393,11 @@ fn collect_octets(
     own: bool,
     m: u32,
 ) -> Part
-    requires { ⌜ (j < 16) × (areaSize ≤ length (now area)) × (a + m < 4294967296) × (bits + m < 4294967296) ⌝ }
-    ensures heard { λ t. ⌜ taken (t .receiver) (now (area .exit)) ≡ heardAll j e (bitsFrom (now (frame .entry)) a) (t .steps) (taken (Collecting bits spoiled own) (now (area .entry))) ⌝ }
-    ensures range { λ t. ⌜ (t .steps ≤ m) × (rowIn (t .receiver) < 512) × (bitsIn (t .receiver) ≤ bits + t .steps) ⌝ }
+    requires { ⌜ (j < maxStations) × (areaSize ≤ length (now area)) × (a + m < 4294967296) × (bits + m < 4294967296) ⌝ }
+    ensures heard { λ t. ⌜ taken (t .receiver) (now (area .exit))
+        ≡ heardAll j e (bitsFrom (now (frame .entry)) a) (t .steps) (taken (Collecting bits spoiled own) (now (area .entry))) ⌝ }
+    ensures range { λ t. ⌜ (t .steps ≤ m) × (rowIn (t .receiver) < rowLimit)
+        × (bitsIn (t .receiver) ≤ bits + t .steps) ⌝ }
 {
     if a < 65 {
         return stay(bits, spoiled, own);
@@ -405,9 +436,12 @@ fn hear_octets(
     r: Receiver,
     m: u32,
 ) -> Part
-    requires { ⌜ (j < 16) × (areaSize ≤ length (now area)) × (a + m < 4294967296) × (rowIn r < 512) × (bitsIn r + m < 4294967296) ⌝ }
-    ensures heard { λ t. ⌜ taken (t .receiver) (now (area .exit)) ≡ heardAll j e (bitsFrom (now (frame .entry)) a) (t .steps) (taken r (now (area .entry))) ⌝ }
-    ensures range { λ t. ⌜ (t .steps ≤ m) × (rowIn (t .receiver) < 512) × (bitsIn (t .receiver) ≤ bitsIn r + t .steps) ⌝ }
+    requires { ⌜ (j < maxStations) × (areaSize ≤ length (now area)) × (a + m < 4294967296) × (rowIn r < rowLimit)
+        × (bitsIn r + m < 4294967296) ⌝ }
+    ensures heard { λ t. ⌜ taken (t .receiver) (now (area .exit))
+        ≡ heardAll j e (bitsFrom (now (frame .entry)) a) (t .steps) (taken r (now (area .entry))) ⌝ }
+    ensures range { λ t. ⌜ (t .steps ≤ m) × (rowIn (t .receiver) < rowLimit)
+        × (bitsIn (t .receiver) ≤ bitsIn r + t .steps) ⌝ }
 {
     let Receiver::Collecting { bits, spoiled, own } = r else {
         return Part {
@@ -428,9 +462,11 @@ pub fn hear_packet(
     r: Receiver,
     m: u32,
 ) -> Receiver
-    requires { ⌜ (j < 16) × (areaSize ≤ length (now area)) × (a + m < 4294967296) × (rowIn r < 512) × (bitsIn r + m < 4294967296) ⌝ }
-    ensures heard { λ q. ⌜ taken q (now (area .exit)) ≡ heardAll j e (bitsFrom (now (frame .entry)) a) m (taken r (now (area .entry))) ⌝ }
-    ensures range { λ q. ⌜ (rowIn q < 512) × (bitsIn q ≤ bitsIn r + m) ⌝ }
+    requires { ⌜ (j < maxStations) × (areaSize ≤ length (now area)) × (a + m < 4294967296) × (rowIn r < rowLimit)
+        × (bitsIn r + m < 4294967296) ⌝ }
+    ensures heard { λ q. ⌜ taken q (now (area .exit))
+        ≡ heardAll j e (bitsFrom (now (frame .entry)) a) m (taken r (now (area .entry))) ⌝ }
+    ensures range { λ q. ⌜ (rowIn q < rowLimit) × (bitsIn q ≤ bitsIn r + m) ⌝ }
 {
     let h = hear_to_octet(area, j, frame, a, e, r, m);
     let k = h.steps;
@@ -445,7 +481,7 @@ pub fn hear_packet(
 
 // The low p bits of octet q of what station j collected stay, the others are 0.
 fn keep_low(area: &mut [u8], j: usize, q: usize, p: usize)
-    requires { ⌜ (j < 16) × (areaSize ≤ length (now area)) × (q < bufferOctets) × (p < 8) ⌝ }
+    requires { ⌜ (j < maxStations) × (areaSize ≤ length (now area)) × (q < bufferOctets) × (p < 8) ⌝ }
     ensures { λ r. ⌜ now (area .exit) ≡ lowKept j q p (now (area .entry)) ⌝ }
 {
     let b = area_buffers::buffer(area, j);
@@ -457,7 +493,7 @@ fn keep_low(area: &mut [u8], j: usize, q: usize, p: usize)
 
 // The n octets behind octet q of what station j collected become 0.
 fn blank_octets(area: &mut [u8], j: usize, q: usize, n: usize)
-    requires { ⌜ (j < 16) × (areaSize ≤ length (now area)) × (q + n < bufferOctets) ⌝ }
+    requires { ⌜ (j < maxStations) × (areaSize ≤ length (now area)) × (q + n < bufferOctets) ⌝ }
     ensures { λ r. ⌜ now (area .exit) ≡ blanks j q n (now (area .entry)) ⌝ }
 {
     let mut k: usize = 0;
@@ -469,22 +505,23 @@ fn blank_octets(area: &mut [u8], j: usize, q: usize, n: usize)
 
 // Collected bits c, c + 1, .. of station j are m zeros; those past what the buffer holds are not kept.
 fn store_zeros(area: &mut [u8], j: usize, c: usize, m: usize)
-    requires { ⌜ (j < 16) × (areaSize ≤ length (now area)) × (0 < m) ⌝ }
+    requires { ⌜ (j < maxStations) × (areaSize ≤ length (now area)) × (0 < m) ⌝ }
     ensures { λ r. ⌜ now (area .exit) ≡ zeroedUpTo j c m (now (area .entry)) ⌝ }
 {
-    if 12144 <= c {
+    if frame_build::limits::BUFFER_BITS <= c {
         return;
     }
-    let n = bus_quick::capped(m, 12144 - c);
+    let n = bus_quick::capped(m, frame_build::limits::BUFFER_BITS - c);
     keep_low(area, j, c / 8, c % 8);
     blank_octets(area, j, c / 8, (c + n - 1) / 8 - c / 8);
 }
 
 // Station j hears m symbols that are spoiled; e: whether it emits in these steps.
 pub fn hear_spoiled(area: &mut [u8], j: usize, e: bool, r: Receiver, m: u32) -> Receiver
-    requires { ⌜ (j < 16) × (areaSize ≤ length (now area)) × (rowIn r < 512) × (bitsIn r + m < 4294967296) ⌝ }
+    requires { ⌜ (j < maxStations) × (areaSize ≤ length (now area)) × (rowIn r < rowLimit)
+        × (bitsIn r + m < 4294967296) ⌝ }
     ensures heard { λ q. ⌜ taken q (now (area .exit)) ≡ heardAll j e spoils m (taken r (now (area .entry))) ⌝ }
-    ensures range { λ q. ⌜ (rowIn q < 512) × (bitsIn q ≤ bitsIn r + m) ⌝ }
+    ensures range { λ q. ⌜ (rowIn q < rowLimit) × (bitsIn q ≤ bitsIn r + m) ⌝ }
 {
     if m == 0 {
         return r;
@@ -528,7 +565,7 @@ pub fn hear_spoiled(area: &mut [u8], j: usize, e: bool, r: Receiver, m: u32) -> 
 
 // Whether the destination that station j collected is its own address or broadcast.
 fn has_destination(area: &[u8], j: usize) -> bool
-    requires { ⌜ (j < 16) × (areaSize ≤ length (now area)) ⌝ }
+    requires { ⌜ (j < maxStations) × (areaSize ≤ length (now area)) ⌝ }
     ensures { λ b. ⌜ b ≡ addressed (addressAt (now (area .entry)) j) (bufferAt (now (area .entry)) j) ⌝ }
 {
     let address = area::read_address(area, j);
@@ -536,25 +573,26 @@ fn has_destination(area: &[u8], j: usize) -> bool
     station_end::is_addressed(address, b)
 }
 
-// Whether the reception of station j, in which others are heard for at most `more` steps from now on, could be opened when it ends.
+// Whether the reception of station j, in which others are heard for at most `more` steps from now on, could be opened
+// when it ends.
 pub fn may_report(area: &[u8], j: usize, r: Receiver, more: u32) -> bool
-    requires { ⌜ (j < 16) × (areaSize ≤ length (now area)) × (bitsIn r + more < 4294967296) ⌝ }
+    requires { ⌜ (j < maxStations) × (areaSize ≤ length (now area)) × (bitsIn r + more < 4294967296) ⌝ }
     ensures { λ b. ⌜ b ≡ mayReport (addressAt (now (area .entry)) j) (bufferAt (now (area .entry)) j) more r ⌝ }
 {
     match r {
-        Receiver::Listening => 512 <= more,
-        Receiver::Readable(_) => 512 <= more,
+        Receiver::Listening => frame_build::limits::SHORTEST_FRAME <= more,
+        Receiver::Readable(_) => frame_build::limits::SHORTEST_FRAME <= more,
         Receiver::Seeking {
             row: _,
             spoiled: _,
             own,
-        } => octets::both(512 <= more, !own),
+        } => octets::both(frame_build::limits::SHORTEST_FRAME <= more, !own),
         Receiver::Collecting {
             bits,
             spoiled: _,
             own,
         } => {
-            if bits + more < 512 {
+            if bits + more < frame_build::limits::SHORTEST_FRAME {
                 return false;
             }
             if own {

@@ -8,7 +8,8 @@ use Rattle.sheet_layout.specs.Layout.{gapOf}
 use Rattle.station_state.specs.declared.Deference.{Deference}
 use Rattle.station_state.specs.declared.Deference.the-variants.{Quiet, Busy, Gap}
 use Rattle.station_state.specs.declared.Transmitter.{Transmitter}
-use Rattle.station_state.specs.declared.Transmitter.the-variants.{NoFrame, Waiting, BackingOff, Sending, Heading, Jamming}
+use Rattle.station_state.specs.declared.Transmitter.the-variants.{NoFrame, Waiting, BackingOff, Sending, Heading}
+use Rattle.station_state.specs.declared.Transmitter.the-variants.{Jamming}
 use Rattle.station_state.specs.declared.Receiver.{Receiver}
 use Rattle.station_state.specs.declared.Receiver.the-variants.{Listening, Readable, Seeking, Collecting}
 use Rattle.station_state.specs.declared.Station.{Station}
@@ -55,9 +56,9 @@ module _ (f : Figures) (m : ℕ) (d : Deference) (x : Transmitter) where
   unfolding framesRest
   frame-heads k e = rw e
 
-  pub frame-jams : (k : ℕ) → x ≡ Jamming k → 0 ≡ framesRest f m d x
+  pub frame-jams : (k : ℕ) (ends : Bool) → x ≡ Jamming k ends → 0 ≡ framesRest f m d x
   unfolding framesRest
-  frame-jams k e = rw e
+  frame-jams k ends e = rw e
 
 -- ---- a station
 
@@ -151,9 +152,9 @@ module _ (m : ℕ) (x : Transmitter) where
   unfolding restedTransmitter
   tx-heads k e = rw e
 
-  pub tx-jams : (k : ℕ) → x ≡ Jamming k → Jamming k ≡ restedTransmitter m x
+  pub tx-jams : (k : ℕ) (ends : Bool) → x ≡ Jamming k ends → Jamming k ends ≡ restedTransmitter m x
   unfolding restedTransmitter
-  tx-jams k e = rw e
+  tx-jams k ends e = rw e
 
   pub wait-none : x ≡ NoFrame → false ≡ hasWaited m x
   unfolding hasWaited
@@ -175,9 +176,9 @@ module _ (m : ℕ) (x : Transmitter) where
   unfolding hasWaited
   wait-heads k e = rw e
 
-  pub wait-jams : (k : ℕ) → x ≡ Jamming k → false ≡ hasWaited m x
+  pub wait-jams : (k : ℕ) (ends : Bool) → x ≡ Jamming k ends → false ≡ hasWaited m x
   unfolding hasWaited
-  wait-jams k e = rw e
+  wait-jams k ends e = rw e
 
 pub rested-is : (f : Figures) (m : ℕ) (s : Station) (d : Deference) (x : Transmitter) (w b df : Bool)
     → d ≡ restedDeference f m (s .deference) → x ≡ restedTransmitter m (s .transmitter)

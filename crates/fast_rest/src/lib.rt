@@ -45,7 +45,7 @@ pub fn frames_rest(f: Figures, m: u32, d: Deference, x: Transmitter) -> u32
         Transmitter::BackingOff(w) => larger(w, rests_for(f, d)),
         Transmitter::Sending(_) => 0,
         Transmitter::Heading(_) => 0,
-        Transmitter::Jamming(_) => 0,
+        Transmitter::Jamming { left: _, ends: _ } => 0,
     }
 }
 
@@ -150,7 +150,7 @@ pub fn rest_transmitter(m: u32, x: Transmitter) -> Transmitter
         }
         Transmitter::Sending(k) => Transmitter::Sending(k),
         Transmitter::Heading(k) => Transmitter::Heading(k),
-        Transmitter::Jamming(k) => Transmitter::Jamming(k),
+        Transmitter::Jamming { left, ends } => Transmitter::Jamming { left, ends },
     }
 }
 
@@ -164,7 +164,7 @@ pub fn has_waited(m: u32, x: Transmitter) -> bool
         Transmitter::BackingOff(w) => w < m,
         Transmitter::Sending(_) => false,
         Transmitter::Heading(_) => false,
-        Transmitter::Jamming(_) => false,
+        Transmitter::Jamming { left: _, ends: _ } => false,
     }
 }
 

@@ -12,13 +12,14 @@ ghost use Rattle.bus_spec.specs.RunLaws.{Runnable};
 ghost use Rattle.station_tally.specs.TallyLaws.{Bounded};
 ghost use Rattle.sheet_layout.specs.Limits.{lastClock};
 ghost use Rattle.area.specs.Offsets.{areaSize};
-ghost use Rattle.station_tally.specs.Tally.{wordCount};
+ghost use Rattle.station_tally.specs.Words.{wordCount};
 
 // At most n steps, on an area that is ready for them, counted into `words`.
 fn run_steps(area: &mut [u8], words: &mut [u32], n: u32) -> Course
     requires { ⌜ Runnable n (now area) × (areaSize ≤ length (now area)) × (n ≤ lastClock) ⌝ }
     requires { ⌜ (length (now words) ≡ wordCount) × Bounded (now words) 0 ⌝ }
-    ensures { λ r. ⌜ courseOf r (now (words .exit)) (now (area .exit)) ≡ runOf n 0 (now (words .entry)) (now (area .entry)) ⌝ }
+    ensures { λ r. ⌜ courseOf r (now (words .exit)) (now (area .exit))
+        ≡ runOf n 0 (now (words .entry)) (now (area .entry)) ⌝ }
 {
     let mut ended = Ended::All;
     let mut t: u32 = 0;
@@ -28,10 +29,10 @@ fn run_steps(area: &mut [u8], words: &mut [u32], n: u32) -> Course
         bus_spec::course::count_events(words, events, 32 * t);
         t += s.steps;
         let mut i: usize = 0;
-        while i < 16 {
+        while i < sheet_layout::MAX_STATIONS {
             let e = events[i];
             let sent = e.sent;
-            if station_tally::is_late(sent) {
+            if station_tally::ends_run(sent) {
                 ended = bus_spec::course::late_end(t, i as u32);
                 break 'steps;
             }
@@ -53,7 +54,7 @@ pub fn run(area: &mut [u8], n: u32) -> RunAnswer
     if sheet_layout::LAST_CLOCK - t < n {
         return bus_spec::course::no_run(13);
     }
-    let mut words = [0u32; 9];
+    let mut words = [0u32; station_tally::WORDS];
     let c = run_steps(area, &mut words, n);
     let ended = c.ended;
     RunAnswer {

@@ -17,15 +17,18 @@ use Rattle.area.specs.Area.{clockAt, figuresAt, countAt, recordAt, stationAt, s
 use Rattle.area.specs.AreaLaws.{symbol-turn}
 use Rattle.bus_spec.specs.Ready.{Ready}
 use Rattle.bus_spec.specs.RunLaws.{first-hit}
-use Rattle.fast_silence.specs.Bound.{stationRests, used, lineRests, stationsRest, linesRest, worth, silentFor, worth-most, stations-fall, lines-fall}
+use Rattle.fast_silence.specs.Bound.{stationRests, used, lineRests, stationsRest, linesRest, worth, silentFor}
+use Rattle.fast_silence.specs.Bound.{worth-most, stations-fall, lines-fall}
 use Rattle.sheet_layout.specs.Limits.{lastClock}
+use Rattle.area.specs.Offsets.{ring}
+use Rattle.area_record.specs.Words.{emittedWord}
 
 -- ---- who emitted
 
 unfoldable pub emittedAt : List ℕ → ℕ → Bool
 emittedAt a i = stationAt a i .emitted
 
-pub emitted-is : (a : List ℕ) (i c : ℕ) → c ≡ getD (recordAt a i) 13 0 → eqb c 1 ≡ emittedAt a i
+pub emitted-is : (a : List ℕ) (i c : ℕ) → c ≡ getD (recordAt a i) emittedWord 0 → eqb c 1 ≡ emittedAt a i
 unfolding emittedAt stationAt decoded
 emitted-is a i c p = rw p
 
@@ -103,23 +106,25 @@ pub most-none : (a : List ℕ) (i : ℕ) → AtMost 0 a i 0
 unfolding AtMost
 most-none a i v h = absurd (omega arith)
 
-pub most-more : (a : List ℕ) (i u c w p q : ℕ) → c ≡ symbolAt a i u → w ≡ c → q ≡ max w p → AtMost p a i u → AtMost q a i (u + 1)
+pub most-more : (a : List ℕ) (i u c w p q : ℕ) → c ≡ symbolAt a i u → w ≡ c → q ≡ max w p → AtMost p a i u
+    → AtMost q a i (u + 1)
 unfolding AtMost
 most-more a i u c w p q ec ew eq h v g =
-    by-eq v u (λ e. let z : symbolAt a i v ≡ c = ap (symbolAt a i) e ∙ sym ec in omega (arith, z)) (λ ne. omega (arith, h v (omega arith)))
+    by-eq v u (λ e. let z : symbolAt a i v ≡ c = ap (symbolAt a i) e ∙ sym ec in omega (arith, z))
+    (λ ne. omega (arith, h v (omega arith)))
 
-pub most-end : (a : List ℕ) (i u p : ℕ) → AtMost p a i u → 256 ≤ u → AtMost p a i 256
+pub most-end : (a : List ℕ) (i u p : ℕ) → AtMost p a i u → ring ≤ u → AtMost p a i ring
 unfolding AtMost
 most-end a i u p h le v g = h v (omega arith)
 
-pub line-clear : (a : List ℕ) (i m p : ℕ) → AtMost p a i 256 → p ≡ 0 → m ≡ lineRests a m i
+pub line-clear : (a : List ℕ) (i m p : ℕ) → AtMost p a i ring → p ≡ 0 → m ≡ lineRests a m i
 unfolding AtMost lineRests used
 line-clear a i m p h e =
-    rw (below-none (used a i) (min m 256) (λ s g. ap (λ (z : ℕ). not (eqb z 0)) (zero-at s)))
+    rw (below-none (used a i) (min m ring) (λ s g. ap (λ (z : ℕ). not (eqb z 0)) (zero-at s)))
   where
     zero-at : (s : ℕ) → symbolAt a i (clockAt a + s) ≡ 0
     zero-at s =
-        let u = (clockAt a + s) % 256 in
+        let u = (clockAt a + s) % ring in
         let q : symbolAt a i (clockAt a + s) ≡ symbolAt a i u = symbol-turn a i (clockAt a + s) u (omega arith) in
         omega (arith, q, h u (omega arith))
 
@@ -140,16 +145,17 @@ module _ (a : List ℕ) (i s t c : ℕ) (et : t ≡ clockAt a) (p : c ≡ symbol
   unfolding NoneUsed
   used-more z h = some-more (used a i) s false (used-is true (eq-eqb c 0 z)) refl h
 
-  pub used-hit : (m k : ℕ) → (c ≡ 0 → ⊥) → NoneUsed a i s → k ≡ min m 256 → s < k → s ≡ lineRests a m i
+  pub used-hit : (m k : ℕ) → (c ≡ 0 → ⊥) → NoneUsed a i s → k ≡ min m ring → s < k → s ≡ lineRests a m i
   unfolding NoneUsed lineRests
   used-hit m k ne h e lt =
       let u : true ≡ used a i s = used-is false (ne-eqb c 0 ne) in
-      let g : s < min m 256 = omega arith in
-      rw (← some-hit (used a i) (min m 256) s true u refl g) (sym (first-hit (used a i) (min m 256) s true u refl h g))
+      let g : s < min m ring = omega arith in
+      rw (← some-hit (used a i) (min m ring) s true u refl g)
+      (sym (first-hit (used a i) (min m ring) s true u refl h g))
 
-pub used-end : (a : List ℕ) (i s m k : ℕ) → NoneUsed a i s → k ≡ min m 256 → s ≤ k → k ≤ s → m ≡ lineRests a m i
+pub used-end : (a : List ℕ) (i s m k : ℕ) → NoneUsed a i s → k ≡ min m ring → s ≤ k → k ≤ s → m ≡ lineRests a m i
 unfolding NoneUsed lineRests
-used-end a i s m k h e lo up = let z : s ≡ min m 256 = omega arith in rw (← z, h)
+used-end a i s m k h e lo up = let z : s ≡ min m ring = omega arith in rw (← z, h)
 
 -- ---- all
 

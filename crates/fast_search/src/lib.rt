@@ -9,20 +9,20 @@ ghost use Rattle.area.specs.Area.{clockAt, figuresAt};
 ghost use Rattle.bus_spec.specs.Ready.{Ready};
 ghost use Rattle.fast_silence.specs.Bound.{stationsRest, linesRest, lineRests, worth, silentFor};
 ghost use Rattle.fast_search.specs.SearchLaws.{emittedAt, AtMost};
-ghost use Rattle.sheet_layout.specs.Limits.{lastClock};
-ghost use Rattle.area.specs.Offsets.{areaSize};
+ghost use Rattle.sheet_layout.specs.Limits.{lastClock, maxStations};
+ghost use Rattle.area.specs.Offsets.{areaSize, ring};
 
 // Whether station i emitted in the step before.
 fn emitted(area: &[u8], i: usize) -> bool
-    requires { ⌜ (i < 16) × (areaSize ≤ length (now area)) ⌝ }
+    requires { ⌜ (i < maxStations) × (areaSize ≤ length (now area)) ⌝ }
     ensures { λ r. ⌜ r ≡ emittedAt (now (area .entry)) i ⌝ }
 {
-    area::read_word(area, i, 13) == 1
+    area::read_word(area, i, area_record::words::EMITTED) == 1
 }
 
 // Whether one of n stations did.
 fn any_emitted(area: &[u8], n: usize) -> bool
-    requires { ⌜ (n ≤ 16) × (areaSize ≤ length (now area)) ⌝ }
+    requires { ⌜ (n ≤ maxStations) × (areaSize ≤ length (now area)) ⌝ }
     ensures { λ r. ⌜ r ≡ some (emittedAt (now (area .entry))) n ⌝ }
 {
     let mut i: usize = 0;
@@ -37,7 +37,8 @@ fn any_emitted(area: &[u8], n: usize) -> bool
 
 // What n stations allow of m steps.
 fn stations_rest(area: &[u8], n: usize, f: Figures, m: u32) -> u32
-    requires { ⌜ (n ≤ 16) × (areaSize ≤ length (now area)) × (f .gap1 + f .gap2 < 65536) × (f ≡ figuresAt (now area)) ⌝ }
+    requires { ⌜ (n ≤ maxStations) × (areaSize ≤ length (now area)) × (f .gap1 + f .gap2 < 65536)
+        × (f ≡ figuresAt (now area)) ⌝ }
     ensures { λ r. ⌜ r ≡ worth (stationsRest (now (area .entry)) m n) ⌝ }
 {
     let mut left = m;
@@ -58,12 +59,12 @@ fn stations_rest(area: &[u8], n: usize, f: Figures, m: u32) -> u32
 
 // No less than any code in the line of station i: found without a branch.
 fn line_top(area: &[u8], i: usize) -> u32
-    requires { ⌜ (i < 16) × (areaSize ≤ length (now area)) ⌝ }
-    ensures { λ r. ⌜ AtMost r (now (area .entry)) i 256 ⌝ }
+    requires { ⌜ (i < maxStations) × (areaSize ≤ length (now area)) ⌝ }
+    ensures { λ r. ⌜ AtMost r (now (area .entry)) i ring ⌝ }
 {
     let mut top: u32 = 0;
     let mut u: usize = 0;
-    while u < 256 {
+    while u < area::RING {
         let code = octets::wide(area_line::read_symbol(area, i, u));
         top = fast_rest::larger(code, top);
         u += 1;
@@ -73,13 +74,13 @@ fn line_top(area: &[u8], i: usize) -> u32
 
 // The steps of m before something reaches station i.
 fn line_rests(area: &[u8], i: usize, t: u32, m: u32) -> u32
-    requires { ⌜ (i < 16) × (areaSize ≤ length (now area)) × (t + m ≤ lastClock) × (t ≡ clockAt (now area)) ⌝ }
+    requires { ⌜ (i < maxStations) × (areaSize ≤ length (now area)) × (t + m ≤ lastClock) × (t ≡ clockAt (now area)) ⌝ }
     ensures { λ r. ⌜ r ≡ lineRests (now (area .entry)) m i ⌝ }
 {
     if line_top(area, i) == 0 {
         return m;
     }
-    let most = fast_rest::smaller(m, 256);
+    let most = fast_rest::smaller(m, area::RING as u32);
     let mut s: u32 = 0;
     while s < most {
         if area_line::read_symbol(area, i, (t + s) as usize) != 0 {
@@ -92,7 +93,7 @@ fn line_rests(area: &[u8], i: usize, t: u32, m: u32) -> u32
 
 // What the lines to n stations allow of m steps.
 fn lines_rest(area: &[u8], n: usize, t: u32, m: u32) -> u32
-    requires { ⌜ (n ≤ 16) × (areaSize ≤ length (now area)) × (t + m ≤ lastClock) × (t ≡ clockAt (now area)) ⌝ }
+    requires { ⌜ (n ≤ maxStations) × (areaSize ≤ length (now area)) × (t + m ≤ lastClock) × (t ≡ clockAt (now area)) ⌝ }
     ensures { λ r. ⌜ r ≡ worth (linesRest (now (area .entry)) m n) ⌝ }
 {
     let mut left = m;

@@ -19,15 +19,17 @@ use Rattle.bus_spec.specs.BitTime.{withStored, withCounted}
 use Rattle.bus_spec.specs.InPlace.{Kept, length-stored, length-counted, stored-keeps, counted-keeps}
 use Rattle.bus_spec.specs.Range.{Fine, fine-room, fine-fit, fine-stepped, held-small}
 use Rattle.bus_spec.specs.Ready.{CanAct, Able}
-use Rattle.fast_plan.specs.Own.{outcomeOn, actOn, ownLeft, ownTurn, byItself, by-itself-more, by-itself-none, on-kept, length-itself, itself-stays}
+use Rattle.fast_plan.specs.Own.{outcomeOn, actOn, ownLeft, ownTurn, byItself, by-itself-more, by-itself-none, on-kept}
+use Rattle.fast_plan.specs.Own.{length-itself, itself-stays}
 use Rattle.area.specs.Offsets.{areaSize}
 use Rattle.frame_build.specs.Limits.{bufferOctets}
+use Rattle.sheet_layout.specs.Limits.{maxStations, maxDraws}
 
 -- Station i of area x, at clock t, is in range, and so are the figures and D.
 pub record Moves (f : Figures) (D i t : ℕ) (x : List ℕ) : Type 0 where
   pub figured : Figured f
-  pub depth : (1 ≤ D) × (D ≤ 16)
-  pub index : i < 16
+  pub depth : (1 ≤ D) × (D ≤ maxDraws)
+  pub index : i < maxStations
   pub room : areaSize ≤ length x
   pub fine : Fine f D t (stationAt x i)
 
@@ -42,7 +44,8 @@ module _ (f : Figures) (D i t : ℕ) (x : List ℕ) (v : Moves f D i t x) where
       }
 
 -- what a turn leaves of the record
-left-station : (i : ℕ) (o : Stepped) (x : List ℕ) → i < 16 → areaSize ≤ length x → Kept (o .stored) → stationAt (withStation x i (o .station)) i ≡ o .station
+left-station : (i : ℕ) (o : Stepped) (x : List ℕ) → i < maxStations → areaSize ≤ length x → Kept (o .stored)
+    → stationAt (withStation x i (o .station)) i ≡ o .station
     → stationAt (ownLeft i o x) i ≡ o .station
 unfolding ownLeft
 left-station i o x hi room k e =
@@ -53,11 +56,14 @@ left-station i o x hi room k e =
     let lw : length w ≡ length y = length-counted i o y in
     let lz : length z ≡ length w = length-stored i (o .stored) w in
     station-by z y i hi (omega arith) (omega arith)
-    (keeps-trans layout z w y (stored-keeps layout i (o .stored) w k (λ p q. omega arith)) (counted-keeps layout i o y (λ p q. omega arith)))
-    (keeps-trans (station i) z w y (stored-keeps (station i) i (o .stored) w k (λ p q. omega arith)) (counted-keeps (station i) i o y (λ p q. omega arith)))
+    (keeps-trans layout z w y (stored-keeps layout i (o .stored) w k (λ p q. omega arith))
+    (counted-keeps layout i o y (λ p q. omega arith)))
+    (keeps-trans (station i) z w y (stored-keeps (station i) i (o .stored) w k (λ p q. omega arith))
+    (counted-keeps (station i) i o y (λ p q. omega arith)))
     ∙ e
 
-address-on : (f : Figures) (D i : ℕ) (h : Heard) (x : List ℕ) → actOn f D i h x .outcome .station .address ≡ stationAt x i .address
+address-on : (f : Figures) (D i : ℕ) (h : Heard) (x : List ℕ)
+    → actOn f D i h x .outcome .station .address ≡ stationAt x i .address
 unfolding actOn outcomeOn stepped nextStation
 address-on f D i h x = refl
 
@@ -68,20 +74,25 @@ address-in x i = refl
 module _ (f : Figures) (D i : ℕ) (h : Heard) (t : ℕ) (x : List ℕ) (v : Moves f D i t x) (early : t < 4294967294) where
   fine-on : Fine f D (suc t) (actOn f D i h x .outcome .station)
   unfolding actOn outcomeOn
-  fine-on = fine-stepped f (v .figured) D t (stationAt x i) (drawAt x i (stationAt x i .draw)) (bufferAt x i) h (v .fine)
+  fine-on =
+      fine-stepped f (v .figured) D t (stationAt x i) (drawAt x i (stationAt x i .draw)) (bufferAt x i) h (v .fine)
 
   pub turn-station : stationAt (ownTurn f D i h x) i ≡ actOn f D i h x .outcome .station
   unfolding ownTurn
   turn-station =
       let o = actOn f D i h x .outcome in
       left-station i o x (v .index) (v .room) (on-kept f D i h x)
-      (station-same x (v .room) i (o .station) (v .index) (fine-fit f (v .figured) D (suc t) (o .station) (v .depth .1) (omega arith) fine-on) (address-on f D i h x ∙ address-in x i))
+      (station-same x (v .room) i (o .station) (v .index)
+      (fine-fit f (v .figured) D (suc t) (o .station) (v .depth .1) (omega arith) fine-on)
+      (address-on f D i h x ∙ address-in x i))
 
 -- m turns
-pub itself-moves : (f : Figures) (D i : ℕ) (H : ℕ → Heard) (m t : ℕ) (x : List ℕ) → t + m < 4294967295 → Moves f D i t x → Moves f D i (t + m) (byItself f D i H m x)
+pub itself-moves : (f : Figures) (D i : ℕ) (H : ℕ → Heard) (m t : ℕ) (x : List ℕ) → t + m < 4294967295 → Moves f D i t x
+    → Moves f D i (t + m) (byItself f D i H m x)
 itself-moves f D i H zero t x h v =
     let e : t + 0 ≡ t = omega arith in
-    subst (λ (k : ℕ). Moves f D i k (byItself f D i H 0 x)) (sym e) (subst (Moves f D i t) (sym (by-itself-none f D i H x)) v)
+    subst (λ (k : ℕ). Moves f D i k (byItself f D i H 0 x)) (sym e)
+    (subst (Moves f D i t) (sym (by-itself-none f D i H x)) v)
 itself-moves f D i H (suc m) t x h v =
     let y = byItself f D i H m x in
     let w : Moves f D i (t + m) y = itself-moves f D i H m t x (omega arith) v in
@@ -93,5 +104,6 @@ itself-moves f D i H (suc m) t x h v =
       index = v .index;
       room = omega (arith, length-itself f D i H (suc m) x, v .room);
       fine = subst (λ (z : List ℕ). Fine f D (suc (t + m)) (stationAt z i)) (sym (by-itself-more f D i H m x))
-          (subst (Fine f D (suc (t + m))) (sym (turn-station f D i (H m) (t + m) y w (omega arith))) (fine-on f D i (H m) (t + m) y w (omega arith)));
+          (subst (Fine f D (suc (t + m))) (sym (turn-station f D i (H m) (t + m) y w (omega arith)))
+          (fine-on f D i (H m) (t + m) y w (omega arith)));
     })

@@ -1,4 +1,5 @@
--- How long a silence lasts, as a number: the least of what each station and each line allows. So many steps are one jump. Assumes nothing.
+-- How long a silence lasts, as a number: the least of what each station and each line allows. So many steps are one
+-- jump. Assumes nothing.
 use Prim.Native.Nat.{ℕ, zero, suc, _+_, _-_, _≤_, _<_, min, max}
 use mathlib.Core.Path.{_≡_, refl, sym, _∙_, ap}
 use mathlib.Core.Bool.{Bool, true, false, not, true≢false}
@@ -11,7 +12,8 @@ use Rattle.octets.specs.BaseLaws.{by-test, by-eq, none-below}
 use Rattle.sheet_layout.specs.declared.Figures.{Figures}
 use Rattle.station_state.specs.declared.Deference.{Deference}
 use Rattle.station_state.specs.declared.Transmitter.{Transmitter}
-use Rattle.station_state.specs.declared.Transmitter.the-variants.{NoFrame, Waiting, BackingOff, Sending, Heading, Jamming}
+use Rattle.station_state.specs.declared.Transmitter.the-variants.{NoFrame, Waiting, BackingOff, Sending, Heading}
+use Rattle.station_state.specs.declared.Transmitter.the-variants.{Jamming}
 use Rattle.station_state.specs.declared.Receiver.{Receiver}
 use Rattle.station_state.specs.declared.Receiver.the-variants.{Listening, Readable, Seeking, Collecting}
 use Rattle.station_state.specs.declared.Station.{Station}
@@ -23,8 +25,10 @@ use Rattle.bus_spec.specs.Until.{untilEvent}
 use Rattle.bus_spec.specs.UntilLaws.{plus}
 use Rattle.fast_plan.specs.Plan.{Holds, Planned, steps}
 use Rattle.fast_silence.specs.Rested.{restsFor, Lasts, Idle, Rests}
-use Rattle.fast_silence.specs.Jump.{Silent, silentPlan, jumped, silence-holds, silence-jumps, jump-planned, run-jumps, until-jumps}
+use Rattle.fast_silence.specs.Jump.{Silent, silentPlan, jumped, silence-holds, silence-jumps, jump-planned}
+use Rattle.fast_silence.specs.Jump.{run-jumps, until-jumps}
 use Rattle.sheet_layout.specs.Limits.{lastClock}
+use Rattle.area.specs.Offsets.{ring}
 
 -- ---- a station, of m steps asked
 
@@ -34,7 +38,7 @@ framesRest f m d Waiting = restsFor f d
 framesRest f m d (BackingOff w) = max w (restsFor f d)
 framesRest f m d (Sending k) = 0
 framesRest f m d (Heading k) = 0
-framesRest f m d (Jamming k) = 0
+framesRest f m d (Jamming k ends) = 0
 
 unfoldable pub idle : Receiver → Bool
 idle Listening = true
@@ -45,14 +49,15 @@ idle (Collecting n sp own) = false
 unfoldable pub stationRests : Figures → (m : ℕ) → Station → ℕ
 stationRests f m s = pick (s .emitted) 0 (pick (idle (s .receiver)) (framesRest f m (s .deference) (s .transmitter)) 0)
 
-pub frames-last : (f : Figures) (m K : ℕ) (d : Deference) (x : Transmitter) → 0 < K → K ≤ framesRest f m d x → Lasts f K d x
+pub frames-last : (f : Figures) (m K : ℕ) (d : Deference) (x : Transmitter) → 0 < K → K ≤ framesRest f m d x
+    → Lasts f K d x
 unfolding framesRest
 frames-last f m K d NoFrame p h = tt
 frames-last f m K d Waiting p h = h
 frames-last f m K d (BackingOff w) p h = h
 frames-last f m K d (Sending k) p h = absurd (omega arith)
 frames-last f m K d (Heading k) p h = absurd (omega arith)
-frames-last f m K d (Jamming k) p h = absurd (omega arith)
+frames-last f m K d (Jamming k ends) p h = absurd (omega arith)
 
 pub is-idle : (r : Receiver) → idle r ≡ true → Idle r
 unfolding idle
@@ -96,7 +101,7 @@ unfoldable pub used : List ℕ → (j s : ℕ) → Bool
 used a j s = not (eqb (symbolAt a j (clockAt a + s)) 0)
 
 unfoldable pub lineRests : List ℕ → (m j : ℕ) → ℕ
-lineRests a m j = pick (some (used a j) (min m 256)) (first (used a j) (min m 256)) m
+lineRests a m j = pick (some (used a j) (min m ring)) (first (used a j) (min m ring)) m
 
 not-used : (c : ℕ) → not (eqb c 0) ≡ false → c ≡ 0
 not-used c h = by-test (eqb c 0) (λ e. eqb-true c 0 e) (λ e. absurd (true≢false (sym (ap not e) ∙ h)))
@@ -104,17 +109,17 @@ not-used c h = by-test (eqb c 0) (λ e. eqb-true c 0 e) (λ e. absurd (true≢fa
 pub line-most : (a : List ℕ) (m j : ℕ) → lineRests a m j ≤ m
 unfolding lineRests
 line-most a m j =
-    by-test (some (used a j) (min m 256))
-    (λ e. rw e (omega (arith, first-most (used a j) (min m 256))))
+    by-test (some (used a j) (min m ring))
+    (λ e. rw e (omega (arith, first-most (used a j) (min m ring))))
     (λ e. rw e (omega arith))
 
-pub line-rests : (a : List ℕ) (m j s : ℕ) → s < lineRests a m j → s < 256 → symbolAt a j (clockAt a + s) ≡ 0
+pub line-rests : (a : List ℕ) (m j s : ℕ) → s < lineRests a m j → s < ring → symbolAt a j (clockAt a + s) ≡ 0
 unfolding lineRests used
 line-rests a m j s h g =
-    by-test (some (used a j) (min m 256))
-    (λ e. not-used (symbolAt a j (clockAt a + s)) (below-first (used a j) (min m 256) s (rw e at h)))
+    by-test (some (used a j) (min m ring))
+    (λ e. not-used (symbolAt a j (clockAt a + s)) (below-first (used a j) (min m ring) s (rw e at h)))
     (λ e. let l : s < m = rw e at h in
-    not-used (symbolAt a j (clockAt a + s)) (none-below (used a j) (min m 256) s e (omega arith)))
+    not-used (symbolAt a j (clockAt a + s)) (none-below (used a j) (min m ring) s e (omega arith)))
 
 -- ---- all of them: the least, found one after the other
 

@@ -1,5 +1,5 @@
--- Stage 1: where nobody emits and nothing arrives for K steps, K steps are one jump: each record in closed form, the clock K later, and
--- all else as it was. Assumes nothing.
+-- Stage 1: where nobody emits and nothing arrives for K steps, K steps are one jump: each record in closed form, the
+-- clock K later, and all else as it was. Assumes nothing.
 use Prim.Native.Nat.{ℕ, zero, suc, _+_, _-_, _%_, _≤_, _<_}
 use mathlib.Core.Path.{_≡_, refl, sym, _∙_, ap, ap₂, subst}
 use mathlib.Core.Bool.{false}
@@ -21,15 +21,16 @@ use Rattle.station_symbols.specs.declared.Emission.the-variants.{Rest}
 use Rattle.station_symbols.specs.Packet.{symbolOf}
 use Rattle.station_receive.specs.declared.Stored.the-variants.{NoStore}
 use Rattle.station_transmit.specs.Transmit.{octetsHeld}
-use Rattle.station_tally.specs.Tally.{isLate, sentCounted, gotCounted}
 use Rattle.station_state.specs.declared.Station.{Station}
 use Rattle.station_spec.specs.declared.Stepped.{Stepped}
 use Rattle.station_spec.specs.Step.{stepped}
 use Rattle.area_record.specs.Codec.{decoded}
 use Rattle.area_record.specs.CodecLaws.{Fit}
 use Rattle.area.specs.Places.{Part, counters, station, frame, buffer, place, Off, Keeps}
-use Rattle.area.specs.Area.{clockAt, withClock, depthAt, drawAt, figuresAt, countAt, addressAt, stationAt, withStation, frameAt, bufferAt, heardOf, heardCode, symbolAt, arrivalAt}
-use Rattle.area.specs.AreaLaws.{keeps-refl, keeps-trans, keeps-sym, station-keeps, clock-keeps, symbol-by, symbol-turn, station-same, length-station, length-clock}
+use Rattle.area.specs.Area.{clockAt, withClock, depthAt, drawAt, figuresAt, countAt, addressAt, stationAt, withStation}
+use Rattle.area.specs.Area.{frameAt, bufferAt, heardOf, heardCode, symbolAt, arrivalAt, met}
+use Rattle.area.specs.AreaLaws.{keeps-refl, keeps-trans, keeps-sym, station-keeps, clock-keeps, symbol-by, symbol-turn}
+use Rattle.area.specs.AreaLaws.{station-same, length-station, length-clock}
 use Rattle.area.specs.Written.{station-over}
 use Rattle.area.specs.Whole.{Still, clock-still, station-still, station-on, clock-on}
 use Rattle.bus_spec.specs.declared.Events.{Events}
@@ -40,23 +41,25 @@ use Rattle.bus_spec.specs.Run.{tallied, runOf}
 use Rattle.bus_spec.specs.Until.{hasEvent, eventful, untilEvent}
 use Rattle.bus_spec.specs.UntilLaws.{plus}
 use Rattle.bus_meeting.specs.Net.{heard}
-use Rattle.bus_meeting.specs.Meet.{met, met-none}
+use Rattle.bus_meeting.specs.Meet.{met-none}
 use Rattle.bus_quick.specs.Quick.{quietly}
 use Rattle.fast_plan.specs.Own.{outcomeOn, actOn, ownLeft, ownTurn, byItself, itself-heard, OwnSame, own-trans}
+use Rattle.fast_plan.specs.NoEvents.{none-at, nothing-tallied}
 use Rattle.fast_plan.specs.Plan.{Plan, cut, netOf, lineNow, hears, lineAfter, ownAfter, actAfter, Holds, steps, Planned}
 use Rattle.fast_plan.specs.Happens.{heard-none, plan-happens}
 use Rattle.fast_plan.specs.Exact.{Left, symbol-code, left-same-area, planned-left}
 use Rattle.fast_plan.specs.Prefix.{Unhurt}
 use Rattle.fast_plan.specs.Runs.{eventsBy, plan-events, talliedBy, run-steps, until-steps}
 use Rattle.fast_silence.specs.Rested.{rested, Rests, rested-step, rested-none, rested-fit, rested-address}
-use Rattle.sheet_layout.specs.Limits.{lastClock}
-use Rattle.area.specs.Offsets.{areaSize}
+use Rattle.sheet_layout.specs.Limits.{lastClock, maxStations, maxDraws}
+use Rattle.area.specs.Offsets.{areaSize, ring}
+use Rattle.station_tally.specs.Words.{endsRun}
 
 -- ---- what a silence is
 
 -- nobody emits in the next K steps, and nothing arrives
 pub record Silent (a : List ℕ) (K : ℕ) : Type 0 where
-  pub empty : (j s : ℕ) → j < countAt a → s < K → s < 256 → symbolAt a j (clockAt a + s) ≡ 0
+  pub empty : (j s : ℕ) → j < countAt a → s < K → s < ring → symbolAt a j (clockAt a + s) ≡ 0
   pub calm : (i : ℕ) → i < countAt a → Rests (figuresAt a) K (stationAt a i)
 
 -- the first k stations written
@@ -88,8 +91,9 @@ quiet-left : (i : ℕ) (s : Station) (x : List ℕ) → ownLeft i (quietly s Res
 unfolding ownLeft withCounted happened quietly
 quiet-left i s x = refl
 
-module _ (f : Figures) (d i : ℕ) (a : List ℕ) (K : ℕ) (hi : i < 16) (room : areaSize ≤ length a) (g : Figured f)
-    (v : Fine f d (clockAt a) (stationAt a i)) (few : d ≤ 16) (early : clockAt a < 4294967295)
+module _ (f : Figures) (d i : ℕ) (a : List ℕ) (K : ℕ) (hi : i < maxStations) (room : areaSize ≤ length a)
+    (g : Figured f)
+    (v : Fine f d (clockAt a) (stationAt a i)) (few : d ≤ maxDraws) (early : clockAt a < 4294967295)
     (l : Rests f K (stationAt a i)) where
   q : Station
   q = stationAt a i
@@ -146,20 +150,6 @@ module _ (f : Figures) (d i : ℕ) (a : List ℕ) (K : ℕ) (hi : i < 16) (room 
       ap (λ (x : List ℕ). actOn f d i Nothing x .outcome) (silent-itself m (omega arith))
       ∙ outcome-by (suc m) (withStation a i (rested f (suc m) (stationAt a i))) h (there (suc m))
 
-none-at : (n k : ℕ) → getD (filled noEvents (λ i. noEvents) n) k noEvents ≡ noEvents
-none-at n k =
-    by-test (ltb k n)
-    (λ c. filled-at noEvents (λ i. noEvents) n k noEvents (ltb-true k n c))
-    (λ c. let g = ltb-false k n c in
-    let z : k ≡ n + (k - n) = omega arith in ap (λ (m : ℕ). getD (filled noEvents (λ i. noEvents) n) m noEvents) z
-    ∙ filled-past noEvents (λ i. noEvents) n (k - n))
-
--- no events are no words
-nothing-tallied : (n m : ℕ) (ws : List ℕ) → tallied (filled noEvents (λ i. noEvents) n) m ws ≡ ws
-unfolding tallied turns sentCounted gotCounted
-nothing-tallied n zero ws = refl
-nothing-tallied n (suc m) ws = rw (none-at n m) (nothing-tallied n m ws)
-
 nothing-eventful : (n : ℕ) → eventful (filled noEvents (λ i. noEvents) n) ≡ false
 unfolding eventful hasEvent
 nothing-eventful n =
@@ -175,8 +165,8 @@ module _ (a : List ℕ) (K : ℕ) (r : Readiness a) (s : Silent a K) where
   line-empty : (j u : ℕ) → j < countAt a → u < K → lineNow a j u ≡ Nothing
   unfolding lineNow arrivalAt heardOf
   line-empty j u hj hu =
-      by-test (ltb u 256)
-      (λ c. rw (c, s .empty j u hj hu (ltb-true u 256 c)))
+      by-test (ltb u ring)
+      (λ c. rw (c, s .empty j u hj hu (ltb-true u ring c)))
       (λ c. rw c)
 
   hears-none : (j u : ℕ) → j < countAt a → u < K → hears a silentPlan j u ≡ Nothing
@@ -225,11 +215,11 @@ module _ (a : List ℕ) (K : ℕ) (r : Readiness a) (s : Silent a K) where
 
   pub silence-unhurt : Unhurt a silentPlan K
   unfolding Unhurt quietly
-  silence-unhurt u i hu hi = ap (λ (o : Stepped). isLate (o .sent)) (acts i u hi hu)
+  silence-unhurt u i hu hi = ap (λ (o : Stepped). endsRun (o .sent)) (acts i u hi hu)
 
   -- ---- what is left
 
-  rested-station : (k i : ℕ) → i < k → k ≤ 16
+  rested-station : (k i : ℕ) → i < k → k ≤ maxStations
       → Keeps (station i) (restedAll a K k a) (withStation a i (rested (figuresAt a) K (stationAt a i)))
   unfolding restedAll turns
   rested-station zero i hi hk = absurd (omega arith)
@@ -256,13 +246,14 @@ module _ (a : List ℕ) (K : ℕ) (r : Readiness a) (s : Silent a K) where
   unfolding lineAfter cut silentPlan
   line-silent j v = silence-heard (cut K silentPlan) j v (λ i u. by-test (ltb u K) (λ c. rw c) (λ c. rw c))
 
-  line-code : (j v : ℕ) → j < countAt a → K ≤ v → v < K + 256 → symbolAt a j (clockAt a + v) ≡ heardCode (lineNow a j v)
+  line-code : (j v : ℕ) → j < countAt a → K ≤ v → v < K + ring
+      → symbolAt a j (clockAt a + v) ≡ heardCode (lineNow a j v)
   unfolding lineNow
   line-code j v hj lo up =
-      by-test (ltb v 256)
+      by-test (ltb v ring)
       (λ c. rw c (symbol-code a j (clockAt a + v) (r .codes j (clockAt a + v) hj)))
-      (λ c. let g = ltb-false v 256 c in rw c
-      (symbol-turn a j (clockAt a + v) (clockAt a + v % 256) (omega arith) ∙ s .empty j (v % 256) hj (omega arith)
+      (λ c. let g = ltb-false v ring c in rw c
+      (symbol-turn a j (clockAt a + v) (clockAt a + v % ring) (omega arith) ∙ s .empty j (v % ring) hj (omega arith)
       (omega arith)))
 
   jumped-left : 0 < K → Left a silentPlan K (jumped K a)

@@ -1,5 +1,5 @@
--- A station that hears nothing and emits nothing for m steps, in closed form: its gap goes on, its backoff runs down, a frame that waits is
--- deferred. Each further step is one step of the station. Assumes nothing.
+-- A station that hears nothing and emits nothing for m steps, in closed form: its gap goes on, its backoff runs down, a
+-- frame that waits is deferred. Each further step is one step of the station. Assumes nothing.
 use Prim.Native.Nat.{ℕ, zero, suc, _+_, _-_, _^_, _≤_, _<_, max}
 use mathlib.Core.Path.{_≡_, refl, sym, _∙_, ap}
 use mathlib.Core.Bool.{Bool, true, false, _||_, _&&_, true≢false, or-true}
@@ -17,7 +17,8 @@ use Rattle.station_symbols.specs.declared.Emission.the-variants.{Rest}
 use Rattle.station_state.specs.declared.Deference.{Deference}
 use Rattle.station_state.specs.declared.Deference.the-variants.{Quiet, Busy, Gap}
 use Rattle.station_state.specs.declared.Transmitter.{Transmitter}
-use Rattle.station_state.specs.declared.Transmitter.the-variants.{NoFrame, Waiting, BackingOff, Sending, Heading, Jamming}
+use Rattle.station_state.specs.declared.Transmitter.the-variants.{NoFrame, Waiting, BackingOff, Sending, Heading}
+use Rattle.station_state.specs.declared.Transmitter.the-variants.{Jamming}
 use Rattle.station_state.specs.declared.Receiver.{Receiver}
 use Rattle.station_state.specs.declared.Receiver.the-variants.{Listening, Readable, Seeking, Collecting}
 use Rattle.station_state.specs.declared.Station.{Station}
@@ -50,7 +51,7 @@ restedTransmitter m Waiting = Waiting
 restedTransmitter m (BackingOff w) = pick (ltb m w) (BackingOff (w - m)) Waiting
 restedTransmitter m (Sending k) = Sending k
 restedTransmitter m (Heading k) = Heading k
-restedTransmitter m (Jamming k) = Jamming k
+restedTransmitter m (Jamming k ends) = Jamming k ends
 
 -- whether its frame waited in one of m steps
 unfoldable pub hasWaited : (m : ℕ) → Transmitter → Bool
@@ -59,7 +60,7 @@ hasWaited m Waiting = ltb 0 m
 hasWaited m (BackingOff w) = ltb w m
 hasWaited m (Sending k) = false
 hasWaited m (Heading k) = false
-hasWaited m (Jamming k) = false
+hasWaited m (Jamming k ends) = false
 
 unfoldable pub rested : Figures → (m : ℕ) → Station → Station
 rested f m s =
@@ -90,7 +91,7 @@ Lasts f K d Waiting = K ≤ restsFor f d
 Lasts f K d (BackingOff w) = K ≤ max w (restsFor f d)
 Lasts f K d (Sending k) = ⊥
 Lasts f K d (Heading k) = ⊥
-Lasts f K d (Jamming k) = ⊥
+Lasts f K d (Jamming k ends) = ⊥
 
 -- nothing is being received
 abbrev pub Idle : Receiver → Type 0
@@ -156,7 +157,8 @@ busy-goes : (f : Figures) (own w : Bool) → defer f (Busy own) false false w �
 unfolding defer busyRule
 busy-goes f own w = refl
 
-pub defer-goes : (f : Figures) (d : Deference) (m : ℕ) (w : Bool) → 1 ≤ gapOf f → (w ≡ true → m < restsFor f d) → defer f (restedDeference f m d) false false w ≡ to (restedDeference f (suc m) d)
+pub defer-goes : (f : Figures) (d : Deference) (m : ℕ) (w : Bool) → 1 ≤ gapOf f → (w ≡ true → m < restsFor f d)
+    → defer f (restedDeference f m d) false false w ≡ to (restedDeference f (suc m) d)
 unfolding restedDeference restsFor
 defer-goes f Quiet m true g h = absurd (omega (arith, h refl))
 defer-goes f Quiet m false g h = over-quiet f false
@@ -170,7 +172,8 @@ defer-goes f (Gap n own) m w g h =
 -- ---- transmitter
 
 -- in K steps a frame that waits does not start
-pub waits-rests : (f : Figures) (K m : ℕ) (d : Deference) (x : Transmitter) → Lasts f K d x → m < K → waits (restedTransmitter m x) ≡ true → m < restsFor f d
+pub waits-rests : (f : Figures) (K m : ℕ) (d : Deference) (x : Transmitter) → Lasts f K d x → m < K
+    → waits (restedTransmitter m x) ≡ true → m < restsFor f d
 unfolding restedTransmitter
 waits-rests f K m d NoFrame l h e = absurd (true≢false (sym e))
 waits-rests f K m d Waiting l h e = omega arith
@@ -180,7 +183,7 @@ waits-rests f K m d (BackingOff w) l h e =
     (λ c. let g = ltb-false m w c in omega arith)
 waits-rests f K m d (Sending k) l h e = absurd l
 waits-rests f K m d (Heading k) l h e = absurd l
-waits-rests f K m d (Jamming k) l h e = absurd l
+waits-rests f K m d (Jamming k ends) l h e = absurd l
 
 -- no frame goes out
 abbrev pub NoneOut : Transmitter → Type 0
@@ -189,7 +192,7 @@ NoneOut Waiting = Unit {0}
 NoneOut (BackingOff w) = Unit {0}
 NoneOut (Sending k) = ⊥
 NoneOut (Heading k) = ⊥
-NoneOut (Jamming k) = ⊥
+NoneOut (Jamming k ends) = ⊥
 
 pub lasts-none : (f : Figures) (K : ℕ) (d : Deference) (x : Transmitter) → Lasts f K d x → NoneOut x
 lasts-none f K d NoFrame l = tt
@@ -197,10 +200,11 @@ lasts-none f K d Waiting l = tt
 lasts-none f K d (BackingOff w) l = tt
 lasts-none f K d (Sending k) l = l
 lasts-none f K d (Heading k) l = l
-lasts-none f K d (Jamming k) l = l
+lasts-none f K d (Jamming k ends) l = l
 
 -- it does not matter then what is heard
-pub transmit-goes : (f : Figures) (m : ℕ) (x : Transmitter) (z n draw : ℕ) (h : Bool) → NoneOut x → transmit f (restedTransmitter m x) z n draw false h ≡ resting (restedTransmitter (suc m) x)
+pub transmit-goes : (f : Figures) (m : ℕ) (x : Transmitter) (z n draw : ℕ) (h : Bool) → NoneOut x
+    → transmit f (restedTransmitter m x) z n draw false h ≡ resting (restedTransmitter (suc m) x)
 unfolding restedTransmitter transmit waitBit backoffBit
 transmit-goes f m NoFrame z n draw h l = refl
 transmit-goes f m Waiting z n draw h l = refl
@@ -214,7 +218,7 @@ transmit-goes f m (BackingOff w) z n draw h l =
     (λ c. let g = ltb-false m w c in rw (c, le-ltb (suc m) w (omega arith)))
 transmit-goes f m (Sending k) z n draw h l = absurd l
 transmit-goes f m (Heading k) z n draw h l = absurd l
-transmit-goes f m (Jamming k) z n draw h l = absurd l
+transmit-goes f m (Jamming k ends) z n draw h l = absurd l
 
 -- ---- deferred
 
@@ -228,7 +232,7 @@ waited-more m (BackingOff w) =
     (λ c. let g = ltb-false m w c in rw (c, lt-ltb w (suc m) (omega arith)) (sym (or-true (ltb w m))))
 waited-more m (Sending k) = refl
 waited-more m (Heading k) = refl
-waited-more m (Jamming k) = refl
+waited-more m (Jamming k ends) = refl
 
 pub deferred-more : (df t h w : Bool) → ((df || (t && h)) || (w && (t && true))) ≡ (df || (t && (h || w)))
 deferred-more true t h w = refl
@@ -253,8 +257,10 @@ pub rested-step : (f : Figures) (K m : ℕ) (s : Station) (d draw : ℕ) (buf : 
 unfolding stepped nextStation triesAfter drawAfter deferredAfter quietly rested
 rested-step f K m s d draw buf g l h =
     rw (
-      defer-goes f (s .deference) m (waits (restedTransmitter m (s .transmitter))) g (waits-rests f K m (s .deference) (s .transmitter) (l .lasts) h),
-      transmit-goes f m (s .transmitter) (s .frame) (s .attempts) draw false (lasts-none f K (s .deference) (s .transmitter) (l .lasts)),
+      defer-goes f (s .deference) m (waits (restedTransmitter m (s .transmitter))) g
+          (waits-rests f K m (s .deference) (s .transmitter) (l .lasts) h),
+      transmit-goes f m (s .transmitter) (s .frame) (s .attempts) draw false
+          (lasts-none f K (s .deference) (s .transmitter) (l .lasts)),
       idle-ends (s .address) buf (s .receiver) false (l .idle),
       waited-more m (s .transmitter),
       deferred-more (s .deferred) (eqb (s .attempts) 0) (hasWaited m (s .transmitter))
@@ -276,7 +282,7 @@ rested-frame f z Waiting v = refl
 rested-frame f z (BackingOff w) v = let e : w - 0 ≡ w = omega arith in rw (lt-ltb 0 w (v .0), e)
 rested-frame f z (Sending k) v = refl
 rested-frame f z (Heading k) v = refl
-rested-frame f z (Jamming k) v = refl
+rested-frame f z (Jamming k ends) v = refl
 
 pub none-waited : (f : Figures) (z : ℕ) (x : Transmitter) → NumberIn f z x → hasWaited 0 x ≡ false
 unfolding hasWaited
@@ -285,7 +291,7 @@ none-waited f z Waiting v = refl
 none-waited f z (BackingOff w) v = le-ltb w 0 (omega arith)
 none-waited f z (Sending k) v = refl
 none-waited f z (Heading k) v = refl
-none-waited f z (Jamming k) v = refl
+none-waited f z (Jamming k ends) v = refl
 
 pub as-was : (df t : Bool) → (df || (t && false)) ≡ df
 as-was true t = refl
@@ -335,7 +341,7 @@ number-less m b Waiting p h = h
 number-less m b (BackingOff w) p h = by-test (ltb m w) (λ c. rw c (omega arith)) (λ c. rw c p)
 number-less m b (Sending k) p h = h
 number-less m b (Heading k) p h = h
-number-less m b (Jamming k) p h = h
+number-less m b (Jamming k ends) p h = h
 
 pub rested-fit : (f : Figures) (m : ℕ) (s : Station) → Figured f → Fit s → Fit (rested f m s)
 unfolding rested

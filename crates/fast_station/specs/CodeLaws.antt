@@ -10,14 +10,16 @@ use Rattle.sheet_layout.specs.Layout.{gapOf}
 use Rattle.station_state.specs.declared.Deference.{Deference}
 use Rattle.station_state.specs.declared.Deference.the-variants.{Quiet, Busy, Gap}
 use Rattle.station_state.specs.declared.Transmitter.{Transmitter}
-use Rattle.station_state.specs.declared.Transmitter.the-variants.{NoFrame, Waiting, BackingOff, Sending, Heading, Jamming}
+use Rattle.station_state.specs.declared.Transmitter.the-variants.{NoFrame, Waiting, BackingOff, Sending, Heading}
+use Rattle.station_state.specs.declared.Transmitter.the-variants.{Jamming}
 use Rattle.station_state.specs.declared.Receiver.{Receiver}
 use Rattle.station_state.specs.declared.Receiver.the-variants.{Listening, Readable, Seeking, Collecting}
 use Rattle.station_state.specs.declared.Station.{Station}
 use Rattle.station_state.specs.State.{numberIn}
 use Rattle.station_defer.specs.Defer.{goesBack}
 use Rattle.fast_silence.specs.Rested.{restedTransmitter, hasWaited, rested}
-use Rattle.fast_station.specs.Forms.{made, deferredBy, heardGap, heardDeference, heardFor, heardRest, hearOn, restOn, emitsOn, emitsFor, emitOn}
+use Rattle.fast_station.specs.Forms.{made, deferredBy, heardGap, heardDeference, heardFor, heardRest, hearOn}
+use Rattle.fast_station.specs.Forms.{restOn, emitsOn, emitsFor, emitOn}
 use Rattle.fast_receive.specs.Received.{calmed}
 
 -- ---- others are heard
@@ -67,9 +69,9 @@ module _ (f : Figures) (m : ℕ) (d : Deference) (x : Transmitter) where
   unfolding heardRest
   rest-heads k e = rw e
 
-  pub rest-jams : (l : ℕ) → x ≡ Jamming l → 0 ≡ heardRest f m d x
+  pub rest-jams : (l : ℕ) (ends : Bool) → x ≡ Jamming l ends → 0 ≡ heardRest f m d x
   unfolding heardRest
-  rest-jams l e = rw e
+  rest-jams l ends e = rw e
 
 module _ (f : Figures) (m n : ℕ) (own b : Bool) (p : b ≡ goesBack (f .gap1) n own true) where
   pub gap-back : b ≡ true → Busy false ≡ heardGap f m n own
@@ -114,7 +116,17 @@ pub hear-is : (f : Figures) (m : ℕ) (r : Receiver) (s : Station) (d : Deferenc
     → d ≡ heardDeference f m (s .deference)
     → x ≡ restedTransmitter m (s .transmitter) → w ≡ hasWaited m (s .transmitter) → b ≡ (eqb (s .attempts) 0 && w)
     → df ≡ (s .deferred || b)
-    → record { address = s .address; deference = d; transmitter = x; receiver = r; frame = s .frame; attempts = s .attempts; draw = s .draw; deferred = df; emitted = false } ≡ hearOn f m r s
+    → record {
+      address = s .address;
+      deference = d;
+      transmitter = x;
+      receiver = r;
+      frame = s .frame;
+      attempts = s .attempts;
+      draw = s .draw;
+      deferred = df;
+      emitted = false;
+    } ≡ hearOn f m r s
 unfolding hearOn made deferredBy
 hear-is f m r s d x w b df p q e u v = rw (p, q, v, u, e)
 
@@ -146,7 +158,17 @@ module _ (m : ℕ) (r : Receiver) where
   calm-collected n sp own e z = rw (e, ne-eqb m 0 z)
 
 pub rest-is : (f : Figures) (m : ℕ) (s t : Station) (r : Receiver) → t ≡ rested f m s → r ≡ calmed m (s .receiver)
-    → record { address = t .address; deference = t .deference; transmitter = t .transmitter; receiver = r; frame = t .frame; attempts = t .attempts; draw = t .draw; deferred = t .deferred; emitted = false }
+    → record {
+      address = t .address;
+      deference = t .deference;
+      transmitter = t .transmitter;
+      receiver = r;
+      frame = t .frame;
+      attempts = t .attempts;
+      draw = t .draw;
+      deferred = t .deferred;
+      emitted = false;
+    }
     ≡ restOn f m s
 unfolding restOn made deferredBy rested
 rest-is f m s t r p q = rw (p, q)
@@ -174,9 +196,9 @@ module _ (z : ℕ) (x : Transmitter) where
   unfolding emitsFor
   for-heads k r e p = rw e p
 
-  pub for-jams : (l r : ℕ) → x ≡ Jamming l → r ≡ l - 1 → r ≡ emitsFor z x
+  pub for-jams : (l r : ℕ) (ends : Bool) → x ≡ Jamming l ends → r ≡ l - 1 → r ≡ emitsFor z x
   unfolding emitsFor
-  for-jams l r e p = rw e p
+  for-jams l r ends e p = rw e p
 
 module _ (f : Figures) (m : ℕ) (x : Transmitter) where
   pub on-none : x ≡ NoFrame → NoFrame ≡ emitsOn f m x
@@ -199,13 +221,13 @@ module _ (f : Figures) (m : ℕ) (x : Transmitter) where
   unfolding emitsOn
   on-heads k e h = rw (e, le-leb (k + m) 64 h)
 
-  pub on-headed : (k : ℕ) → x ≡ Heading k → 64 < k + m → Jamming (f .jam) ≡ emitsOn f m x
+  pub on-headed : (k : ℕ) → x ≡ Heading k → 64 < k + m → Jamming (f .jam) false ≡ emitsOn f m x
   unfolding emitsOn
   on-headed k e h = rw (e, lt-leb (k + m) 64 h)
 
-  pub on-jams : (l r : ℕ) → x ≡ Jamming l → r ≡ l - m → Jamming r ≡ emitsOn f m x
+  pub on-jams : (l r : ℕ) (ends : Bool) → x ≡ Jamming l ends → r ≡ l - m → Jamming r ends ≡ emitsOn f m x
   unfolding emitsOn
-  on-jams l r e p = rw (e, p)
+  on-jams l r ends e p = rw (e, p)
 
   -- the code's sums
   pub sum-sends : (k : ℕ) → x ≡ Sending k → numberIn x + m < 4294967296 → k + m < 4294967296
@@ -215,7 +237,17 @@ module _ (f : Figures) (m : ℕ) (x : Transmitter) where
   sum-heads k e h = rw e at h
 
 pub emit-is : (f : Figures) (m : ℕ) (r : Receiver) (s : Station) (x : Transmitter) → x ≡ emitsOn f m (s .transmitter)
-    → record { address = s .address; deference = Busy true; transmitter = x; receiver = r; frame = s .frame; attempts = s .attempts; draw = s .draw; deferred = s .deferred; emitted = true } ≡ emitOn f m r s
+    → record {
+      address = s .address;
+      deference = Busy true;
+      transmitter = x;
+      receiver = r;
+      frame = s .frame;
+      attempts = s .attempts;
+      draw = s .draw;
+      deferred = s .deferred;
+      emitted = true;
+    } ≡ emitOn f m r s
 unfolding emitOn made
 emit-is f m r s x p = rw p
 

@@ -19,14 +19,16 @@ use Rattle.station_symbols.specs.Packet.{hearsAny, isEmission}
 use Rattle.station_state.specs.declared.Deference.{Deference}
 use Rattle.station_state.specs.declared.Deference.the-variants.{Quiet, Busy, Gap}
 use Rattle.station_state.specs.declared.Transmitter.{Transmitter}
-use Rattle.station_state.specs.declared.Transmitter.the-variants.{NoFrame, Waiting, BackingOff, Sending, Heading, Jamming}
+use Rattle.station_state.specs.declared.Transmitter.the-variants.{NoFrame, Waiting, BackingOff, Sending, Heading}
+use Rattle.station_state.specs.declared.Transmitter.the-variants.{Jamming}
 use Rattle.station_state.specs.declared.Receiver.{Receiver}
 use Rattle.station_state.specs.declared.Receiver.the-variants.{Listening, Readable, Seeking, Collecting}
 use Rattle.station_state.specs.declared.Station.{Station}
 use Rattle.station_state.specs.State.{numberIn}
 use Rattle.station_defer.specs.Defer.{to, defer, quietRule, busyRule, gapRule, gapOver, goesBack}
 use Rattle.station_transmit.specs.declared.TransmitEvent.the-variants.{NoTransmit}
-use Rattle.station_transmit.specs.Transmit.{waits, emitting, transmit, sendBit, afterBit, headBit, jamBit, packetLength, octetsHeld}
+use Rattle.station_transmit.specs.Transmit.{waits, emitting, transmit, sendBit, afterBit, headBit, jamBit, packetLength}
+use Rattle.station_transmit.specs.Transmit.{octetsHeld}
 use Rattle.station_receive.specs.declared.ReceiveEvent.the-variants.{NoReceive}
 use Rattle.station_receive.specs.declared.Stored.{Stored}
 use Rattle.station_receive.specs.declared.Stored.the-variants.{NoStore}
@@ -36,13 +38,17 @@ use Rattle.area_record.specs.Codec.{deferenceCount, receiverNumber}
 use Rattle.area_record.specs.CodecLaws.{Fit}
 use Rattle.bus_spec.specs.Range.{Fine}
 use Rattle.bus_quick.specs.Quick.{quietly}
-use Rattle.fast_silence.specs.Rested.{restedDeference, restedTransmitter, hasWaited, Lasts, NoneOut, defer-goes, waits-rests, lasts-none, transmit-goes, waited-more, deferred-more, rested-gap, rested-frame, none-waited, as-was, count-small, number-less}
-use Rattle.fast_station.specs.Forms.{made, deferredBy, heardGap, heardDeference, heardFor, heardRest, hearOn, restOn, emitsOn, emittedAt, emitsFor, emitOn}
+use Rattle.fast_silence.specs.Rested.{restedDeference, restedTransmitter, hasWaited, Lasts, NoneOut, defer-goes}
+use Rattle.fast_silence.specs.Rested.{waits-rests, lasts-none, transmit-goes, waited-more, deferred-more, rested-gap}
+use Rattle.fast_silence.specs.Rested.{rested-frame, none-waited, as-was, count-small, number-less}
+use Rattle.fast_station.specs.Forms.{made, deferredBy, heardGap, heardDeference, heardFor, heardRest, hearOn}
+use Rattle.fast_station.specs.Forms.{restOn, emitsOn, emittedAt, emitsFor, emitOn}
 use Rattle.fast_receive.specs.Received.{calmed}
 
 -- ---- a step from its parts
 
-pub parts-step : (f : Figures) (s : Station) (d draw : ℕ) (buf : List ℕ) (h : Heard) (D E : Deference) (X Y : Transmitter) (R S : Receiver) (df dg e : Bool) (em : Emission) (st : Stored)
+pub parts-step : (f : Figures) (s : Station) (d draw : ℕ) (buf : List ℕ) (h : Heard) (D E : Deference)
+    (X Y : Transmitter) (R S : Receiver) (df dg e : Bool) (em : Emission) (st : Stored)
     → defer f D (hearsAny h) e (waits X) ≡ to E
     → transmit f X (s .frame) (s .attempts) draw false (hearsAny h) ≡ emitting Y em NoTransmit
     → receive (s .address) buf R h (isEmission em) ≡ hearing S st
@@ -53,10 +59,12 @@ parts-step f s d draw buf h D E X Y R S df dg e em st p q r w = rw (p, q, r, w)
 
 -- a frame that waits one more step
 deferred-step : (m : ℕ) (s : Station)
-    → (deferredBy m s || (waits (restedTransmitter m (s .transmitter)) && (eqb (s .attempts) 0 && true))) ≡ deferredBy (suc m) s
+    → (deferredBy m s || (waits (restedTransmitter m (s .transmitter)) && (eqb (s .attempts) 0 && true))) ≡ deferredBy
+    (suc m) s
 unfolding deferredBy
 deferred-step m s =
-    deferred-more (s .deferred) (eqb (s .attempts) 0) (hasWaited m (s .transmitter)) (waits (restedTransmitter m (s .transmitter)))
+    deferred-more (s .deferred) (eqb (s .attempts) 0) (hasWaited m (s .transmitter))
+    (waits (restedTransmitter m (s .transmitter)))
     ∙ ap (λ (b : Bool). s .deferred || (eqb (s .attempts) 0 && b)) (sym (waited-more m (s .transmitter)))
 
 -- ---- others are heard: no frame goes out, none starts
@@ -68,7 +76,7 @@ heard-none f M K d Waiting p h = tt
 heard-none f M K d (BackingOff w) p h = tt
 heard-none f M K d (Sending k) p h = absurd (omega arith)
 heard-none f M K d (Heading k) p h = absurd (omega arith)
-heard-none f M K d (Jamming l) p h = absurd (omega arith)
+heard-none f M K d (Jamming l ends) p h = absurd (omega arith)
 
 -- ---- others are heard: deference
 
@@ -81,7 +89,8 @@ went-back g n false e = (ltb-true n g (sym (and-true (ltb n g)) ∙ e), refl)
 back-later : (g n c : ℕ) (own : Bool) → n ≤ c → goesBack g n own true ≡ false → goesBack g c own true ≡ false
 unfolding goesBack
 back-later g n c true l e = and-false (ltb c g)
-back-later g n c false l e = and-true (ltb c g) ∙ le-ltb c g (omega (arith, ltb-false n g (sym (and-true (ltb n g)) ∙ e)))
+back-later g n c false l e =
+    and-true (ltb c g) ∙ le-ltb c g (omega (arith, ltb-false n g (sym (and-true (ltb n g)) ∙ e)))
 
 stays-busy : (f : Figures) (own w : Bool) → defer f (Busy own) true false w ≡ to (Busy own)
 unfolding defer busyRule
@@ -91,7 +100,8 @@ module _ (f : Figures) (own : Bool) where
   goes-back : (n : ℕ) (w : Bool) → goesBack (f .gap1) n own true ≡ true
       → defer f (Gap n own) true false w ≡ to (Busy false)
   unfolding defer gapRule gapOf
-  goes-back n w e = let p = went-back (f .gap1) n own e in rw (lt-leb (f .gap1 + f .gap2) n (omega (arith, p .0)), e, p .1)
+  goes-back n w e =
+      let p = went-back (f .gap1) n own e in rw (lt-leb (f .gap1 + f .gap2) n (omega (arith, p .0)), e, p .1)
 
   rises : (c : ℕ) (w : Bool) → goesBack (f .gap1) c own true ≡ false → (w ≡ true → c < gapOf f)
       → defer f (Gap c own) true false w ≡ to (pick (leb (suc c) (gapOf f)) (Gap (suc c) own) (Busy false))
@@ -102,10 +112,12 @@ module _ (f : Figures) (own : Bool) where
       by-test w
       (λ t. absurd (omega (arith, s t)))
       (λ t. rw (b, t, lt-leb (suc c) (gapOf f) (omega arith))))
-      (λ b. let g = leb-false (gapOf f) c b in let z : c + 1 ≡ suc c = omega arith in rw (b, e, le-leb (suc c) (gapOf f) (omega arith), z))
+      (λ b. let g = leb-false (gapOf f) c b in let z : c + 1
+      ≡ suc c = omega arith in rw (b, e, le-leb (suc c) (gapOf f) (omega arith), z))
 
   rises-on : (c : ℕ) (w : Bool) → goesBack (f .gap1) c own true ≡ false → (w ≡ true → c < gapOf f)
-      → defer f (pick (leb c (gapOf f)) (Gap c own) (Busy false)) true false w ≡ to (pick (leb (suc c) (gapOf f)) (Gap (suc c) own) (Busy false))
+      → defer f (pick (leb c (gapOf f)) (Gap c own) (Busy false)) true false w ≡ to
+      (pick (leb (suc c) (gapOf f)) (Gap (suc c) own) (Busy false))
   rises-on c w e s =
       by-test (leb c (gapOf f))
       (λ b. ap (λ (t : Bool). defer f (pick t (Gap c own) (Busy false)) true false w) b ∙ rises c w e s)
@@ -118,7 +130,8 @@ gap-heard : (f : Figures) (M m n : ℕ) (own w t : Bool) → goesBack (f .gap1) 
     → defer f (heardDeference f m (Gap n own)) true false w ≡ to (heardDeference f (suc m) (Gap n own))
 unfolding heardDeference heardGap
 gap-heard f M zero n own w true e s = rw (ne-eqb 1 0 (λ z. omega arith), e) (goes-back f own n w e)
-gap-heard f M (suc m) n own w true e s = rw (ne-eqb (suc m) 0 (λ z. omega arith), ne-eqb (suc (suc m)) 0 (λ z. omega arith), e) (stays-busy f false w)
+gap-heard f M (suc m) n own w true e s =
+    rw (ne-eqb (suc m) 0 (λ z. omega arith), ne-eqb (suc (suc m)) 0 (λ z. omega arith), e) (stays-busy f false w)
 gap-heard f M zero n own w false e s =
     let z : n + 1 ≡ suc n = omega arith in
     rw (ne-eqb 1 0 (λ z. omega arith), e, z) (rises f own n w e (λ t. omega (arith, s t)))
@@ -152,19 +165,22 @@ waits-heard f M K m d (BackingOff w) l h e =
     (λ c. let g = ltb-false m w c in omega arith)
 waits-heard f M K m d (Sending k) l h e = absurd (omega arith)
 waits-heard f M K m d (Heading k) l h e = absurd (omega arith)
-waits-heard f M K m d (Jamming k) l h e = absurd (omega arith)
+waits-heard f M K m d (Jamming k ends) l h e = absurd (omega arith)
 
 -- the step, over any receiver
-pub hear-step : (f : Figures) (M K m : ℕ) (s : Station) (d draw : ℕ) (buf : List ℕ) (h : Heard) (r q : Receiver) (st : Stored)
+pub hear-step : (f : Figures) (M K m : ℕ) (s : Station) (d draw : ℕ) (buf : List ℕ) (h : Heard) (r q : Receiver)
+    (st : Stored)
     → K ≤ heardRest f M (s .deference) (s .transmitter) → m < K → hearsAny h ≡ true
     → receive (s .address) buf r h false ≡ hearing q st
     → stepped f (hearOn f m r s) d draw buf h ≡ quietly (hearOn f (suc m) q s) Rest st
 unfolding hearOn
 hear-step f M K m s d draw buf h r q st l g a e =
     let x = s .transmitter in
-    parts-step f s d draw buf h (heardDeference f m (s .deference)) (heardDeference f (suc m) (s .deference)) (restedTransmitter m x) (restedTransmitter (suc m) x) r q
+    parts-step f s d draw buf h (heardDeference f m (s .deference)) (heardDeference f (suc m) (s .deference))
+    (restedTransmitter m x) (restedTransmitter (suc m) x) r q
     (deferredBy m s) (deferredBy (suc m) s) false Rest st
-    (ap (λ (b : Bool). defer f (heardDeference f m (s .deference)) b false (waits (restedTransmitter m x))) a ∙ heard-on f M m (s .deference) (waits (restedTransmitter m x)) (waits-heard f M K m (s .deference) x l g))
+    (ap (λ (b : Bool). defer f (heardDeference f m (s .deference)) b false (waits (restedTransmitter m x))) a
+    ∙ heard-on f M m (s .deference) (waits (restedTransmitter m x)) (waits-heard f M K m (s .deference) x l g))
     (transmit-goes f m x (s .frame) (s .attempts) draw (hearsAny h) (heard-none f M K (s .deference) x (omega arith) l))
     e
     (deferred-step m s)
@@ -179,9 +195,11 @@ unfolding receive calmed ended
 calms address buf m Listening e h = refl
 calms address buf m (Readable n) e h = refl
 calms address buf zero (Seeking row sp own) e h = refl
-calms address buf (suc m) (Seeking row sp own) e h = rw (ne-eqb (suc m) 0 (λ z. omega arith), ne-eqb (suc (suc m)) 0 (λ z. omega arith))
+calms address buf (suc m) (Seeking row sp own) e h =
+    rw (ne-eqb (suc m) 0 (λ z. omega arith), ne-eqb (suc (suc m)) 0 (λ z. omega arith))
 calms address buf zero (Collecting n sp own) e h = h refl
-calms address buf (suc m) (Collecting n sp own) e h = rw (ne-eqb (suc m) 0 (λ z. omega arith), ne-eqb (suc (suc m)) 0 (λ z. omega arith))
+calms address buf (suc m) (Collecting n sp own) e h =
+    rw (ne-eqb (suc m) 0 (λ z. omega arith), ne-eqb (suc (suc m)) 0 (λ z. omega arith))
 
 pub rest-step : (f : Figures) (K m : ℕ) (s : Station) (d draw : ℕ) (buf : List ℕ) → 1 ≤ gapOf f
     → Lasts f K (s .deference) (s .transmitter) → m < K
@@ -190,7 +208,8 @@ pub rest-step : (f : Figures) (K m : ℕ) (s : Station) (d draw : ℕ) (buf : Li
 unfolding restOn
 rest-step f K m s d draw buf g l h c =
     let x = s .transmitter in
-    parts-step f s d draw buf Nothing (restedDeference f m (s .deference)) (restedDeference f (suc m) (s .deference)) (restedTransmitter m x) (restedTransmitter (suc m) x)
+    parts-step f s d draw buf Nothing (restedDeference f m (s .deference)) (restedDeference f (suc m) (s .deference))
+    (restedTransmitter m x) (restedTransmitter (suc m) x)
     (calmed m (s .receiver)) (calmed (suc m) (s .receiver)) (deferredBy m s) (deferredBy (suc m) s) false Rest NoStore
     (defer-goes f (s .deference) m (waits (restedTransmitter m x)) g (waits-rests f K m (s .deference) x l h))
     (transmit-goes f m x (s .frame) (s .attempts) draw false (lasts-none f K (s .deference) x l))
@@ -216,9 +235,10 @@ emits-on f K m z n draw (Heading k) h l g c =
     rw (le-leb (k + m) 64 (omega arith), lt-leb (k + suc m) 64 (omega arith)) (rw b))
   where
     heads : ltb (k + m) 64 ≡ true → k + m + 1 ≡ k + suc m
-        → emitting (pick (ltb (k + m) 64) (Heading (k + m + 1)) (Jamming (f .jam))) (PacketBit (k + m)) NoTransmit ≡ emitting (Heading (k + suc m)) (PacketBit (k + m)) NoTransmit
+        → emitting (pick (ltb (k + m) 64) (Heading (k + m + 1)) (Jamming (f .jam) false)) (PacketBit (k + m)) NoTransmit
+        ≡ emitting (Heading (k + suc m)) (PacketBit (k + m)) NoTransmit
     heads b e = rw (b, e)
-emits-on f K m z n draw (Jamming l) h b g c =
+emits-on f K m z n draw (Jamming l ends) h b g c =
     let e : l - m - 1 ≡ l - suc m = omega arith in rw (lt-leb (l - m) 1 (omega arith), e)
 
 -- it is an emission, and no frame waits
@@ -230,14 +250,15 @@ emits-still f K m z Waiting l g = absurd (omega arith)
 emits-still f K m z (BackingOff w) l g = absurd (omega arith)
 emits-still f K m z (Sending k) l g = (refl, refl)
 emits-still f K m z (Heading k) l g = (refl, rw (le-leb (k + m) 64 (omega arith)))
-emits-still f K m z (Jamming l) b g = (refl, refl)
+emits-still f K m z (Jamming l ends) b g = (refl, refl)
 
 busy-emits : (f : Figures) (h w : Bool) → defer f (Busy true) h true w ≡ to (Busy true)
 unfolding defer busyRule
 busy-emits f true w = refl
 busy-emits f false w = refl
 
-pub emit-step : (f : Figures) (K m : ℕ) (s : Station) (d draw : ℕ) (buf : List ℕ) (h : Heard) (r q : Receiver) (st : Stored)
+pub emit-step : (f : Figures) (K m : ℕ) (s : Station) (d draw : ℕ) (buf : List ℕ) (h : Heard) (r q : Receiver)
+    (st : Stored)
     → K ≤ emitsFor (s .frame) (s .transmitter) → m < K → ((k : ℕ) → s .transmitter ≡ Sending k → h ≡ Nothing)
     → receive (s .address) buf r h true ≡ hearing q st
     → stepped f (emitOn f m r s) d draw buf h ≡ quietly (emitOn f (suc m) q s) (emittedAt m (s .transmitter)) st
@@ -245,7 +266,8 @@ unfolding emitOn
 emit-step f K m s d draw buf h r q st l g c e =
     let x = s .transmitter in
     let v = emits-still f K m (s .frame) x l g in
-    parts-step f s d draw buf h (Busy true) (Busy true) (emitsOn f m x) (emitsOn f (suc m) x) r q (s .deferred) (s .deferred) true (emittedAt m x) st
+    parts-step f s d draw buf h (Busy true) (Busy true) (emitsOn f m x) (emitsOn f (suc m) x) r q (s .deferred)
+    (s .deferred) true (emittedAt m x) st
     (busy-emits f (hearsAny h) (waits (emitsOn f m x)))
     (emits-on f K m (s .frame) (s .attempts) draw x (hearsAny h) l g (λ k p. ap hearsAny (c k p)))
     (ap (receive (s .address) buf r h) (v .0) ∙ e)
@@ -274,7 +296,7 @@ emits-zero f z Waiting h = refl
 emits-zero f z (BackingOff w) h = refl
 emits-zero f z (Sending k) h = let e : k + 0 ≡ k = omega arith in ap Sending e
 emits-zero f z (Heading k) h = let e : k + 0 ≡ k = omega arith in rw (le-leb (k + 0) 64 (omega arith)) (ap Heading e)
-emits-zero f z (Jamming l) h = let e : l - 0 ≡ l = omega arith in ap Jamming e
+emits-zero f z (Jamming l ends) h = let e : l - 0 ≡ l = omega arith in ap (λ (k : ℕ). Jamming k ends) e
 
 -- a station of its own parts
 made-same : (s : Station) (d : Deference) (x : Transmitter) (r : Receiver) (df e : Bool) → d ≡ s .deference
@@ -282,27 +304,42 @@ made-same : (s : Station) (d : Deference) (x : Transmitter) (r : Receiver) (df e
     → made s d x r df e ≡ s
 unfolding made
 made-same s d x r df e p q u v w =
-    λ i. record { address = s .address; deference = p i; transmitter = q i; receiver = u i; frame = s .frame; attempts = s .attempts; draw = s .draw; deferred = v i; emitted = w i }
+    λ i. record {
+      address = s .address;
+      deference = p i;
+      transmitter = q i;
+      receiver = u i;
+      frame = s .frame;
+      attempts = s .attempts;
+      draw = s .draw;
+      deferred = v i;
+      emitted = w i;
+    }
 
 module _ (f : Figures) (d t : ℕ) (s : Station) (v : Fine f d t s) where
   deferred-none : deferredBy 0 s ≡ s .deferred
   unfolding deferredBy
-  deferred-none = rw (none-waited f (s .frame) (s .transmitter) (v .number)) (as-was (s .deferred) (eqb (s .attempts) 0))
+  deferred-none =
+      rw (none-waited f (s .frame) (s .transmitter) (v .number)) (as-was (s .deferred) (eqb (s .attempts) 0))
 
   pub hear-none : s .emitted ≡ false → hearOn f 0 (s .receiver) s ≡ s
   unfolding hearOn
   hear-none e =
-      made-same s _ _ (s .receiver) _ false (heard-zero f (s .deference)) (rested-frame f (s .frame) (s .transmitter) (v .number)) refl deferred-none (sym e)
+      made-same s _ _ (s .receiver) _ false (heard-zero f (s .deference))
+      (rested-frame f (s .frame) (s .transmitter) (v .number)) refl deferred-none (sym e)
 
   pub rest-none : s .emitted ≡ false → restOn f 0 s ≡ s
   unfolding restOn
   rest-none e =
-      made-same s _ _ _ _ false (rested-gap f (s .deference) (v .gap)) (rested-frame f (s .frame) (s .transmitter) (v .number)) (calm-zero (s .receiver)) deferred-none (sym e)
+      made-same s _ _ _ _ false (rested-gap f (s .deference) (v .gap))
+      (rested-frame f (s .frame) (s .transmitter) (v .number)) (calm-zero (s .receiver)) deferred-none (sym e)
 
 pub emit-none : (f : Figures) (s : Station) → 0 < emitsFor (s .frame) (s .transmitter) → s .deference ≡ Busy true
     → s .emitted ≡ true → emitOn f 0 (s .receiver) s ≡ s
 unfolding emitOn
-emit-none f s h b e = made-same s _ _ (s .receiver) (s .deferred) true (sym b) (emits-zero f (s .frame) (s .transmitter) h) refl refl (sym e)
+emit-none f s h b e =
+    made-same s _ _ (s .receiver) (s .deferred) true (sym b) (emits-zero f (s .frame) (s .transmitter) h) refl refl
+    (sym e)
 
 -- ---- the address stays, and the frame
 
@@ -313,7 +350,7 @@ emits-held f m z Waiting p = refl
 emits-held f m z (BackingOff w) p = refl
 emits-held f m z (Sending k) p = refl
 emits-held f m z (Heading k) p = by-test (leb (k + m) 64) (λ b. rw b) (λ b. rw b)
-emits-held f m z (Jamming k) p = refl
+emits-held f m z (Jamming k ends) p = refl
 
 module _ (f : Figures) (m : ℕ) (r : Receiver) (s : Station) where
   pub hear-address : hearOn f m r s .address ≡ s .address
@@ -377,7 +414,7 @@ module _ (f : Figures) (g : Figured f) where
       by-test (leb (k + m) 64)
       (λ b. let q = leb-true (k + m) 64 b in rw b (omega arith))
       (λ b. rw b (omega (arith, g .jam)))
-  emits-small m z (Jamming k) h p l = omega arith
+  emits-small m z (Jamming k ends) h p l = omega arith
 
   pub hear-fit : (m : ℕ) (r : Receiver) (s : Station) → Fit s → receiverNumber r < 256 ^ 4 → Fit (hearOn f m r s)
   unfolding hearOn made

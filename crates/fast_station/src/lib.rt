@@ -1,4 +1,5 @@
-// A station after many steps of one kind, by value: others are heard, nothing is heard, or it emits; and how long each lasts.
+// A station after many steps of one kind, by value: others are heard, nothing is heard, or it emits; and how long each
+// lasts.
 
 use sheet_layout::Figures;
 use station_state::Deference;
@@ -8,7 +9,8 @@ use station_state::Transmitter;
 ghost use mathlib.Core.Path.{_≡_};
 ghost use Prim.Native.Nat.{_+_, _-_, _<_};
 ghost use Rattle.station_state.specs.State.{numberIn};
-ghost use Rattle.fast_station.specs.Forms.{heardGap, heardDeference, heardFor, heardRest, hearOn, restOn, emitsOn, emitsFor, emitOn};
+ghost use Rattle.fast_station.specs.Forms.{heardGap, heardDeference, heardFor, heardRest, hearOn, restOn};
+ghost use Rattle.fast_station.specs.Forms.{emitsOn, emitsFor, emitOn};
 ghost use Rattle.fast_receive.specs.Received.{calmed};
 
 // ---- others are heard, and it emits nothing
@@ -44,7 +46,7 @@ pub fn heard_rest(f: Figures, m: u32, d: Deference, x: Transmitter) -> u32
         Transmitter::BackingOff(w) => fast_rest::larger(w, heard_for(f, m, d)),
         Transmitter::Sending(_) => 0,
         Transmitter::Heading(_) => 0,
-        Transmitter::Jamming(_) => 0,
+        Transmitter::Jamming { left: _, ends: _ } => 0,
     }
 }
 
@@ -166,7 +168,8 @@ pub fn rest_on(f: Figures, m: u32, s: Station) -> Station
 
 // ---- it emits
 
-// The steps through which it emits without an event, a draw or a change of what it emits; `octets` are those of its frame.
+// The steps through which it emits without an event, a draw or a change of what it emits; `octets` are those of its
+// frame.
 pub fn emits_for(octets: u32, x: Transmitter) -> u32
     requires { ⌜ octets < 65536 ⌝ }
     ensures { λ r. ⌜ r ≡ emitsFor octets x ⌝ }
@@ -177,7 +180,7 @@ pub fn emits_for(octets: u32, x: Transmitter) -> u32
         Transmitter::BackingOff(_) => 0,
         Transmitter::Sending(k) => less(64 + 8 * octets, k),
         Transmitter::Heading(k) => less(65, k),
-        Transmitter::Jamming(l) => less(l, 1),
+        Transmitter::Jamming { left, ends: _ } => less(left, 1),
     }
 }
 
@@ -204,9 +207,15 @@ fn emit_transmitter(f: Figures, m: u32, x: Transmitter) -> Transmitter
             if k + m <= 64 {
                 return Transmitter::Heading(k + m);
             }
-            Transmitter::Jamming(f.jam)
+            Transmitter::Jamming {
+                left: f.jam,
+                ends: false,
+            }
         }
-        Transmitter::Jamming(l) => Transmitter::Jamming(less(l, m)),
+        Transmitter::Jamming { left, ends } => Transmitter::Jamming {
+            left: less(left, m),
+            ends,
+        },
     }
 }
 

@@ -1,5 +1,5 @@
--- What many steps of one kind leave of one station: its record in closed form, and the bits that it collected. It is the form that
--- fast_plan/Goes (`goes-on`) has for its turns by itself. Assumes nothing.
+-- What many steps of one kind leave of one station: its record in closed form, and the bits that it collected. It is
+-- the form that fast_plan/Goes (`goes-on`) has for its turns by itself. Assumes nothing.
 use Prim.Native.Nat.{ℕ, _+_, _<_}
 use mathlib.Core.Bool.{Bool}
 use mathlib.Core.List.{List}
@@ -10,7 +10,7 @@ use Rattle.station_state.specs.declared.Receiver.{Receiver}
 use Rattle.station_state.specs.declared.Station.{Station}
 use Rattle.station_state.specs.State.{numberIn}
 use Rattle.station_receive.specs.declared.Stored.the-variants.{NoStore}
-use Rattle.station_receive.specs.Receive.{rowIn, bitsIn}
+use Rattle.station_receive.specs.Receive.{rowIn, bitsIn, rowLimit}
 use Rattle.area.specs.Area.{stationAt}
 use Rattle.fast_plan.specs.Goes.{wentTo}
 use Rattle.fast_station.specs.Forms.{hearOn, restOn, emitOn}
@@ -24,7 +24,8 @@ movedOn f e m r s = pick e (emitOn f m r s) (hearOn f m r s)
 
 unfoldable pub heardStretch : Figures → (e : Bool) → (ℕ → Heard) → (m j : ℕ) → List ℕ → List ℕ
 heardStretch f e H m j x =
-    wentTo j (keptBy e H (stationAt x j .receiver)) m (movedOn f e m (receivedBy e H m (stationAt x j .receiver)) (stationAt x j)) x
+    wentTo j (keptBy e H (stationAt x j .receiver)) m
+    (movedOn f e m (receivedBy e H m (stationAt x j .receiver)) (stationAt x j)) x
 
 -- ---- nothing is heard
 
@@ -39,7 +40,7 @@ quietStretch f e m j x = wentTo j (λ s. NoStore) m (quietOn f e m (stationAt x 
 pub record Room (f : Figures) (m : ℕ) (s : Station) : Type 0 where
   pub gap : f .gap1 + f .gap2 < 65536
   pub number : numberIn (s .transmitter) + m < 4294967296
-  pub row : rowIn (s .receiver) < 512
+  pub row : rowIn (s .receiver) < rowLimit
   pub bits : bitsIn (s .receiver) + m < 4294967296
 
 -- shut, so that a search does not enter it

@@ -11,6 +11,7 @@ ghost use Rattle.area.specs.Area.{stationAt};
 ghost use Rattle.fast_receive.specs.Received.{spoils, lineFrom, bitsFrom, AllHeard};
 ghost use Rattle.fast_stretch.specs.Stretch.{Movable, movedOn, heardStretch, quietOn, quietStretch};
 ghost use Rattle.area.specs.Offsets.{areaSize};
+ghost use Rattle.sheet_layout.specs.Limits.{maxStations};
 
 // A station that heard others for m steps; e: whether it emitted in them; its receiver is r then.
 fn move_on(f: Figures, e: bool, m: u32, r: Receiver, s: Station) -> Station
@@ -25,7 +26,8 @@ fn move_on(f: Figures, e: bool, m: u32, r: Receiver, s: Station) -> Station
 
 // Station j, which is s, hears spoiled symbols for m steps.
 pub fn hear_spoiled(area: &mut [u8], j: usize, f: Figures, e: bool, m: u32, s: Station)
-    requires { ⌜ (j < 16) × (areaSize ≤ length (now area)) × Movable f m (now area) j × (s ≡ stationAt (now area) j) ⌝ }
+    requires { ⌜ (j < maxStations) × (areaSize ≤ length (now area)) × Movable f m (now area) j
+        × (s ≡ stationAt (now area) j) ⌝ }
     ensures { λ r. ⌜ now (area .exit) ≡ heardStretch f e spoils m j (now (area .entry)) ⌝ }
 {
     let r = s.receiver;
@@ -36,7 +38,8 @@ pub fn hear_spoiled(area: &mut [u8], j: usize, f: Figures, e: bool, m: u32, s: S
 
 // Station j, which is s, hears for m steps what its line holds from step u on.
 pub fn hear_line(area: &mut [u8], j: usize, f: Figures, e: bool, u: usize, m: u32, s: Station)
-    requires { ⌜ (j < 16) × (areaSize ≤ length (now area)) × Movable f m (now area) j × (s ≡ stationAt (now area) j) × (u + m < 4294967296) × AllHeard (lineFrom (now area) j u) m ⌝ }
+    requires { ⌜ (j < maxStations) × (areaSize ≤ length (now area)) × Movable f m (now area) j
+        × (s ≡ stationAt (now area) j) × (u + m < 4294967296) × AllHeard (lineFrom (now area) j u) m ⌝ }
     ensures { λ r. ⌜ now (area .exit) ≡ heardStretch f e (lineFrom (now (area .entry)) j u) m j (now (area .entry)) ⌝ }
 {
     let r = s.receiver;
@@ -56,7 +59,8 @@ pub fn hear_packet(
     m: u32,
     s: Station,
 )
-    requires { ⌜ (j < 16) × (areaSize ≤ length (now area)) × Movable f m (now area) j × (s ≡ stationAt (now area) j) × (a + m < 4294967296) ⌝ }
+    requires { ⌜ (j < maxStations) × (areaSize ≤ length (now area)) × Movable f m (now area) j
+        × (s ≡ stationAt (now area) j) × (a + m < 4294967296) ⌝ }
     ensures { λ r. ⌜ now (area .exit) ≡ heardStretch f e (bitsFrom (now (frame .entry)) a) m j (now (area .entry)) ⌝ }
 {
     let r = s.receiver;
@@ -79,7 +83,8 @@ fn keep_on(f: Figures, e: bool, m: u32, s: Station) -> Station
 
 // Station j, which is s, hears nothing for m steps.
 pub fn hear_nothing(area: &mut [u8], j: usize, f: Figures, e: bool, m: u32, s: Station)
-    requires { ⌜ (j < 16) × (areaSize ≤ length (now area)) × Movable f m (now area) j × (s ≡ stationAt (now area) j) ⌝ }
+    requires { ⌜ (j < maxStations) × (areaSize ≤ length (now area)) × Movable f m (now area) j
+        × (s ≡ stationAt (now area) j) ⌝ }
     ensures { λ r. ⌜ now (area .exit) ≡ quietStretch f e m j (now (area .entry)) ⌝ }
 {
     let next = keep_on(f, e, m, s);

@@ -24,7 +24,8 @@ use Rattle.fast_bound.specs.Bound.{AllLast, ReadFrom}
 use Rattle.fast_window.specs.Window.{Begins, settledOf, Lasting, Passed}
 use Rattle.sheet_layout.specs.Limits.{lastClock}
 
-pub begins : (a : List ℕ) (f : Figures) (d n t c : ℕ) → Ready a → f ≡ figuresAt a → d ≡ depthAt a → c ≡ countAt a → n ≡ c → t ≡ clockAt a → Begins a f d n t
+pub begins : (a : List ℕ) (f : Figures) (d n t c : ℕ) → Ready a → f ≡ figuresAt a → d ≡ depthAt a → c ≡ countAt a
+    → n ≡ c → t ≡ clockAt a → Begins a f d n t
 unfolding Begins Ready
 begins a f d n t c r ef ed ec en et = record { ready = r; figures = ef; depth = ed; count = en ∙ ec; clock = et }
 
@@ -56,7 +57,8 @@ module _ (a : List ℕ) (f : Figures) (d n t : ℕ) (v : Begins a f d n t) where
   unfolding Begins
   begins-clock = v .clock
 
-pub window-made : (a : List ℕ) (f : Figures) (d n t r : ℕ) (z b : List ℕ) → Begins a f d n t → z ≡ settledOf a r → b ≡ withClock z (t + r) → b ≡ turnedOf a (planOf a) r
+pub window-made : (a : List ℕ) (f : Figures) (d n t r : ℕ) (z b : List ℕ) → Begins a f d n t → z ≡ settledOf a r
+    → b ≡ withClock z (t + r) → b ≡ turnedOf a (planOf a) r
 unfolding settledOf turnedOf
 window-made a f d n t r z b v ez eb = let et = begins-clock a f d n t v in eb ∙ rw (ez, et)
 
@@ -65,20 +67,24 @@ module _ (a : List ℕ) (m r : ℕ) where
   unfolding Lasting
   lasting l h = record { some = omega arith; lasts = l }
 
-  pub pass-some : (f : Figures) (d n t : ℕ) (b : List ℕ) → Begins a f d n t → t + m ≤ lastClock → AllCalm a (planOf a) r → r ≤ m → 12 ≤ r → b ≡ turnedOf a (planOf a) r → Passed m r a b
+  pub pass-some : (f : Figures) (d n t : ℕ) (b : List ℕ) → Begins a f d n t → t + m ≤ lastClock → AllCalm a (planOf a) r
+      → r ≤ m → 12 ≤ r → b ≡ turnedOf a (planOf a) r → Passed m r a b
   unfolding Passed Begins
   pass-some f d n t b v early calm h pos eb =
       record {
         within = h;
         calm = calm;
-        made = eb ∙ sym (steps-turned a (planOf a) r (omega arith) (v .ready) (omega (arith, v .clock)) (calm-holds a (planOf a) r calm));
+        made =
+            eb ∙ sym (steps-turned a (planOf a) r (omega arith) (v .ready) (omega (arith, v .clock))
+            (calm-holds a (planOf a) r calm));
       }
 
   pub pass-singly : (b : List ℕ) → AllCalm a (planOf a) r → r ≤ m → b ≡ steps r a → Passed m r a b
   unfolding Passed
   pass-singly b calm h eb = record { within = h; calm = calm; made = eb }
 
-pub single-runs : (a : List ℕ) (f : Figures) (d n t m r : ℕ) → Begins a f d n t → t + m ≤ lastClock → r ≤ m → Runnable r a
+pub single-runs : (a : List ℕ) (f : Figures) (d n t m r : ℕ) → Begins a f d n t → t + m ≤ lastClock → r ≤ m
+    → Runnable r a
 unfolding Begins Runnable
 single-runs a f d n t m r v early h = (v .ready, omega (arith, v .clock))
 

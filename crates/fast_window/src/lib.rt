@@ -18,8 +18,8 @@ ghost use Rattle.fast_heard.specs.Hearing.{planOf};
 ghost use Rattle.fast_heard.specs.Sights.{sightsOf};
 ghost use Rattle.fast_move.specs.Move.{Moving};
 ghost use Rattle.fast_window.specs.Window.{bitAt, heardBy, heardFrom, Begins, settledOf, Lasting, Passed};
-ghost use Rattle.sheet_layout.specs.Limits.{lastClock};
-ghost use Rattle.area.specs.Offsets.{areaSize};
+ghost use Rattle.sheet_layout.specs.Limits.{lastClock, maxStations};
+ghost use Rattle.area.specs.Offsets.{areaSize, frameRoom};
 
 // A window of fewer steps is made by single steps: they cost less.
 const SHORT: u32 = 12;
@@ -50,8 +50,10 @@ fn move_run(
     s: u32,
     m: u32,
 ) -> u32
-    requires { ⌜ (j < 16) × (areaSize ≤ length (now area)) × (s < m) × (t + m ≤ lastClock) × (bit + m < 4294967296) × (f .gap1 + f .gap2 < 65536) × Moving f depth j (t + s) (now area) ⌝ }
-    ensures moved { λ r. ⌜ now (area .exit) ≡ byItself f depth j (heardFrom (now (area .entry)) j t near (now (frame .entry)) bit s) r (now (area .entry)) ⌝ }
+    requires { ⌜ (j < maxStations) × (areaSize ≤ length (now area)) × (s < m) × (t + m ≤ lastClock)
+        × (bit + m < 4294967296) × (f .gap1 + f .gap2 < 65536) × Moving f depth j (t + s) (now area) ⌝ }
+    ensures moved { λ r. ⌜ now (area .exit)
+        ≡ byItself f depth j (heardFrom (now (area .entry)) j t near (now (frame .entry)) bit s) r (now (area .entry)) ⌝ }
     ensures bound { λ r. ⌜ (0 < r) × (s + r ≤ m) ⌝ }
 {
     let most = m - s;
@@ -74,8 +76,10 @@ fn move_runs(
     frame: &[u8],
     m: u32,
 )
-    requires { ⌜ (j < 16) × (areaSize ≤ length (now area)) × (t + m ≤ lastClock) × (bit + m < 4294967296) × (f .gap1 + f .gap2 < 65536) × Moving f depth j t (now area) ⌝ }
-    ensures { λ r. ⌜ now (area .exit) ≡ byItself f depth j (heardBy (now (area .entry)) j t near (now (frame .entry)) bit) m (now (area .entry)) ⌝ }
+    requires { ⌜ (j < maxStations) × (areaSize ≤ length (now area)) × (t + m ≤ lastClock) × (bit + m < 4294967296)
+        × (f .gap1 + f .gap2 < 65536) × Moving f depth j t (now area) ⌝ }
+    ensures { λ r. ⌜ now (area .exit)
+        ≡ byItself f depth j (heardBy (now (area .entry)) j t near (now (frame .entry)) bit) m (now (area .entry)) ⌝ }
 {
     let mut s: u32 = 0;
     while s < m {
@@ -84,19 +88,21 @@ fn move_runs(
 }
 
 // The first n octets are the frame of station i.
-fn hold_frame(area: &[u8], i: usize, n: usize) -> [u8; 1536]
-    requires { ⌜ (i < 16) × (n ≤ 1536) × (areaSize ≤ length (now area)) ⌝ }
+fn hold_frame(area: &[u8], i: usize, n: usize) -> [u8; area::FRAME_ROOM]
+    requires { ⌜ (i < maxStations) × (n ≤ frameRoom) × (areaSize ≤ length (now area)) ⌝ }
     ensures { λ r. ⌜ take n r ≡ frameAt (now (area .entry)) i n ⌝ }
 {
-    let mut held = [0u8; 1536];
+    let mut held = [0u8; area::FRAME_ROOM];
     octets_copies::store(&mut held, 0, area_buffers::frame(area, i, n));
     held
 }
 
 // Station j moves on over m steps from clock t on.
 fn move_station(area: &mut [u8], f: Figures, depth: u32, j: usize, t: u32, w: Sight, m: u32)
-    requires { ⌜ (j < 16) × (areaSize ≤ length (now area)) × (t + m ≤ lastClock) × (w .bit + m < 4294967296) × (w .from < 16) × (w .octets ≤ 1536) × (f .gap1 + f .gap2 < 65536) × Moving f depth j t (now area) ⌝ }
-    ensures { λ r. ⌜ now (area .exit) ≡ byItself f depth j (heardBy (now (area .entry)) j t (w .near) (frameAt (now (area .entry)) (w .from) (w .octets)) (w .bit)) m (now (area .entry)) ⌝ }
+    requires { ⌜ (j < maxStations) × (areaSize ≤ length (now area)) × (t + m ≤ lastClock) × (w .bit + m < 4294967296)
+        × (w .from < maxStations) × (w .octets ≤ frameRoom) × (f .gap1 + f .gap2 < 65536) × Moving f depth j t (now area) ⌝ }
+    ensures { λ r. ⌜ now (area .exit)
+        ≡ byItself f depth j (heardBy (now (area .entry)) j t (w .near) (frameAt (now (area .entry)) (w .from) (w .octets)) (w .bit)) m (now (area .entry)) ⌝ }
 {
     let near = w.near;
     let octets = w.octets as usize;
@@ -108,8 +114,10 @@ fn move_station(area: &mut [u8], f: Figures, depth: u32, j: usize, t: u32, w: Si
 
 // Each of n stations moves on over m steps from clock t on, by what it heard of before.
 fn move_all(area: &mut [u8], f: Figures, depth: u32, n: usize, t: u32, seen: [Sight; 16], m: u32)
-    requires { ⌜ (n ≤ 16) × (areaSize ≤ length (now area)) × (t + m ≤ lastClock) × Begins (now area) f depth n t × (seen ≡ sightsOf (now area) n) ⌝ }
-    ensures { λ r. ⌜ now (area .exit) ≡ ownAll (now (area .entry)) (planOf (now (area .entry))) m n (now (area .entry)) ⌝ }
+    requires { ⌜ (n ≤ maxStations) × (areaSize ≤ length (now area)) × (t + m ≤ lastClock)
+        × Begins (now area) f depth n t × (seen ≡ sightsOf (now area) n) ⌝ }
+    ensures { λ r. ⌜ now (area .exit)
+        ≡ ownAll (now (area .entry)) (planOf (now (area .entry))) m n (now (area .entry)) ⌝ }
 {
     let mut j: usize = 0;
     while j < n {
@@ -121,7 +129,8 @@ fn move_all(area: &mut [u8], f: Figures, depth: u32, n: usize, t: u32, seen: [Si
 
 // A window of r steps from clock t on, but for the clock: the stations, and then the lines.
 fn make_steps(area: &mut [u8], f: Figures, depth: u32, n: usize, t: u32, seen: [Sight; 16], r: u32)
-    requires { ⌜ (n ≤ 16) × (areaSize ≤ length (now area)) × (t + r ≤ lastClock) × Begins (now area) f depth n t × (seen ≡ sightsOf (now area) n) × Lasting (now area) r ⌝ }
+    requires { ⌜ (n ≤ maxStations) × (areaSize ≤ length (now area)) × (t + r ≤ lastClock)
+        × Begins (now area) f depth n t × (seen ≡ sightsOf (now area) n) × Lasting (now area) r ⌝ }
     ensures { λ q. ⌜ now (area .exit) ≡ settledOf (now (area .entry)) r ⌝ }
 {
     let from = fast_lines::emitters(area, n);
@@ -131,7 +140,8 @@ fn make_steps(area: &mut [u8], f: Figures, depth: u32, n: usize, t: u32, seen: [
 
 // A window of r steps from clock t on.
 fn make(area: &mut [u8], f: Figures, depth: u32, n: usize, t: u32, seen: [Sight; 16], r: u32)
-    requires { ⌜ (n ≤ 16) × (areaSize ≤ length (now area)) × (t + r ≤ lastClock) × Begins (now area) f depth n t × (seen ≡ sightsOf (now area) n) × Lasting (now area) r ⌝ }
+    requires { ⌜ (n ≤ maxStations) × (areaSize ≤ length (now area)) × (t + r ≤ lastClock)
+        × Begins (now area) f depth n t × (seen ≡ sightsOf (now area) n) × Lasting (now area) r ⌝ }
     ensures { λ q. ⌜ now (area .exit) ≡ turnedOf (now (area .entry)) (planOf (now (area .entry))) r ⌝ }
 {
     make_steps(area, f, depth, n, t, seen, r);
@@ -142,41 +152,41 @@ fn make(area: &mut [u8], f: Figures, depth: u32, n: usize, t: u32, seen: [Sight;
 
 // Whether a station that emits nothing, by its record, emitted nothing before and does not start now.
 fn is_still(area: &[u8], f: Figures, i: usize, phase: u32) -> bool
-    requires { ⌜ (i < 16) × (areaSize ≤ length (now area)) × (f .gap1 + f .gap2 < 65536) ⌝ }
+    requires { ⌜ (i < maxStations) × (areaSize ≤ length (now area)) × (f .gap1 + f .gap2 < 65536) ⌝ }
 {
-    if area::read_word(area, i, 13) != 0 {
+    if area::read_word(area, i, area_record::words::EMITTED) != 0 {
         return false;
     }
     if phase != 1 {
         return true;
     }
-    let deference = area::read_word(area, i, 0);
+    let deference = area::read_word(area, i, area_record::words::DEFERENCE);
     if deference == 0 {
         return false;
     }
-    area::read_word(area, i, 2) < f.gap1 + f.gap2
+    area::read_word(area, i, area_record::words::GAP) < f.gap1 + f.gap2
 }
 
 // Whether a station that emits did so before, and is not hit now while it sends.
 fn goes_on(area: &[u8], i: usize, phase: u32, t: u32) -> bool
-    requires { ⌜ (i < 16) × (areaSize ≤ length (now area)) ⌝ }
+    requires { ⌜ (i < maxStations) × (areaSize ≤ length (now area)) ⌝ }
 {
     if phase == 3 {
         if area_line::read_symbol(area, i, t as usize) != 0 {
             return false;
         }
     }
-    if area::read_word(area, i, 13) == 0 {
+    if area::read_word(area, i, area_record::words::EMITTED) == 0 {
         return false;
     }
-    area::read_word(area, i, 0) == 1
+    area::read_word(area, i, area_record::words::DEFERENCE) == 1
 }
 
 // Whether station i may allow a window at clock t.
 fn may_last(area: &[u8], f: Figures, i: usize, t: u32) -> bool
-    requires { ⌜ (i < 16) × (areaSize ≤ length (now area)) × (f .gap1 + f .gap2 < 65536) ⌝ }
+    requires { ⌜ (i < maxStations) × (areaSize ≤ length (now area)) × (f .gap1 + f .gap2 < 65536) ⌝ }
 {
-    let phase = area::read_word(area, i, 3);
+    let phase = area::read_word(area, i, area_record::words::PHASE);
     if phase < 3 {
         return is_still(area, f, i, phase);
     }
@@ -185,7 +195,7 @@ fn may_last(area: &[u8], f: Figures, i: usize, t: u32) -> bool
 
 // Whether each of n stations may.
 fn is_worth(area: &[u8], f: Figures, n: usize, t: u32) -> bool
-    requires { ⌜ (n ≤ 16) × (areaSize ≤ length (now area)) × (f .gap1 + f .gap2 < 65536) ⌝ }
+    requires { ⌜ (n ≤ maxStations) × (areaSize ≤ length (now area)) × (f .gap1 + f .gap2 < 65536) ⌝ }
 {
     let mut i: usize = 0;
     while i < n {
@@ -213,7 +223,8 @@ fn make_singly(area: &mut [u8], r: u32)
 
 // Of the next m steps, from clock t on, those that are a window.
 fn pass_from(area: &mut [u8], f: Figures, depth: u32, n: usize, t: u32, m: u32) -> u32
-    requires { ⌜ (n ≤ 16) × (areaSize ≤ length (now area)) × (t + m ≤ lastClock) × Begins (now area) f depth n t ⌝ }
+    requires { ⌜ (n ≤ maxStations) × (areaSize ≤ length (now area)) × (t + m ≤ lastClock)
+        × Begins (now area) f depth n t ⌝ }
     ensures { λ r. ⌜ Passed m r (now (area .entry)) (now (area .exit)) ⌝ }
 {
     if !is_worth(area, f, n, t) {

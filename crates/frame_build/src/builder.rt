@@ -41,7 +41,8 @@ fn write_data(out: &mut [u8], payload: &[u8])
 // Writes all that the check sequence covers.
 fn write_covered(out: &mut [u8], destination: [u8; 6], source: [u8; 6], value: u16, payload: &[u8])
     requires { ⌜ 14 + (length (now payload) + (46 - length (now payload))) ≤ length (now out) ⌝ }
-    ensures { λ r. ⌜ now (out .exit) ≡ sets (now (out .entry)) 0 (covered destination source value (now (payload .entry))) ⌝ }
+    ensures { λ r. ⌜ now (out .exit)
+        ≡ sets (now (out .entry)) 0 (covered destination source value (now (payload .entry))) ⌝ }
 {
     write_header(out, destination, source, value);
     write_data(out, payload);
@@ -85,7 +86,8 @@ pub fn build(
     value: u16,
     payload: &[u8],
 ) -> Built
-    ensures { λ r. ⌜ outcome (builtAnswer r) (now (out .exit)) ≡ built (now (out .entry)) destination source value (now (payload .entry)) ⌝ }
+    ensures { λ r. ⌜ outcome (builtAnswer r) (now (out .exit))
+        ≡ built (now (out .entry)) destination source value (now (payload .entry)) ⌝ }
 {
     let v = value as usize;
     let n = payload.len();

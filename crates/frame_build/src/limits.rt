@@ -8,27 +8,33 @@ pub const MIN_DATA: usize = 46;
 
 pub const MIN_FRAME: usize = 64;
 
+pub const SHORTEST_FRAME: u32 = 512;
+
 pub const MAX_LENGTH: usize = 1500;
 
-pub const BUFFER: usize = 1518;
+pub const BUFFER: usize = 1522;
 
-pub const BUFFER_BITS: usize = 12144;
+pub const BUFFER_BITS: usize = 12176;
+
+pub const LARGEST_FRAME: u32 = 1522;
 
 pub const MIN_TYPE: usize = 1536;
+
+pub const TAG: usize = 33024;
 
 // The largest data under a length/type value.
 pub(crate) fn max_data(value: usize) -> usize
     ensures size { λ r. ⌜ r ≡ maxData value ⌝ }
     ensures small { λ r. ⌜ r ≤ 65535 ⌝ }
 {
-    1500
+    if value == TAG { 1504 } else { 1500 }
 }
 
 // The largest frame under a length/type value.
 pub fn max_frame(value: usize) -> usize
     ensures { λ r. ⌜ r ≡ maxFrame value ⌝ }
 {
-    1518
+    if value == TAG { 1522 } else { 1518 }
 }
 
 // The octets of padding that n octets of data want.

@@ -34,8 +34,8 @@ complementFirst zero m = m
 complementFirst (suc n) [] = []
 complementFirst (suc n) (a ∷ m) = not a ∷ complementFirst n m
 
--- "(3) .. divided by G(x), producing a remainder R(x)": long division of a polynomial that has n coefficients more than the
--- remainder. Where the first is 1, G(x) is subtracted there, which makes it 0; then the first, now 0, is dropped.
+-- "(3) .. divided by G(x), producing a remainder R(x)": long division of a polynomial that has n coefficients more than
+-- the remainder. Where the first is 1, G(x) is subtracted there, which makes it 0; then the first, now 0, is dropped.
 unfoldable pub remainder : ℕ → List Bool → List Bool
 remainder zero m = m
 remainder (suc n) [] = []
@@ -43,12 +43,14 @@ remainder (suc n) (false ∷ m) = remainder n m
 remainder (suc n) (true ∷ m) = remainder n (add m generator)
 
 -- "(2) The n bits of the frame are then considered to be the coefficients of a polynomial M(x) of degree n-1",
--- the first bit highest; "(3) M(x) is multiplied by x^32": 32 zeros follow. The bits are those that travel, in their order.
--- Of fewer than 32 bits, of which the page does not speak, the complement reaches into these zeros, as in every published CRC-32.
+-- the first bit highest; "(3) M(x) is multiplied by x^32": 32 zeros follow. The bits are those that travel, in their
+-- order. Of fewer than 32 bits, of which the page does not speak, the complement reaches into these zeros, as in every
+-- published CRC-32.
 unfoldable pub dividend : List ℕ → List Bool
 dividend s = complementFirst 32 (bitsOf s ++ replicate 32 false)
 
--- "(4) The coefficients of R(x) are considered to be a 32-bit sequence. (5) The bit sequence is complemented and the result is the CRC."
+-- "(4) The coefficients of R(x) are considered to be a 32-bit sequence. (5) The bit sequence is complemented and the
+-- result is the CRC."
 unfoldable pub crcBits : List ℕ → List Bool
 crcBits s = map not (remainder (length (bitsOf s)) (dividend s))
 

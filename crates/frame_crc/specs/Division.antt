@@ -1,5 +1,5 @@
--- The long division, one bit of the frame at a time: a register of 32 bits holds what is to be added to the bits still to come.
--- Its lowest bit stands for the highest power. Assumes nothing.
+-- The long division, one bit of the frame at a time: a register of 32 bits holds what is to be added to the bits still
+-- to come. Its lowest bit stands for the highest power. Assumes nothing.
 use Prim.Native.Nat.{ℕ, zero, suc, _+_, _-_, _*_, _/_, _%_, _^_, _≤_, _<_}
 use mathlib.Core.Path.{_≡_, refl, sym, _∙_, ap, ap₂}
 use mathlib.Core.Bool.{Bool, true, false, not, xor}
@@ -13,7 +13,8 @@ use lib.ListN.{length, replicate, length-map}
 use Rattle.octets.specs.Base.{pick}
 use Rattle.octets.specs.Bits.{lowBits, bitsOf, digit, lowFirst, packed}
 use Rattle.octets.specs.BitsLaws.{lowOctets, packed-number, bits-packed, length-bits}
-use Rattle.frame_crc.specs.Crc.{among, coefficients, generator, add, complementFirst, remainder, dividend, crcBits, crcOf, checkSequence}
+use Rattle.frame_crc.specs.Crc.{among, coefficients, generator, add, complementFirst, remainder, dividend}
+use Rattle.frame_crc.specs.Crc.{crcBits, crcOf, checkSequence}
 
 -- ---- sums of coefficients
 
@@ -79,7 +80,8 @@ unfolding add lowBits
 add-more zero x [] h = refl
 add-more zero x (a ∷ m) h = let e : x ≡ 0 = omega arith in rw (e, xor-false a, add-nil m)
 add-more (suc n) x [] h = refl
-add-more (suc n) x (a ∷ m) h = ap (λ (t : List Bool). xor a (eqb (x % 2) 1) ∷ t) (add-more n (x / 2) m (omega (arith, pow-suc 2 n)))
+add-more (suc n) x (a ∷ m) h =
+    ap (λ (t : List Bool). xor a (eqb (x % 2) 1) ∷ t) (add-more n (x / 2) m (omega (arith, pow-suc 2 n)))
 
 -- ---- the register
 
@@ -125,7 +127,8 @@ divide-shift k P n c true m g h =
     rw (g, ← add-more k (c / 2) m (omega (arith, pow-suc 2 k))) (ap (remainder n) (add-twice (suc k) (c / 2) P m))
 divide-shift k P n c false m g h = ap (remainder n) (sym (add-more k (c / 2) m (omega (arith, pow-suc 2 k))))
 
-first-sum : (k c : ℕ) (b : Bool) (m : List Bool) → add (b ∷ m) (lowBits (suc k) c) ≡ xor b (eqb (c % 2) 1) ∷ add m (lowBits k (c / 2))
+first-sum : (k c : ℕ) (b : Bool) (m : List Bool)
+    → add (b ∷ m) (lowBits (suc k) c) ≡ xor b (eqb (c % 2) 1) ∷ add m (lowBits k (c / 2))
 unfolding add lowBits
 first-sum k c b m = refl
 
@@ -133,7 +136,8 @@ divide-bit : (n c : ℕ) (b : Bool) (m : List Bool) → c < 2 ^ 32
     → remainder (suc n) (add (b ∷ m) (lowBits 32 c)) ≡ remainder n (add m (lowBits 32 (advance b c)))
 unfolding advance
 divide-bit n c b m h =
-    ap (remainder (suc n)) (first-sum 31 c b m) ∙ divide-shift 31 polynomial n c (xor b (eqb (c % 2) 1)) m generator-is h
+    ap (remainder (suc n)) (first-sum 31 c b m)
+    ∙ divide-shift 31 polynomial n c (xor b (eqb (c % 2) 1)) m generator-is h
 
 -- the whole division
 divide-all : (bs z : List Bool) (c : ℕ) → c < 2 ^ 32
@@ -197,7 +201,9 @@ crc-is s c p =
 
 pub length-crc : (s : List ℕ) → length (crcBits s) ≡ 32
 unfolding crcBits
-length-crc s = rw (remainder-is s) (length-map (lowBits 32 (register (bitsOf s) ones)) not ∙ length-bits 32 (register (bitsOf s) ones))
+length-crc s =
+    rw (remainder-is s) (length-map (lowBits 32 (register (bitsOf s) ones)) not ∙ length-bits 32
+    (register (bitsOf s) ones))
 
 -- the four octets of the number, the low one first
 pub sequence-is : (s : List ℕ) (c : ℕ) → c ≡ crcOf s → lowOctets 4 c ≡ checkSequence s

@@ -8,7 +8,8 @@ use native.Mathlib.Numerals.{add-one}
 use native.Mathlib.Omega.{arith}
 use lib.Dec.{eqb}
 use lib.Pow.{pow-mono}
-use lib.Bits.{bitXor, xor-shr, xor-mod, xor-comm, xor-self, xor-zero-l, xor-zero-r, xor-shifted, shifted-half, shifted-even}
+use lib.Bits.{bitXor, xor-shr, xor-mod, xor-comm, xor-self, xor-zero-l, xor-zero-r, xor-shifted, shifted-half}
+use lib.Bits.{shifted-even}
 use lib.ListN.{length, getD, take, drop, take-append-drop, length-drop, drop-of-length-le}
 use lib.Seq.{drop-cons, drop-drop, length-take-le}
 use Rattle.octets.specs.Bits.{lowBits, bitsOf}
@@ -35,7 +36,8 @@ assoc-below zero a b c ha hb hc =
 assoc-below (suc k) a b c ha hb hc =
     let half : bitXor (bitXor a b) c / 2 ≡ bitXor a (bitXor b c) / 2 =
     xor-shr (bitXor a b) c 1 ∙ ap (λ (x : ℕ). bitXor x (c / 2)) (xor-shr a b 1)
-    ∙ assoc-below k (a / 2) (b / 2) (c / 2) (omega (arith, pow-suc 2 k)) (omega (arith, pow-suc 2 k)) (omega (arith, pow-suc 2 k))
+    ∙ assoc-below k (a / 2) (b / 2) (c / 2) (omega (arith, pow-suc 2 k)) (omega (arith, pow-suc 2 k))
+    (omega (arith, pow-suc 2 k))
     ∙ sym (xor-shr a (bitXor b c) 1 ∙ ap (λ (x : ℕ). bitXor (a / 2) x) (xor-shr b c 1)) in
     let low : bitXor (bitXor a b) c % 2 ≡ bitXor a (bitXor b c) % 2 =
     xor-mod (bitXor a b) c 1 ∙ ap (λ (x : ℕ). bitXor x (c % 2)) (xor-mod a b 1)
@@ -66,7 +68,8 @@ unfoldable pub shifts : ℕ → ℕ → ℕ
 shifts zero c = c
 shifts (suc n) c = shifts n (shift c)
 
--- a number added after the shift might have been added twice as large before; P is a variable, so that nothing computes with it
+-- a number added after the shift might have been added twice as large before; P is a variable, so that nothing computes
+-- with it
 shifted-sum : (P c x : ℕ) (t : Bool) → shifted P t (bitXor c x) ≡ bitXor (shifted P t c) (x / 2)
 shifted-sum P c x true = ap (λ (z : ℕ). bitXor z P) (xor-shr c x 1) ∙ xor-swap (c / 2) (x / 2) P
 shifted-sum P c x false = xor-shr c x 1
@@ -89,7 +92,8 @@ register-shifts : (n x c : ℕ) → x < 2 ^ n → register (lowBits n x) c ≡ s
 unfolding register lowBits shifts
 register-shifts zero x c h = let e : x ≡ 0 = omega arith in rw (e, xor-zero-r c)
 register-shifts (suc n) x c h =
-    register-shifts n (x / 2) (advance (eqb (x % 2) 1) c) (omega (arith, pow-suc 2 n)) ∙ ap (shifts n) (sym (shift-sum c x))
+    register-shifts n (x / 2) (advance (eqb (x % 2) 1) c) (omega (arith, pow-suc 2 n))
+    ∙ ap (shifts n) (sym (shift-sum c x))
 
 -- ---- shifts of what stands above the low end
 
@@ -103,7 +107,8 @@ unfolding shifts
 shifts-high zero c h = let e : h * 2 ^ 0 ≡ h = omega arith in rw e
 shifts-high (suc n) c h =
     let even : eqb (h * 2 ^ suc n % 2) 1 ≡ false = rw (shifted-even h n) in
-    ap (shifts n) (shift-sum c (h * 2 ^ suc n) ∙ rw (even, advance-zero c, shifted-half h n)) ∙ shifts-high n (shift c) h
+    ap (shifts n) (shift-sum c (h * 2 ^ suc n) ∙ rw (even, advance-zero c, shifted-half h n))
+    ∙ shifts-high n (shift c) h
 
 -- ---- sums: to add registers and advance is to advance and add
 
@@ -123,7 +128,8 @@ shifted-both : (P a c : ℕ) (t u : Bool) → shifted P (xor t u) (bitXor a c) �
 unfolding xor
 shifted-both P a c true true =
     xor-shr a c 1
-    ∙ sym (xor-swap (a / 2) P (bitXor (c / 2) P) ∙ xor-assoc (a / 2) (bitXor (c / 2) P) P ∙ ap (bitXor (a / 2)) (xor-back (c / 2) P))
+    ∙ sym (xor-swap (a / 2) P (bitXor (c / 2) P) ∙ xor-assoc (a / 2) (bitXor (c / 2) P) P ∙ ap (bitXor (a / 2))
+    (xor-back (c / 2) P))
 shifted-both P a c true false = ap (λ (z : ℕ). bitXor z P) (xor-shr a c 1) ∙ xor-swap (a / 2) (c / 2) P
 shifted-both P a c false true = ap (λ (z : ℕ). bitXor z P) (xor-shr a c 1) ∙ xor-assoc (a / 2) (c / 2) P
 shifted-both P a c false false = xor-shr a c 1
@@ -131,7 +137,8 @@ shifted-both P a c false false = xor-shr a c 1
 advance-both : (b : Bool) (a c : ℕ) → advance b (bitXor a c) ≡ bitXor (shift a) (advance b c)
 unfolding shift advance
 advance-both b a c =
-    ap (λ (t : Bool). shifted polynomial t (bitXor a c)) (ap (xor b) (odd-xor a c) ∙ xor-past b (eqb (a % 2) 1) (eqb (c % 2) 1))
+    ap (λ (t : Bool). shifted polynomial t (bitXor a c))
+    (ap (xor b) (odd-xor a c) ∙ xor-past b (eqb (a % 2) 1) (eqb (c % 2) 1))
     ∙ shifted-both polynomial a c (eqb (a % 2) 1) (xor b (eqb (c % 2) 1))
 
 register-both : (bs : List Bool) (a c : ℕ) → register bs (bitXor a c) ≡ bitXor (shifts (length bs) a) (register bs c)
@@ -175,9 +182,11 @@ unfolding register
 register-append [] b c = refl
 register-append (x ∷ a) b c = register-append a b (advance x c)
 
--- an octet before others: what the others do to the rest of the register, and what it does with the register's low octet
+-- an octet before others: what the others do to the rest of the register, and what it does with the register's low
+-- octet
 octet-before : (l : List ℕ) (x c : ℕ) → x < 256
-    → register (bitsOf (x ∷ l)) c ≡ bitXor (register (bitsOf l) (c / 256)) (shifts (8 * length l + 8) (bitXor c x % 256))
+    → register (bitsOf (x ∷ l)) c ≡ bitXor (register (bitsOf l) (c / 256))
+    (shifts (8 * length l + 8) (bitXor c x % 256))
 unfolding bitsOf
 octet-before l x c h =
     let m : ℕ = bitXor c x % 256 in
@@ -209,7 +218,8 @@ pub eight-is : (s : List ℕ) (i c d0 d1 d2 d3 d4 d5 d6 d7 : ℕ) → c < 2 ^ 32
     → d5 ≡ shifts 48 (bitXor (c / 256 / 256) (getD s (i + 2) 0) % 256) → getD s (i + 2) 0 < 256
     → d6 ≡ shifts 56 (bitXor (c / 256) (getD s (i + 1) 0) % 256) → getD s (i + 1) 0 < 256
     → d7 ≡ shifts 64 (bitXor c (getD s i 0) % 256) → getD s i 0 < 256
-    → bitXor (bitXor (bitXor (bitXor (bitXor (bitXor (bitXor d0 d1) d2) d3) d4) d5) d6) d7 ≡ register (bitsOf (take 8 (drop i s))) c
+    → bitXor (bitXor (bitXor (bitXor (bitXor (bitXor (bitXor d0 d1) d2) d3) d4) d5) d6) d7 ≡ register
+    (bitsOf (take 8 (drop i s))) c
 unfolding register bitsOf
 eight-is s i c d0 d1 d2 d3 d4 d5 d6 d7 hc h p0 b0 p1 b1 p2 b2 p3 b3 p4 b4 p5 b5 p6 b6 p7 b7 =
     let over : 0 ≡ c / 256 / 256 / 256 / 256 = omega arith in
@@ -241,13 +251,15 @@ eight-more s i c d r p q =
     ∙ ap (λ (l : List ℕ). register (bitsOf l) c) (take-append-drop 8 (drop i s)) ∙ q)
 
 -- and the loop over the octets that are left
-pub octets-more : (s : List ℕ) (i c d r : ℕ) → i < length s → getD s i 0 < 256 → d ≡ shifts 8 (bitXor c (getD s i 0) % 256)
+pub octets-more : (s : List ℕ) (i c d r : ℕ) → i < length s → getD s i 0 < 256
+    → d ≡ shifts 8 (bitXor c (getD s i 0) % 256)
     → register (bitsOf (drop i s)) c ≡ r → register (bitsOf (drop (i + 1) s)) (bitXor d (c / 256)) ≡ r
 unfolding bitsOf
 octets-more s i c d r h b p q =
     rw (add-one i, p, ← octet (getD s i 0) c b)
     (sym (register-append (lowBits 8 (getD s i 0)) (bitsOf (drop (suc i) s)) c) ∙ rw (drop-cons s i 0 h) at q)
 
-pub octets-end : (s : List ℕ) (i c : ℕ) → length s ≤ i → register (bitsOf (drop i s)) c ≡ register (bitsOf s) ones → bitXor c ones ≡ crcOf s
+pub octets-end : (s : List ℕ) (i c : ℕ) → length s ≤ i → register (bitsOf (drop i s)) c ≡ register (bitsOf s) ones
+    → bitXor c ones ≡ crcOf s
 unfolding register bitsOf
 octets-end s i c h q = crc-is s c (rw (drop-of-length-le s h) at q)

@@ -1,5 +1,5 @@
--- The register's table and its rule. Its entries are computed, so that the code's table can be held against them as a whole.
--- Assumes nothing.
+-- The register's table and its rule. Its entries are computed, so that the code's table can be held against them as a
+-- whole. Assumes nothing.
 use Prim.Native.Nat.{ℕ, zero, suc, _+_, _*_, _/_, _%_, _^_, _<_}
 use mathlib.Core.Path.{_≡_, refl, sym, _∙_, ap, ap₂}
 use mathlib.Core.List.{List}
@@ -22,7 +22,8 @@ xorBits (suc k) a b = xorBits k (a / 2) (b / 2) * 2 + differ (a % 2) (b % 2)
 xor-bits : (k a b : ℕ) → a < 2 ^ k → b < 2 ^ k → xorBits k a b ≡ bitXor a b
 xor-bits zero a b ha hb = let ea : a ≡ 0 = omega arith in let eb : b ≡ 0 = omega arith in rw (ea, eb)
 xor-bits (suc k) a b ha hb =
-    ap (λ (x : ℕ). x * 2 + differ (a % 2) (b % 2)) (xor-bits k (a / 2) (b / 2) (omega (arith, pow-suc 2 k)) (omega (arith, pow-suc 2 k)))
+    ap (λ (x : ℕ). x * 2 + differ (a % 2) (b % 2))
+    (xor-bits k (a / 2) (b / 2) (omega (arith, pow-suc 2 k)) (omega (arith, pow-suc 2 k)))
     ∙ sym (xor-step a b)
 
 abbrev pub computed : ℕ → ℕ → ℕ
@@ -58,7 +59,8 @@ entry-shifts p h = entry placed 0 256 p h ∙ shifts-computed (p / 16 * 4 + 4) (
 
 -- An octet, the low one of a sum, by its two halves.
 pub halves-shifts : (t : List ℕ) (k c x y : ℕ) → t ≡ table → k < 8 → y ≡ x
-    → bitXor (getD t (32 * k + 16 + bitXor c y % 16) 0) (getD t (32 * k + bitXor c y / 16 % 16) 0) ≡ shifts (8 * k + 8) (bitXor c x % 256)
+    → bitXor (getD t (32 * k + 16 + bitXor c y % 16) 0) (getD t (32 * k + bitXor c y / 16 % 16) 0) ≡ shifts (8 * k + 8)
+    (bitXor c x % 256)
 halves-shifts t k c x y e h f =
     let z : ℕ = bitXor c x in
     let low : getD table (32 * k + 16 + z % 16) 0 ≡ shifts (8 * k + 4 + 4) (z % 16) =

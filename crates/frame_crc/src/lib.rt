@@ -1,4 +1,5 @@
-// The check sequence of 802.3. What it is stands bit by bit in specs/Crc.antt; here it goes eight octets at a time, through a table.
+// The check sequence of 802.3. What it is stands bit by bit in specs/Crc.antt; here it goes eight octets at a time,
+// through a table.
 
 mod table;
 
@@ -12,8 +13,9 @@ ghost use Rattle.frame_crc.specs.Division.{register};
 ghost use Rattle.frame_crc.specs.Register.{shifts};
 ghost use Rattle.frame_crc.specs.Table.{table};
 
-// What the octet x, added to the low octet of c, does to the register by the time that k octets have followed it: two entries of the
-// table t, one for each half of the octet. That x is an octet is said for the callers, whose slices do not say it.
+// What the octet x, added to the low octet of c, does to the register by the time that k octets have followed it: two
+// entries of the table t, one for each half of the octet. That x is an octet is said for the callers, whose slices do
+// not say it.
 fn carried(t: &[u32; 256], k: usize, c: u32, x: u8) -> u32
     requires table { ⌜ now t ≡ table ⌝ }
     requires octets { ⌜ k < 8 ⌝ }
@@ -26,7 +28,8 @@ fn carried(t: &[u32; 256], k: usize, c: u32, x: u8) -> u32
     t[32 * k + 16 + low] ^ t[32 * k + high]
 }
 
-// The register after the eight octets from `at` on. The last four do not wait for c, and so come first: the processor runs ahead with them.
+// The register after the eight octets from `at` on. The last four do not wait for c, and so come first: the processor
+// runs ahead with them.
 fn after_eight(t: &[u32; 256], s: &[u8], at: usize, c: u32) -> u32
     requires table { ⌜ now t ≡ table ⌝ }
     requires eight { ⌜ at + 8 ≤ length (now s) ⌝ }

@@ -1,4 +1,5 @@
-// The register's table: what 4, 8, 12, .. 64 shifts make of each half octet, a row of sixteen for each number of shifts.
+// The register's table: what 4, 8, 12, .. 64 shifts make of each half octet, a row of sixteen for each number of
+// shifts.
 
 ghost use mathlib.Core.Path.{_≡_};
 ghost use Rattle.frame_crc.specs.Table.{table};

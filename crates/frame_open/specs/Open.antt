@@ -12,7 +12,8 @@ use Rattle.octets.specs.Store.{part}
 use Rattle.frame_crc.specs.Crc.{checkSequence}
 use Rattle.frame_build.specs.Limits.{minData, minFrame, maxFrame, maxLength, minType}
 use Rattle.frame_open.specs.declared.ReceiveStatus.{ReceiveStatus}
-use Rattle.frame_open.specs.declared.ReceiveStatus.the-variants.{Refused, Fragment, FrameTooLong, FrameCheckError, AlignmentError, LengthError, ReceiveOk}
+use Rattle.frame_open.specs.declared.ReceiveStatus.the-variants.{Refused, Fragment, FrameTooLong, FrameCheckError}
+use Rattle.frame_open.specs.declared.ReceiveStatus.the-variants.{AlignmentError, LengthError, ReceiveOk}
 
 -- ---- the fields
 
@@ -79,7 +80,8 @@ checkWrong spoiled f = spoiled || not (equal (drop (length f - 4) f) (checkSeque
 unfoldable pub checkError : ℕ → Answer
 checkError e = pick (eqb e 0) frameCheckError alignmentError
 
--- "a value up to 1500 whose data field is not max(46, value) octets, or a value 1501..1535, lengthError"; n octets of data field
+-- "a value up to 1500 whose data field is not max(46, value) octets, or a value 1501..1535, lengthError"; n octets of
+-- data field
 unfoldable pub lengthWrong : (value n : ℕ) → Bool
 lengthWrong v n = pick (leb v maxLength) (not (eqb n (max minData v))) (ltb v minType)
 

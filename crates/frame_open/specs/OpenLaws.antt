@@ -13,10 +13,12 @@ use Rattle.octets.specs.Equal.{equal}
 use Rattle.octets.specs.Number.{get}
 use Rattle.octets.specs.Store.{part}
 use Rattle.frame_crc.specs.Crc.{checkSequence}
-use Rattle.frame_build.specs.Limits.{maxFrame}
+use Rattle.frame_build.specs.Limits.{maxFrame, minType}
 use Rattle.frame_open.specs.declared.ReceiveStatus.{ReceiveStatus}
 use Rattle.frame_open.specs.declared.ReceiveStatus.the-variants.{ReceiveOk}
-use Rattle.frame_open.specs.Open.{statusAnswer, valueOf, dataField, fragment, frameTooLong, frameCheckError, alignmentError, lengthError, receiveOK, Opening, without, checkWrong, checkError, lengthWrong, clientSize, unpadded, opened}
+use Rattle.frame_open.specs.Open.{statusAnswer, valueOf, dataField, fragment, frameTooLong, frameCheckError}
+use Rattle.frame_open.specs.Open.{alignmentError, lengthError, receiveOK, Opening, without, checkWrong}
+use Rattle.frame_open.specs.Open.{checkError, lengthWrong, clientSize, unpadded, opened}
 
 -- ---- the check
 
@@ -43,13 +45,13 @@ check-excess e p = rw (ne-eqb e 0 p)
 -- ---- the length and padding rules
 
 module _ (v : ℕ) (field : List ℕ) where
-  pub unpad-type : 1536 ≤ v → receiveOK (length field) ≡ unpadded v field .status
+  pub unpad-type : minType ≤ v → receiveOK (length field) ≡ unpadded v field .status
   unfolding unpadded lengthWrong clientSize
-  unpad-type h = rw (lt-leb v 1500 (omega arith), le-ltb v 1536 h)
+  unpad-type h = rw (lt-leb v 1500 (omega arith), le-ltb v minType h)
 
-  pub unpad-neither : v < 1536 → 1500 < v → lengthError ≡ unpadded v field .status
+  pub unpad-neither : v < minType → 1500 < v → lengthError ≡ unpadded v field .status
   unfolding unpadded lengthWrong
-  unpad-neither h k = rw (lt-leb v 1500 k, lt-ltb v 1536 h)
+  unpad-neither h k = rw (lt-leb v 1500 k, lt-ltb v minType h)
 
   pub unpad-length : (m : ℕ) → v ≤ 1500 → m ≡ max 46 v → length field ≡ m → receiveOK v ≡ unpadded v field .status
   unfolding unpadded lengthWrong clientSize
@@ -70,18 +72,21 @@ module _ (s : Bool) (f : List ℕ) (e : ℕ) where
   unfolding opened
   opened-fragment h k = rw (le-ltb 7 e h, lt-ltb (length f) 64 k)
 
-  pub opened-long : (v m : ℕ) → e ≤ 7 → 64 ≤ length f → v ≡ get 2 f 12 → m ≡ maxFrame v → m < length f → frameTooLong ≡ opened s f e .status
+  pub opened-long : (v m : ℕ) → e ≤ 7 → 64 ≤ length f → v ≡ get 2 f 12 → m ≡ maxFrame v → m < length f
+      → frameTooLong ≡ opened s f e .status
   unfolding opened valueOf
   opened-long v m h k p q o = rw (le-ltb 7 e h, le-ltb (length f) 64 k, ← p, ← q, lt-ltb m (length f) o)
 
-  pub opened-check : (v m : ℕ) (b : Bool) (r : Answer) → r ≡ checkError e → b ≡ checkWrong s f → b ≡ true → e ≤ 7 → 64 ≤ length f
+  pub opened-check : (v m : ℕ) (b : Bool) (r : Answer) → r ≡ checkError e → b ≡ checkWrong s f → b ≡ true → e ≤ 7
+      → 64 ≤ length f
       → v ≡ get 2 f 12 → m ≡ maxFrame v → length f ≤ m → r ≡ opened s f e .status
   unfolding opened valueOf
   opened-check v m b r d c t h k p q o =
       d ∙ rw (le-ltb 7 e h, le-ltb (length f) 64 k, ← p, ← q, le-ltb m (length f) o, ← c, t)
 
   pub opened-rules : (v m : ℕ) (b : Bool) (r : Answer) → r ≡ unpadded v (take (length f - 4 - 14) (drop 14 f)) .status
-      → b ≡ checkWrong s f → b ≡ false → e ≤ 7 → 64 ≤ length f → v ≡ get 2 f 12 → m ≡ maxFrame v → length f ≤ m → r ≡ opened s f e .status
+      → b ≡ checkWrong s f → b ≡ false → e ≤ 7 → 64 ≤ length f → v ≡ get 2 f 12 → m ≡ maxFrame v → length f ≤ m
+      → r ≡ opened s f e .status
   unfolding opened valueOf dataField
   opened-rules v m b r d c t h k p q o =
       let z : length f - 4 - 14 ≡ length f - 18 = omega arith in
@@ -136,7 +141,7 @@ client-within : (v n : ℕ) → lengthWrong v n ≡ false → clientSize v n ≤
 unfolding lengthWrong clientSize
 client-within v n h = go (leb v 1500) h
   where
-    go : (t : Bool) → pick t (not (eqb n (max 46 v))) (ltb v 1536) ≡ false → pick t v n ≤ n
+    go : (t : Bool) → pick t (not (eqb n (max 46 v))) (ltb v minType) ≡ false → pick t v n ≤ n
     go true p = let e : n ≡ max 46 v = eqb-true n (max 46 v) (not-false (eqb n (max 46 v)) p) in omega arith
     go false p = omega arith
 
@@ -144,7 +149,8 @@ part-field : (f : List ℕ) (n : ℕ) → n ≤ length f - 18 → take n (dataFi
 unfolding dataField
 part-field f n h = take-take n (length f - 18) (drop 14 f) h
 
-fair-ok : (f : List ℕ) (m : ℕ) → 64 ≤ length f → m ≤ length f - 18 → Fair f (record { status = receiveOK m; clientData = take m (dataField f) })
+fair-ok : (f : List ℕ) (m : ℕ) → 64 ≤ length f → m ≤ length f - 18
+    → Fair f (record { status = receiveOK m; clientData = take m (dataField f) })
 fair-ok f m h k =
     record {
       handed = λ n p. let e : m ≡ n = ap (λ (r : Answer). getD (valuesOf r) 1 0) p in
@@ -155,22 +161,28 @@ fair-ok f m h k =
 fair-rules : (f : List ℕ) (v : ℕ) → 64 ≤ length f → Fair f (unpadded v (dataField f))
 unfolding unpadded
 fair-rules f v h =
-    by-test (Fair f) (lengthWrong v (length (dataField f))) _ _ (λ p. fair-without f lengthError (λ n. other-status 4 n (λ z. omega arith)))
-    (λ p. fair-ok f (clientSize v (length (dataField f))) h (omega (arith, client-within v (length (dataField f)) p, length-field f)))
+    by-test (Fair f) (lengthWrong v (length (dataField f))) _ _
+    (λ p. fair-without f lengthError (λ n. other-status 4 n (λ z. omega arith)))
+    (λ p. fair-ok f (clientSize v (length (dataField f))) h
+    (omega (arith, client-within v (length (dataField f)) p, length-field f)))
 
 pub fair : (s : Bool) (f : List ℕ) (e : ℕ) → Fair f (opened s f e)
 unfolding opened
 fair s f e =
     by-test (Fair f) (ltb 7 e) _ _ (λ p. fair-without f (refused 5) (λ n. refused-status 5 n))
-    (λ p. by-test (Fair f) (ltb (length f) 64) _ _ (λ q. fair-without f fragment (λ n. other-status 0 n (λ z. omega arith)))
-    (λ q. by-test (Fair f) (ltb (maxFrame (valueOf f)) (length f)) _ _ (λ r. fair-without f frameTooLong (λ n. other-status 1 n (λ z. omega arith)))
+    (λ p. by-test (Fair f) (ltb (length f) 64) _ _
+    (λ q. fair-without f fragment (λ n. other-status 0 n (λ z. omega arith)))
+    (λ q. by-test (Fair f) (ltb (maxFrame (valueOf f)) (length f)) _ _
+    (λ r. fair-without f frameTooLong (λ n. other-status 1 n (λ z. omega arith)))
     (λ r. by-test (Fair f) (checkWrong s f) _ _ (λ t. fair-check f e)
     (λ t. fair-rules f (valueOf f) (ltb-false (length f) 64 q)))))
 
 -- ---- the client data in the code
 
-pub client-room : (f : List ℕ) (e n : ℕ) (r : ReceiveStatus) → statusAnswer r ≡ opened false f e .status → r ≡ ReceiveOk n → 14 + n ≤ length f
-client-room f e n r p q = let h : 18 + n ≤ length f = fair false f e .handed n (sym p ∙ ap statusAnswer q) .room in omega arith
+pub client-room : (f : List ℕ) (e n : ℕ) (r : ReceiveStatus) → statusAnswer r ≡ opened false f e .status
+    → r ≡ ReceiveOk n → 14 + n ≤ length f
+client-room f e n r p q =
+    let h : 18 + n ≤ length f = fair false f e .handed n (sym p ∙ ap statusAnswer q) .room in omega arith
 
 pub client-ok : (f : List ℕ) (e n : ℕ) (r : ReceiveStatus) → statusAnswer r ≡ opened false f e .status → r ≡ ReceiveOk n
     → take (14 + n - 14) (drop 14 f) ≡ opened false f e .clientData

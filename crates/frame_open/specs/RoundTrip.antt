@@ -8,7 +8,7 @@ use borrow.Author.Tests.{le-ltb, eq-eqb, ltb-false, eqb-true, not-false}
 use lib.Dec.{ltb, leb, eqb}
 use lib.ListN.{length, getD, take, replicate, length-append}
 use lib.Seq.{take-at, drop-at, take-append-seam, take-length, sets}
-use Rattle.octets.specs.BaseLaws.{refused-none}
+use Rattle.octets.specs.BaseLaws.{refused-none, by-eq}
 use Rattle.octets.specs.Base.{pick, Answer, refused, accepted, Outcome, outcome, valuesOf}
 use Rattle.octets.specs.EqualLaws.{equal-refl}
 use Rattle.octets.specs.Number.{get, spelled}
@@ -16,10 +16,12 @@ use Rattle.octets.specs.NumberLaws.{length-spelled, get-spelled, get-front, get
 use Rattle.octets.specs.Store.{take-sets}
 use Rattle.frame_crc.specs.Crc.{checkSequence}
 use Rattle.frame_crc.specs.Division.{length-sequence}
-use Rattle.frame_build.specs.Limits.{maxLength, maxData, maxFrame, refusesValue, refusesData}
+use Rattle.frame_build.specs.Limits.{maxLength, minType, tagValue, maxData, maxFrame, refusesValue, refusesData}
 use Rattle.frame_build.specs.Build.{header, padded, covered, frameOf, built}
-use Rattle.frame_build.specs.BuildLaws.{length-header, length-padded, length-frame, within, length-padded-max, frame-size}
-use Rattle.frame_open.specs.Open.{destinationOf, sourceOf, valueOf, dataField, receiveOK, Opening, checkWrong, lengthWrong, clientSize, unpadded, opened}
+use Rattle.frame_build.specs.BuildLaws.{length-header, length-padded, length-frame, length-padded-max}
+use Rattle.frame_build.specs.BuildLaws.{frame-size, frame-within, frame-most, frame-plain}
+use Rattle.frame_open.specs.Open.{destinationOf, sourceOf, valueOf, dataField, receiveOK, Opening, checkWrong}
+use Rattle.frame_open.specs.Open.{lengthWrong, clientSize, unpadded, opened}
 
 -- what a receiver is handed back of the data x: under a length the data, under a type the data with their padding
 unfoldable pub handedBack : (v : ℕ) (x : List ℕ) → List ℕ
@@ -50,18 +52,9 @@ a-length : (v n : ℕ) → refusesValue v n ≡ false → leb v maxLength ≡ tr
 unfolding refusesValue
 a-length v n h p = eqb-true v n (not-false (eqb v n) (rw p at h))
 
-a-type : (v n : ℕ) → refusesValue v n ≡ false → leb v maxLength ≡ false → ltb v 1536 ≡ false
+a-type : (v n : ℕ) → refusesValue v n ≡ false → leb v maxLength ≡ false → ltb v minType ≡ false
 unfolding refusesValue
 a-type v n h p = rw p at h
-
--- the largest data make the largest frame
-room : (v n : ℕ) → n ≤ maxData v → n + 18 ≤ maxFrame v
-unfolding maxData maxFrame
-room v n h = omega arith
-
-least : (v : ℕ) → 64 ≤ maxFrame v
-unfolding maxFrame
-least v = omega arith
 
 -- ---- the fields of a built frame
 
@@ -91,7 +84,8 @@ module _ (d s : List ℕ) (v : ℕ) (x : List ℕ) (hd : length d ≡ 6) (hs : l
   built-source : sourceOf (frameOf d s v x) ≡ s
   unfolding sourceOf
   built-source =
-      rw (after-destination, drop-at d (s ++ (spelled 2 v ++ (padded x ++ check))) 6 hd) (take-at s (spelled 2 v ++ (padded x ++ check)) 6 hs)
+      rw (after-destination, drop-at d (s ++ (spelled 2 v ++ (padded x ++ check))) 6 hd)
+      (take-at s (spelled 2 v ++ (padded x ++ check)) 6 hs)
 
   built-value : v < 65536 → valueOf (frameOf d s v x) ≡ v
   unfolding valueOf
@@ -111,7 +105,12 @@ module _ (d s : List ℕ) (v : ℕ) (x : List ℕ) (hd : length d ≡ 6) (hs : l
   unfolding checkWrong frameOf
   built-check =
       let n : length (covered d s v x) ≡ length (covered d s v x ++ checkSequence (covered d s v x)) - 4 =
-      omega (arith, length-append (covered d s v x) (checkSequence (covered d s v x)), length-sequence (covered d s v x)) in
+      omega (
+        arith,
+        length-append (covered d s v x) (checkSequence (covered d s v x)),
+        length-sequence
+            (covered d s v x),
+      ) in
       rw (
         take-at (covered d s v x) (checkSequence (covered d s v x)) _ n,
         drop-at (covered d s v x) (checkSequence (covered d s v x)) _ n,
@@ -130,11 +129,13 @@ padded-length v x p q =
     let e : length (padded x) ≡ max 46 v = length-padded-max x ∙ ap (max 46) (sym q) in
     rw (p, eq-eqb (length (padded x)) (max 46 v) e, q, take-padded x)
 
-padded-type : (v : ℕ) (x : List ℕ) → leb v maxLength ≡ false → ltb v 1536 ≡ false → unpadded v (padded x) ≡ received (padded x)
+padded-type : (v : ℕ) (x : List ℕ) → leb v maxLength ≡ false → ltb v minType ≡ false
+    → unpadded v (padded x) ≡ received (padded x)
 unfolding unpadded lengthWrong clientSize
 padded-type v x p q = rw (p, q, take-length (padded x))
 
-unpad-padded : (v : ℕ) (x : List ℕ) → refusesValue v (length x) ≡ false → unpadded v (padded x) ≡ received (handedBack v x)
+unpad-padded : (v : ℕ) (x : List ℕ) → refusesValue v (length x) ≡ false
+    → unpadded v (padded x) ≡ received (handedBack v x)
 unfolding handedBack
 unpad-padded v x h = go (leb v maxLength) refl
   where
@@ -144,14 +145,14 @@ unpad-padded v x h = go (leb v maxLength) refl
 
 -- ---- the theorems
 
--- Opening what the builder makes is receiveOK and gives back destination, source, value and data, under a type the data with
--- their padding; excess bits are dropped.
-pub opens-frame : (d s : List ℕ) (v : ℕ) (x : List ℕ) (e : ℕ) → length d ≡ 6 → length s ≡ 6 → v < 65536 → refusesData v (length x) ≡ false
+-- Opening what the builder makes is receiveOK and gives back destination, source, value and data, under a type the data
+-- with their padding; excess bits are dropped.
+pub opens-frame : (d s : List ℕ) (v : ℕ) (x : List ℕ) (e : ℕ) → length d ≡ 6 → length s ≡ 6 → v < 65536
+    → refusesData v (length x) ≡ false
     → e ≤ 7 → Opens (frameOf d s v x) e d s v (handedBack v x)
 unfolding opened
 opens-frame d s v x e hd hs hv h he =
-    let n : length x + 18 ≤ maxFrame v = room v (length x) (within v (length x) h) in
-    let m : length (frameOf d s v x) ≤ maxFrame v = omega (arith, frame-size d s v x hd hs, least v) in
+    let m : length (frameOf d s v x) ≤ maxFrame v = frame-within d s v x hd hs h in
     let w : 64 ≤ length (frameOf d s v x) = omega (arith, frame-size d s v x hd hs) in
     record {
       opens = rw (
@@ -173,24 +174,40 @@ record Begins (l d s : List ℕ) (v : ℕ) (x : List ℕ) (n : ℕ) (o : Outcome
   taken : refusesData v (length x) ≡ false
   front : take n (o .octets) ≡ frameOf d s v x
 
-built-begins : (l d s : List ℕ) (v : ℕ) (x : List ℕ) (n : ℕ) → built l d s v x .answer ≡ accepted (n ∷ []) → Begins l d s v x n (built l d s v x)
+built-begins : (l d s : List ℕ) (v : ℕ) (x : List ℕ) (n : ℕ) → built l d s v x .answer ≡ accepted (n ∷ [])
+    → Begins l d s v x n (built l d s v x)
 unfolding built
 built-begins l d s v x n = go (refusesData v (length x)) (ltb (length l) (length (frameOf d s v x))) refl refl
   where
     go : (t u : Bool) → refusesData v (length x) ≡ t → ltb (length l) (length (frameOf d s v x)) ≡ u
-        → pick t (outcome (refused 11) l) (pick u (outcome (refused 15) l) (outcome (accepted (length (frameOf d s v x) ∷ [])) (sets l 0 (frameOf d s v x)))) .answer ≡ accepted (n ∷ [])
-        → Begins l d s v x n (pick t (outcome (refused 11) l) (pick u (outcome (refused 15) l) (outcome (accepted (length (frameOf d s v x) ∷ [])) (sets l 0 (frameOf d s v x)))))
+        → pick t (outcome (refused 11) l)
+        (pick u (outcome (refused 15) l)
+        (outcome (accepted (length (frameOf d s v x) ∷ [])) (sets l 0 (frameOf d s v x)))) .answer ≡ accepted (n ∷ [])
+        → Begins l d s v x n (pick t (outcome (refused 11) l)
+        (pick u (outcome (refused 15) l)
+        (outcome (accepted (length (frameOf d s v x) ∷ [])) (sets l 0 (frameOf d s v x)))))
     go true u p q h = refused-none 11 (n ∷ []) h
     go false true p q h = refused-none 15 (n ∷ []) h
     go false false p q h =
         record {
           taken = p;
-          front = take-sets (frameOf d s v x) l n (sym (ap (λ (r : Answer). getD (valuesOf r) 0 0) h)) (ltb-false (length l) (length (frameOf d s v x)) q);
+          front = take-sets (frameOf d s v x) l n (sym (ap (λ (r : Answer). getD (valuesOf r) 0 0) h))
+              (ltb-false (length l) (length (frameOf d s v x)) q);
         }
+
+-- a frame that is built is no longer than the value allows that stands in it
+pub stored-within : (d s : List ℕ) (v : ℕ) (x : List ℕ) → length d ≡ 6 → length s ≡ 6 → refusesData v (length x) ≡ false
+    → length (frameOf d s v x) ≤ maxFrame (valueOf (frameOf d s v x))
+stored-within d s v x hd hs h =
+    let m = frame-within d s v x hd hs h in
+    by-eq v tagValue
+    (λ e. rw (built-value d s v x hd hs (omega arith)) m)
+    (λ ne. omega (arith, m, frame-plain v ne, frame-most (valueOf (frameOf d s v x))))
 
 -- The same of the octets that `build` leaves: where it answers n, its first n octets are such a frame.
 pub built-opens : (l d s : List ℕ) (v : ℕ) (x : List ℕ) (n e : ℕ) → length d ≡ 6 → length s ≡ 6 → v < 65536
-    → built l d s v x .answer ≡ accepted (n ∷ []) → e ≤ 7 → Opens (take n (built l d s v x .octets)) e d s v (handedBack v x)
+    → built l d s v x .answer ≡ accepted (n ∷ []) → e ≤ 7
+    → Opens (take n (built l d s v x .octets)) e d s v (handedBack v x)
 built-opens l d s v x n e hd hs hv h he =
     let b = built-begins l d s v x n h in
     subst⁻¹ (λ (f : List ℕ). Opens f e d s v (handedBack v x)) (b .front) (opens-frame d s v x e hd hs hv (b .taken) he)

@@ -8,7 +8,8 @@ ghost use lib.ListN.{length};
 ghost use Rattle.frame_build.specs.Limits.{minData};
 ghost use Rattle.frame_open.specs.Open.{statusAnswer, checkWrong, checkError, unpadded, opened};
 
-// What opening says of a frame: a refusal by its number, or document 01's status. ReceiveOk has the octets of client data.
+// What opening says of a frame: a refusal by its number, or document 01's status. ReceiveOk has the octets of client
+// data.
 pub enum ReceiveStatus {
     Refused(u32),
     Fragment,
@@ -19,7 +20,8 @@ pub enum ReceiveStatus {
     ReceiveOk(usize),
 }
 
-// Whether the check is wrong: known to be, or by the octets. It covers the part of the frame before the last four octets.
+// Whether the check is wrong: known to be, or by the octets. It covers the part of the frame before the last four
+// octets.
 fn check_wrong(frame: &[u8], spoiled: bool) -> bool
     requires { ⌜ 4 ≤ length (now frame) ⌝ }
     ensures { λ r. ⌜ r ≡ checkWrong spoiled (now (frame .entry)) ⌝ }
@@ -69,7 +71,8 @@ fn unpad(field: &[u8], value: usize) -> ReceiveStatus
     ReceiveStatus::LengthError
 }
 
-// The status of a frame's octets and excess bits, in document 01's order. A receiver says whether its check is known to be spoiled.
+// The status of a frame's octets and excess bits, in document 01's order. A receiver says whether its check is known to
+// be spoiled.
 pub fn reception_status(frame: &[u8], excess: u32, spoiled: bool) -> ReceiveStatus
     ensures { λ r. ⌜ statusAnswer r ≡ opened spoiled (now (frame .entry)) excess .status ⌝ }
 {

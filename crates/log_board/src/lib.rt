@@ -9,7 +9,8 @@ ghost use Rattle.log_lookup.specs.Lookup.{lookedUp};
 
 // Looks up the windows in the log of n stations, as `log_lookup::look_up` does.
 pub fn look_up_all(log: [Entry; 40], n: u32, windows: &[u32], out: &mut [u32]) -> Done
-    ensures { λ r. ⌜ outcome (doneAnswer r) (now (out .exit)) ≡ lookedUp n (now (windows .entry)) log (now (out .entry)) ⌝ }
+    ensures { λ r. ⌜ outcome (doneAnswer r) (now (out .exit))
+        ≡ lookedUp n (now (windows .entry)) log (now (out .entry)) ⌝ }
 {
     log_lookup::look_up(&log, n, windows, out)
 }

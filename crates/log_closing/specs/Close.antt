@@ -7,4 +7,6 @@ use Rattle.log_entry.specs.Log.{windowCount, refusalIn, answered}
 use Rattle.log_entry.specs.declared.State.{State}
 
 unfoldable pub closedOf : (ws : List ℕ) (s : State) (out : List ℕ) → Outcome
-closedOf ws s out = answered (refusalIn ws (s .stations) (s .astray) (s .falls) (length out)) (take (9 * windowCount ws) (s .counts)) out
+closedOf ws s out =
+    answered (refusalIn ws (s .stations) (s .astray) (s .falls) (length out))
+    (take (9 * windowCount ws) (s .counts)) out

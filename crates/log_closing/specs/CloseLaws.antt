@@ -13,7 +13,8 @@ use Rattle.octets.specs.Base.{pick, some, accepted, doneAnswer, outcome}
 use Rattle.octets.specs.BaseLaws.{some-more, some-hit, by-test}
 use Rattle.octets.specs.Store.{stored-more}
 use Rattle.octets.specs.declared.Done.the-variants.{Refused, Made}
-use Rattle.log_entry.specs.Log.{windowCount, stationOf, firstOf, pastOf, astrayWindow, reversedWindow, refusalIn, answered}
+use Rattle.log_entry.specs.Log.{windowCount, stationOf, firstOf, pastOf, astrayWindow, reversedWindow, refusalIn}
+use Rattle.log_entry.specs.Log.{answered}
 use Rattle.log_entry.specs.declared.State.{State}
 use Rattle.log_closing.specs.Close.{closedOf}
 
@@ -48,14 +49,16 @@ pub refusal-is : (ws : List ℕ) (n : ℕ) (strays fall a b c : Bool) (room r₁
     → r₄ ≡ pick fall 21 r₅
     → r₅ ≡ pick (ltb (room / 9) (windowCount ws)) 15 0 → r₁ ≡ refusalIn ws n strays fall room
 unfolding refusalIn
-refusal-is ws n strays fall a b c room r₁ r₂ r₃ r₄ r₅ e₁ q p e₂ e₃ g e₄ e₅ = rw (e₁, e₂, e₃, e₄, e₅, q, p, g, short-is room (windowCount ws))
+refusal-is ws n strays fall a b c room r₁ r₂ r₃ r₄ r₅ e₁ q p e₂ e₃ g e₄ e₅ =
+    rw (e₁, e₂, e₃, e₄, e₅, q, p, g, short-is room (windowCount ws))
 
 -- where there is no refusal there are at most 64 windows, and the output has room
 pub room-for : (ws : List ℕ) (n : ℕ) (strays fall : Bool) (room x : ℕ) → x ≡ refusalIn ws n strays fall room → x ≡ 0
     → (9 * windowCount ws ≤ 576) × (9 * windowCount ws ≤ room)
 unfolding refusalIn
 room-for ws n strays fall room x p z =
-    go (some (astrayWindow n ws) (windowCount ws) || strays) (ltb 64 (windowCount ws)) (some (reversedWindow ws) (windowCount ws)) fall (ltb room (9 * windowCount ws)) refl refl (sym p ∙ z)
+    go (some (astrayWindow n ws) (windowCount ws) || strays) (ltb 64 (windowCount ws))
+    (some (reversedWindow ws) (windowCount ws)) fall (ltb room (9 * windowCount ws)) refl refl (sym p ∙ z)
   where
     go : (s m r f o : Bool) → m ≡ ltb 64 (windowCount ws) → o ≡ ltb room (9 * windowCount ws)
         → _≡_ {A = ℕ} (pick s 10 (pick m 16 (pick r 20 (pick f 21 (pick o 15 0))))) 0
@@ -65,7 +68,8 @@ room-for ws n strays fall room x p z =
     go false false true f o p q h = absurd (omega arith)
     go false false false true o p q h = absurd (omega arith)
     go false false false false true p q h = absurd (omega arith)
-    go false false false false false p q h = let few = ltb-false 64 (windowCount ws) (sym p) in (omega arith, ltb-false room (9 * windowCount ws) (sym q))
+    go false false false false false p q h =
+        let few = ltb-false 64 (windowCount ws) (sym p) in (omega arith, ltb-false room (9 * windowCount ws) (sym q))
 
 -- ---- the output
 
@@ -77,7 +81,8 @@ pub put-first : (out new counts : List ℕ) (n : ℕ) → new ≡ sets out 0 (ta
     → new ≡ sets out 0 (take n counts)
 put-first out new counts n p = let e : n - 0 ≡ n = omega arith in rw e at p
 
-module _ (ws : List ℕ) (s : State) (out : List ℕ) (x : ℕ) (p : x ≡ refusalIn ws (s .stations) (s .astray) (s .falls) (length out)) where
+module _ (ws : List ℕ) (s : State) (out : List ℕ) (x : ℕ)
+    (p : x ≡ refusalIn ws (s .stations) (s .astray) (s .falls) (length out)) where
   pub closed-refused : (x ≡ 0 → ⊥) → outcome (doneAnswer (Refused x)) out ≡ closedOf ws s out
   unfolding closedOf answered
   closed-refused h = rw (sym p, ne-eqb x 0 h)
@@ -85,4 +90,6 @@ module _ (ws : List ℕ) (s : State) (out : List ℕ) (x : ℕ) (p : x ≡ refus
   pub closed-made : (new : List ℕ) → x ≡ 0 → new ≡ sets out 0 (take (windowCount ws * 9) (s .counts))
       → outcome (doneAnswer Made) new ≡ closedOf ws s out
   unfolding closedOf answered
-  closed-made new z r = let e : windowCount ws * 9 ≡ 9 * windowCount ws = omega arith in rw (sym p, z, sym e) (ap (outcome (accepted [])) r)
+  closed-made new z r =
+      let e : windowCount ws * 9 ≡ 9 * windowCount ws = omega arith in rw (sym p, z, sym e)
+      (ap (outcome (accepted [])) r)

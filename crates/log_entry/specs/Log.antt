@@ -10,7 +10,8 @@ use Rattle.octets.specs.Base.{pick, some, refused, accepted, Outcome, outcome}
 use Rattle.octets.specs.Table.{tabulated}
 use Rattle.log_entry.specs.declared.Entry.{Entry}
 use Rattle.log_entry.specs.declared.Event.{Event}
-use Rattle.log_entry.specs.declared.Event.the-variants.{Collision, Late, Sent, GivenUp, GotOk, GotTooLong, GotAlignment, GotCheck, GotLength}
+use Rattle.log_entry.specs.declared.Event.the-variants.{Collision, Late, Sent, GivenUp, GotOk, GotTooLong}
+use Rattle.log_entry.specs.declared.Event.the-variants.{GotAlignment, GotCheck, GotLength}
 
 -- the place of an event's word among those that are counted, as station_tally/Tally has them
 abbrev pub wordOf : Event → ℕ

@@ -20,18 +20,21 @@ use Rattle.log_lookup.specs.Lookup.{lookedUp}
 many : (ws : List ℕ) (n : ℕ) (strays fall : Bool) (room : ℕ) (c d out : List ℕ) → ltb 64 (windowCount ws) ≡ true
     → answered (refusalIn ws n strays fall room) c out ≡ answered (refusalIn ws n strays fall room) d out
 unfolding refusalIn answered
-many ws n strays fall room c d out h = by-test (some (astrayWindow n ws) (windowCount ws) || strays) (λ e. rw e) (λ e. rw (e, h))
+many ws n strays fall room c d out h =
+    by-test (some (astrayWindow n ws) (windowCount ws) || strays) (λ e. rw e) (λ e. rw (e, h))
 
 -- the state after the whole log
 whole : (n : ℕ) (ws : List ℕ) (es : List Entry) (out : List ℕ)
     → closedOf ws (over ws (openedOf n) es) out ≡ lookedUp n ws es out
 unfolding closedOf lookedUp openedOf
 whole n ws es out =
-    (λ i. answered (refusalIn ws (over-stations ws (openedOf n) es i) (over-astray ws (openedOf n) es i) (over-falls ws (openedOf n) es i) (length out))
+    (λ i. answered (refusalIn ws (over-stations ws (openedOf n) es i) (over-astray ws (openedOf n) es i)
+    (over-falls ws (openedOf n) es i) (length out))
     (take (9 * windowCount ws) (over ws (openedOf n) es .counts)) out)
     ∙ by-test (ltb 64 (windowCount ws))
     (many ws n (astray n es) (falls 0 es) (length out) _ _ out)
-    (λ e. ap (λ c. answered (refusalIn ws n (astray n es) (falls 0 es) (length out)) c out) (fresh-is n ws es (ltb-false 64 (windowCount ws) e)))
+    (λ e. ap (λ c. answered (refusalIn ws n (astray n es) (falls 0 es) (length out)) c out)
+    (fresh-is n ws es (ltb-false 64 (windowCount ws) e)))
 
 pub looked : (ws : List ℕ) (s : State) (es : List Entry) (n k : ℕ) (out : List ℕ) → length es ≤ k
     → over ws s (drop k es) ≡ over ws (openedOf n) es → closedOf ws s out ≡ lookedUp n ws es out

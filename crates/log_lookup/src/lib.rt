@@ -11,7 +11,8 @@ ghost use Rattle.log_lookup.specs.Lookup.{lookedUp};
 // windows), 20 (a window's second time is below its first), 21 (the times of the entries fall), 15 (the output has room
 // for fewer counts); then the output is as it was.
 pub fn look_up(log: &[Entry], n: u32, windows: &[u32], out: &mut [u32]) -> Done
-    ensures { λ r. ⌜ outcome (doneAnswer r) (now (out .exit)) ≡ lookedUp n (now (windows .entry)) (now (log .entry)) (now (out .entry)) ⌝ }
+    ensures { λ r. ⌜ outcome (doneAnswer r) (now (out .exit))
+        ≡ lookedUp n (now (windows .entry)) (now (log .entry)) (now (out .entry)) ⌝ }
 {
     let mut s = log_windows::opened(n);
     let mut k = 0;

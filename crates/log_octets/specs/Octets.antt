@@ -9,7 +9,8 @@ use Rattle.octets.specs.Number.{get}
 use Rattle.octets.specs.Table.{tabulated}
 use Rattle.log_entry.specs.declared.Entry.{Entry}
 use Rattle.log_entry.specs.declared.Event.{Event}
-use Rattle.log_entry.specs.declared.Event.the-variants.{Collision, Late, Sent, GivenUp, GotOk, GotTooLong, GotAlignment, GotCheck, GotLength}
+use Rattle.log_entry.specs.declared.Event.the-variants.{Collision, Late, Sent, GivenUp, GotOk, GotTooLong, GotAlignment}
+use Rattle.log_entry.specs.declared.Event.the-variants.{GotCheck, GotLength}
 use Rattle.log_lookup.specs.Lookup.{lookedUp}
 
 -- the event of a number, as station_spec/Events numbers them

@@ -14,7 +14,8 @@ use Rattle.octets.specs.declared.Done.{Done}
 use Rattle.octets.specs.declared.Done.the-variants.{Refused}
 use Rattle.log_entry.specs.declared.Entry.{Entry}
 use Rattle.log_entry.specs.declared.Event.{Event}
-use Rattle.log_entry.specs.declared.Event.the-variants.{Collision, Late, Sent, GivenUp, GotOk, GotTooLong, GotAlignment, GotCheck, GotLength}
+use Rattle.log_entry.specs.declared.Event.the-variants.{Collision, Late, Sent, GivenUp, GotOk, GotTooLong, GotAlignment}
+use Rattle.log_entry.specs.declared.Event.the-variants.{GotCheck, GotLength}
 use Rattle.log_entry.specs.declared.State.{State}
 use Rattle.log_windows.specs.Grow.{openedOf, enteredOf, over}
 use Rattle.log_closing.specs.Close.{closedOf}
@@ -60,7 +61,17 @@ module _ (c : ℕ) where
   pub event-9 : (c ≡ 1 → ⊥) → (c ≡ 2 → ⊥) → (c ≡ 3 → ⊥) → (c ≡ 4 → ⊥) → (c ≡ 5 → ⊥) → (c ≡ 6 → ⊥) → (c ≡ 7 → ⊥)
       → (c ≡ 8 → ⊥) → GotLength 0 ≡ eventOf c
   unfolding eventOf
-  event-9 a₁ a₂ a₃ a₄ a₅ a₆ a₇ a₈ = rw (ne-eqb c 1 a₁, ne-eqb c 2 a₂, ne-eqb c 3 a₃, ne-eqb c 4 a₄, ne-eqb c 5 a₅, ne-eqb c 6 a₆, ne-eqb c 7 a₇, ne-eqb c 8 a₈)
+  event-9 a₁ a₂ a₃ a₄ a₅ a₆ a₇ a₈ =
+      rw (
+        ne-eqb c 1 a₁,
+        ne-eqb c 2 a₂,
+        ne-eqb c 3 a₃,
+        ne-eqb c 4 a₄,
+        ne-eqb c 5 a₅,
+        ne-eqb c 6 a₆,
+        ne-eqb c 7 a₇,
+        ne-eqb c 8 a₈,
+      )
 
 -- ---- the search
 
@@ -88,7 +99,9 @@ leftOf ws s l m k = over ws s (tabulated (entryAt l) k (m - k))
 
 pub left-first : (ws l : List ℕ) (n : ℕ) (s : State) → s ≡ openedOf n
     → leftOf ws s l (length l / 6) 0 ≡ over ws (openedOf n) (entriesOf l)
-left-first ws l n s p = let e : length l / 6 - 0 ≡ length l / 6 = omega arith in rw p (ap (λ j. over ws (openedOf n) (tabulated (entryAt l) 0 j)) e)
+left-first ws l n s p =
+    let e : length l / 6 - 0 ≡ length l / 6 = omega arith in rw p
+    (ap (λ j. over ws (openedOf n) (tabulated (entryAt l) 0 j)) e)
 
 pub left-more : (ws l : List ℕ) (s r x : State) (m k : ℕ) → k < m → r ≡ enteredOf ws s (entryAt l k)
     → leftOf ws s l m k ≡ x → leftOf ws r l m (k + 1) ≡ x

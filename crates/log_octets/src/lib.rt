@@ -69,7 +69,8 @@ fn entered_at(s: State, windows: &[u32], log: &[u8], k: usize) -> State
 // Looks up the windows in the log of n stations, as `log_lookup::look_up` does, with one refusal before all others: 5,
 // where an entry's event stands for nothing.
 pub fn look_up_octets(log: &[u8], n: u32, windows: &[u32], out: &mut [u32]) -> Done
-    ensures { λ r. ⌜ outcome (doneAnswer r) (now (out .exit)) ≡ octetsLookedUp n (now (windows .entry)) (now (log .entry)) (now (out .entry)) ⌝ }
+    ensures { λ r. ⌜ outcome (doneAnswer r) (now (out .exit))
+        ≡ octetsLookedUp n (now (windows .entry)) (now (log .entry)) (now (out .entry)) ⌝ }
 {
     if any_unknown(log) {
         return Done::Refused(5);

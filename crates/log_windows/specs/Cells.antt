@@ -43,7 +43,8 @@ not-held ws m t i j c e = by-eq (c / 9) m (λ z. none-here ws m t i j c (rw (z, 
 
 other-cell : (ws : List ℕ) (m t i j c : ℕ) → (c ≡ 9 * m + j → ⊥) → hit ws (suc m) t i j c ≡ hit ws m t i j c
 other-cell ws m t i j c ne =
-    by-eq (c / 9) m (λ z. none-here ws m t i j c (rw (ne-eqb j (c % 9) (λ y. ne (omega arith))) (and-false (holds ws (c / 9) t i)))) (same-below ws m t i j c)
+    by-eq (c / 9) m (λ z. none-here ws m t i j c
+    (rw (ne-eqb j (c % 9) (λ y. ne (omega arith))) (and-false (holds ws (c / 9) t i)))) (same-below ws m t i j c)
 
 -- the cell itself
 this-cell : (ws : List ℕ) (m t i j c : ℕ) → holds ws m t i ≡ true → j < 9 → c ≡ 9 * m + j
@@ -72,7 +73,9 @@ unfolding added
 cell-step ws l x t i j c m h b ih =
     by-test (holds ws m t i)
     (λ e. by-eq c (9 * m + j)
-    (λ z. rw (this-cell ws m t i j c e h z, e, sym z) (getD-set-same x c (capped (getD x c 0)) 0 b ∙ ap capped (ih ∙ ap (λ y. grown y (getD l c 0)) (not-yet ws m t i j c h z))))
+    (λ z. rw (this-cell ws m t i j c e h z, e, sym z)
+    (getD-set-same x c (capped (getD x c 0)) 0 b ∙ ap capped
+    (ih ∙ ap (λ y. grown y (getD l c 0)) (not-yet ws m t i j c h z))))
     (λ ne. rw (other-cell ws m t i j c ne, e) (getD-set-other x (9 * m + j) c _ 0 ne ∙ ih)))
     (λ e. rw (not-held ws m t i j c e, e) ih)
 
@@ -81,7 +84,9 @@ cell : (ws l : List ℕ) (t i j c m : ℕ) → j < 9 → c < length l
     → getD (turns (λ w x. added ws t i j w x) m l) c 0 ≡ grown (hit ws m t i j c) (getD l c 0)
 unfolding turns
 cell ws l t i j c zero h b = rw (le-ltb (c / 9) 0 (omega arith))
-cell ws l t i j c (suc m) h b = cell-step ws l (turns (λ w x. added ws t i j w x) m l) t i j c m h (rw (turns-length ws l t i j m) b) (cell ws l t i j c m h b)
+cell ws l t i j c (suc m) h b =
+    cell-step ws l (turns (λ w x. added ws t i j w x) m l) t i j c m h (rw (turns-length ws l t i j m) b)
+    (cell ws l t i j c m h b)
 
 pub all-length : (ws l : List ℕ) (t i j : ℕ) → length (addedAll ws t i j l) ≡ length l
 unfolding addedAll
@@ -100,4 +105,6 @@ used-is ws c b =
 pub all-cell : (ws l : List ℕ) (t i j c : ℕ) → j < 9 → c < 576 → length l ≡ 576
     → getD (addedAll ws t i j l) c 0 ≡ grown (hit ws (windowCount ws) t i j c) (getD l c 0)
 unfolding addedAll
-all-cell ws l t i j c h b e = cell ws l t i j c (used ws) h (omega arith) ∙ ap (λ y. grown (y && (holds ws (c / 9) t i && eqb j (c % 9))) (getD l c 0)) (used-is ws c b)
+all-cell ws l t i j c h b e =
+    cell ws l t i j c (used ws) h (omega arith)
+    ∙ ap (λ y. grown (y && (holds ws (c / 9) t i && eqb j (c % 9))) (getD l c 0)) (used-is ws c b)

@@ -55,12 +55,25 @@ used-all ws h = omega arith
 pub all-end : (ws l x : List ℕ) (t i j m w : ℕ) → m ≡ used ws → w ≤ m → m ≤ w
     → x ≡ turns (λ v y. added ws t i j v y) w l → x ≡ addedAll ws t i j l
 unfolding addedAll
-all-end ws l x t i j m w e p q r = turns-end (λ v y. added ws t i j v y) m w l x p q r ∙ ap (λ k. turns (λ v y. added ws t i j v y) k l) e
+all-end ws l x t i j m w e p q r =
+    turns-end (λ v y. added ws t i j v y) m w l x p q r ∙ ap (λ k. turns (λ v y. added ws t i j v y) k l) e
 
 pub entered-is : (ws : List ℕ) (s : State) (t i word : ℕ) (v : Event) (c : List ℕ) (a f : Bool) → word ≡ wordOf v
     → c ≡ addedAll ws t i word (s .counts)
     → a ≡ (s .astray || leb (s .stations) i) → f ≡ (s .falls || ltb t (s .last))
-    → record { stations = s .stations; astray = a; falls = f; last = t; counts = c } ≡ enteredOf ws s (record { time = t; station = i; event = v })
+    → record {
+      stations = s .stations;
+      astray = a;
+      falls = f;
+      last = t;
+      counts = c;
+    } ≡ enteredOf ws s (record { time = t; station = i; event = v })
 unfolding enteredOf
 entered-is ws s t i word v c a f e p q r =
-    λ k. record { stations = s .stations; astray = q k; falls = r k; last = t; counts = (p ∙ ap (λ x. addedAll ws t i x (s .counts)) e) k }
+    λ k. record {
+      stations = s .stations;
+      astray = q k;
+      falls = r k;
+      last = t;
+      counts = (p ∙ ap (λ x. addedAll ws t i x (s .counts)) e) k;
+    }

@@ -16,7 +16,8 @@ use Rattle.octets.specs.Table.{tabulated, entry}
 use Rattle.log_entry.specs.Log.{wordOf, windowCount, holds, count, alone, answers, astray, falls}
 use Rattle.log_entry.specs.declared.Entry.{Entry}
 use Rattle.log_entry.specs.declared.Event.{Event}
-use Rattle.log_entry.specs.declared.Event.the-variants.{Collision, Late, Sent, GivenUp, GotOk, GotTooLong, GotAlignment, GotCheck, GotLength}
+use Rattle.log_entry.specs.declared.Event.the-variants.{Collision, Late, Sent, GivenUp, GotOk, GotTooLong, GotAlignment}
+use Rattle.log_entry.specs.declared.Event.the-variants.{GotCheck, GotLength}
 use Rattle.log_entry.specs.declared.State.{State}
 use Rattle.log_windows.specs.Grow.{capped, openedOf, enteredOf, over}
 use Rattle.log_windows.specs.Cells.{hit, grown, all-length, all-cell}
@@ -75,17 +76,21 @@ pub over-astray : (ws : List ℕ) (s : State) (es : List Entry)
     → over ws s es .astray ≡ (s .astray || astray (s .stations) es)
 unfolding over enteredOf astray
 over-astray ws s [] = or-false (s .astray)
-over-astray ws s (e ∷ es) = over-astray ws (enteredOf ws s e) es ∙ or-assoc (s .astray) (leb (s .stations) (e .station)) (astray (s .stations) es)
+over-astray ws s (e ∷ es) =
+    over-astray ws (enteredOf ws s e) es
+    ∙ or-assoc (s .astray) (leb (s .stations) (e .station)) (astray (s .stations) es)
 
 pub over-falls : (ws : List ℕ) (s : State) (es : List Entry) → over ws s es .falls ≡ (s .falls || falls (s .last) es)
 unfolding over enteredOf falls
 over-falls ws s [] = or-false (s .falls)
-over-falls ws s (e ∷ es) = over-falls ws (enteredOf ws s e) es ∙ or-assoc (s .falls) (ltb (e .time) (s .last)) (falls (e .time) es)
+over-falls ws s (e ∷ es) =
+    over-falls ws (enteredOf ws s e) es ∙ or-assoc (s .falls) (ltb (e .time) (s .last)) (falls (e .time) es)
 
 over-length : (ws : List ℕ) (s : State) (es : List Entry) → length (over ws s es .counts) ≡ length (s .counts)
 unfolding over enteredOf
 over-length ws s [] = refl
-over-length ws s (e ∷ es) = over-length ws (enteredOf ws s e) es ∙ all-length ws (s .counts) (e .time) (e .station) (wordOf (e .event))
+over-length ws s (e ∷ es) =
+    over-length ws (enteredOf ws s e) es ∙ all-length ws (s .counts) (e .time) (e .station) (wordOf (e .event))
 
 -- ---- a count after a list
 
@@ -114,7 +119,8 @@ unfolding over enteredOf count raised
 over-cell ws s [] c b h = refl
 over-cell ws s (e ∷ es) c b h =
     over-cell ws (enteredOf ws s e) es c b (all-length ws (s .counts) (e .time) (e .station) (wordOf (e .event)) ∙ h)
-    ∙ ap (raised (count (hits ws c) es)) (all-cell ws (s .counts) (e .time) (e .station) (wordOf (e .event)) c (word-small (e .event)) b h)
+    ∙ ap (raised (count (hits ws c) es))
+    (all-cell ws (s .counts) (e .time) (e .station) (wordOf (e .event)) c (word-small (e .event)) b h)
     ∙ raised-more (hits ws c e) (count (hits ws c) es) (getD (s .counts) c 0)
 
 -- a count is that of its window looked up alone
@@ -122,7 +128,8 @@ cell-alone : (ws : List ℕ) (es : List Entry) (c : ℕ) → c / 9 < windowCount
     → min (count (hits ws c) es) 4294967295 ≡ alone ws (c / 9) (c % 9) es
 unfolding alone
 cell-alone ws es c h =
-    ap (λ y. min (count (λ x. y && (holds ws (c / 9) (x .time) (x .station) && eqb (wordOf (x .event)) (c % 9))) es) 4294967295) (lt-ltb (c / 9) (windowCount ws) h)
+    ap (λ y. min (count (λ x. y && (holds ws (c / 9) (x .time) (x .station) && eqb (wordOf (x .event)) (c % 9))) es)
+    4294967295) (lt-ltb (c / 9) (windowCount ws) h)
 
 -- ---- the counts after the whole log
 

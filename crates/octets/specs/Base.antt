@@ -1,5 +1,5 @@
--- What every crate's definitions use: a choice by a test, a search, a range, an answer in document 01's numbers, what a call leaves.
--- The laws are in BaseLaws. Assumes nothing.
+-- What every crate's definitions use: a choice by a test, a search, a range, an answer in document 01's numbers, what a
+-- call leaves. The laws are in BaseLaws. Assumes nothing.
 use Prim.Native.Nat.{ℕ, zero, suc}
 use mathlib.Core.Bool.{Bool, true, false, _||_}
 use mathlib.Core.List.{List, []}

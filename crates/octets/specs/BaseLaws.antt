@@ -54,7 +54,9 @@ module _ (t : ℕ → Bool) where
     where
       go : Dec (i < n) → (i < n → true ≡ some t n) → true ≡ (some t n || t n)
       go (yes k) g = rw (← g k)
-      go (no k) g = let e : i ≡ n = omega arith in sym (ap (λ (b : Bool). some t n || b) (ap t (sym e) ∙ sym p ∙ q) ∙ or-true (some t n))
+      go (no k) g =
+          let e : i ≡ n = omega arith in sym (ap (λ (b : Bool). some t n || b) (ap t (sym e) ∙ sym p ∙ q) ∙ or-true
+          (some t n))
 
   pub some-end : (n i : ℕ) → i ≤ n → n ≤ i → some t i ≡ false → false ≡ some t n
   some-end n i h k p = let e : i ≡ n = omega arith in sym (rw e at p)

@@ -1,5 +1,5 @@
--- The bits of octets in the order in which they travel: document 01, "Octets travel low bit first". A bit that is 1 is true.
--- The laws are in BitsLaws. Assumes nothing.
+-- The bits of octets in the order in which they travel: document 01, "Octets travel low bit first". A bit that is 1 is
+-- true. The laws are in BitsLaws. Assumes nothing.
 use Prim.Native.Nat.{ℕ, zero, suc, _+_, _*_, _/_, _%_}
 use mathlib.Core.Bool.{Bool, true, false}
 use mathlib.Core.List.{List, [], _∷_, _++_}

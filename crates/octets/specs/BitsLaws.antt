@@ -11,7 +11,8 @@ use borrow.Author.Tests.{eq-eqb, ne-eqb}
 use lib.Arith.{mod-mul}
 use lib.Pow.{pow-pos}
 use lib.Dec.{eqb}
-use lib.ListN.{length, getD, take, drop, length-append, length-drop, take-append-drop, List·getD-append, List·getD-eq-default}
+use lib.ListN.{length, getD, take, drop, length-append, length-drop, take-append-drop, List·getD-append}
+use lib.ListN.{List·getD-eq-default}
 use lib.Seq.{length-take-le, getD-append-add}
 use Rattle.octets.specs.Bits.{lowBits, bitsOf, digit, lowFirst, packed}
 
@@ -49,7 +50,8 @@ unfolding lowFirst
 take-number zero l = omega arith
 take-number (suc n) [] = sym (zero-mod (2 ^ suc n))
 take-number (suc n) (b ∷ l) =
-    rw (pow-suc 2 n, mod-mul (lowFirst (b ∷ l)) (pow-pos n) (pow-pos 1), half b l, lowest b l, ← take-number n l) (omega arith)
+    rw (pow-suc 2 n, mod-mul (lowFirst (b ∷ l)) (pow-pos n) (pow-pos 1), half b l, lowest b l, ← take-number n l)
+    (omega arith)
 
 drop-number : (n : ℕ) (l : List Bool) → lowFirst (drop n l) ≡ lowFirst l / 2 ^ n
 unfolding lowFirst
@@ -77,7 +79,8 @@ bits-packed zero [] h = refl
 bits-packed zero (b ∷ l) h = absurd (omega arith)
 bits-packed (suc n) l h =
     let e : length (take 8 l) ≡ 8 = length-take-le 8 l (omega arith) in
-    rw (bits-packed n (drop 8 l) (omega (arith, length-drop 8 l)), rw e at (bits-number (take 8 l))) (take-append-drop 8 l)
+    rw (bits-packed n (drop 8 l) (omega (arith, length-drop 8 l)), rw e at (bits-number (take 8 l)))
+    (take-append-drop 8 l)
 
 -- ---- one bit
 
@@ -88,15 +91,18 @@ low-bit zero x j h = absurd (not-suc-le-zero h)
 low-bit (suc n) x zero h = let e : x / 2 ^ 0 ≡ x = omega arith in rw e
 low-bit (suc n) x (suc j) h =
     low-bit n (x / 2) j (omega arith)
-    ∙ ap (λ (y : ℕ). eqb (y % 2) 1) (div-div-eq-div-mul x 2 (2 ^ j) ∙ ap (λ (m : ℕ). x / m) (mul-comm 2 (2 ^ j) ∙ sym (pow-suc 2 j)))
+    ∙ ap (λ (y : ℕ). eqb (y % 2) 1)
+    (div-div-eq-div-mul x 2 (2 ^ j) ∙ ap (λ (m : ℕ). x / m) (mul-comm 2 (2 ^ j) ∙ sym (pow-suc 2 j)))
 
 -- bit j of octets is bit j % 8 of octet j / 8, and there is none past their end
-pub octet-bit : (l : List ℕ) (j : ℕ) → j / 8 < length l → getD (bitsOf l) j false ≡ eqb (getD l (j / 8) 0 / 2 ^ (j % 8) % 2) 1
+pub octet-bit : (l : List ℕ) (j : ℕ) → j / 8 < length l
+    → getD (bitsOf l) j false ≡ eqb (getD l (j / 8) 0 / 2 ^ (j % 8) % 2) 1
 unfolding bitsOf
 octet-bit [] j h = absurd (not-suc-le-zero h)
 octet-bit (x ∷ l) j h = go (decLt j 8) (λ k. octet-bit l (j - 8) k)
   where
-    go : Dec (j < 8) → ((j - 8) / 8 < length l → getD (bitsOf l) (j - 8) false ≡ eqb (getD l ((j - 8) / 8) 0 / 2 ^ ((j - 8) % 8) % 2) 1)
+    go : Dec (j < 8) → ((j - 8) / 8 < length l → getD (bitsOf l) (j - 8) false ≡ eqb
+        (getD l ((j - 8) / 8) 0 / 2 ^ ((j - 8) % 8) % 2) 1)
         → getD (lowBits 8 x ++ bitsOf l) j false ≡ eqb (getD (x ∷ l) (j / 8) 0 / 2 ^ (j % 8) % 2) 1
     go (yes p) ih =
         let a : j / 8 ≡ 0 = omega arith in
@@ -106,7 +112,8 @@ octet-bit (x ∷ l) j h = go (decLt j 8) (λ k. octet-bit l (j - 8) k)
         let a : j / 8 ≡ suc ((j - 8) / 8) = omega arith in
         let b : j % 8 ≡ (j - 8) % 8 = omega arith in
         let e : j ≡ length (lowBits 8 x) + (j - 8) = omega (arith, length-bits 8 x) in
-        ap (λ (i : ℕ). getD (lowBits 8 x ++ bitsOf l) i false) e ∙ getD-append-add (lowBits 8 x) (bitsOf l) (j - 8) false ∙ rw (a, b) (ih (omega arith))
+        ap (λ (i : ℕ). getD (lowBits 8 x ++ bitsOf l) i false) e
+        ∙ getD-append-add (lowBits 8 x) (bitsOf l) (j - 8) false ∙ rw (a, b) (ih (omega arith))
 
 pub length-bits-of : (l : List ℕ) → length (bitsOf l) ≡ 8 * length l
 unfolding bitsOf

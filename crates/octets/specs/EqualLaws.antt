@@ -37,14 +37,16 @@ equal-more a b r i h n e p =
     let k : i < length b = omega arith in
     rw (add-one i) (rw (drop-cons a i 0 h, drop-cons b i 0 k, eq-eqb (getD a i 0) (getD b i 0) e) at p)
 
-pub equal-differs : (a b : List ℕ) (r : Bool) (i : ℕ) → i < length a → length a ≡ length b → (getD a i 0 ≡ getD b i 0 → ⊥)
+pub equal-differs : (a b : List ℕ) (r : Bool) (i : ℕ) → i < length a → length a ≡ length b
+    → (getD a i 0 ≡ getD b i 0 → ⊥)
     → equal (drop i a) (drop i b) ≡ r → false ≡ r
 unfolding equal
 equal-differs a b r i h n e p =
     let k : i < length b = omega arith in
     rw (drop-cons a i 0 h, drop-cons b i 0 k, ne-eqb (getD a i 0) (getD b i 0) e) at p
 
-pub equal-end : (a b : List ℕ) (r : Bool) (i : ℕ) → length a ≤ i → length a ≡ length b → equal (drop i a) (drop i b) ≡ r → true ≡ r
+pub equal-end : (a b : List ℕ) (r : Bool) (i : ℕ) → length a ≤ i → length a ≡ length b → equal (drop i a) (drop i b) ≡ r
+    → true ≡ r
 unfolding equal
 equal-end a b r i h n p =
     let k : length b ≤ i = omega arith in

@@ -1,5 +1,5 @@
--- Sixteen places, filled one after the other: the first n are what t gives for each, the others b. With the laws of the loop that
--- fills them. Assumes nothing.
+-- Sixteen places, filled one after the other: the first n are what t gives for each, the others b. With the laws of the
+-- loop that fills them. Assumes nothing.
 use Prim.Native.Nat.{ℕ, zero, suc, _+_, _-_, _≤_, _<_}
 use mathlib.Core.Path.{_≡_, refl, sym, _∙_, ap, ap₂}
 use mathlib.Core.List.{List, [], _∷_, _++_}
@@ -27,7 +27,8 @@ module _ {A : Type 0} where
   listed-same : (t u : ℕ → A) (n : ℕ) → ((i : ℕ) → i < n → t i ≡ u i) → listed t n ≡ listed u n
   unfolding listed
   listed-same t u zero h = refl
-  listed-same t u (suc n) h = ap₂ (λ (ts : List A) (x : A). ts ++ (x ∷ [])) (listed-same t u n (λ i g. h i (omega arith))) (h n (omega arith))
+  listed-same t u (suc n) h =
+      ap₂ (λ (ts : List A) (x : A). ts ++ (x ∷ [])) (listed-same t u n (λ i g. h i (omega arith))) (h n (omega arith))
 
   pub filled-same : (b : A) (t u : ℕ → A) (n : ℕ) → ((i : ℕ) → i < n → t i ≡ u i) → filled b t n ≡ filled b u n
   unfolding filled
@@ -45,7 +46,8 @@ module _ {A : Type 0} where
 
   pub filled-at : (b : A) (t : ℕ → A) (n i : ℕ) (d : A) → i < n → getD (filled b t n) i d ≡ t i
   unfolding filled
-  filled-at b t n i d h = List·getD-append (listed t n) (replicate (16 - n) b) d i (omega (arith, length-listed t n)) ∙ listed-at t n i d h
+  filled-at b t n i d h =
+      List·getD-append (listed t n) (replicate (16 - n) b) d i (omega (arith, length-listed t n)) ∙ listed-at t n i d h
 
   -- and none of those after them
   pub blank-at : (m k : ℕ) (b : A) → getD (replicate m b) k b ≡ b
@@ -66,7 +68,8 @@ module _ {A : Type 0} where
   unfolding filled listed
   filled-none b t = refl
 
-  pub filled-more : (b : A) (t : ℕ → A) (i n : ℕ) (ts : List A) (x : A) → x ≡ t i → i < n → n ≤ 16 → ts ≡ filled b t i → set ts i x ≡ filled b t (i + 1)
+  pub filled-more : (b : A) (t : ℕ → A) (i n : ℕ) (ts : List A) (x : A) → x ≡ t i → i < n → n ≤ 16 → ts ≡ filled b t i
+      → set ts i x ≡ filled b t (i + 1)
   unfolding filled listed
   filled-more b t i n ts x p h k q =
       let e : 16 - i ≡ suc (16 - (i + 1)) = omega arith in

@@ -1,4 +1,5 @@
--- What a slice holds after a part of it was lent and written: a list stored into the part is stored into the slice. Assumes nothing.
+-- What a slice holds after a part of it was lent and written: a list stored into the part is stored into the slice.
+-- Assumes nothing.
 use Prim.Native.Nat.{ℕ, zero, suc, _+_, _-_, _≤_, _<_}
 use mathlib.Core.Path.{_≡_, refl, sym, _∙_, ap, ap₂}
 use mathlib.Core.List.{List, [], _∷_, _++_}
@@ -16,7 +17,8 @@ put-set a k j v l ys h =
 mid-set : (a k j v : ℕ) (l : List ℕ) → j < k → midOf a k (set l (a + j) v) ≡ set (midOf a k l) j v
 mid-set a k j v l h = rw (drop-set-add a l j v) (take-set-lt k (drop a l) j v h)
 
-stored-from : (vs : List ℕ) (a k j : ℕ) (l : List ℕ) → j + length vs ≤ k → putMid a k l (sets (midOf a k l) j vs) ≡ sets l (a + j) vs
+stored-from : (vs : List ℕ) (a k j : ℕ) (l : List ℕ) → j + length vs ≤ k
+    → putMid a k l (sets (midOf a k l) j vs) ≡ sets l (a + j) vs
 stored-from [] a k j l h = put-same a k l
 stored-from (v ∷ vs) a k j l h =
     let e : suc (a + j) ≡ a + suc j = omega arith in
@@ -25,5 +27,6 @@ stored-from (v ∷ vs) a k j l h =
     ∙ stored-from vs a k (suc j) (set l (a + j) v) (omega arith)
     ∙ ap (λ (i : ℕ). sets (set l (a + j) v) i vs) (sym e)
 
-pub lent-store : (vs : List ℕ) (a k : ℕ) (l : List ℕ) → length vs ≤ k → putMid a k l (sets (midOf a k l) 0 vs) ≡ sets l a vs
+pub lent-store : (vs : List ℕ) (a k : ℕ) (l : List ℕ) → length vs ≤ k
+    → putMid a k l (sets (midOf a k l) 0 vs) ≡ sets l a vs
 lent-store vs a k l h = stored-from vs a k 0 l (omega arith) ∙ ap (λ (i : ℕ). sets l i vs) (add-zero a)

@@ -1,5 +1,5 @@
--- A number that was written is read back, and one that lies apart from it is as it was. Each law is stated once, over the widths.
--- Assumes nothing.
+-- A number that was written is read back, and one that lies apart from it is as it was. Each law is stated once, over
+-- the widths. Assumes nothing.
 use Prim.Native.Nat.{ℕ, zero, suc, _+_, _*_, _/_, _%_, _^_, _≤_, _<_}
 use mathlib.Core.Path.{_≡_, refl, _∙_, ap, ap₂, sym}
 use mathlib.Core.List.{List, [], _∷_, _++_}
@@ -45,11 +45,13 @@ octets-drop n l o k = rw (getD-drop n l k 0) (o (n + k))
 pub get-small : (w : ℕ) (l : List ℕ) (at : ℕ) → Octets l → get w l at < 256 ^ w
 unfolding get Octets
 get-small zero l at o = omega arith
-get-small (suc w) l at o = let ih = get-small w l at o in let z = o (at + w) in omega (arith, get-more w l at, pow-suc 256 w)
+get-small (suc w) l at o =
+    let ih = get-small w l at o in let z = o (at + w) in omega (arith, get-more w l at, pow-suc 256 w)
 
 -- ---- where octets agree, so do numbers
 
-pub get-by : (w at b : ℕ) (l m : List ℕ) → ((k : ℕ) → k < w → getD l (at + k) 0 ≡ getD m (b + k) 0) → get w l at ≡ get w m b
+pub get-by : (w at b : ℕ) (l m : List ℕ) → ((k : ℕ) → k < w → getD l (at + k) 0 ≡ getD m (b + k) 0)
+    → get w l at ≡ get w m b
 unfolding get
 get-by zero at b l m s = refl
 get-by (suc w) at b l m s =
@@ -73,14 +75,16 @@ get-after w a z at e =
 pub length-spelled : (w v : ℕ) → length (spelled w v) ≡ w
 unfolding spelled
 length-spelled zero v = refl
-length-spelled (suc w) v = length-append (spelled w (v / 256)) (v % 256 ∷ []) ∙ omega (arith, length-spelled w (v / 256))
+length-spelled (suc w) v =
+    length-append (spelled w (v / 256)) (v % 256 ∷ []) ∙ omega (arith, length-spelled w (v / 256))
 
 pub get-spelled : (w v : ℕ) → v < 256 ^ w → get w (spelled w v) 0 ≡ v
 unfolding spelled get
 get-spelled zero v h = omega arith
 get-spelled (suc w) v h =
     let e : 0 + w ≡ length (spelled w (v / 256)) = omega (arith, length-spelled w (v / 256)) in
-    let last : getD (spelled w (v / 256) ++ (v % 256 ∷ [])) (0 + w) 0 ≡ v % 256 = rw e (getD-append-seam (spelled w (v / 256)) (v % 256) [] 0) in
+    let last : getD (spelled w (v / 256) ++ (v % 256 ∷ [])) (0 + w) 0 ≡ v % 256 = rw e
+    (getD-append-seam (spelled w (v / 256)) (v % 256) [] 0) in
     let rest : get w (spelled w (v / 256) ++ (v % 256 ∷ [])) 0 ≡ v / 256 =
     get-front w (spelled w (v / 256)) (v % 256 ∷ []) 0 (omega (arith, length-spelled w (v / 256)))
     ∙ get-spelled w (v / 256) (omega (arith, pow-suc 256 w)) in
@@ -96,14 +100,16 @@ pub get-put-same : (w : ℕ) (l : List ℕ) (at v : ℕ) → at + w ≤ length l
 unfolding put
 get-put-same w l at v h k =
     get-by w at 0 (sets l at (spelled w v)) (spelled w v)
-    (λ i p. let e : 0 + i ≡ i = omega arith in rw e (octet-same (spelled w v) l at i (omega (arith, length-spelled w v)) (omega (arith, length-spelled w v))))
+    (λ i p. let e : 0 + i ≡ i = omega arith in rw e
+    (octet-same (spelled w v) l at i (omega (arith, length-spelled w v)) (omega (arith, length-spelled w v))))
     ∙ get-spelled w v k
 
 pub get-put-other : (w n : ℕ) (l : List ℕ) (at b v : ℕ) → Apart b n at w → get n (put w l at v) b ≡ get n l b
 unfolding put
 get-put-other w n l at b v a =
     get-by n b b (sets l at (spelled w v)) l
-    (λ k p. octet-other (spelled w v) l at (b + k) (λ q r. a (omega (arith, length-spelled w v)) (omega (arith, length-spelled w v))))
+    (λ k p. octet-other (spelled w v) l at (b + k)
+    (λ q r. a (omega (arith, length-spelled w v)) (omega (arith, length-spelled w v))))
 
 -- ---- the code of widths 2 and 4
 
@@ -115,13 +121,15 @@ pub put-two : (l : List ℕ) (at v : ℕ) → set (set l at (v / 256 % 256)) (at
 unfolding put spelled
 put-two l at v = rw (add-one at)
 
-pub get-four : (l : List ℕ) (at x y z w : ℕ) → x ≡ getD l at 0 → y ≡ getD l (at + 1) 0 → z ≡ getD l (at + 2) 0 → w ≡ getD l (at + 3) 0
+pub get-four : (l : List ℕ) (at x y z w : ℕ) → x ≡ getD l at 0 → y ≡ getD l (at + 1) 0 → z ≡ getD l (at + 2) 0
+    → w ≡ getD l (at + 3) 0
     → ((x * 256 + y) * 256 + z) * 256 + w ≡ get 4 l at
 unfolding get
 get-four l at x y z w e f g h = rw (e, f, g, h)
 
 pub put-four : (l : List ℕ) (at v : ℕ)
-    → set (set (set (set l at (v / 256 / 256 / 256 % 256)) (at + 1) (v / 256 / 256 % 256)) (at + 2) (v / 256 % 256)) (at + 3) (v % 256) ≡ put 4 l at v
+    → set (set (set (set l at (v / 256 / 256 / 256 % 256)) (at + 1) (v / 256 / 256 % 256)) (at + 2) (v / 256 % 256))
+    (at + 3) (v % 256) ≡ put 4 l at v
 unfolding put spelled
 put-four l at v =
     let e₁ : at + 1 ≡ suc at = omega arith in

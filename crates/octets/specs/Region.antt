@@ -1,5 +1,6 @@
--- Two lists that agree on a region. A reader has one law, that it goes by its region alone; a writer has one, that it leaves other regions
--- as they were. Any reader after any writer elsewhere then follows, with no law for each pair. Assumes nothing.
+-- Two lists that agree on a region. A reader has one law, that it goes by its region alone; a writer has one, that it
+-- leaves other regions as they were. Any reader after any writer elsewhere then follows, with no law for each pair.
+-- Assumes nothing.
 use Prim.Native.Nat.{ℕ, zero, suc, _+_, _*_, _≤_, _<_}
 use mathlib.Core.Path.{_≡_, refl, _∙_, sym}
 use mathlib.Core.List.{List, [], _∷_, _++_}
@@ -58,11 +59,17 @@ pub words-go-by : (n at : ℕ) (l m : List ℕ) → Same at (4 * n) l m → word
 unfolding Same wordsAt
 words-go-by zero at l m s = refl
 words-go-by (suc n) at l m s =
-    rw (words-go-by n at l m (λ k h g. s k h (omega arith)), get-goes-by 4 (at + 4 * n) l m (λ k h g. s k (omega arith) (omega arith)))
+    rw (
+      words-go-by n at l m (λ k h g. s k h (omega arith)),
+      get-goes-by 4 (at + 4 * n) l m
+          (λ k h g. s k (omega arith) (omega arith)),
+    )
 
-pub part-goes-by : (n at : ℕ) (l m : List ℕ) → at + n ≤ length l → at + n ≤ length m → Same at n l m → part l at n ≡ part m at n
+pub part-goes-by : (n at : ℕ) (l m : List ℕ) → at + n ≤ length l → at + n ≤ length m → Same at n l m
+    → part l at n ≡ part m at n
 unfolding Same
 part-goes-by n at l m h g s =
     ext-getD 0 (part l at n) (part m at n) (length-part l at n h ∙ sym (length-part m at n g))
     (λ i p. let q : i < n = omega (arith, length-part l at n h) in
-    rw (getD-take n (drop at l) i 0 q, getD-take n (drop at m) i 0 q, getD-drop at l i 0, getD-drop at m i 0) (s (at + i) (omega arith) (omega arith)))
+    rw (getD-take n (drop at l) i 0 q, getD-take n (drop at m) i 0 q, getD-drop at l i 0, getD-drop at m i 0)
+    (s (at + i) (omega arith) (omega arith)))

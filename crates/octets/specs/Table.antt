@@ -1,5 +1,5 @@
--- A table whose entries are given by a rule. That a table in the code is this one is for antt to compute, entry by entry, where
--- the law is cited. Assumes nothing.
+-- A table whose entries are given by a rule. That a table in the code is this one is for antt to compute, entry by
+-- entry, where the law is cited. Assumes nothing.
 use Prim.Native.Nat.{ℕ, zero, suc, _+_, _<_}
 use mathlib.Core.Path.{_≡_, refl, _∙_, ap}
 use mathlib.Core.List.{List, [], _∷_}

@@ -19,7 +19,8 @@ pub turns-none : {A : Type 0} (f : ℕ → A → A) (x : A) → x ≡ turns f 0 
 unfolding turns
 turns-none f x = refl
 
-pub turns-more : {A : Type 0} (f : ℕ → A → A) (n : ℕ) (x₀ x y : A) → y ≡ f n x → x ≡ turns f n x₀ → y ≡ turns f (n + 1) x₀
+pub turns-more : {A : Type 0} (f : ℕ → A → A) (n : ℕ) (x₀ x y : A) → y ≡ f n x → x ≡ turns f n x₀
+    → y ≡ turns f (n + 1) x₀
 unfolding turns
 turns-more f n x₀ x y p q = rw (add-one n, sym q) p
 
@@ -27,7 +28,8 @@ pub turns-end : {A : Type 0} (f : ℕ → A → A) (n i : ℕ) (x₀ x : A) → 
 turns-end f n i x₀ x p q r = let e : i ≡ n = omega arith in rw e at r
 
 -- turns that each keep the length keep it
-pub length-turns : (f : ℕ → List ℕ → List ℕ) (n : ℕ) (l : List ℕ) → ((i : ℕ) (x : List ℕ) → length (f i x) ≡ length x) → length (turns f n l) ≡ length l
+pub length-turns : (f : ℕ → List ℕ → List ℕ) (n : ℕ) (l : List ℕ) → ((i : ℕ) (x : List ℕ) → length (f i x) ≡ length x)
+    → length (turns f n l) ≡ length l
 unfolding turns
 length-turns f zero l h = refl
 length-turns f (suc n) l h = h n (turns f n l) ∙ length-turns f n l h

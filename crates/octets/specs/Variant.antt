@@ -1,4 +1,5 @@
--- Which variant an enum's value is, where a `let .. else` says only that its place is one of the first six. Assumes nothing.
+-- Which variant an enum's value is, where a `let .. else` says only that its place is one of the first six. Assumes
+-- nothing.
 use Prim.Native.Nat.{ℕ, _<_}
 use mathlib.Core.List.{[], _∷_}
 use mathlib.Core.Logic.{⊎-elim}

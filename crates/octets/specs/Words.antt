@@ -1,5 +1,5 @@
--- 32-bit words one after the other in a list of octets, high octet first. Each recursion is on the count, and its last turn is the
--- last word's, as in the loops. The laws are in WordsLaws. Assumes nothing.
+-- 32-bit words one after the other in a list of octets, high octet first. Each recursion is on the count, and its last
+-- turn is the last word's, as in the loops. The laws are in WordsLaws. Assumes nothing.
 use Prim.Native.Nat.{ℕ, zero, suc, _+_, _*_}
 use mathlib.Core.List.{List, [], _∷_, _++_}
 use lib.ListN.{getD}

@@ -1,4 +1,5 @@
-// What every crate stands on: octets as numbers, tests put together, and the definitions of octets, numbers and words (specs).
+// What every crate stands on: octets as numbers, tests put together, and the definitions of octets, numbers and words
+// (specs).
 
 ghost use mathlib.Core.Path.{_≡_};
 ghost use mathlib.Core.Bool.{_||_, _&&_};
@@ -11,7 +12,8 @@ pub enum Done {
     Made,
 }
 
-// An octet as a wider number. That it is below 256 is said here once, so that no caller shows that a sum of octets fits.
+// An octet as a wider number. That it is below 256 is said here once, so that no caller shows that a sum of octets
+// fits.
 pub fn wide(x: u8) -> u32
     ensures value { λ r. ⌜ r ≡ x ⌝ }
     ensures small { λ r. ⌜ r < 256 ⌝ }

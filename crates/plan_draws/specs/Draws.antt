@@ -1,4 +1,5 @@
--- The draws of a run input (document 01, "The run program"): l are its octets. The laws are in DrawsLaws. Assumes nothing.
+-- The draws of a run input (document 01, "The run program"): l are its octets. The laws are in DrawsLaws. Assumes
+-- nothing.
 use Prim.Native.Nat.{ℕ, _+_, _*_}
 use mathlib.Core.List.{List}
 use lib.ListN.{replicate}

@@ -11,7 +11,8 @@ use Rattle.sheet_layout.specs.Layout.{tapAt, gapOf, spanOf}
 use Rattle.sheet_layout.specs.Check.{gap1Out, figuresOut, addressWrong, refusalOf}
 use Rattle.sheet_read.specs.Sheet.{fieldAt, field, figuresIn, tapIn, layoutIn, sheetSize, readSheet}
 use Rattle.plan_draws.specs.Draws.{blankRow, drawIn, rowIn, drawsIn}
-use Rattle.plan_read.specs.Plan.{offerPlace, drawsWrong, timeBefore, offersWrong, planWrong, lastRefusal, afterSheet, planRefusal, Planned, planRead}
+use Rattle.plan_read.specs.Plan.{offerPlace, drawsWrong, timeBefore, offersWrong, planWrong, lastRefusal}
+use Rattle.plan_read.specs.Plan.{afterSheet, planRefusal, Planned, planRead}
 
 sheet : List ℕ
 sheet = 0 ∷ 2 ∷ 0 ∷ 2 ∷ 0 ∷ 0 ∷ 0 ∷ 0 ∷ 1 ∷ 10 ∷ 2 ∷ 0 ∷ 0 ∷ 0 ∷ 0 ∷ 2 ∷ []
@@ -41,7 +42,8 @@ rows :
 unfolding sheet draws offer input some outside equal get listed filled tapAt gapOf spanOf gap1Out figuresOut addressWrong refusalOf fieldAt field figuresIn tapIn layoutIn sheetSize readSheet offerPlace drawsWrong timeBefore offersWrong planWrong lastRefusal afterSheet planRefusal
 rows = refl
 
--- what is read of the whole case: D, where the draws begin, two offers, where the first begins, 1500 bit times; and the draws
+-- what is read of the whole case: D, where the draws begin, two offers, where the first begins, 1500 bit times; and the
+-- draws
 numbers : Planned → List ℕ
 numbers r = r .depth ∷ r .drawn ∷ r .offers ∷ r .first ∷ r .times ∷ []
 

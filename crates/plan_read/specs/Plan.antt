@@ -81,7 +81,8 @@ timesIn l c = get 4 l (timesPlace l c)
 unfoldable pub drawsWrong : List ℕ → (u n : ℕ) → Bool
 drawsWrong l u n = ltb (length l) (u + 1) || (outside (depthIn l u) 1 16 || ltb (length l) (offersPlace l u n))
 
--- "offer times that fall": the time before offer k's, 0 before the first; whether one of the first n is less than the one before it
+-- "offer times that fall": the time before offer k's, 0 before the first; whether one of the first n is less than the
+-- one before it
 unfoldable pub timeBefore : List ℕ → (at k : ℕ) → ℕ
 timeBefore l at zero = 0
 timeBefore l at (suc k) = offerTime l (offerPlace l at k)
@@ -93,9 +94,11 @@ timeFalls l at k = ltb (offerTime l (offerPlace l at k)) (timeBefore l at k)
 unfoldable pub offersWrong : List ℕ → (at n : ℕ) → Bool
 offersWrong l at n = some (timeFalls l at) n || not (eqb (length l) (offerPlace l at n + 4))
 
--- 16: "The plan is over 16,384 octets with its sheet, is short, has octets left over, over 64 offers, or offer times that fall."
+-- 16: "The plan is over 16,384 octets with its sheet, is short, has octets left over, over 64 offers, or offer times
+-- that fall."
 unfoldable pub planWrong : List ℕ → (c : ℕ) → Bool
-planWrong l c = ltb 16384 (length l) || (ltb (length l) (c + 2) || (ltb 64 (offersIn l c) || offersWrong l (c + 2) (offersIn l c)))
+planWrong l c =
+    ltb 16384 (length l) || (ltb (length l) (c + 2) || (ltb 64 (offersIn l c) || offersWrong l (c + 2) (offersIn l c)))
 
 -- 13: "Clock plus the bit times asked exceeds 16,777,216. A run input makes this check last."
 unfoldable pub lastRefusal : List ℕ → (c : ℕ) → ℕ
@@ -114,8 +117,8 @@ planRefusal l = pick (eqb (sheetRefusal l) 0) (afterSheet l (sheetSize l) (count
 
 -- ---- reading
 
--- what reading gives: the answer, the layout, D, where the draws begin, the number of offers, where the first begins, and the bit
--- times. The draws are drawsIn of that place, N and D
+-- what reading gives: the answer, the layout, D, where the draws begin, the number of offers, where the first begins,
+-- and the bit times. The draws are drawsIn of that place, N and D
 pub record Planned : Type 0 where
   pub answer : Answer
   pub layout : Layout
@@ -127,7 +130,8 @@ pub record Planned : Type 0 where
 
 -- all blank with a refusal
 abbrev pub unplanned : ℕ → Planned
-unplanned n = record { answer = refused n; layout = blankLayout; depth = 0; drawn = 0; offers = 0; first = 0; times = 0 }
+unplanned n =
+    record { answer = refused n; layout = blankLayout; depth = 0; drawn = 0; offers = 0; first = 0; times = 0 }
 
 -- of layout y and D, the draws from octet `at` on, and the offer count at c
 abbrev pub wholeOf : List ℕ → Layout → (d at c : ℕ) → Planned

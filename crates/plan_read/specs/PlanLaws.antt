@@ -17,21 +17,27 @@ use Rattle.sheet_layout.specs.declared.Layout.{Layout}
 use Rattle.sheet_layout.specs.Check.{refusalOf}
 use Rattle.sheet_read.specs.declared.Sheet.{Sheet}
 use Rattle.sheet_read.specs.declared.SheetRead.the-variants as sheets
-use Rattle.sheet_read.specs.Sheet.{mapOf, stands, layoutIn, sheetSize, Reading, unread, readSheet, sheetAnswer, sheetReading}
+use Rattle.sheet_read.specs.Sheet.{mapOf, stands, layoutIn, sheetSize, Reading, unread, readSheet, sheetAnswer}
+use Rattle.sheet_read.specs.Sheet.{sheetReading}
 use Rattle.sheet_read.specs.SheetTheorems.{Read, read-sound}
-use Rattle.plan_read.specs.Plan.{offersIn, offerData, offerIn, offerPlace, timesPlace, timesIn, drawsWrong, timeBefore, timeFalls, offersWrong, planWrong, lastRefusal, afterSheet, sheetRefusal, planRefusal, Planned, unplanned, wholeOf, wholeFrom, unless, planRead}
-use Rattle.sheet_layout.specs.Limits.{lastClock}
+use Rattle.plan_read.specs.Plan.{offersIn, offerData, offerIn, offerPlace, timesPlace, timesIn, drawsWrong}
+use Rattle.plan_read.specs.Plan.{timeBefore, timeFalls, offersWrong, planWrong, lastRefusal, afterSheet}
+use Rattle.plan_read.specs.Plan.{sheetRefusal, planRefusal, Planned, unplanned, wholeOf, wholeFrom, unless}
+use Rattle.plan_read.specs.Plan.{planRead}
+use Rattle.sheet_layout.specs.Limits.{lastClock, maxStations}
 
 -- N × D with both at most sixteen
-pub few : (n d : ℕ) (b : Bool) → n ≤ 16 → b ≡ outside d 1 16 → b ≡ false → n * d ≤ 256
+pub few : (n d : ℕ) (b : Bool) → n ≤ maxStations → b ≡ outside d 1 16 → b ≡ false → n * d ≤ 256
 few n d b p q r = mul-le-mul p (within d 1 16 (sym q ∙ r) .1)
 
 -- ---- an offer
 
-pub offer-in : (l a : List ℕ) (at t s v z : ℕ) → z ≡ get 2 l (at + 13) → v ≡ get 2 l (at + 11) → a ≡ part l (at + 5) 6 → s ≡ getD l (at + 4) 0 → t ≡ get 4 l at
+pub offer-in : (l a : List ℕ) (at t s v z : ℕ) → z ≡ get 2 l (at + 13) → v ≡ get 2 l (at + 11) → a ≡ part l (at + 5) 6
+    → s ≡ getD l (at + 4) 0 → t ≡ get 4 l at
     → record { time = t; station = s; destination = a; value = v; size = z } ≡ offerIn l at
 unfolding offerIn
-offer-in l a at t s v z pz pv pa ps pt = λ i. record { time = pt i; station = ps i; destination = pa i; value = pv i; size = pz i }
+offer-in l a at t s v z pz pv pa ps pt =
+    λ i. record { time = pt i; station = ps i; destination = pa i; value = pv i; size = pz i }
 
 pub data-is : (l : List ℕ) (at size : ℕ) → take (at + 15 + size - (at + 15)) (drop (at + 15) l) ≡ offerData l at size
 unfolding offerData
@@ -44,7 +50,8 @@ unfolding offerPlace
 offers-rise l at k zero = let e : 0 + k ≡ k = omega arith in rw e (omega arith)
 offers-rise l at k (suc d) = let e : suc d + k ≡ suc (d + k) = omega arith in rw e (omega (arith, offers-rise l at k d))
 
-pub offer-next : (l : List ℕ) (at k : ℕ) → offerPlace l at (suc k) ≡ offerPlace l at k + 15 + get 2 l (offerPlace l at k + 13)
+pub offer-next : (l : List ℕ) (at k : ℕ)
+    → offerPlace l at (suc k) ≡ offerPlace l at k + 15 + get 2 l (offerPlace l at k + 13)
 unfolding offerPlace
 offer-next l at k = refl
 
@@ -65,21 +72,25 @@ pub walk-zero : (l : List ℕ) (at : ℕ) → 0 ≡ timeBefore l at 0
 unfolding timeBefore
 walk-zero l at = refl
 
-pub walk-short : (l : List ℕ) (at n k p : ℕ) → p ≡ offerPlace l at k → k < n → p ≤ length l → length l - p < 15 → true ≡ offersWrong l at n
+pub walk-short : (l : List ℕ) (at n k p : ℕ) → p ≡ offerPlace l at k → k < n → p ≤ length l → length l - p < 15
+    → true ≡ offersWrong l at n
 walk-short l at n k p e h g w = size-wrong l at n (λ q. omega (arith, past l at k n h, offer-next l at k))
 
-pub walk-falls : (l : List ℕ) (at n k p t b : ℕ) → p ≡ offerPlace l at k → k < n → t ≡ get 4 l p → b ≡ timeBefore l at k → t < b → true ≡ offersWrong l at n
+pub walk-falls : (l : List ℕ) (at n k p t b : ℕ) → p ≡ offerPlace l at k → k < n → t ≡ get 4 l p → b ≡ timeBefore l at k
+    → t < b → true ≡ offersWrong l at n
 unfolding offersWrong
 walk-falls l at n k p t b e h q r w =
     let f : ltb t b ≡ timeFalls l at k = ap₂ ltb (q ∙ ap (get 4 l) e) r in
     rw (← some-hit (timeFalls l at) n k (ltb t b) f (lt-ltb t b w) h)
 
-pub walk-cut : (l : List ℕ) (at n k p z : ℕ) → p ≡ offerPlace l at k → k < n → z ≡ get 2 l (p + 13) → 15 ≤ length l - p → length l - p - 15 < z → true ≡ offersWrong l at n
+pub walk-cut : (l : List ℕ) (at n k p z : ℕ) → p ≡ offerPlace l at k → k < n → z ≡ get 2 l (p + 13) → 15 ≤ length l - p
+    → length l - p - 15 < z → true ≡ offersWrong l at n
 walk-cut l at n k p z e h q g w =
     let f : z ≡ get 2 l (offerPlace l at k + 13) = q ∙ ap (λ (x : ℕ). get 2 l (x + 13)) e in
     size-wrong l at n (λ v. omega (arith, past l at k n h, offer-next l at k))
 
-pub walk-place : (l : List ℕ) (at k p z : ℕ) → p ≡ offerPlace l at k → z ≡ get 2 l (p + 13) → p + 15 + z ≡ offerPlace l at (k + 1)
+pub walk-place : (l : List ℕ) (at k p z : ℕ) → p ≡ offerPlace l at k → z ≡ get 2 l (p + 13)
+    → p + 15 + z ≡ offerPlace l at (k + 1)
 walk-place l at k p z e q =
     let f : z ≡ get 2 l (offerPlace l at k + 13) = q ∙ ap (λ (x : ℕ). get 2 l (x + 13)) e in
     rw (add-one k) (omega (arith, offer-next l at k))
@@ -88,19 +99,22 @@ pub walk-time : (l : List ℕ) (at k p t : ℕ) → p ≡ offerPlace l at k → 
 unfolding timeBefore
 walk-time l at k p t e q = rw (add-one k) (q ∙ ap (get 4 l) e)
 
-pub walk-rising : (l : List ℕ) (at k p t b : ℕ) → p ≡ offerPlace l at k → t ≡ get 4 l p → b ≡ timeBefore l at k → b ≤ t → some (timeFalls l at) k ≡ false
+pub walk-rising : (l : List ℕ) (at k p t b : ℕ) → p ≡ offerPlace l at k → t ≡ get 4 l p → b ≡ timeBefore l at k → b ≤ t
+    → some (timeFalls l at) k ≡ false
     → some (timeFalls l at) (k + 1) ≡ false
 walk-rising l at k p t b e q r w h =
     let f : ltb t b ≡ timeFalls l at k = ap₂ ltb (q ∙ ap (get 4 l) e) r in
     some-more (timeFalls l at) k (ltb t b) f (le-ltb t b w) h
 
-pub walk-left : (l : List ℕ) (at n k p : ℕ) → p ≡ offerPlace l at k → k ≤ n → n ≤ k → p ≤ length l → (length l - p ≡ 4 → ⊥) → true ≡ offersWrong l at n
+pub walk-left : (l : List ℕ) (at n k p : ℕ) → p ≡ offerPlace l at k → k ≤ n → n ≤ k → p ≤ length l
+    → (length l - p ≡ 4 → ⊥) → true ≡ offersWrong l at n
 walk-left l at n k p e g h b w =
     let j : k ≡ n = omega arith in
     let f : p ≡ offerPlace l at n = e ∙ ap (offerPlace l at) j in
     size-wrong l at n (λ v. w (omega arith))
 
-pub walk-end : (l : List ℕ) (at n k p : ℕ) → p ≡ offerPlace l at k → k ≤ n → n ≤ k → p ≤ length l → length l - p ≡ 4 → some (timeFalls l at) k ≡ false
+pub walk-end : (l : List ℕ) (at n k p : ℕ) → p ≡ offerPlace l at k → k ≤ n → n ≤ k → p ≤ length l → length l - p ≡ 4
+    → some (timeFalls l at) k ≡ false
     → false ≡ offersWrong l at n
 unfolding offersWrong
 walk-end l at n k p e g h b w r =
@@ -120,13 +134,16 @@ module _ (l : List ℕ) (c : ℕ) where
   unfolding planWrong
   wrong-count h g w = rw (le-ltb 16384 (length l) h, lt-ltb (length l) (c + 2) (omega arith))
 
-  pub wrong-many : (m : ℕ) → length l ≤ 16384 → c ≤ length l → 2 ≤ length l - c → m ≡ get 2 l c → 64 < m → true ≡ planWrong l c
+  pub wrong-many : (m : ℕ) → length l ≤ 16384 → c ≤ length l → 2 ≤ length l - c → m ≡ get 2 l c → 64 < m
+      → true ≡ planWrong l c
   unfolding planWrong
   wrong-many m h g w e f = rw (le-ltb 16384 (length l) h, le-ltb (length l) (c + 2) (omega arith), ← e, lt-ltb 64 m f)
 
-  pub wrong-offers : (m : ℕ) (r : Bool) → r ≡ offersWrong l (c + 2) m → length l ≤ 16384 → c ≤ length l → 2 ≤ length l - c → m ≡ get 2 l c → m ≤ 64 → r ≡ planWrong l c
+  pub wrong-offers : (m : ℕ) (r : Bool) → r ≡ offersWrong l (c + 2) m → length l ≤ 16384 → c ≤ length l
+      → 2 ≤ length l - c → m ≡ get 2 l c → m ≤ 64 → r ≡ planWrong l c
   unfolding planWrong
-  wrong-offers m r p h g w e f = p ∙ rw (le-ltb 16384 (length l) h, le-ltb (length l) (c + 2) (omega arith), ← e, le-ltb 64 m f)
+  wrong-offers m r p h g w e f =
+      p ∙ rw (le-ltb 16384 (length l) h, le-ltb (length l) (c + 2) (omega arith), ← e, le-ltb 64 m f)
 
   -- none of it: the input ends with the bit times
   ends-so : planWrong l c ≡ false → (c + 2 ≤ length l) × (length l ≡ timesPlace l c + 4)
@@ -135,8 +152,11 @@ module _ (l : List ℕ) (c : ℕ) where
       let a = neither (ltb 16384 (length l)) _ h in
       let b = neither (ltb (length l) (c + 2)) _ (a .1) in
       let d = neither (ltb 64 (offersIn l c)) _ (b .1) in
-      let e = neither (some (timeFalls l (c + 2)) (offersIn l c)) _ (d .1) in
-      (ltb-false (length l) (c + 2) (b .0), eqb-true (length l) (timesPlace l c + 4) (not-not (eqb (length l) (timesPlace l c + 4)) (e .1)))
+      let e = neither (some (timeFalls l (c + 2)) (offersIn l c)) _ (d .1) in (
+        ltb-false (length l) (c + 2) (b .0),
+        eqb-true (length l) (timesPlace l c + 4)
+            (not-not (eqb (length l) (timesPlace l c + 4)) (e .1)),
+      )
     where
       not-not : (b : Bool) → not b ≡ false → b ≡ true
       not-not true p = refl
@@ -155,13 +175,15 @@ module _ (l : List ℕ) (c : ℕ) where
   unfolding lastRefusal
   last-wrong b p q = rw (← p, q)
 
-  pub last-over : (b : Bool) (t : ℕ) → b ≡ planWrong l c → b ≡ false → t ≡ get 4 l (length l - 4) → lastClock < t → 13 ≡ lastRefusal l c
+  pub last-over : (b : Bool) (t : ℕ) → b ≡ planWrong l c → b ≡ false → t ≡ get 4 l (length l - 4) → lastClock < t
+      → 13 ≡ lastRefusal l c
   unfolding lastRefusal
   last-over b t p q e h =
       let f : t ≡ timesIn l c = e ∙ ap (get 4 l) (times-place (sym p ∙ q)) in
       rw (← p, q, ← f, lt-ltb lastClock t h)
 
-  pub last-none : (b : Bool) (t : ℕ) → b ≡ planWrong l c → b ≡ false → t ≡ get 4 l (length l - 4) → t ≤ lastClock → 0 ≡ lastRefusal l c
+  pub last-none : (b : Bool) (t : ℕ) → b ≡ planWrong l c → b ≡ false → t ≡ get 4 l (length l - 4) → t ≤ lastClock
+      → 0 ≡ lastRefusal l c
   unfolding lastRefusal
   last-none b t p q e h =
       let f : t ≡ timesIn l c = e ∙ ap (get 4 l) (times-place (sym p ∙ q)) in
@@ -189,17 +211,35 @@ module _ (l : List ℕ) (c : ℕ) where
 unfoldable pub restRead : List ℕ → Layout → (d at c : ℕ) → Planned
 restRead l y d at c = unless (lastRefusal l c) (wholeOf l y d at c)
 
-pub rest-refused : (l : List ℕ) (y : Layout) (d at c n : ℕ) (r : Planned) → r ≡ unplanned n → n ≡ lastRefusal l c → (n ≡ 0 → ⊥) → r ≡ restRead l y d at c
+pub rest-refused : (l : List ℕ) (y : Layout) (d at c n : ℕ) (r : Planned) → r ≡ unplanned n → n ≡ lastRefusal l c
+    → (n ≡ 0 → ⊥) → r ≡ restRead l y d at c
 unfolding restRead
 rest-refused l y d at c n r p q h = p ∙ rw (← q, ne-eqb n 0 h)
 
-pub rest-read : (l : List ℕ) (y : Layout) (d at c n o t : ℕ) → t ≡ get 4 l (length l - 4) → o ≡ get 2 l c → n ≡ lastRefusal l c → n ≡ 0
-    → record { answer = accepted []; layout = y; depth = d; drawn = at; offers = o; first = c + 2; times = t } ≡ restRead l y d at c
+pub rest-read : (l : List ℕ) (y : Layout) (d at c n o t : ℕ) → t ≡ get 4 l (length l - 4) → o ≡ get 2 l c
+    → n ≡ lastRefusal l c → n ≡ 0
+    → record {
+      answer = accepted [];
+      layout = y;
+      depth = d;
+      drawn = at;
+      offers = o;
+      first = c + 2;
+      times = t;
+    } ≡ restRead l y d at c
 unfolding restRead
 rest-read l y d at c n o t pt po q h =
     let e : lastRefusal l c ≡ 0 = sym q ∙ h in
     let f : t ≡ timesIn l c = pt ∙ ap (get 4 l) (times-place l c (none-right l c e)) in
-    rw (eq-eqb (lastRefusal l c) 0 e) (λ i. record { answer = accepted []; layout = y; depth = d; drawn = at; offers = po i; first = c + 2; times = f i })
+    rw (eq-eqb (lastRefusal l c) 0 e) (λ i. record {
+      answer = accepted [];
+      layout = y;
+      depth = d;
+      drawn = at;
+      offers = po i;
+      first = c + 2;
+      times = f i;
+    })
 
 -- ---- after the sheet
 
@@ -218,28 +258,33 @@ module _ (l : List ℕ) (u : ℕ) (y : Layout) (r : Planned) where
       wrong : length l ≤ u → drawsWrong l u (y .count) ≡ true
       wrong h = rw (lt-ltb (length l) (u + 1) (omega arith))
 
-  pub sheet-depth : (d : ℕ) (b : Bool) → r ≡ unplanned 9 → b ≡ outside d 1 16 → b ≡ true → d ≡ getD l u 0 → u < length l → r ≡ sheetOn l u y
+  pub sheet-depth : (d : ℕ) (b : Bool) → r ≡ unplanned 9 → b ≡ outside d 1 16 → b ≡ true → d ≡ getD l u 0 → u < length l
+      → r ≡ sheetOn l u y
   unfolding drawsWrong
   sheet-depth d b p q t e h = nine wrong p
     where
       wrong : drawsWrong l u (y .count) ≡ true
       wrong = rw (le-ltb (length l) (u + 1) (omega arith), ← e, ← q, t)
 
-  pub sheet-draws : (d : ℕ) (b : Bool) → r ≡ unplanned 9 → b ≡ outside d 1 16 → b ≡ false → d ≡ getD l u 0 → u < length l
+  pub sheet-draws : (d : ℕ) (b : Bool) → r ≡ unplanned 9 → b ≡ outside d 1 16 → b ≡ false → d ≡ getD l u 0
+      → u < length l
       → length l < u + 1 + 2 * (y .count * d) → r ≡ sheetOn l u y
   unfolding drawsWrong
   sheet-draws d b p q t e h g = nine wrong p
     where
       wrong : drawsWrong l u (y .count) ≡ true
-      wrong = rw (le-ltb (length l) (u + 1) (omega arith), ← e, ← q, t, lt-ltb (length l) (u + 1 + 2 * (y .count * d)) g)
+      wrong =
+          rw (le-ltb (length l) (u + 1) (omega arith), ← e, ← q, t, lt-ltb (length l) (u + 1 + 2 * (y .count * d)) g)
 
-  pub sheet-rest : (d : ℕ) (b : Bool) → r ≡ restRead l y d (u + 1) (u + 1 + 2 * (y .count * d)) → b ≡ outside d 1 16 → b ≡ false → d ≡ getD l u 0 → u < length l
+  pub sheet-rest : (d : ℕ) (b : Bool) → r ≡ restRead l y d (u + 1) (u + 1 + 2 * (y .count * d)) → b ≡ outside d 1 16
+      → b ≡ false → d ≡ getD l u 0 → u < length l
       → u + 1 + 2 * (y .count * d) ≤ length l → r ≡ sheetOn l u y
   unfolding restRead sheetOn afterSheet drawsWrong
   sheet-rest d b p q t e h g = p ∙ rw in-order (rw (← e))
     where
       in-order : drawsWrong l u (y .count) ≡ false
-      in-order = rw (le-ltb (length l) (u + 1) (omega arith), ← e, ← q, t, le-ltb (length l) (u + 1 + 2 * (y .count * d)) g)
+      in-order =
+          rw (le-ltb (length l) (u + 1) (omega arith), ← e, ← q, t, le-ltb (length l) (u + 1 + 2 * (y .count * d)) g)
 
 -- ---- the whole input
 
@@ -247,17 +292,21 @@ module _ (l : List ℕ) (u : ℕ) (y : Layout) (r : Planned) where
 refused-number : (l : List ℕ) (n : ℕ) → readSheet l .answer ≡ refused n → n ≡ 0 → ⊥
 unfolding readSheet
 refused-number l n =
-    go (ltb (length l) (sheetSize l)) (stands (mapOf l) 6 || stands (mapOf l) 7) (eqb (refusalOf (layoutIn l)) 0) refl
+    go (ltb (length l) (sheetSize l)) (stands (mapOf l) 7) (eqb (refusalOf (layoutIn l)) 0) refl
   where
     number : Answer → ℕ
     number a = numberOf a
 
     go : (s t u : Bool) → eqb (refusalOf (layoutIn l)) 0 ≡ u
-        → pick s (unread 3) (pick t (unread 4) (pick u (record { answer = accepted (sheetSize l ∷ []); layout = layoutIn l }) (unread (refusalOf (layoutIn l))))) .answer ≡ refused n
+        → pick s (unread 3) (pick t (unread 4) (pick u (record {
+          answer = accepted (sheetSize l ∷ []);
+          layout = layoutIn l;
+        }) (unread (refusalOf (layoutIn l))))) .answer ≡ refused n
         → n ≡ 0 → ⊥
     go true t u q h z = let e : 3 ≡ n = ap number h in omega arith
     go false true u q h z = let e : 4 ≡ n = ap number h in omega arith
-    go false false true q h z = let e : length (sheetSize l ∷ []) ≡ 0 = ap (λ (a : Answer). length (valuesOf a)) h in omega arith
+    go false false true q h z =
+        let e : length (sheetSize l ∷ []) ≡ 0 = ap (λ (a : Answer). length (valuesOf a)) h in omega arith
     go false false false q h z = eqb-false (refusalOf (layoutIn l)) 0 q (ap number h ∙ z)
 
 module _ (l : List ℕ) (f : Sheet) (n : ℕ) (p : sheetReading f ≡ readSheet l) where
@@ -275,20 +324,24 @@ sheet-number : (l : List ℕ) (n : ℕ) → sheetRefusal l ≡ n → (n ≡ 0 �
 unfolding planRefusal
 sheet-number l n p h = rw (p, ne-eqb n 0 h)
 
-pub plan-refused : (l : List ℕ) (f : Sheet) (n : ℕ) (r : Planned) → r ≡ unplanned n → sheetReading f ≡ readSheet l → f .read ≡ sheets.Refused n → r ≡ planRead l
+pub plan-refused : (l : List ℕ) (f : Sheet) (n : ℕ) (r : Planned) → r ≡ unplanned n → sheetReading f ≡ readSheet l
+    → f .read ≡ sheets.Refused n → r ≡ planRead l
 unfolding planRead
 plan-refused l f n r q p e =
     let a : readSheet l .answer ≡ refused n = sym (answers l f n p) ∙ ap sheetAnswer e in
     let b : n ≡ 0 → ⊥ = refused-number l n a in
     q ∙ rw (sheet-number l n (ap numberOf a) b, ne-eqb n 0 b)
 
-pub sheet-within : (l : List ℕ) (f : Sheet) (n : ℕ) → sheetReading f ≡ readSheet l → f .read ≡ sheets.Used n → n ≤ length l
+pub sheet-within : (l : List ℕ) (f : Sheet) (n : ℕ) → sheetReading f ≡ readSheet l → f .read ≡ sheets.Used n
+    → n ≤ length l
 sheet-within l f n p e = used l f n p e .within
 
-pub sheet-few : (l : List ℕ) (f : Sheet) (n : ℕ) → sheetReading f ≡ readSheet l → f .read ≡ sheets.Used n → f .layout .count ≤ 16
+pub sheet-few : (l : List ℕ) (f : Sheet) (n : ℕ) → sheetReading f ≡ readSheet l → f .read ≡ sheets.Used n
+    → f .layout .count ≤ maxStations
 sheet-few l f n p e = rw (ap (λ (r : Reading). r .layout .count) p) (used l f n p e .sound .count .1)
 
-pub plan-read : (l : List ℕ) (f : Sheet) (n : ℕ) (r : Planned) → r ≡ sheetOn l n (f .layout) → sheetReading f ≡ readSheet l → f .read ≡ sheets.Used n → r ≡ planRead l
+pub plan-read : (l : List ℕ) (f : Sheet) (n : ℕ) (r : Planned) → r ≡ sheetOn l n (f .layout)
+    → sheetReading f ≡ readSheet l → f .read ≡ sheets.Used n → r ≡ planRead l
 unfolding planRead planRefusal sheetOn layoutIn
 plan-read l f n r q p e =
     let a : numberOf (readSheet l .answer) ≡ 0 = ap numberOf (sym (answers l f n p) ∙ ap sheetAnswer e) in

@@ -1,5 +1,5 @@
--- What a caller may rely on where a run input is read: its values are in range, the draws and every offer lie within the input, times
--- do not fall, and the bit times end it. Assumes nothing.
+-- What a caller may rely on where a run input is read: its values are in range, the draws and every offer lie within
+-- the input, times do not fall, and the bit times end it. Assumes nothing.
 use Prim.Native.Nat.{ℕ, _+_, _-_, _*_, _≤_, _<_, min}
 use mathlib.Core.Path.{_≡_, refl, sym, _∙_, ap, subst}
 use mathlib.Core.Bool.{Bool, true, false, _||_, not}
@@ -15,20 +15,25 @@ use Rattle.sheet_layout.specs.declared.Layout.{Layout}
 use Rattle.sheet_layout.specs.Layout.{blankTap}
 use Rattle.sheet_layout.specs.Check.{refusalOf}
 use Rattle.sheet_layout.specs.CheckLaws.{Sound}
-use Rattle.sheet_read.specs.Sheet.{mapOf, stands, countPlace, countIn, tapIn, tapsFrom, layoutIn, sheetSize, unread, readSheet}
+use Rattle.sheet_read.specs.Sheet.{mapOf, stands, countPlace, countIn, tapIn, tapsFrom, layoutIn, sheetSize, unread}
+use Rattle.sheet_read.specs.Sheet.{readSheet}
 use Rattle.sheet_read.specs.SheetTheorems.{read-sound, layout-formed}
-use Rattle.plan_read.specs.Plan.{depthIn, offersPlace, offersIn, offerTime, offerSize, offerPlace, timesIn, drawsWrong, timeBefore, timeFalls, offersWrong, planWrong, lastRefusal, afterSheet, sheetRefusal, planRefusal, Planned, unplanned, wholeFrom, unless, planRead, planReading}
+use Rattle.plan_read.specs.Plan.{depthIn, offersPlace, offersIn, offerTime, offerSize, offerPlace, timesIn}
+use Rattle.plan_read.specs.Plan.{drawsWrong, timeBefore, timeFalls, offersWrong, planWrong, lastRefusal}
+use Rattle.plan_read.specs.Plan.{afterSheet, sheetRefusal, planRefusal, Planned, unplanned, wholeFrom, unless}
+use Rattle.plan_read.specs.Plan.{planRead, planReading}
 use Rattle.plan_read.specs.declared.Plan.{Plan}
 use Rattle.plan_read.specs.PlanLaws.{past, offer-next}
-use Rattle.sheet_layout.specs.Limits.{lastClock}
+use Rattle.sheet_layout.specs.Limits.{lastClock, maxDraws}
 
 pub record Right (l : List ℕ) (r : Planned) : Type 0 where
   pub sound : Sound (r .layout)
-  pub depth : (1 ≤ r .depth) × (r .depth ≤ 16)
+  pub depth : (1 ≤ r .depth) × (r .depth ≤ maxDraws)
   pub draws : r .drawn + 2 * (r .layout .count * r .depth) ≤ length l
   pub size : length l ≤ 16384
   pub many : r .offers ≤ 64
-  pub offer : (k : ℕ) → k < r .offers → offerPlace l (r .first) k + 15 + offerSize l (offerPlace l (r .first) k) ≤ length l
+  pub offer : (k : ℕ) → k < r .offers
+      → offerPlace l (r .first) k + 15 + offerSize l (offerPlace l (r .first) k) ≤ length l
   pub rising : (k : ℕ) → k < r .offers → timeBefore l (r .first) k ≤ offerTime l (offerPlace l (r .first) k)
   pub ending : length l ≡ offerPlace l (r .first) (r .offers) + 4
   pub times : r .times ≤ lastClock
@@ -49,11 +54,18 @@ accepts n r = go (eqb n 0) refl
 sheet-accepts : (l : List ℕ) → sheetRefusal l ≡ 0 → readSheet l .answer ≡ accepted (sheetSize l ∷ [])
 unfolding readSheet
 sheet-accepts l =
-    go (ltb (length l) (sheetSize l)) (stands (mapOf l) 6 || stands (mapOf l) 7) (eqb (refusalOf (layoutIn l)) 0) 0 refl refl
+    go (ltb (length l) (sheetSize l)) (stands (mapOf l) 7)
+    (eqb (refusalOf (layoutIn l)) 0) 0 refl refl
   where
     go : (s t u : Bool) (x : ℕ) → x ≡ 0 → eqb (refusalOf (layoutIn l)) 0 ≡ u
-        → numberOf (pick s (unread 3) (pick t (unread 4) (pick u (record { answer = accepted (sheetSize l ∷ []); layout = layoutIn l }) (unread (refusalOf (layoutIn l))))) .answer) ≡ x
-        → pick s (unread 3) (pick t (unread 4) (pick u (record { answer = accepted (sheetSize l ∷ []); layout = layoutIn l }) (unread (refusalOf (layoutIn l))))) .answer ≡ accepted (sheetSize l ∷ [])
+        → numberOf (pick s (unread 3) (pick t (unread 4) (pick u (record {
+          answer = accepted (sheetSize l ∷ []);
+          layout = layoutIn l;
+        }) (unread (refusalOf (layoutIn l))))) .answer) ≡ x
+        → pick s (unread 3) (pick t (unread 4) (pick u (record {
+          answer = accepted (sheetSize l ∷ []);
+          layout = layoutIn l;
+        }) (unread (refusalOf (layoutIn l))))) .answer ≡ accepted (sheetSize l ∷ [])
     go true t u x z q h = absurd (omega arith)
     go false true u x z q h = absurd (omega arith)
     go false false true x z q h = refl
@@ -73,7 +85,7 @@ module _ (l : List ℕ) (u n : ℕ) where
   unfolding afterSheet
   after-right h = passed (drawsWrong l u n) 9 (lastRefusal l (offersPlace l u n)) (λ z. omega arith) h
 
-  draws-right : drawsWrong l u n ≡ false → (1 ≤ depthIn l u) × (depthIn l u ≤ 16) × (offersPlace l u n ≤ length l)
+  draws-right : drawsWrong l u n ≡ false → (1 ≤ depthIn l u) × (depthIn l u ≤ maxDraws) × (offersPlace l u n ≤ length l)
   unfolding drawsWrong
   draws-right h =
       let a = neither (ltb (length l) (u + 1)) _ h in
@@ -89,7 +101,8 @@ module _ (l : List ℕ) (c : ℕ) where
       let b = passed (ltb lastClock (timesIn l c)) 13 0 (λ z. omega arith) (a .1) in
       (a .0, ltb-false lastClock (timesIn l c) (b .0))
 
-  plan-right : planWrong l c ≡ false → (length l ≤ 16384) × (offersIn l c ≤ 64) × (offersWrong l (c + 2) (offersIn l c) ≡ false)
+  plan-right : planWrong l c ≡ false
+      → (length l ≤ 16384) × (offersIn l c ≤ 64) × (offersWrong l (c + 2) (offersIn l c) ≡ false)
   unfolding planWrong
   plan-right h =
       let a = neither (ltb 16384 (length l)) _ h in
@@ -110,7 +123,8 @@ module _ (l : List ℕ) (at n : ℕ) (h : offersWrong l at n ≡ false) where
   ends = eqb-true (length l) (offerPlace l at n + 4) (not-not (eqb (length l) (offerPlace l at n + 4)) (parts .1))
 
   rises : (k : ℕ) → k < n → timeBefore l at k ≤ offerTime l (offerPlace l at k)
-  rises k g = ltb-false (offerTime l (offerPlace l at k)) (timeBefore l at k) (none-below (timeFalls l at) n k (parts .0) g)
+  rises k g =
+      ltb-false (offerTime l (offerPlace l at k)) (timeBefore l at k) (none-below (timeFalls l at) n k (parts .0) g)
 
   lies : (k : ℕ) → k < n → offerPlace l at k + 15 + offerSize l (offerPlace l at k) ≤ length l
   lies k g = omega (arith, past l at k n g, offer-next l at k, ends)
@@ -154,10 +168,13 @@ read-right l h =
 sheet-passes : (l : List ℕ) → sheetRefusal l ≡ 0 → refusalOf (layoutIn l) ≡ 0
 unfolding readSheet
 sheet-passes l =
-    go (ltb (length l) (sheetSize l)) (stands (mapOf l) 6 || stands (mapOf l) 7) (eqb (refusalOf (layoutIn l)) 0) refl
+    go (ltb (length l) (sheetSize l)) (stands (mapOf l) 7) (eqb (refusalOf (layoutIn l)) 0) refl
   where
     go : (s t u : Bool) → eqb (refusalOf (layoutIn l)) 0 ≡ u
-        → numberOf (pick s (unread 3) (pick t (unread 4) (pick u (record { answer = accepted (sheetSize l ∷ []); layout = layoutIn l }) (unread (refusalOf (layoutIn l))))) .answer) ≡ 0
+        → numberOf (pick s (unread 3) (pick t (unread 4) (pick u (record {
+          answer = accepted (sheetSize l ∷ []);
+          layout = layoutIn l;
+        }) (unread (refusalOf (layoutIn l))))) .answer) ≡ 0
         → refusalOf (layoutIn l) ≡ 0
     go true t u q h = absurd (omega arith)
     go false true u q h = absurd (omega arith)
@@ -188,5 +205,6 @@ read-formed l h i g =
 
 -- ---- the same of the code's answer, as its callers meet it
 
-pub reading-right : (l : List ℕ) (p : Plan) → planReading p ≡ planRead l → numberOf (planRead l .answer) ≡ 0 → Right l (planReading p)
+pub reading-right : (l : List ℕ) (p : Plan) → planReading p ≡ planRead l → numberOf (planRead l .answer) ≡ 0
+    → Right l (planReading p)
 reading-right l p e n = subst (λ (r : Planned). Right l r) (sym e) (read-right l n)

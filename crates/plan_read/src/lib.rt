@@ -7,8 +7,10 @@ use sheet_read::SheetRead;
 ghost use mathlib.Core.Path.{_≡_};
 ghost use Prim.Native.Nat.{_+_, _*_, _<_, _≤_};
 ghost use lib.ListN.{length};
-ghost use Rattle.plan_read.specs.Plan.{offerIn, offerData, offersWrong, planWrong, lastRefusal, unplanned, planRead, planReading};
+ghost use Rattle.plan_read.specs.Plan.{offerIn, offerData, offersWrong, planWrong, lastRefusal, unplanned};
+ghost use Rattle.plan_read.specs.Plan.{planRead, planReading};
 ghost use Rattle.plan_read.specs.PlanLaws.{restRead, sheetOn};
+ghost use Rattle.sheet_layout.specs.Limits.{maxStations};
 
 // The reader's answer: a refusal by its number, or the whole input is read.
 pub enum Verdict {
@@ -16,8 +18,8 @@ pub enum Verdict {
     Whole,
 }
 
-// A run input as read: the answer, and beside it the layout, D, where the draws begin, the number of offers, where the first
-// begins, and the bit times. All are blank where the input is refused.
+// A run input as read: the answer, and beside it the layout, D, where the draws begin, the number of offers, where the
+// first begins, and the bit times. All are blank where the input is refused.
 pub struct Plan {
     pub read: Verdict,
     pub layout: Layout,
@@ -145,6 +147,7 @@ fn unread_plan(n: u32) -> Plan
         jam: 0,
         limit: 0,
         backoff: 0,
+        ends: 0,
     };
     Plan {
         read: Verdict::Refused(n),
@@ -185,7 +188,7 @@ fn read_rest(s: &[u8], y: Layout, d: u32, at: usize, c: usize) -> Plan
 
 // The plan of an input whose sheet has layout y and takes the first `used` octets.
 fn after_sheet(s: &[u8], used: usize, y: Layout) -> Plan
-    requires { ⌜ (used ≤ length (now s)) × (y .count ≤ 16) ⌝ }
+    requires { ⌜ (used ≤ length (now s)) × (y .count ≤ maxStations) ⌝ }
     ensures { λ r. ⌜ planReading r ≡ sheetOn (now (s .entry)) used y ⌝ }
 {
     let n = s.len();

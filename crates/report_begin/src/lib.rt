@@ -17,10 +17,11 @@ ghost use Rattle.plan_read.specs.Plan.{planRead, planReading, verdictAnswer};
 ghost use Rattle.report_spec.specs.Printed.{firstText};
 ghost use Rattle.report_spec.specs.Pieces.{pieceAnswer, handing, given, noProgress, startPiece, firstPiece, begun};
 ghost use Rattle.area.specs.Offsets.{areaSize};
+ghost use Rattle.sheet_layout.specs.Limits.{maxStations};
 
 // The first line.
 fn put_heading(out: &mut [u8], y: Layout) -> usize
-    requires { ⌜ (0 < y .count) × (y .count ≤ 16) × (2048 ≤ length (now out)) ⌝ }
+    requires { ⌜ (0 < y .count) × (y .count ≤ maxStations) × (2048 ≤ length (now out)) ⌝ }
     ensures { λ r. ⌜ written r (now (out .exit)) ≡ puts (now (out .entry)) 0 (firstText y) ⌝ }
 {
     if sheet_fit::fits_well(y) {
@@ -59,7 +60,8 @@ fn refused_piece(out: &mut [u8], n: u32) -> Handed
 fn start_piece(input: &[u8], area: &mut [u8], out: &mut [u8], p: Plan) -> Handed
     requires { ⌜ (planReading p ≡ planRead (now input)) × (numberOf (planRead (now input) .answer) ≡ 0) ⌝ }
     requires { ⌜ (areaSize ≤ length (now area)) × (2048 ≤ length (now out)) ⌝ }
-    ensures { λ r. ⌜ handing r (now (area .exit)) (now (out .exit)) ≡ given (now (out .entry)) (startPiece (now (input .entry)) (planReading p) (now (area .entry))) ⌝ }
+    ensures { λ r. ⌜ handing r (now (area .exit)) (now (out .exit))
+        ≡ given (now (out .entry)) (startPiece (now (input .entry)) (planReading p) (now (area .entry))) ⌝ }
 {
     let y = p.layout;
     let draws = plan_draws::read_draws(input, p.drawn, y.count as usize, p.depth as usize);
@@ -88,7 +90,8 @@ fn refusal_in(v: Verdict) -> u32
 
 fn begin_on(input: &[u8], area: &mut [u8], out: &mut [u8]) -> Handed
     requires { ⌜ (areaSize ≤ length (now area)) × (2048 ≤ length (now out)) ⌝ }
-    ensures { λ r. ⌜ handing r (now (area .exit)) (now (out .exit)) ≡ given (now (out .entry)) (firstPiece (now (input .entry)) (now (area .entry))) ⌝ }
+    ensures { λ r. ⌜ handing r (now (area .exit)) (now (out .exit))
+        ≡ given (now (out .entry)) (firstPiece (now (input .entry)) (now (area .entry))) ⌝ }
 {
     let p = plan_read::read_plan(input);
     let read = p.read;
@@ -99,9 +102,11 @@ fn begin_on(input: &[u8], area: &mut [u8], out: &mut [u8]) -> Handed
     start_piece(input, area, out, p)
 }
 
-// Reads the run input, makes a fresh start and hands out the first piece: the first line, or `refused n`. Refusals 1, 15.
+// Reads the run input, makes a fresh start and hands out the first piece: the first line, or `refused n`. Refusals 1,
+// 15.
 pub fn begin(input: &[u8], area: &mut [u8], out: &mut [u8]) -> Handed
-    ensures { λ r. ⌜ handing r (now (area .exit)) (now (out .exit)) ≡ begun (now (input .entry)) (now (area .entry)) (now (out .entry)) ⌝ }
+    ensures { λ r. ⌜ handing r (now (area .exit)) (now (out .exit))
+        ≡ begun (now (input .entry)) (now (area .entry)) (now (out .entry)) ⌝ }
 {
     if area.len() < area::AREA {
         return report_spec::withhold(1, no_progress());

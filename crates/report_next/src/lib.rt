@@ -1,5 +1,5 @@
-// The run program on lent octets: what it prints for an input, handed out piece by piece (document 01, "The run program"). The first piece
-// is `report_begin::begin`'s.
+// The run program on lent octets: what it prints for an input, handed out piece by piece (document 01, "The run
+// program"). The first piece is `report_begin::begin`'s.
 
 use octets::Done;
 use report_spec::Handed;
@@ -13,13 +13,15 @@ ghost use Rattle.octets.specs.Base.{outcome, doneAnswer, numberOf};
 ghost use Rattle.bus_spec.specs.RunLaws.{Runnable};
 ghost use Rattle.report_text.specs.Text.{written, puts};
 ghost use Rattle.report_spec.specs.Printed.{lies, made, offerLine};
-ghost use Rattle.report_spec.specs.Pieces.{lastPiece, offerPiece, stepPiece, handing, given, offerShort, advancedOn, advanced};
+ghost use Rattle.report_spec.specs.Pieces.{lastPiece, offerPiece, stepPiece, handing, given, offerShort, advancedOn};
+ghost use Rattle.report_spec.specs.Pieces.{advanced};
 ghost use Rattle.area.specs.Offsets.{areaSize};
 
 // The last line.
 fn end_piece(area: &[u8], out: &mut [u8], g: Progress) -> Handed
     requires { ⌜ (areaSize ≤ length (now area)) × (2048 ≤ length (now out)) ⌝ }
-    ensures { λ r. ⌜ handing r (now (area .entry)) (now (out .exit)) ≡ given (now (out .entry)) (lastPiece g (now (area .entry))) ⌝ }
+    ensures { λ r. ⌜ handing r (now (area .entry)) (now (out .exit))
+        ≡ given (now (out .entry)) (lastPiece g (now (area .entry))) ⌝ }
 {
     let end = report_text::put_counted(out, 0, b"end", area::read_clock(area), b'\n');
     Handed {
@@ -71,7 +73,8 @@ fn put_offer(input: &[u8], at: usize, n: u32, out: &mut [u8]) -> usize
 // The next offer is made.
 fn offer_piece(input: &[u8], area: &mut [u8], out: &mut [u8], g: Progress) -> Handed
     requires { ⌜ (lies (now input) (g .at) ≡ true) × (0 < g .offers) × (2048 ≤ length (now out)) ⌝ }
-    ensures { λ r. ⌜ handing r (now (area .exit)) (now (out .exit)) ≡ given (now (out .entry)) (offerPiece (now (input .entry)) g (now (area .entry))) ⌝ }
+    ensures { λ r. ⌜ handing r (now (area .exit)) (now (out .exit))
+        ≡ given (now (out .entry)) (offerPiece (now (input .entry)) g (now (area .entry))) ⌝ }
 {
     let at = g.at;
     let size = octets_words::get16(input, at + 13) as usize;
@@ -92,7 +95,8 @@ fn offer_piece(input: &[u8], area: &mut [u8], out: &mut [u8], g: Progress) -> Ha
 fn step_piece(input: &[u8], area: &mut [u8], out: &mut [u8], g: Progress) -> Handed
     requires { ⌜ (areaSize ≤ length (now area)) × Runnable (g .times) (now area) × (0 < g .times) ⌝ }
     requires { ⌜ (offerShort (now input) g ≡ false) × (2048 ≤ length (now out)) ⌝ }
-    ensures { λ r. ⌜ handing r (now (area .exit)) (now (out .exit)) ≡ given (now (out .entry)) (stepPiece (now (input .entry)) g (now (area .entry))) ⌝ }
+    ensures { λ r. ⌜ handing r (now (area .exit)) (now (out .exit))
+        ≡ given (now (out .entry)) (stepPiece (now (input .entry)) g (now (area .entry))) ⌝ }
 {
     let n = report_spec::span(input, area, g);
     let s = fast_advance::until::until_event(area, n);
@@ -113,7 +117,8 @@ fn step_piece(input: &[u8], area: &mut [u8], out: &mut [u8], g: Progress) -> Han
 // The next piece, on an area of just the octets that one must have.
 fn advance_on(input: &[u8], area: &mut [u8], out: &mut [u8], g: Progress) -> Handed
     requires { ⌜ areaSize ≤ length (now area) ⌝ }
-    ensures { λ r. ⌜ handing r (now (area .exit)) (now (out .exit)) ≡ advancedOn (now (input .entry)) (now (area .entry)) (now (out .entry)) g ⌝ }
+    ensures { λ r. ⌜ handing r (now (area .exit)) (now (out .exit))
+        ≡ advancedOn (now (input .entry)) (now (area .entry)) (now (out .entry)) g ⌝ }
 {
     let number = report_spec::refusal(input, area, out.len(), g);
     if number != 0 {
@@ -136,7 +141,8 @@ fn advance_on(input: &[u8], area: &mut [u8], out: &mut [u8], g: Progress) -> Han
 
 // Hands out the next piece of what is printed for the input, where the run stands at g. Refusals 1, 2, 13, 15, 16.
 pub fn advance(input: &[u8], area: &mut [u8], out: &mut [u8], g: Progress) -> Handed
-    ensures { λ r. ⌜ handing r (now (area .exit)) (now (out .exit)) ≡ advanced (now (input .entry)) (now (area .entry)) (now (out .entry)) g ⌝ }
+    ensures { λ r. ⌜ handing r (now (area .exit)) (now (out .exit))
+        ≡ advanced (now (input .entry)) (now (area .entry)) (now (out .entry)) g ⌝ }
 {
     if area.len() < area::AREA {
         return report_spec::withhold(1, g);

@@ -1,5 +1,5 @@
--- The text of a run handed out piece by piece, on lent octets: the input l, a work area a, and octets o for the text. That the pieces
--- are what is printed is in Whole. The laws are in PieceLaws. Assumes nothing.
+-- The text of a run handed out piece by piece, on lent octets: the input l, a work area a, and octets o for the text.
+-- That the pieces are what is printed is in Whole. The laws are in PieceLaws. Assumes nothing.
 use Prim.Native.Nat.{ℕ, zero, suc, _+_, _-_, min}
 use mathlib.Core.Bool.{Bool, true, false, not}
 use mathlib.Core.List.{List, [], _∷_, _++_}
@@ -19,7 +19,8 @@ use Rattle.report_spec.specs.declared.Progress.{Progress}
 use Rattle.report_spec.specs.declared.Piece.{Piece}
 use Rattle.report_spec.specs.declared.Piece.the-variants.{Refused, Text}
 use Rattle.report_spec.specs.declared.Handed.{Handed}
-use Rattle.report_spec.specs.Printed.{nextOffer, lies, made, offerText, Course, course, runOn, firstText, startArea}
+use Rattle.report_spec.specs.Printed.{nextOffer, lies, made, offerText, Course, course, runOn, firstText}
+use Rattle.report_spec.specs.Printed.{startArea}
 use Rattle.sheet_layout.specs.Limits.{lastClock}
 
 -- ---- the next piece
@@ -43,7 +44,8 @@ isDue l g a = pick (eqb (g .offers) 0) false (eqb (offerTime l (g .at)) (clockAt
 -- the steps that may be made before the next offer
 unfoldable pub spanOf : List ℕ → Progress → List ℕ → ℕ
 spanOf l g a =
-    pick (eqb (g .offers) 0) (g .times) (pick (ltb (clockAt a) (offerTime l (g .at))) (min (offerTime l (g .at) - clockAt a) (g .times)) (g .times))
+    pick (eqb (g .offers) 0) (g .times)
+    (pick (ltb (clockAt a) (offerTime l (g .at))) (min (offerTime l (g .at) - clockAt a) (g .times)) (g .times))
 
 -- no bit times are left: the last line
 unfoldable pub lastPiece : Progress → List ℕ → Moved
@@ -51,7 +53,9 @@ lastPiece g a = moved (endLine (clockAt a)) (standing (g .at) (g .offers) 0 true
 
 -- the next offer is made
 unfoldable pub offerPiece : List ℕ → Progress → List ℕ → Moved
-offerPiece l g a = moved (offerText l (g .at) a) (standing (nextOffer l (g .at)) (g .offers - 1) (g .times) false) (made l (g .at) a .octets)
+offerPiece l g a =
+    moved (offerText l (g .at) a) (standing (nextOffer l (g .at)) (g .offers - 1) (g .times) false)
+    (made l (g .at) a .octets)
 
 -- the bit times left of n: none after a late collision
 unfoldable pub timesLeft : (n : ℕ) → Stretched → ℕ
@@ -59,7 +63,9 @@ timesLeft n s = pick (stops (s .events)) 0 (n - s .steps)
 
 -- steps are made, and the last one's lines handed out
 unfoldable pub stretchPiece : Progress → Stretched → Moved
-stretchPiece g s = moved (stepLines (clockAt (s .octets) - 1) (s .events) 16) (standing (g .at) (g .offers) (timesLeft (g .times) s) false) (s .octets)
+stretchPiece g s =
+    moved (stepLines (clockAt (s .octets) - 1) (s .events) 16)
+    (standing (g .at) (g .offers) (timesLeft (g .times) s) false) (s .octets)
 
 abbrev pub stepPiece : List ℕ → Progress → List ℕ → Moved
 stepPiece l g a = stretchPiece g (untilEvent (spanOf l g a) a)
@@ -67,7 +73,8 @@ stepPiece l g a = stretchPiece g (untilEvent (spanOf l g a) a)
 -- after the last line there is nothing
 unfoldable pub move : List ℕ → Progress → List ℕ → Moved
 move l g a =
-    pick (g .ended) (moved [] g a) (pick (eqb (g .times) 0) (lastPiece g a) (pick (isDue l g a) (offerPiece l g a) (stepPiece l g a)))
+    pick (g .ended) (moved [] g a) (pick (eqb (g .times) 0) (lastPiece g a)
+    (pick (isDue l g a) (offerPiece l g a) (stepPiece l g a)))
 
 -- ---- what is handed out
 
@@ -87,7 +94,13 @@ handing r a o = record { answer = pieceAnswer (r .piece); progress = r .progress
 
 -- a piece, at the front of the output
 abbrev pub given : (o : List ℕ) → Moved → Hand
-given o m = record { answer = accepted (length (m .text) ∷ []); progress = m .progress; octets = m .octets; out = sets o 0 (m .text) }
+given o m =
+    record {
+      answer = accepted (length (m .text) ∷ []);
+      progress = m .progress;
+      octets = m .octets;
+      out = sets o 0 (m .text);
+    }
 
 abbrev pub withheld : (n : ℕ) → Progress → (a o : List ℕ) → Hand
 withheld n g a o = record { answer = refused n; progress = g; octets = a; out = o }
@@ -109,7 +122,8 @@ moveRefusal l a room g =
 
 -- on an area of just the octets that one must have
 unfoldable pub advancedOn : List ℕ → (a o : List ℕ) → Progress → Hand
-advancedOn l a o g = pick (eqb (moveRefusal l a (length o) g) 0) (given o (move l g a)) (withheld (moveRefusal l a (length o) g) g a o)
+advancedOn l a o g =
+    pick (eqb (moveRefusal l a (length o) g) 0) (given o (move l g a)) (withheld (moveRefusal l a (length o) g) g a o)
 
 -- of a longer area the octets after those stay
 abbrev pub onFront : (a : List ℕ) → Hand → Hand
@@ -129,7 +143,8 @@ startPiece l r a = moved (firstText (r .layout)) (standing (r .first) (r .offers
 
 unfoldable pub firstPiece : List ℕ → List ℕ → Moved
 firstPiece l a =
-    pick (eqb (numberOf (planRead l .answer)) 0) (startPiece l (planRead l) a) (moved (refusedLine (numberOf (planRead l .answer))) noProgress a)
+    pick (eqb (numberOf (planRead l .answer)) 0) (startPiece l (planRead l) a)
+    (moved (refusedLine (numberOf (planRead l .answer))) noProgress a)
 
 unfoldable pub begun : List ℕ → (a o : List ℕ) → Hand
 begun l a o =

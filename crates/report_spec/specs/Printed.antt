@@ -1,6 +1,5 @@
--- What the run program prints for an input (document 01, "The run program"): one function from octets to octets, and the area that the
--- run leaves. l is the input.
--- Assumes nothing.
+-- What the run program prints for an input (document 01, "The run program"): one function from octets to octets, and
+-- the area that the run leaves. l is the input. Assumes nothing.
 use Prim.Native.Nat.{ℕ, zero, suc, _+_}
 use mathlib.Core.Bool.{Bool, _&&_}
 use mathlib.Core.List.{List, [], _++_}
@@ -18,7 +17,8 @@ use Rattle.bus_spec.specs.Run.{stops}
 use Rattle.report_text.specs.Text.{firstLine, fitYes, fitNo, refusedLine, refusedOffer, endLine}
 use Rattle.report_lines.specs.Events.{stepLines}
 use Rattle.plan_draws.specs.Draws.{drawsIn}
-use Rattle.plan_read.specs.Plan.{offerTime, offerStation, offerDestination, offerValue, offerSize, offerData, Planned, planRead}
+use Rattle.plan_read.specs.Plan.{offerTime, offerStation, offerDestination, offerValue, offerSize, offerData, Planned}
+use Rattle.plan_read.specs.Plan.{planRead}
 
 -- ---- an offer
 
@@ -54,11 +54,13 @@ none m p a = record { text = []; left = m; at = p; octets = a }
 abbrev pub after : List ℕ → Offers → Offers
 after s o = record { text = s ++ o .text; left = o .left; at = o .at; octets = o .octets }
 
--- "An offer is made, in plan order, just before the step of its time": of m offers from octet p on, those whose time is the clock
+-- "An offer is made, in plan order, just before the step of its time": of m offers from octet p on, those whose time is
+-- the clock
 unfoldable pub dueOffers : List ℕ → (m p : ℕ) → List ℕ → Offers
 dueOffers l zero p a = none zero p a
 dueOffers l (suc m) p a =
-    pick (eqb (offerTime l p) (clockAt a)) (after (offerText l p a) (dueOffers l m (nextOffer l p) (made l p a .octets))) (none (suc m) p a)
+    pick (eqb (offerTime l p) (clockAt a))
+    (after (offerText l p a) (dueOffers l m (nextOffer l p) (made l p a .octets))) (none (suc m) p a)
 
 -- ---- the run
 
@@ -78,8 +80,8 @@ before s c = record { text = s ++ c .text; octets = c .octets }
 abbrev pub atEnd : List ℕ → Course
 atEnd a = course (endLine (clockAt a)) a
 
--- the step that area a makes: its lines, "ahead" of which the offers' lines stand; then the rest, or where a station has a late
--- collision the end
+-- the step that area a makes: its lines, "ahead" of which the offers' lines stand; then the rest, or where a station
+-- has a late collision the end
 abbrev pub stepThen : List ℕ → Course → Course
 stepThen a rest = before (stepLines (clockAt a) (eventsAt a) 16) (pick (stops (eventsAt a)) (atEnd (stepArea a)) rest)
 
@@ -88,7 +90,8 @@ unfoldable pub runOn : List ℕ → (n m p : ℕ) → List ℕ → Course
 runOn l zero m p a = atEnd a
 runOn l (suc n) m p a =
     before (dueOffers l m p a .text)
-    (stepThen (dueOffers l m p a .octets) (runOn l n (dueOffers l m p a .left) (dueOffers l m p a .at) (stepArea (dueOffers l m p a .octets))))
+    (stepThen (dueOffers l m p a .octets)
+    (runOn l n (dueOffers l m p a .left) (dueOffers l m p a .at) (stepArea (dueOffers l m p a .octets))))
 
 -- ---- the whole
 
@@ -107,7 +110,8 @@ planCourse l r a = before (firstText (r .layout)) (runOn l (r .times) (r .offers
 -- "A refused input prints `refused n`." The area is then as it was.
 unfoldable pub inputCourse : List ℕ → List ℕ → Course
 inputCourse l a =
-    pick (eqb (numberOf (planRead l .answer)) 0) (planCourse l (planRead l) a) (course (refusedLine (numberOf (planRead l .answer))) a)
+    pick (eqb (numberOf (planRead l .answer)) 0) (planCourse l (planRead l) a)
+    (course (refusedLine (numberOf (planRead l .answer))) a)
 
 -- an area of zeros, as long as one must be
 abbrev pub zeros : List ℕ

@@ -15,8 +15,8 @@ ghost use Rattle.area.specs.Offsets.{areaSize};
 // The octets that `out` must have: no piece is longer.
 pub const ROOM: usize = 2048;
 
-// Where a run stands: the octet of the input at which the next offer begins, how many offers are left, how many bit times are left,
-// and whether the last line is handed out.
+// Where a run stands: the octet of the input at which the next offer begins, how many offers are left, how many bit
+// times are left, and whether the last line is handed out.
 pub struct Progress {
     pub at: usize,
     pub offers: u32,
@@ -41,10 +41,10 @@ fn is_late(events: [Events; 16]) -> bool
     ensures { λ r. ⌜ r ≡ stops events ⌝ }
 {
     let mut i: usize = 0;
-    while i < 16 {
+    while i < sheet_layout::MAX_STATIONS {
         let e = events[i];
         let sent = e.sent;
-        if station_tally::is_late(sent) {
+        if station_tally::ends_run(sent) {
             return true;
         }
         i += 1;

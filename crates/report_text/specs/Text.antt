@@ -1,4 +1,5 @@
--- Numbers and lines as text (document 01, "The run program"): octets of ASCII. The laws are in TextLaws. Assumes nothing.
+-- Numbers and lines as text (document 01, "The run program"): octets of ASCII. The laws are in TextLaws. Assumes
+-- nothing.
 use Prim.Native.Nat.{ℕ, zero, suc, _+_, _/_, _%_}
 use mathlib.Core.List.{List, [], _∷_, _++_}
 use lib.Dec.{eqb}

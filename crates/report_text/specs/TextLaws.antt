@@ -9,7 +9,8 @@ use borrow.Author.Tests.{eq-eqb, ne-eqb}
 use lib.ListN.{length, getD, set, take, drop, replicate, length-append, length-set, length-drop}
 use lib.Seq.{sets, take-all, drop-cons, drop-set-lt, getD-set-same}
 use Rattle.octets.specs.Store.{sets-append}
-use Rattle.report_text.specs.Text.{Written, written, puts, digits, lean, decimal, numbered, counted, placed, line, stationsWord, firstLine}
+use Rattle.report_text.specs.Text.{Written, written, puts, digits, lean, decimal, numbered, counted, placed, line}
+use Rattle.report_text.specs.Text.{stationsWord, firstLine}
 
 -- ---- the digits
 
@@ -22,7 +23,8 @@ set-drop l j d h =
     drop-cons (set l j d) j 0 (omega (arith, length-set l j d))
     ∙ ap₂ (λ (x : ℕ) (r : List ℕ). x ∷ r) (getD-set-same l j d 0 h) (drop-set-lt (suc j) l j d (omega arith))
 
-digit-off : (j v n : ℕ) (l : List ℕ) → digits (suc j) v ++ drop (suc j) l ≡ digits 10 n → digits j (v / 10) ++ ((48 + v % 10) ∷ drop (suc j) l) ≡ digits 10 n
+digit-off : (j v n : ℕ) (l : List ℕ) → digits (suc j) v ++ drop (suc j) l ≡ digits 10 n
+    → digits j (v / 10) ++ ((48 + v % 10) ∷ drop (suc j) l) ≡ digits 10 n
 unfolding digits
 digit-off j v n l h = sym (append-assoc (digits j (v / 10)) ((48 + v % 10) ∷ []) (drop (suc j) l)) ∙ h
 
@@ -44,7 +46,8 @@ spell-end (suc k) v n l p h = absurd (omega arith)
 pub length-digits : (w n : ℕ) → length (digits w n) ≡ w
 unfolding digits
 length-digits zero n = refl
-length-digits (suc w) n = length-append (digits w (n / 10)) _ ∙ ap (λ (k : ℕ). k + 1) (length-digits w (n / 10)) ∙ add-one w
+length-digits (suc w) n =
+    length-append (digits w (n / 10)) _ ∙ ap (λ (k : ℕ). k + 1) (length-digits w (n / 10)) ∙ add-one w
 
 -- ---- the zeros that lead
 
@@ -75,11 +78,13 @@ module _ (l : List ℕ) (j : ℕ) (h : lean (drop j l) ≡ lean l) (n : length l
 
   pub lead-found : j < 9 → (getD l j 0 ≡ 48 → ⊥) → drop j l ≡ lean l
   lead-found g e =
-      drop-cons l j 0 (omega arith) ∙ sym (lean-digit (getD l j 0) (drop (suc j) l) e) ∙ ap lean (sym (drop-cons l j 0 (omega arith))) ∙ h
+      drop-cons l j 0 (omega arith) ∙ sym (lean-digit (getD l j 0) (drop (suc j) l) e)
+      ∙ ap lean (sym (drop-cons l j 0 (omega arith))) ∙ h
 
 pub lead-last : (l : List ℕ) (j : ℕ) → lean (drop j l) ≡ lean l → length l ≡ 10 → j ≤ 9 → 9 ≤ j → drop j l ≡ lean l
 lead-last l j h n p q =
-    let e : drop j l ≡ getD l j 0 ∷ [] = drop-cons l j 0 (omega arith) ∙ ap (λ (r : List ℕ). getD l j 0 ∷ r) (rest (drop (suc j) l) (omega (arith, length-drop (suc j) l))) in
+    let e : drop j l ≡ getD l j 0 ∷ [] = drop-cons l j 0 (omega arith)
+    ∙ ap (λ (r : List ℕ). getD l j 0 ∷ r) (rest (drop (suc j) l) (omega (arith, length-drop (suc j) l))) in
     e ∙ sym (lean-one (getD l j 0)) ∙ ap lean (sym e) ∙ h
   where
     rest : (r : List ℕ) → length r ≤ 0 → r ≡ []
@@ -96,9 +101,11 @@ module _ (d : List ℕ) (n j : ℕ) (q : drop j d ≡ lean d) (e : d ≡ digits 
   long : length d ≡ 10
   long = ap length e ∙ length-digits 10 n
 
-  pub decimal-is : (l x : List ℕ) (at : ℕ) → j < 10 → x ≡ sets l at (take (10 - j) (drop j d)) → written (at + 10 - j) x ≡ puts l at (decimal n)
+  pub decimal-is : (l x : List ℕ) (at : ℕ) → j < 10 → x ≡ sets l at (take (10 - j) (drop j d))
+      → written (at + 10 - j) x ≡ puts l at (decimal n)
   decimal-is l x at h p =
-      let f : x ≡ sets l at (decimal n) = p ∙ ap (sets l at) (take-all (10 - j) (drop j d) (omega (arith, length-drop j d, long)) ∙ is-decimal) in
+      let f : x ≡ sets l at (decimal n) = p
+      ∙ ap (sets l at) (take-all (10 - j) (drop j d) (omega (arith, length-drop j d, long)) ∙ is-decimal) in
       let g : at + 10 - j ≡ at + length (decimal n) = omega (arith, ap length is-decimal, length-drop j d, long) in
       ap₂ written g f
 
@@ -115,7 +122,8 @@ module _ (l x : List ℕ) (at m : ℕ) (s : List ℕ) (e : written m x ≡ puts 
   pub join : (y : List ℕ) (r : ℕ) (t : List ℕ) → written r y ≡ puts x m t → written r y ≡ puts l at (s ++ t)
   join y r t p =
       let f : r ≡ at + length (s ++ t) = omega (arith, ap (λ (w : Written). w .end) p, ends, length-append s t) in
-      let g : y ≡ sets l at (s ++ t) = ap (λ (w : Written). w .octets) p ∙ ap (λ (z : List ℕ). sets z m t) holds ∙ sets-append s t l at m ends in
+      let g : y ≡ sets l at (s ++ t) = ap (λ (w : Written). w .octets) p ∙ ap (λ (z : List ℕ). sets z m t) holds
+      ∙ sets-append s t l at m ends in
       ap₂ written f g
 
 -- ---- a number with an octet after it
@@ -127,11 +135,15 @@ module _ (l x : List ℕ) (at m n : ℕ) (e : written m x ≡ puts l at (decimal
 
 -- ---- a word, and a number
 
-pub word-is : (l x w : List ℕ) (at : ℕ) → x ≡ sets l at w → written (at + length w + 1) (set x (at + length w) 32) ≡ puts l at (w ++ (32 ∷ []))
-word-is l x w at q = join l x at (at + length w) w (ap (written (at + length w)) q) (set x (at + length w) 32) (at + length w + 1) (32 ∷ []) refl
+pub word-is : (l x w : List ℕ) (at : ℕ) → x ≡ sets l at w
+    → written (at + length w + 1) (set x (at + length w) 32) ≡ puts l at (w ++ (32 ∷ []))
+word-is l x w at q =
+    join l x at (at + length w) w (ap (written (at + length w)) q) (set x (at + length w) 32) (at + length w + 1)
+    (32 ∷ []) refl
 
 module _ (l x w : List ℕ) (at m : ℕ) (e : written m x ≡ puts l at (w ++ (32 ∷ []))) where
-  pub counted-is : (y : List ℕ) (r n after : ℕ) → written r y ≡ puts x m (numbered n after) → written r y ≡ puts l at (counted w n after)
+  pub counted-is : (y : List ℕ) (r n after : ℕ) → written r y ≡ puts x m (numbered n after)
+      → written r y ≡ puts l at (counted w n after)
   unfolding counted
   counted-is y r n after p = join l x at m (w ++ (32 ∷ [])) e y r (numbered n after) p
 
@@ -145,7 +157,8 @@ module _ (l x : List ℕ) (at m t : ℕ) (e : written m x ≡ puts l at (numbere
 -- ---- a line
 
 module _ (l x : List ℕ) (at m t i : ℕ) (e : written m x ≡ puts l at (placed t i)) where
-  pub line-is : (y w : List ℕ) (r n : ℕ) → written r y ≡ puts x m (counted w n 10) → written r y ≡ puts l at (line t i w n)
+  pub line-is : (y w : List ℕ) (r n : ℕ) → written r y ≡ puts x m (counted w n 10)
+      → written r y ≡ puts l at (line t i w n)
   unfolding line
   line-is y w r n p = join l x at m (placed t i) e y r (counted w n 10) p
 

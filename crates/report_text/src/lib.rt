@@ -4,7 +4,8 @@ ghost use mathlib.Core.Path.{_≡_};
 ghost use mathlib.Core.List.{[], _∷_, _++_};
 ghost use Prim.Native.Nat.{_+_, _<_, _≤_};
 ghost use lib.ListN.{length, drop};
-ghost use Rattle.report_text.specs.Text.{written, puts, digits, lean, decimal, numbered, counted, placed, line, firstLine, space};
+ghost use Rattle.report_text.specs.Text.{written, puts, digits, lean, decimal, numbered, counted, placed, line};
+ghost use Rattle.report_text.specs.Text.{firstLine, space};
 
 // The ten digits of n, zeros leading.
 fn spell(n: u32) -> [u8; 10]
@@ -62,7 +63,8 @@ fn put_number(out: &mut [u8], at: usize, n: u32, after: u8) -> usize
 // A word with a space after it.
 fn put_word(out: &mut [u8], at: usize, word: &[u8]) -> usize
     requires { ⌜ at + length (now word) + 1 ≤ length (now out) ⌝ }
-    ensures text { λ r. ⌜ written r (now (out .exit)) ≡ puts (now (out .entry)) at (now (word .entry) ++ (space ∷ [])) ⌝ }
+    ensures text { λ r. ⌜ written r (now (out .exit))
+        ≡ puts (now (out .entry)) at (now (word .entry) ++ (space ∷ [])) ⌝ }
     ensures small { λ r. ⌜ r ≤ at + length (now (word .entry)) + 1 ⌝ }
 {
     octets_copies::store(out, at, word);
@@ -74,7 +76,8 @@ fn put_word(out: &mut [u8], at: usize, word: &[u8]) -> usize
 // A word, and a number with an octet after it.
 pub fn put_counted(out: &mut [u8], at: usize, word: &[u8], n: u32, after: u8) -> usize
     requires { ⌜ at + length (now word) + 12 ≤ length (now out) ⌝ }
-    ensures text { λ r. ⌜ written r (now (out .exit)) ≡ puts (now (out .entry)) at (counted (now (word .entry)) n after) ⌝ }
+    ensures text { λ r. ⌜ written r (now (out .exit))
+        ≡ puts (now (out .entry)) at (counted (now (word .entry)) n after) ⌝ }
     ensures small { λ r. ⌜ r ≤ at + length (now (word .entry)) + 12 ⌝ }
 {
     let middle = put_word(out, at, word);

@@ -1,5 +1,5 @@
--- "More than 16,384 octets": of a longer input the first 16,385 octets decide what is printed, so the rest need not be kept.
--- Assumes nothing.
+-- "More than 16,384 octets": of a longer input the first 16,385 octets decide what is printed, so the rest need not be
+-- kept. Assumes nothing.
 use Prim.Native.Nat.{ℕ, zero, suc, _+_, _*_, _≤_, _<_}
 use mathlib.Core.Path.{_≡_, refl, sym, _∙_, ap}
 use mathlib.Core.Bool.{Bool, true, false}
@@ -14,9 +14,12 @@ use Rattle.octets.specs.Base.{pick, outside, numberOf}
 use Rattle.octets.specs.BaseLaws.{by-test, within}
 use Rattle.octets.specs.NumberLaws.{Octets, octets-take}
 use Rattle.sheet_read.specs.Sheet.{stands, width, fieldAt, countPlace, countIn, layoutIn, sheetSize, Reading}
+use Rattle.sheet_read.specs.Sheet.{fieldCount}
+use Rattle.sheet_read.specs.SheetLaws.{width-most}
 use Rattle.sheet_read.specs.SheetTheorems.{sheet-front, size-front, count-front}
 use Rattle.report_text.specs.Text.{refusedLine}
-use Rattle.plan_read.specs.Plan.{depthIn, offersPlace, drawsWrong, planWrong, lastRefusal, afterSheet, sheetRefusal, planRefusal, Planned, unplanned, wholeFrom, unless, planRead}
+use Rattle.plan_read.specs.Plan.{depthIn, offersPlace, drawsWrong, planWrong, lastRefusal, afterSheet, sheetRefusal}
+use Rattle.plan_read.specs.Plan.{planRefusal, Planned, unplanned, wholeFrom, unless, planRead}
 use Rattle.report_spec.specs.Printed.{printed}
 use Rattle.report_theorem.specs.Whole.{refused-print}
 
@@ -28,7 +31,8 @@ unless-number n r h = ap (λ (b : Bool). numberOf (pick b r (unplanned n) .answe
 refusal-print : (l : List ℕ) → (planRefusal l ≡ 0 → ⊥) → printed l ≡ refusedLine (planRefusal l)
 unfolding planRead
 refusal-print l h =
-    let e : numberOf (unless (planRefusal l) (wholeFrom l (layoutIn l) (sheetSize l)) .answer) ≡ planRefusal l = unless-number (planRefusal l) (wholeFrom l (layoutIn l) (sheetSize l)) h in
+    let e : numberOf (unless (planRefusal l) (wholeFrom l (layoutIn l) (sheetSize l)) .answer)
+    ≡ planRefusal l = unless-number (planRefusal l) (wholeFrom l (layoutIn l) (sheetSize l)) h in
     refused-print l (λ z. h (sym e ∙ z)) ∙ ap refusedLine e
 
 -- ---- what is refused of more than 16,384 octets
@@ -37,7 +41,9 @@ long-last : (l : List ℕ) (c : ℕ) → 16384 < length l → lastRefusal l c �
 unfolding lastRefusal planWrong
 long-last l c h = rw (lt-ltb 16384 (length l) h)
 
-long-refusal : (l : List ℕ) → 16384 < length l → planRefusal l ≡ pick (eqb (sheetRefusal l) 0) (pick (drawsWrong l (sheetSize l) (countIn l)) 9 16) (sheetRefusal l)
+long-refusal : (l : List ℕ) → 16384 < length l
+    → planRefusal l ≡ pick (eqb (sheetRefusal l) 0) (pick (drawsWrong l (sheetSize l) (countIn l)) 9 16)
+    (sheetRefusal l)
 unfolding planRefusal afterSheet
 long-refusal l h = rw (long-last l (offersPlace l (sheetSize l) (countIn l)) h)
 
@@ -56,10 +62,6 @@ unfolding fieldAt
 field-most m zero = omega arith
 field-most m (suc k) = go (stands m k) (width-most k) (field-most m k)
   where
-    width-most : (k : ℕ) → width k ≤ 2
-    width-most zero = omega arith
-    width-most (suc k) = omega arith
-
     go : (b : Bool) → width k ≤ 2 → fieldAt m k ≤ 1 + 2 * k → fieldAt m k + pick b (width k) 0 ≤ 1 + 2 * suc k
     go true p q = omega arith
     go false p q = omega arith
@@ -69,9 +71,9 @@ module _ (l : List ℕ) (o : Octets l) where
   unfolding Octets
   octet k = o k
 
-  size-most : sheetSize l ≤ 1799
+  size-most : sheetSize l ≤ 1801
   unfolding sheetSize
-  size-most = omega (arith, field-most (getD l 0 0) 6, octet (countPlace l))
+  size-most = omega (arith, field-most (getD l 0 0) fieldCount, octet (countPlace l))
 
 module _ (a z : List ℕ) (h : length a ≡ 16385) (o : Octets a) where
   small : sheetSize a ≤ length a
@@ -80,10 +82,10 @@ module _ (a z : List ℕ) (h : length a ≡ 16385) (o : Octets a) where
   sheet-same : sheetRefusal (a ++ z) ≡ sheetRefusal a
   sheet-same = ap (λ (r : Reading). numberOf (r .answer)) (sheet-front a z small)
 
-  depth-same : (u : ℕ) → u ≤ 1799 → depthIn (a ++ z) u ≡ depthIn a u
+  depth-same : (u : ℕ) → u ≤ 1801 → depthIn (a ++ z) u ≡ depthIn a u
   depth-same u p = List·getD-append a z 0 u (omega arith)
 
-  draws-same : (u n : ℕ) → u ≤ 1799 → n ≤ 255 → drawsWrong (a ++ z) u n ≡ drawsWrong a u n
+  draws-same : (u n : ℕ) → u ≤ 1801 → n ≤ 255 → drawsWrong (a ++ z) u n ≡ drawsWrong a u n
   unfolding drawsWrong
   draws-same u n p q =
       let w = length-append a z in
@@ -92,14 +94,25 @@ module _ (a z : List ℕ) (h : length a ≡ 16385) (o : Octets a) where
       (λ b. rw b)
       (λ b. let d = within (depthIn a u) 1 16 b in
       let m : n * depthIn a u ≤ 255 * 16 = mul-le-mul q (d .1) in
-      rw (b, le-ltb (length (a ++ z)) (u + 1 + 2 * (n * depthIn a u)) (omega arith), le-ltb (length a) (u + 1 + 2 * (n * depthIn a u)) (omega arith))))
+      rw (
+        b,
+        le-ltb (length (a ++ z)) (u + 1 + 2 * (n * depthIn a u)) (omega arith),
+        le-ltb (length a)
+            (u + 1 + 2 * (n * depthIn a u)) (omega arith),
+      )))
 
   refusal-same : planRefusal (a ++ z) ≡ planRefusal a
   refusal-same =
       let w = length-append a z in
       let n : countIn a ≤ 255 = omega (arith, octet a o (countPlace a)) in
       long-refusal (a ++ z) (omega arith)
-      ∙ rw (sheet-same, size-front a z small, count-front a z small, draws-same (sheetSize a) (countIn a) (size-most a o) n)
+      ∙ rw (
+        sheet-same,
+        size-front a z small,
+        count-front a z small,
+        draws-same (sheetSize a) (countIn a)
+            (size-most a o) n,
+      )
       (sym (long-refusal a (omega arith)))
 
   print-same : printed (a ++ z) ≡ printed a

@@ -14,17 +14,20 @@ use Rattle.report_spec.specs.declared.Handed.{Handed}
 use Rattle.report_spec.specs.Printed.{printed}
 use Rattle.report_spec.specs.Pieces.{moved, move, pieceAnswer, handing, advanced, firstPiece, begun}
 use Rattle.report_theorem.specs.Whole.{Going, pieces, move-size, first-room}
-use Rattle.report_theorem.specs.Along.{Along, Passed, first-passed, next-passed, next-fewer, begin-hand, advance-hand, hand-moved, hand-within}
+use Rattle.report_theorem.specs.Along.{Along, Passed, first-passed, next-passed, next-fewer, begin-hand, advance-hand}
+use Rattle.report_theorem.specs.Along.{hand-moved, hand-within}
 use Rattle.area.specs.Offsets.{areaSize}
 
-module _ (l b o x c : List ℕ) (r : Handed) (k : ℕ) (e : k ≡ getD (valuesOf (pieceAnswer (r .piece))) 0 0) (f : 2048 ≤ length o) where
+module _ (l b o x c : List ℕ) (r : Handed) (k : ℕ) (e : k ≡ getD (valuesOf (pieceAnswer (r .piece))) 0 0)
+    (f : 2048 ≤ length o) where
   pub first-is : length b ≡ areaSize → handing r c x ≡ begun l b o → moved (take k x) (r .progress) c ≡ firstPiece l b
   first-is h p = hand-moved o x c (firstPiece l b) r k e (p ∙ begin-hand l b o f h) (first-room l b) f
 
   pub first-within : length b ≡ areaSize → handing r c x ≡ begun l b o → k ≤ length x
   first-within h p = hand-within o x c (firstPiece l b) r k e (p ∙ begin-hand l b o f h) (first-room l b) f
 
-  pub next-is : (g : Progress) → Going l g b → handing r c x ≡ advanced l b o g → moved (take k x) (r .progress) c ≡ move l g b
+  pub next-is : (g : Progress) → Going l g b → handing r c x ≡ advanced l b o g
+      → moved (take k x) (r .progress) c ≡ move l g b
   next-is g w p = hand-moved o x c (move l g b) r k e (p ∙ advance-hand l b o f g w) (move-size l g b) f
 
   pub next-within : (g : Progress) → Going l g b → handing r c x ≡ advanced l b o g → k ≤ length x
@@ -40,10 +43,13 @@ module _ (l c x : List ℕ) (n k : ℕ) (h : Progress) (z : k ≤ length x) (p :
   along-on = subst (λ (m : ℕ). Along l (n + m) h c) (length-take-le k x z) (p .along)
 
   part-on : part (printed l) n (length (take (k - 0) x)) ≡ take (k - 0) x
-  part-on = let m : k - 0 ≡ k = omega arith in subst (λ (i : ℕ). part (printed l) n (length (take i x)) ≡ take i x) (sym m) (p .here)
+  part-on =
+      let m : k - 0 ≡ k = omega arith in subst (λ (i : ℕ). part (printed l) n (length (take i x)) ≡ take i x) (sym m)
+      (p .here)
 
 -- the first piece
-module _ (l a c x : List ℕ) (k : ℕ) (h : Progress) (z : k ≤ length x) (q : length a ≡ areaSize) (e : moved (take k x) h c ≡ firstPiece l a) where
+module _ (l a c x : List ℕ) (k : ℕ) (h : Progress) (z : k ≤ length x) (q : length a ≡ areaSize)
+    (e : moved (take k x) h c ≡ firstPiece l a) where
   pub begun-along : Along l k h c
   begun-along =
       let t : 0 + k ≡ k = omega arith in

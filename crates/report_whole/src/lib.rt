@@ -1,4 +1,5 @@
-// The whole text of a run input at once: what `begin` and `advance` hand out piece by piece, one piece behind the other in a lent output.
+// The whole text of a run input at once: what `begin` and `advance` hand out piece by piece, one piece behind the other
+// in a lent output.
 
 pub mod parts;
 
@@ -35,7 +36,8 @@ fn rest_fits(input: &[u8], area: &mut [u8], room: usize, at: usize, g: Progress)
     true
 }
 
-// Whether what is printed for the input has at most `room` octets. The run is made on an area of its own, as far as there is room.
+// Whether what is printed for the input has at most `room` octets. The run is made on an area of its own, as far as
+// there is room.
 fn fits(input: &[u8], room: usize) -> bool
     ensures { λ r. ⌜ r ≡ leb (length (printed (now (input .entry)))) room ⌝ }
 {
@@ -86,7 +88,8 @@ fn store_run(input: &[u8], area: &mut [u8], out: &mut [u8]) -> usize
 
 // Puts the whole text of a run input at the front of `out`, and answers how many octets it has. Refusals 1, 15.
 pub fn print(input: &[u8], area: &mut [u8], out: &mut [u8]) -> Piece
-    ensures { λ r. ⌜ print (pieceAnswer r) (now (area .exit)) (now (out .exit)) ≡ printedInto (now (input .entry)) (now (area .entry)) (now (out .entry)) ⌝ }
+    ensures { λ r. ⌜ print (pieceAnswer r) (now (area .exit)) (now (out .exit))
+        ≡ printedInto (now (input .entry)) (now (area .entry)) (now (out .entry)) ⌝ }
 {
     if area.len() < area::AREA {
         return Piece::Refused(1);

@@ -29,7 +29,8 @@ fn size_of(piece: Piece) -> usize
 // The first piece.
 pub fn first(input: &[u8], area: &mut [u8], buf: &mut [u8]) -> Part
     requires { ⌜ (length (now area) ≡ areaSize) × (2048 ≤ length (now buf)) ⌝ }
-    ensures piece { λ r. ⌜ moved (take (r .size) (now (buf .exit))) (r .progress) (now (area .exit)) ≡ firstPiece (now (input .entry)) (now (area .entry)) ⌝ }
+    ensures piece { λ r. ⌜ moved (take (r .size) (now (buf .exit))) (r .progress) (now (area .exit))
+        ≡ firstPiece (now (input .entry)) (now (area .entry)) ⌝ }
     ensures size { λ r. ⌜ r .size ≤ length (now (buf .exit)) ⌝ }
 {
     let h = report_begin::begin(input, area, buf);
@@ -44,7 +45,8 @@ pub fn first(input: &[u8], area: &mut [u8], buf: &mut [u8]) -> Part
 // The piece after it, where the run stands at g.
 pub fn next(input: &[u8], area: &mut [u8], buf: &mut [u8], g: Progress) -> Part
     requires { ⌜ (Going (now input) g (now area)) × (2048 ≤ length (now buf)) ⌝ }
-    ensures piece { λ r. ⌜ moved (take (r .size) (now (buf .exit))) (r .progress) (now (area .exit)) ≡ move (now (input .entry)) g (now (area .entry)) ⌝ }
+    ensures piece { λ r. ⌜ moved (take (r .size) (now (buf .exit))) (r .progress) (now (area .exit))
+        ≡ move (now (input .entry)) g (now (area .entry)) ⌝ }
     ensures size { λ r. ⌜ r .size ≤ length (now (buf .exit)) ⌝ }
 {
     let h = report_next::advance(input, area, buf, g);

@@ -1,5 +1,5 @@
--- The stations of a layout as plain numbers, for the code of the checks 5 to 8: their positions, and their addresses as the numbers that
--- their six octets spell. That these checks are those of Check is in PlainLaws. Assumes nothing.
+-- The stations of a layout as plain numbers, for the code of the checks 5 to 8: their positions, and their addresses as
+-- the numbers that their six octets spell. That these checks are those of Check is in PlainLaws. Assumes nothing.
 use Prim.Native.Nat.{ℕ, _+_, _-_, _/_, _%_, _<_, min}
 use mathlib.Core.Path.{_≡_}
 use mathlib.Core.Bool.{Bool, _||_}
@@ -11,6 +11,7 @@ use Rattle.octets.specs.Number.{get}
 use Rattle.octets.specs.NumberLaws.{Octets}
 use Rattle.sheet_layout.specs.declared.Layout.{Layout}
 use Rattle.sheet_layout.specs.Layout.{positionAt, addressAt}
+use Rattle.sheet_layout.specs.Limits.{maxPosition}
 
 -- station i has position p, and an address of six octets that spell q
 pub record Spelled (y : Layout) (i p q : ℕ) : Type 0 where
@@ -25,7 +26,7 @@ Laid y n ps qs = (i : ℕ) → i < n → Spelled y i (getD ps i 0) (getD qs i 0)
 
 -- the checks of the stations on plain numbers
 abbrev pub highAt : List ℕ → ℕ → Bool
-highAt ps i = ltb 255 (getD ps i 0)
+highAt ps i = ltb maxPosition (getD ps i 0)
 
 abbrev pub dropsAt : List ℕ → ℕ → Bool
 dropsAt ps i = leb (getD ps (i + 1) 0) (getD ps i 0)

@@ -10,6 +10,7 @@ ghost use Rattle.octets.specs.Number.{get};
 ghost use Rattle.octets.specs.NumberLaws.{Octets};
 ghost use Rattle.sheet_layout.specs.Check.{gap1Out, figuresOut, refusalOf};
 ghost use Rattle.sheet_check.specs.Plain.{Laid, highAt, dropsAt, sameAt, wrongAt, plainRefusal};
+ghost use Rattle.sheet_layout.specs.Limits.{maxStations};
 
 fn gap1_out(f: Figures) -> bool
     ensures { λ r. ⌜ r ≡ gap1Out f ⌝ }
@@ -22,13 +23,15 @@ fn gap1_out(f: Figures) -> bool
 fn figures_out(f: Figures) -> bool
     ensures { λ r. ⌜ r ≡ figuresOut f ⌝ }
 {
-    let slot = octets::out_of(f.slot, 64, 512);
+    let slot = octets::out_of(f.slot, 64, sheet_layout::MAX_SLOT);
     let gap1 = gap1_out(f);
     let gap2 = octets::out_of(f.gap2, 1, 255);
     let jam = octets::out_of(f.jam, 1, 64);
     let limit = octets::out_of(f.limit, 1, 16);
     let backoff = octets::out_of(f.backoff, 1, 10);
-    let limits = octets::either(limit, backoff);
+    let ends = octets::out_of(f.ends, 0, 1);
+    let last = octets::either(backoff, ends);
+    let limits = octets::either(limit, last);
     octets::either(
         slot,
         octets::either(gap1, octets::either(gap2, octets::either(jam, limits))),
@@ -44,9 +47,10 @@ fn number(a: [u8; 6]) -> u64
     octets_words::get16(&a, 0) as u64 * 4294967296 + octets_words::get32(&a, 2) as u64
 }
 
-// Lays out the positions and the addresses of the first n stations as plain numbers: an index into those copies nothing.
+// Lays out the positions and the addresses of the first n stations as plain numbers: an index into those copies
+// nothing.
 fn lay_out(y: Layout, n: usize, positions: &mut [u32], addresses: &mut [u64])
-    requires { ⌜ (n ≤ 16) × (length (now positions) ≡ 16) × (length (now addresses) ≡ 16) ⌝ }
+    requires { ⌜ (n ≤ maxStations) × (length (now positions) ≡ 16) × (length (now addresses) ≡ 16) ⌝ }
     ensures { λ r. ⌜ Laid y n (now (positions .exit)) (now (addresses .exit)) ⌝ }
 {
     let mut i: usize = 0;
@@ -66,7 +70,7 @@ fn positions_out(positions: &[u32], n: usize) -> bool
 {
     let mut i: usize = 0;
     while i < n {
-        if 255 < positions[i] {
+        if sheet_layout::MAX_POSITION < positions[i] {
             return true;
         }
         i += 1;

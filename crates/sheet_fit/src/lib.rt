@@ -7,10 +7,11 @@ ghost use mathlib.Core.Path.{_≡_};
 ghost use Prim.Native.Nat.{_<_, _≤_};
 ghost use Rattle.sheet_layout.specs.Layout.{gapOf, spanOf, fitsWell};
 ghost use Rattle.sheet_layout.specs.Fit.{fitAnswer, fitOf};
+ghost use Rattle.sheet_layout.specs.Limits.{maxStations};
 
 // Last position less first.
 fn span(y: Layout) -> u32
-    requires { ⌜ (0 < y .count) × (y .count ≤ 16) ⌝ }
+    requires { ⌜ (0 < y .count) × (y .count ≤ maxStations) ⌝ }
     ensures { λ r. ⌜ r ≡ spanOf y ⌝ }
 {
     let n = y.count as usize;
@@ -33,7 +34,7 @@ fn gap(f: Figures) -> u64
 
 // Whether a layout of 1 to 16 stations fits.
 pub fn fits_well(y: Layout) -> bool
-    requires { ⌜ (0 < y .count) × (y .count ≤ 16) ⌝ }
+    requires { ⌜ (0 < y .count) × (y .count ≤ maxStations) ⌝ }
     ensures { λ r. ⌜ r ≡ fitsWell y ⌝ }
 {
     let f = y.figures;

@@ -9,7 +9,8 @@ use Rattle.octets.specs.Base.{pick, some, outside}
 use Rattle.octets.specs.Equal.{equal}
 use Rattle.sheet_layout.specs.declared.Figures.{Figures}
 use Rattle.sheet_layout.specs.declared.Layout.{Layout}
-use Rattle.sheet_layout.specs.Layout.{places, positionAt, addressAt}
+use Rattle.sheet_layout.specs.Layout.{positionAt, addressAt}
+use Rattle.sheet_layout.specs.Limits.{maxSlot, maxPosition, maxStations, maxAttempts}
 
 -- 5: "A field is outside its range": the table's column `range`
 unfoldable pub gap1Out : Figures → Bool
@@ -17,16 +18,17 @@ gap1Out f = outside (f .gap1) 0 255 || ltb (2 * f .gap2) (f .gap1)
 
 unfoldable pub figuresOut : Figures → Bool
 figuresOut f =
-    outside (f .slot) 64 512
+    outside (f .slot) 64 maxSlot
     || (gap1Out f
     || (outside (f .gap2) 1 255
     || (outside (f .jam) 1 64
-    || (outside (f .limit) 1 16
-    || outside (f .backoff) 1 10))))
+    || (outside (f .limit) 1 maxAttempts
+    || (outside (f .backoff) 1 10
+    || outside (f .ends) 0 1)))))
 
 -- "position (1 octet, ..)", of each station in use
 abbrev pub positionOut : Layout → ℕ → Bool
-positionOut y i = ltb 255 (positionAt y i)
+positionOut y i = ltb maxPosition (positionAt y i)
 
 -- 7: "Positions do not strictly rise": from one station to the next
 abbrev pub falls : Layout → ℕ → Bool
@@ -46,8 +48,8 @@ addressWrong y i = isGroup (addressAt y i) || some (sameAddress y i) i
 unfoldable pub refusalOf : Layout → ℕ
 refusalOf y =
     pick (figuresOut (y .figures)) 5
-    (pick (some (positionOut y) (min (y .count) places)) 5
-    (pick (outside (y .count) 2 places) 6
+    (pick (some (positionOut y) (min (y .count) maxStations)) 5
+    (pick (outside (y .count) 2 maxStations) 6
     (pick (some (falls y) (y .count - 1)) 7
     (pick (some (addressWrong y) (y .count)) 8
     0))))

@@ -1,5 +1,5 @@
--- The layout that a sheet describes: its figures, its stations, its span, and whether it fits (document 01, "The sheet").
--- Assumes nothing.
+-- The layout that a sheet describes: its figures, its stations, its span, and whether it fits (document 01, "The
+-- sheet"). Assumes nothing.
 use Prim.Native.Nat.{ℕ, _+_, _-_, _*_}
 use mathlib.Core.Bool.{Bool, true, false, _&&_}
 use mathlib.Core.List.{List, []}
@@ -9,10 +9,7 @@ use Rattle.octets.specs.Filled.{filled}
 use Rattle.sheet_layout.specs.declared.Figures.{Figures}
 use Rattle.sheet_layout.specs.declared.Tap.{Tap}
 use Rattle.sheet_layout.specs.declared.Layout.{Layout}
-
--- the most stations, and the places for them in a layout
-abbrev pub places : ℕ
-places = 16
+use Rattle.sheet_layout.specs.Limits.{maxStations}
 
 -- what stands in a place that no station has
 abbrev pub blankTap : Tap
@@ -24,10 +21,10 @@ placesOf t n = filled blankTap t n
 
 -- a layout of nothing
 abbrev pub blankFigures : Figures
-blankFigures = record { slot = 0; gap1 = 0; gap2 = 0; jam = 0; limit = 0; backoff = 0 }
+blankFigures = record { slot = 0; gap1 = 0; gap2 = 0; jam = 0; limit = 0; backoff = 0; ends = 0 }
 
 abbrev pub blankLayout : Layout
-blankLayout = record { figures = blankFigures; count = 0; stations = replicate places blankTap }
+blankLayout = record { figures = blankFigures; count = 0; stations = replicate maxStations blankTap }
 
 -- station i: its position and its address
 unfoldable pub tapAt : Layout → ℕ → Tap

@@ -14,8 +14,9 @@ use Rattle.sheet_layout.specs.declared.Layout.{Layout}
 use Rattle.sheet_read.specs.declared.SheetRead.{SheetRead}
 use Rattle.sheet_read.specs.declared.SheetRead.the-variants.{Refused, Used}
 use Rattle.sheet_read.specs.declared.Sheet.{Sheet}
-use Rattle.sheet_layout.specs.Layout.{places, blankTap, blankLayout, placesOf}
+use Rattle.sheet_layout.specs.Layout.{blankTap, blankLayout, placesOf}
 use Rattle.sheet_layout.specs.Check.{refusalOf}
+use Rattle.sheet_layout.specs.Limits.{maxStations}
 
 -- ---- the map and its fields
 
@@ -27,37 +28,58 @@ mapOf l = getD l 0 0
 abbrev pub stands : ℕ → ℕ → Bool
 stands m k = eqb (m / 2 ^ k % 2) 1
 
--- the octets of the field that bit k announces: slot, bit 0, has 2, the others 1
+-- The table: of each field, in the order of the bits, its octets and what it is "if absent".
+pub record Field : Type 0 where
+  pub width : ℕ
+  pub absent : ℕ
+
+abbrev pub fields : List Field
+fields =
+    record { width = 2; absent = 512 }
+    ∷ record { width = 1; absent = 64 }
+    ∷ record { width = 1; absent = 32 }
+    ∷ record { width = 1; absent = 32 }
+    ∷ record { width = 1; absent = 16 }
+    ∷ record { width = 1; absent = 10 }
+    ∷ record { width = 1; absent = 0 }
+    ∷ []
+
+abbrev pub fieldCount : ℕ
+fieldCount = 7
+
+abbrev pub row : ℕ → Field
+row k = getD fields k (record { width = 0; absent = 0 })
+
 abbrev pub width : ℕ → ℕ
-width zero = 2
-width (suc k) = 1
+width k = row k .width
 
 -- "Only fields whose bit stands follow, in this order": where the field of bit k begins, or would
 unfoldable pub fieldAt : ℕ → ℕ → ℕ
 fieldAt m zero = 1
 fieldAt m (suc k) = fieldAt m k + pick (stands m k) (width k) 0
 
--- the field of bit k, "high octet first", or what stands for it "if absent"
-unfoldable pub field : List ℕ → ℕ → ℕ → ℕ
-field l k absent = pick (stands (mapOf l) k) (get (width k) l (fieldAt (mapOf l) k)) absent
+-- the field of bit k, "high octet first", or what stands for it
+unfoldable pub field : List ℕ → ℕ → ℕ
+field l k = pick (stands (mapOf l) k) (get (width k) l (fieldAt (mapOf l) k)) (row k .absent)
 
--- the table: bit, and what the field is if absent
+-- the fields by their bits
 unfoldable pub figuresIn : List ℕ → Figures
 figuresIn l =
     record {
-      slot = field l 0 512;
-      gap1 = field l 1 64;
-      gap2 = field l 2 32;
-      jam = field l 3 32;
-      limit = field l 4 16;
-      backoff = field l 5 10;
+      slot = field l 0;
+      gap1 = field l 1;
+      gap2 = field l 2;
+      jam = field l 3;
+      limit = field l 4;
+      backoff = field l 5;
+      ends = field l 6;
     }
 
 -- ---- the stations
 
 -- "Then one octet N": where it stands, and N
 abbrev pub countPlace : List ℕ → ℕ
-countPlace l = fieldAt (mapOf l) 6
+countPlace l = fieldAt (mapOf l) fieldCount
 
 abbrev pub countIn : List ℕ → ℕ
 countIn l = getD l (countPlace l) 0
@@ -76,7 +98,7 @@ layoutIn l =
     record {
       figures = figuresIn l;
       count = countIn l;
-      stations = placesOf (tapsFrom l (countPlace l + 1)) (min (countIn l) places);
+      stations = placesOf (tapsFrom l (countPlace l + 1)) (min (countIn l) maxStations);
     }
 
 -- ---- reading
@@ -93,12 +115,12 @@ pub record Reading : Type 0 where
 abbrev pub unread : ℕ → Reading
 unread n = record { answer = refused n; layout = blankLayout }
 
--- 3: "The sheet is shorter than its map and N require (unknown map bits adding nothing; no octet for the map or N counts as short)."
--- 4: "Map bit 6 or 7 stands." Then 5 to 8 of the layout, its defaults filled in.
+-- 3: "The sheet is shorter than its map and N require (unknown map bits adding nothing; no octet for the map or N
+-- counts as short)." 4: "Map bit 6 or 7 stands." Then 5 to 8 of the layout, its defaults filled in.
 unfoldable pub readSheet : List ℕ → Reading
 readSheet l =
     pick (ltb (length l) (sheetSize l)) (unread 3)
-    (pick (stands (mapOf l) 6 || stands (mapOf l) 7) (unread 4)
+    (pick (stands (mapOf l) 7) (unread 4)
     (pick (eqb (refusalOf (layoutIn l)) 0) (record { answer = accepted (sheetSize l ∷ []); layout = layoutIn l })
     (unread (refusalOf (layoutIn l)))))
 

@@ -1,5 +1,5 @@
--- What a caller may rely on: a sheet that is read has values in range, it used the octets that its map and N require, and octets
--- after those do not matter. Assumes nothing.
+-- What a caller may rely on: a sheet that is read has values in range, it used the octets that its map and N require,
+-- and octets after those do not matter. Assumes nothing.
 use Prim.Native.Nat.{ℕ, zero, suc, _+_, _-_, _*_, _≤_, _<_, min}
 use mathlib.Core.Path.{_≡_, refl, sym, _∙_, ap, ap₂, subst}
 use mathlib.Core.Bool.{Bool, true, false, _||_}
@@ -22,7 +22,9 @@ use Rattle.sheet_layout.specs.Check.{refusalOf}
 use Rattle.octets.specs.Filled.{filled-at, filled-same}
 use Rattle.sheet_layout.specs.Layout.{placesOf, blankTap}
 use Rattle.sheet_layout.specs.CheckLaws.{Sound, sound}
-use Rattle.sheet_read.specs.Sheet.{mapOf, stands, width, fieldAt, field, figuresIn, countPlace, countIn, tapIn, tapsFrom, layoutIn, sheetSize, Reading, unread, readSheet}
+use Rattle.sheet_read.specs.Sheet.{mapOf, stands, fieldCount, row, width, fieldAt, field, figuresIn, countPlace}
+use Rattle.sheet_read.specs.Sheet.{countIn, tapIn, tapsFrom, layoutIn, sheetSize, Reading, unread, readSheet}
+use Rattle.sheet_layout.specs.Limits.{maxStations}
 
 -- ---- a sheet that is read
 
@@ -35,11 +37,18 @@ pub record Read (l : List ℕ) (n : ℕ) (r : Reading) : Type 0 where
 pub read-sound : (l : List ℕ) (n : ℕ) → readSheet l .answer ≡ accepted (n ∷ []) → Read l n (readSheet l)
 unfolding readSheet
 read-sound l n =
-    go (ltb (length l) (sheetSize l)) (stands (mapOf l) 6 || stands (mapOf l) 7) (eqb (refusalOf (layoutIn l)) 0) refl refl
+    go (ltb (length l) (sheetSize l)) (stands (mapOf l) 7)
+    (eqb (refusalOf (layoutIn l)) 0) refl refl
   where
     go : (s t u : Bool) → ltb (length l) (sheetSize l) ≡ s → eqb (refusalOf (layoutIn l)) 0 ≡ u
-        → pick s (unread 3) (pick t (unread 4) (pick u (record { answer = accepted (sheetSize l ∷ []); layout = layoutIn l }) (unread (refusalOf (layoutIn l))))) .answer ≡ accepted (n ∷ [])
-        → Read l n (pick s (unread 3) (pick t (unread 4) (pick u (record { answer = accepted (sheetSize l ∷ []); layout = layoutIn l }) (unread (refusalOf (layoutIn l))))))
+        → pick s (unread 3) (pick t (unread 4) (pick u (record {
+          answer = accepted (sheetSize l ∷ []);
+          layout = layoutIn l;
+        }) (unread (refusalOf (layoutIn l))))) .answer ≡ accepted (n ∷ [])
+        → Read l n (pick s (unread 3) (pick t (unread 4) (pick u (record {
+          answer = accepted (sheetSize l ∷ []);
+          layout = layoutIn l;
+        }) (unread (refusalOf (layoutIn l))))))
     go true t u p q h = refused-none 3 (n ∷ []) h
     go false true u p q h = refused-none 4 (n ∷ []) h
     go false false true p q h =
@@ -54,41 +63,51 @@ read-sound l n =
 
 -- ---- its stations
 
-station-is : (l : List ℕ) (i : ℕ) → i < countIn l → i < 16 → getD (layoutIn l .stations) i (record { position = 0; address = [] }) ≡ tapsFrom l (countPlace l + 1) i
+station-is : (l : List ℕ) (i : ℕ) → i < countIn l → i < maxStations
+    → getD (layoutIn l .stations) i (record { position = 0; address = [] }) ≡ tapsFrom l (countPlace l + 1) i
 unfolding layoutIn
 station-is l i g f =
-    filled-at blankTap (tapsFrom l (countPlace l + 1)) (min (countIn l) 16) i (record { position = 0; address = [] }) (omega arith)
+    filled-at blankTap (tapsFrom l (countPlace l + 1)) (min (countIn l) maxStations) i (record {
+      position = 0;
+      address = [];
+    }) (omega arith)
 
 -- each address is six octets
-pub layout-formed : (l : List ℕ) → sheetSize l ≤ length l → (i : ℕ) → i < layoutIn l .count → i < 16
+pub layout-formed : (l : List ℕ) → sheetSize l ≤ length l → (i : ℕ) → i < layoutIn l .count → i < maxStations
     → length (getD (layoutIn l .stations) i (record { position = 0; address = [] }) .address) ≡ 6
 unfolding layoutIn sheetSize tapIn
 layout-formed l h i g f =
-    ap (λ (t : Tap). length (t .address)) (station-is l i g f) ∙ length-part l (countPlace l + 1 + 7 * i + 1) 6 (omega arith)
+    ap (λ (t : Tap). length (t .address)) (station-is l i g f)
+    ∙ length-part l (countPlace l + 1 + 7 * i + 1) 6 (omega arith)
 
-layout-octets : (l : List ℕ) → Octets l → (i : ℕ) → i < layoutIn l .count → i < 16
+layout-octets : (l : List ℕ) → Octets l → (i : ℕ) → i < layoutIn l .count → i < maxStations
     → Octets (getD (layoutIn l .stations) i (record { position = 0; address = [] }) .address)
 unfolding layoutIn tapIn
 layout-octets l o i g f =
-    subst Octets (sym (ap (λ (t : Tap). t .address) (station-is l i g f))) (octets-take 6 _ (octets-drop (countPlace l + 1 + 7 * i + 1) l o))
+    subst Octets (sym (ap (λ (t : Tap). t .address) (station-is l i g f)))
+    (octets-take 6 _ (octets-drop (countPlace l + 1 + 7 * i + 1) l o))
 
 -- the same of a sheet that is read
 module _ (l : List ℕ) (n : ℕ) (h : readSheet l .answer ≡ accepted (n ∷ [])) where
-  pub read-formed : (i : ℕ) → i < readSheet l .layout .count → length (getD (readSheet l .layout .stations) i (record { position = 0; address = [] }) .address) ≡ 6
+  pub read-formed : (i : ℕ) → i < readSheet l .layout .count
+      → length (getD (readSheet l .layout .stations) i (record { position = 0; address = [] }) .address) ≡ 6
   read-formed i g =
       let r = read-sound l n h in
       let e = r .layout in
       ap (λ (y : Layout). length (getD (y .stations) i (record { position = 0; address = [] }) .address)) e
-      ∙ layout-formed l (omega (arith, r .used, r .within)) i (omega (arith, ap (λ (y : Layout). y .count) e)) (omega (arith, r .sound .count .1))
+      ∙ layout-formed l (omega (arith, r .used, r .within)) i (omega (arith, ap (λ (y : Layout). y .count) e))
+      (omega (arith, r .sound .count .1))
 
-  pub read-octets : Octets l → (i : ℕ) → i < readSheet l .layout .count → Octets (getD (readSheet l .layout .stations) i (record { position = 0; address = [] }) .address)
+  pub read-octets : Octets l → (i : ℕ) → i < readSheet l .layout .count
+      → Octets (getD (readSheet l .layout .stations) i (record { position = 0; address = [] }) .address)
   read-octets o i g =
       let r = read-sound l n h in
       let e = r .layout in
       subst (λ (y : Layout). Octets (getD (y .stations) i (record { position = 0; address = [] }) .address)) (sym e)
       (layout-octets l o i (omega (arith, ap (λ (y : Layout). y .count) e)) (omega (arith, r .sound .count .1)))
 
--- ---- octets after the sheet do not matter: a reader that stays within a reads the same of a and of a with more behind it
+-- ---- octets after the sheet do not matter: a reader that stays within a reads the same of a and of a with more behind
+-- it
 
 module _ (a z : List ℕ) where
   octet-front : (k : ℕ) → k < length a → getD (a ++ z) k 0 ≡ getD a k 0
@@ -118,7 +137,7 @@ module _ (a z : List ℕ) (h : sheetSize a ≤ length a) where
   map-front = octet-front a z 0 (omega (arith, front))
 
   place-front : countPlace (a ++ z) ≡ countPlace a
-  place-front = ap (λ (m : ℕ). fieldAt m 6) map-front
+  place-front = ap (λ (m : ℕ). fieldAt m fieldCount) map-front
 
   pub count-front : countIn (a ++ z) ≡ countIn a
   count-front = ap (λ (k : ℕ). getD (a ++ z) k 0) place-front ∙ octet-front a z (countPlace a) (omega (arith, front))
@@ -127,15 +146,18 @@ module _ (a z : List ℕ) (h : sheetSize a ≤ length a) where
   unfolding sheetSize
   size-front = ap₂ (λ (p n : ℕ). p + 1 + 7 * n) place-front count-front
 
-  field-front : (k d absent : ℕ) → suc d + k ≡ 6 → field (a ++ z) k absent ≡ field a k absent
+  field-front : (k d : ℕ) → suc d + k ≡ fieldCount → field (a ++ z) k ≡ field a k
   unfolding field
-  field-front k d absent e = rw map-front (go (stands (mapOf a) k) refl)
+  field-front k d e = rw map-front (go (stands (mapOf a) k) refl)
     where
       go : (t : Bool) → stands (mapOf a) k ≡ t
-          → pick t (get (width k) (a ++ z) (fieldAt (mapOf a) k)) absent ≡ pick t (get (width k) a (fieldAt (mapOf a) k)) absent
+          → pick t (get (width k) (a ++ z) (fieldAt (mapOf a) k)) (row k .absent) ≡ pick t
+          (get (width k) a (fieldAt (mapOf a) k)) (row k .absent)
       go true p =
-          let g : d + suc k ≡ 6 = omega arith in
-          let w : fieldAt (mapOf a) (suc k) ≤ fieldAt (mapOf a) 6 = subst (λ (n : ℕ). fieldAt (mapOf a) (suc k) ≤ fieldAt (mapOf a) n) g (fields-rise (mapOf a) (suc k) d) in
+          let g : d + suc k ≡ fieldCount = omega arith in
+          let w : fieldAt (mapOf a) (suc k) ≤ fieldAt
+          (mapOf a) fieldCount = subst (λ (n : ℕ). fieldAt (mapOf a) (suc k) ≤ fieldAt (mapOf a) n) g
+          (fields-rise (mapOf a) (suc k) d) in
           get-front (width k) a z (fieldAt (mapOf a) k) (omega (arith, front, field-ends (mapOf a) k p))
       go false p = refl
 
@@ -143,22 +165,26 @@ module _ (a z : List ℕ) (h : sheetSize a ≤ length a) where
   unfolding figuresIn
   figures-front =
       λ i. record {
-        slot = field-front 0 5 512 refl i;
-        gap1 = field-front 1 4 64 refl i;
-        gap2 = field-front 2 3 32 refl i;
-        jam = field-front 3 2 32 refl i;
-        limit = field-front 4 1 16 refl i;
-        backoff = field-front 5 0 10 refl i;
+        slot = field-front 0 6 refl i;
+        gap1 = field-front 1 5 refl i;
+        gap2 = field-front 2 4 refl i;
+        jam = field-front 3 3 refl i;
+        limit = field-front 4 2 refl i;
+        backoff = field-front 5 1 refl i;
+        ends = field-front 6 0 refl i;
       }
 
   tap-front : (at : ℕ) → at + 7 ≤ length a → tapIn (a ++ z) at ≡ tapIn a at
   unfolding tapIn
-  tap-front at g = λ i. record { position = octet-front a z at (omega arith) i; address = part-front a z (at + 1) 6 (omega arith) i }
+  tap-front at g =
+      λ i. record { position = octet-front a z at (omega arith) i; address = part-front a z (at + 1) 6 (omega arith) i }
 
-  places-front : placesOf (tapsFrom (a ++ z) (countPlace (a ++ z) + 1)) (min (countIn (a ++ z)) 16) ≡ placesOf (tapsFrom a (countPlace a + 1)) (min (countIn a) 16)
+  places-front : placesOf (tapsFrom (a ++ z) (countPlace (a ++ z) + 1)) (min (countIn (a ++ z)) maxStations) ≡ placesOf
+      (tapsFrom a (countPlace a + 1)) (min (countIn a) maxStations)
   places-front =
       rw (count-front, place-front)
-      (filled-same blankTap (tapsFrom (a ++ z) (countPlace a + 1)) (tapsFrom a (countPlace a + 1)) (min (countIn a) 16)
+      (filled-same blankTap (tapsFrom (a ++ z) (countPlace a + 1)) (tapsFrom a (countPlace a + 1))
+      (min (countIn a) maxStations)
       (λ i g. tap-front (countPlace a + 1 + 7 * i) (omega (arith, front))))
 
   layout-front : layoutIn (a ++ z) ≡ layoutIn a
@@ -169,20 +195,28 @@ module _ (a z : List ℕ) (h : sheetSize a ≤ length a) where
   pub sheet-front : readSheet (a ++ z) ≡ readSheet a
   unfolding readSheet
   sheet-front =
-      rw (size-front, map-front, layout-front, le-ltb (length (a ++ z)) (sheetSize a) (omega (arith, length-append a z)), le-ltb (length a) (sheetSize a) h)
+      rw (
+        size-front,
+        map-front,
+        layout-front,
+        le-ltb (length (a ++ z)) (sheetSize a)
+            (omega (arith, length-append a z)),
+        le-ltb (length a) (sheetSize a) h,
+      )
 
 -- the size that a longer list asks for is the front's own, where the front has so many octets
 size-whole : (a z : List ℕ) → sheetSize (a ++ z) ≤ length a → sheetSize a ≡ sheetSize (a ++ z)
 unfolding sheetSize
 size-whole a z h =
     let m : mapOf (a ++ z) ≡ mapOf a = octet-front a z 0 (omega arith) in
-    let p : countPlace (a ++ z) ≡ countPlace a = ap (λ (x : ℕ). fieldAt x 6) m in
+    let p : countPlace (a ++ z) ≡ countPlace a = ap (λ (x : ℕ). fieldAt x fieldCount) m in
     let n : countIn (a ++ z) ≡ countIn a =
     ap (λ (k : ℕ). getD (a ++ z) k 0) p ∙ octet-front a z (countPlace a) (omega arith) in
     sym (ap₂ (λ (q k : ℕ). q + 1 + 7 * k) p n)
 
 -- Octets after those used do not matter.
-pub read-again : (l z : List ℕ) (n : ℕ) → readSheet l .answer ≡ accepted (n ∷ []) → readSheet (take n l ++ z) ≡ readSheet l
+pub read-again : (l z : List ℕ) (n : ℕ) → readSheet l .answer ≡ accepted (n ∷ [])
+    → readSheet (take n l ++ z) ≡ readSheet l
 read-again l z n h =
     let r = read-sound l n h in
     let e : take n l ++ drop n l ≡ l = take-append-drop n l in

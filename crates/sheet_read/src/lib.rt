@@ -11,6 +11,7 @@ ghost use Rattle.octets.specs.Base.{pick};
 ghost use Rattle.sheet_layout.specs.Layout.{placesOf};
 ghost use Rattle.sheet_read.specs.Sheet.{tapIn, tapsFrom, unread, readSheet, sheetReading};
 ghost use Rattle.sheet_read.specs.SheetLaws.{sizesOf, ends, fieldOf, figuresOf, layoutOf};
+ghost use Rattle.sheet_layout.specs.Limits.{maxStations};
 
 // The reader's answer: a refusal by its number, or the octets used.
 pub enum SheetRead {
@@ -32,6 +33,7 @@ pub struct Sizes {
     pub jam: usize,
     pub limit: usize,
     pub backoff: usize,
+    pub ends: usize,
 }
 
 // The octets of a field of this width whose bit has this value in the map.
@@ -45,7 +47,8 @@ fn field_size(map: u32, unit: u32, width: usize) -> usize
 
 fn map_sizes(map: u32) -> Sizes
     ensures value { λ r. ⌜ r ≡ sizesOf map ⌝ }
-    ensures most { λ r. ⌜ (r .slot ≤ 2) × (r .gap1 ≤ 1) × (r .gap2 ≤ 1) × (r .jam ≤ 1) × (r .limit ≤ 1) × (r .backoff ≤ 1) ⌝ }
+    ensures most { λ r. ⌜ (r .slot ≤ 2) × (r .gap1 ≤ 1) × (r .gap2 ≤ 1) × (r .jam ≤ 1) × (r .limit ≤ 1)
+        × (r .backoff ≤ 1) × (r .ends ≤ 1) ⌝ }
 {
     Sizes {
         slot: field_size(map, 1, 2),
@@ -54,16 +57,18 @@ fn map_sizes(map: u32) -> Sizes
         jam: field_size(map, 8, 1),
         limit: field_size(map, 16, 1),
         backoff: field_size(map, 32, 1),
+        ends: field_size(map, 64, 1),
     }
 }
 
 // Where the fields end, and the octet N stands.
 fn fields_end(z: Sizes) -> usize
-    requires { ⌜ (z .slot ≤ 2) × (z .gap1 ≤ 1) × (z .gap2 ≤ 1) × (z .jam ≤ 1) × (z .limit ≤ 1) × (z .backoff ≤ 1) ⌝ }
+    requires { ⌜ (z .slot ≤ 2) × (z .gap1 ≤ 1) × (z .gap2 ≤ 1) × (z .jam ≤ 1) × (z .limit ≤ 1) ⌝ }
+    requires { ⌜ (z .backoff ≤ 1) × (z .ends ≤ 1) ⌝ }
     ensures value { λ r. ⌜ r ≡ ends z ⌝ }
-    ensures sum { λ r. ⌜ r ≡ 1 + z .slot + z .gap1 + z .gap2 + z .jam + z .limit + z .backoff ⌝ }
+    ensures sum { λ r. ⌜ r ≡ 1 + z .slot + z .gap1 + z .gap2 + z .jam + z .limit + z .backoff + z .ends ⌝ }
 {
-    1 + z.slot + z.gap1 + z.gap2 + z.jam + z.limit + z.backoff
+    1 + z.slot + z.gap1 + z.gap2 + z.jam + z.limit + z.backoff + z.ends
 }
 
 // The field of `size` octets at `at`, or what stands for it where it has none.
@@ -81,21 +86,25 @@ fn read_field(s: &[u8], at: usize, size: usize, absent: u32) -> u32
 }
 
 fn read_figures(s: &[u8], z: Sizes) -> Figures
-    requires { ⌜ (z .slot ≤ 2) × (z .gap1 ≤ 1) × (z .gap2 ≤ 1) × (z .jam ≤ 1) × (z .limit ≤ 1) × (z .backoff ≤ 1) ⌝ }
-    requires { ⌜ 1 + z .slot + z .gap1 + z .gap2 + z .jam + z .limit + z .backoff ≤ length (now s) ⌝ }
+    requires { ⌜ (z .slot ≤ 2) × (z .gap1 ≤ 1) × (z .gap2 ≤ 1) × (z .jam ≤ 1) × (z .limit ≤ 1) ⌝ }
+    requires { ⌜ (z .backoff ≤ 1) × (z .ends ≤ 1) ⌝ }
+    requires { ⌜ 1 + z .slot + z .gap1 + z .gap2 + z .jam + z .limit + z .backoff + z .ends ≤ length (now s) ⌝ }
     ensures { λ r. ⌜ r ≡ figuresOf (now (s .entry)) z ⌝ }
 {
     let gap1_at = 1 + z.slot;
     let gap2_at = gap1_at + z.gap1;
     let jam_at = gap2_at + z.gap2;
     let limit_at = jam_at + z.jam;
+    let backoff_at = limit_at + z.limit;
+    let ends_at = backoff_at + z.backoff;
     Figures {
         slot: read_field(s, 1, z.slot, 512),
         gap1: read_field(s, gap1_at, z.gap1, 64),
         gap2: read_field(s, gap2_at, z.gap2, 32),
         jam: read_field(s, jam_at, z.jam, 32),
         limit: read_field(s, limit_at, z.limit, 16),
-        backoff: read_field(s, limit_at + z.limit, z.backoff, 10),
+        backoff: read_field(s, backoff_at, z.backoff, 10),
+        ends: read_field(s, ends_at, z.ends, 0),
     }
 }
 
@@ -111,7 +120,7 @@ fn read_tap(s: &[u8], at: usize) -> Tap
 
 // The n stations from octet `at` on, and blank places after them.
 fn read_taps(s: &[u8], at: usize, n: usize) -> [Tap; 16]
-    requires { ⌜ (n ≤ 16) × (at + 7 * n ≤ length (now s)) ⌝ }
+    requires { ⌜ (n ≤ maxStations) × (at + 7 * n ≤ length (now s)) ⌝ }
     ensures { λ r. ⌜ r ≡ placesOf (tapsFrom (now (s .entry)) at) n ⌝ }
 {
     let blank = Tap {
@@ -130,8 +139,10 @@ fn read_taps(s: &[u8], at: usize, n: usize) -> [Tap; 16]
 
 // The layout as it is written, of at most sixteen stations.
 fn read_layout(s: &[u8], z: Sizes, end: usize, count: u32) -> Layout
-    requires { ⌜ (z .slot ≤ 2) × (z .gap1 ≤ 1) × (z .gap2 ≤ 1) × (z .jam ≤ 1) × (z .limit ≤ 1) × (z .backoff ≤ 1) ⌝ }
-    requires { ⌜ (1 + z .slot + z .gap1 + z .gap2 + z .jam + z .limit + z .backoff ≤ end) × (end + 1 + 7 * count ≤ length (now s)) ⌝ }
+    requires { ⌜ (z .slot ≤ 2) × (z .gap1 ≤ 1) × (z .gap2 ≤ 1) × (z .jam ≤ 1) × (z .limit ≤ 1) ⌝ }
+    requires { ⌜ (z .backoff ≤ 1) × (z .ends ≤ 1) ⌝ }
+    requires { ⌜ (1 + z .slot + z .gap1 + z .gap2 + z .jam + z .limit + z .backoff + z .ends ≤ end)
+        × (end + 1 + 7 * count ≤ length (now s)) ⌝ }
     ensures { λ r. ⌜ r ≡ layoutOf (now (s .entry)) z end count ⌝ }
 {
     let figures = read_figures(s, z);
@@ -158,6 +169,7 @@ fn unread_sheet(n: u32) -> Sheet
         jam: 0,
         limit: 0,
         backoff: 0,
+        ends: 0,
     };
     Sheet {
         read: SheetRead::Refused(n),
@@ -188,7 +200,7 @@ pub fn read_sheet(s: &[u8]) -> Sheet
     if n < used {
         return unread_sheet(3);
     }
-    if octets::either(map / 64 % 2 == 1, map / 128 % 2 == 1) {
+    if map / 128 % 2 == 1 {
         return unread_sheet(4);
     }
     let y = read_layout(s, z, end, count);

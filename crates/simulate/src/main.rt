@@ -1,5 +1,6 @@
-// The run program: a run input on standard input, what is printed for it on standard output. The pieces are made by `report_begin` and `report_next`;
-// what is handed to the write calls here, one behind the other, is just what is printed.
+// The run program: a run input on standard input, what is printed for it on standard output. The pieces are made by
+// `report_begin` and `report_next`; what is handed to the write calls here, one behind the other, is just what is
+// printed.
 
 use libc::STDIN_FILENO;
 use libc::STDOUT_FILENO;
@@ -21,7 +22,8 @@ struct Written {
     done: bool,
 }
 
-// The one call that writes. It is handed the octets of what is printed for the input from `at` on, and answers where they end.
+// The one call that writes. It is handed the octets of what is printed for the input from `at` on, and answers where
+// they end.
 fn write_piece(input: &[u8], at: usize, piece: &[u8]) -> Written
     requires { ⌜ part (printed (now input)) at (length (now piece)) ≡ now piece ⌝ }
     requires { ⌜ at + length (now piece) ≤ most ⌝ }
@@ -55,7 +57,8 @@ fn write_rest(input: &[u8], area: &mut [u8], at: usize, g: Progress) -> Written
     Written { at, done: true }
 }
 
-// Writes all that is printed for the input: where every write call answered true, what was handed to them is the whole text.
+// Writes all that is printed for the input: where every write call answered true, what was handed to them is the whole
+// text.
 fn write_run(input: &[u8], area: &mut [u8]) -> Written
     requires { ⌜ length (now area) ≡ areaSize ⌝ }
     ensures { λ r. ⌜ (r .done ≡ true → r .at ≡ length (printed (now (input .entry)))) ⌝ }

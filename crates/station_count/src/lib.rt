@@ -1,4 +1,4 @@
-// A station's sixteen counters, in the order that document 01 lists them.
+// A station's counters, in the order in which document 01 lists them, and after them those of the requests.
 
 use station_receive::ReceiveEvent;
 use station_spec::Stepped;
@@ -7,6 +7,7 @@ use station_transmit::TransmitEvent;
 ghost use mathlib.Core.Path.{_≡_};
 ghost use Prim.Native.Nat.{_-_, _<_};
 ghost use Rattle.station_spec.specs.Count.{added, addedIf, countSent, countTransmit, countReceive, octetsIn, counted};
+ghost use Rattle.station_state.specs.State.{counterCount};
 
 pub const OFFERED: usize = 0;
 
@@ -40,9 +41,15 @@ pub const ALIGNMENT_ERRORS: usize = 14;
 
 pub const LENGTH_ERRORS: usize = 15;
 
+pub const LATE_ENDED: usize = 16;
+
 // Counter k with n more; one that would pass its top stops at it.
-pub fn add(counters: [u32; 16], k: usize, n: u32) -> [u32; 16]
-    requires { ⌜ k < 16 ⌝ }
+pub fn add(
+    counters: [u32; station_state::COUNTERS],
+    k: usize,
+    n: u32,
+) -> [u32; station_state::COUNTERS]
+    requires { ⌜ k < counterCount ⌝ }
     ensures { λ r. ⌜ r ≡ added counters k n ⌝ }
 {
     let mut next = counters;
@@ -56,8 +63,12 @@ pub fn add(counters: [u32; 16], k: usize, n: u32) -> [u32; 16]
 }
 
 // Counter k with one more where the test holds.
-fn add_if(test: bool, counters: [u32; 16], k: usize) -> [u32; 16]
-    requires { ⌜ k < 16 ⌝ }
+fn add_if(
+    test: bool,
+    counters: [u32; station_state::COUNTERS],
+    k: usize,
+) -> [u32; station_state::COUNTERS]
+    requires { ⌜ k < counterCount ⌝ }
     ensures { λ r. ⌜ r ≡ addedIf test counters k ⌝ }
 {
     if test {
@@ -73,40 +84,51 @@ fn data_of(frame: u32) -> u32
     if frame < 18 { 0 } else { frame - 18 }
 }
 
-// A frame of so many octets is sent after n attempts.
-fn count_sent(counters: [u32; 16], n: u32, frame: u32, deferred: bool) -> [u32; 16]
+// A frame of so many octets is sent after n attempts. It counts as deferred if it did not start in its first step and
+// was sent on its first attempt.
+fn count_sent(
+    counters: [u32; station_state::COUNTERS],
+    n: u32,
+    frame: u32,
+    deferred: bool,
+) -> [u32; station_state::COUNTERS]
     ensures { λ r. ⌜ r ≡ countSent counters n frame deferred ⌝ }
 {
     let a = add(counters, SENT, 1);
     let b = add(a, OCTETS_SENT, data_of(frame));
     let c = add_if(n == 2, b, SENT_AFTER_ONE);
     let d = add_if(3 <= n, c, SENT_AFTER_SEVERAL);
-    add_if(deferred, d, DEFERRED)
+    add_if(octets::both(deferred, n == 1), d, DEFERRED)
 }
 
 // What a transmit event adds, of a frame of so many octets.
 fn count_transmit(
-    counters: [u32; 16],
+    counters: [u32; station_state::COUNTERS],
     event: TransmitEvent,
     frame: u32,
     deferred: bool,
-) -> [u32; 16]
+) -> [u32; station_state::COUNTERS]
     ensures { λ r. ⌜ r ≡ countTransmit counters event frame deferred ⌝ }
 {
     match event {
         TransmitEvent::NoTransmit => counters,
         TransmitEvent::Collision(_) => add(counters, COLLISIONS, 1),
-        TransmitEvent::Late(_) => {
+        TransmitEvent::Late { bit: _, closes: _ } => {
             let a = add(counters, COLLISIONS, 1);
             add(a, LATE, 1)
         }
         TransmitEvent::Sent(n) => count_sent(counters, n, frame, deferred),
         TransmitEvent::GivenUp(_) => add(counters, EXCESSIVE, 1),
+        TransmitEvent::LateEnded(_) => add(counters, LATE_ENDED, 1),
     }
 }
 
 // What a receive event adds, of a frame of so many octets.
-fn count_receive(counters: [u32; 16], event: ReceiveEvent, frame: u32) -> [u32; 16]
+fn count_receive(
+    counters: [u32; station_state::COUNTERS],
+    event: ReceiveEvent,
+    frame: u32,
+) -> [u32; station_state::COUNTERS]
     ensures { λ r. ⌜ r ≡ countReceive counters event frame ⌝ }
 {
     match event {
@@ -143,7 +165,7 @@ pub fn octets_in(r: Receiver) -> u32
 }
 
 // The counters after a step.
-pub fn count(counters: [u32; 16], o: Stepped) -> [u32; 16]
+pub fn count(counters: [u32; station_state::COUNTERS], o: Stepped) -> [u32; station_state::COUNTERS]
     ensures { λ r. ⌜ r ≡ counted counters o ⌝ }
 {
     let next = o.station;

@@ -1,6 +1,6 @@
 -- Deference: when a station may start (document 01, "One bit time").
--- "Each station is in just one of quiet, busy or gap, and a gap carries its count of quiet bits; busy and gap also remember whether
--- the station itself emitted in that busy stretch." The laws are in DeferLaws. Assumes nothing.
+-- "Each station is in just one of quiet, busy or gap, and a gap carries its count of quiet bits; busy and gap also
+-- remember whether the station itself emitted in that busy stretch." The laws are in DeferLaws. Assumes nothing.
 use Prim.Native.Nat.{ℕ, _+_}
 use mathlib.Core.Bool.{Bool, true, false, not, _||_, _&&_}
 use lib.Dec.{ltb, leb}
@@ -21,7 +21,8 @@ to d = record { phase = d; start = false }
 
 -- "Quiet: if busy, go to busy." Else it ends quiet, and a waiting frame starts.
 unfoldable pub quietRule : (hears emitted waits : Bool) → Deferred
-quietRule hears emitted waits = pick (isBusy hears emitted) (to (Busy emitted)) (record { phase = Quiet; start = waits })
+quietRule hears emitted waits =
+    pick (isBusy hears emitted) (to (Busy emitted)) (record { phase = Quiet; start = waits })
 
 -- "Busy: stay while busy; the first step that isn't busy makes gap, count 1."
 unfoldable pub busyRule : (own hears emitted : Bool) → Deferred
@@ -31,7 +32,8 @@ busyRule own hears emitted = pick (isBusy hears emitted) (to (Busy (own || emitt
 unfoldable pub goesBack : (gap1 n : ℕ) (own hears : Bool) → Bool
 goesBack gap1 n own hears = hears && (ltb n gap1 && not own)
 
--- "Gap, count G: quiet. A waiting frame starts in this step, carrier or none; with none waiting, the quiet rule applies."
+-- "Gap, count G: quiet. A waiting frame starts in this step, carrier or none; with none waiting, the quiet rule
+-- applies."
 unfoldable pub gapOver : (hears emitted waits : Bool) → Deferred
 gapOver hears emitted waits = pick waits (record { phase = Quiet; start = true }) (quietRule hears emitted false)
 

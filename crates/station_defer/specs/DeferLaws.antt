@@ -38,15 +38,18 @@ module _ (f : Figures) (n : ℕ) (own h e w : Bool) where
   unfolding gapRule gapOver gapOf
   gap-starts p q = rw (le-leb (f .gap1 + f .gap2) n p, q)
 
-  pub gap-quiet : (r : Deferred) → f .gap1 + f .gap2 ≤ n → w ≡ false → r ≡ quietRule h e false → r ≡ gapRule f n own h e w
+  pub gap-quiet : (r : Deferred) → f .gap1 + f .gap2 ≤ n → w ≡ false → r ≡ quietRule h e false
+      → r ≡ gapRule f n own h e w
   unfolding gapRule gapOver gapOf
   gap-quiet r p q s = s ∙ rw (le-leb (f .gap1 + f .gap2) n p, q)
 
-  pub gap-back : (b : Bool) → n < f .gap1 + f .gap2 → b ≡ goesBack (f .gap1) n own h → b ≡ true → to (Busy own) ≡ gapRule f n own h e w
+  pub gap-back : (b : Bool) → n < f .gap1 + f .gap2 → b ≡ goesBack (f .gap1) n own h → b ≡ true
+      → to (Busy own) ≡ gapRule f n own h e w
   unfolding gapRule gapOf
   gap-back b p q s = rw (lt-leb (f .gap1 + f .gap2) n p, ← q, s)
 
-  pub gap-on : (b : Bool) → n < f .gap1 + f .gap2 → b ≡ goesBack (f .gap1) n own h → b ≡ false → to (Gap (n + 1) own) ≡ gapRule f n own h e w
+  pub gap-on : (b : Bool) → n < f .gap1 + f .gap2 → b ≡ goesBack (f .gap1) n own h → b ≡ false
+      → to (Gap (n + 1) own) ≡ gapRule f n own h e w
   unfolding gapRule gapOf
   gap-on b p q s = rw (lt-leb (f .gap1 + f .gap2) n p, ← q, s)
 

@@ -77,7 +77,8 @@ fn gap_rule(f: Figures, count: u32, own: bool, hears: bool, emitted: bool, waits
     }
 }
 
-// Deference in one step: whether others are heard, whether the station emitted in the step before, whether a frame waits.
+// Deference in one step: whether others are heard, whether the station emitted in the step before, whether a frame
+// waits.
 pub fn defer(f: Figures, d: Deference, hears: bool, emitted: bool, waits: bool) -> Deferred
     requires { ⌜ f .gap1 + f .gap2 < 65536 ⌝ }
     ensures { λ r. ⌜ r ≡ defer f d hears emitted waits ⌝ }

@@ -12,7 +12,8 @@ ghost use lib.ListN.{length};
 ghost use Rattle.frame_open.specs.Open.{statusAnswer};
 ghost use Rattle.station_receive.specs.declared.ReceiveEvent.the-variants.{NoReceive};
 ghost use Rattle.station_receive.specs.ReceiveLaws.{gotError};
-ghost use Rattle.station_receive.specs.Receive.{rowIn, bitsIn, hear, addressed, openAnswer, opening, deciding, decide, ended, receive};
+ghost use Rattle.station_receive.specs.Receive.{rowIn, bitsIn, hear, addressed, openAnswer, opening, deciding, decide};
+ghost use Rattle.station_receive.specs.Receive.{ended, receive, rowLimit};
 ghost use Rattle.frame_build.specs.Limits.{bufferOctets};
 
 // Whether the destination that stands in the buffer is the station's own address or broadcast.
@@ -89,7 +90,7 @@ fn decide(address: [u8; 6], buffer: &[u8], n: u32, spoiled: bool, own: bool) -> 
     requires { ⌜ bufferOctets ≤ length (now buffer) ⌝ }
     ensures { λ r. ⌜ r ≡ decide address (now (buffer .entry)) n spoiled own ⌝ }
 {
-    if n < 512 {
+    if n < frame_build::limits::SHORTEST_FRAME {
         return nothing_got(Receiver::Listening);
     }
     if own {
@@ -118,15 +119,15 @@ fn end(address: [u8; 6], buffer: &[u8], r: Receiver) -> Received
     }
 }
 
-// One step of the receiver: the octets that it collected so far, what it hears, and whether its station emits in this step.
+// One step of the receiver: the octets that it collected so far, what it hears, and whether its station emits in this
+// step.
 pub fn receive(address: [u8; 6], buffer: &[u8], r: Receiver, h: Heard, emits: bool) -> Received
-    requires { ⌜ (bufferOctets ≤ length (now buffer)) × (rowIn r < 512) × (bitsIn r < 4294967295) ⌝ }
+    requires { ⌜ (bufferOctets ≤ length (now buffer)) × (rowIn r < rowLimit) × (bitsIn r < 4294967295) ⌝ }
     ensures { λ q. ⌜ q ≡ receive address (now (buffer .entry)) r h emits ⌝ }
 {
     match h {
         Heard::Nothing => end(address, buffer, r),
         Heard::Clean(one) => station_receive::hear(r, true, one, emits),
-        Heard::Jammed => station_receive::hear(r, false, false, emits),
-        Heard::Several => station_receive::hear(r, false, false, emits),
+        Heard::Spoiled => station_receive::hear(r, false, false, emits),
     }
 }

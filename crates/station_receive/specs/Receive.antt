@@ -1,5 +1,6 @@
 -- The receiver (document 01, "One bit time").
--- "A reception is an unbroken stretch of steps in which others are heard." The laws are in ReceiveLaws. Assumes nothing.
+-- "A reception is an unbroken stretch of steps in which others are heard." The laws are in ReceiveLaws. Assumes
+-- nothing.
 use Prim.Native.Nat.{ℕ, _+_, _*_, _/_, _%_}
 use mathlib.Core.Bool.{Bool, true, false, not, _||_}
 use mathlib.Core.List.{List}
@@ -10,15 +11,16 @@ use Rattle.octets.specs.Bits.{digit}
 use Rattle.octets.specs.Equal.{equal}
 use Rattle.frame_open.specs.Open.{destinationOf, frameTooLong, opened}
 use Rattle.station_receive.specs.declared.ReceiveEvent.{ReceiveEvent}
-use Rattle.station_receive.specs.declared.ReceiveEvent.the-variants.{NoReceive, GotOk, GotTooLong, GotAlignment, GotCheck, GotLength}
+use Rattle.station_receive.specs.declared.ReceiveEvent.the-variants.{NoReceive, GotOk, GotTooLong, GotAlignment}
+use Rattle.station_receive.specs.declared.ReceiveEvent.the-variants.{GotCheck, GotLength}
 use Rattle.station_symbols.specs.declared.Heard.{Heard}
-use Rattle.station_symbols.specs.declared.Heard.the-variants.{Nothing, Clean, Jammed, Several}
+use Rattle.station_symbols.specs.declared.Heard.the-variants.{Nothing, Clean, Spoiled}
 use Rattle.station_state.specs.declared.Receiver.{Receiver}
 use Rattle.station_state.specs.declared.Receiver.the-variants.{Listening, Readable, Seeking, Collecting}
 use Rattle.station_receive.specs.declared.Stored.{Stored}
 use Rattle.station_receive.specs.declared.Stored.the-variants.{NoStore, Store}
 use Rattle.station_receive.specs.declared.Received.{Received}
-use Rattle.frame_build.specs.Limits.{bufferOctets, bufferBits}
+use Rattle.frame_build.specs.Limits.{bufferOctets, bufferBits, shortestFrame}
 
 -- ---- the delimiter
 
@@ -26,8 +28,12 @@ use Rattle.frame_build.specs.Limits.{bufferOctets, bufferBits}
 abbrev pub noRow : ℕ
 noRow = 1
 
+-- each row is below this
+abbrev pub rowLimit : ℕ
+rowLimit = 512
+
 unfoldable pub nextRow : ℕ → Bool → ℕ
-nextRow row b = pick (ltb (2 * row + digit b) 512) (2 * row + digit b) (256 + (2 * row + digit b) % 256)
+nextRow row b = pick (ltb (2 * row + digit b) rowLimit) (2 * row + digit b) (256 + (2 * row + digit b) % 256)
 
 -- "10101011" behind the 1
 abbrev pub delimiterRow : ℕ
@@ -46,10 +52,11 @@ hearing r s = record { receiver = r; event = NoReceive; stored = s }
 -- "Bits after the first 10101011 are collected, low bit first."
 unfoldable pub seekBit : (row : ℕ) (b spoiled own : Bool) → Received
 seekBit row b spoiled own =
-    hearing (pick (eqb (nextRow row b) delimiterRow) (Collecting 0 spoiled own) (Seeking (nextRow row b) spoiled own)) NoStore
+    hearing (pick (eqb (nextRow row b) delimiterRow) (Collecting 0 spoiled own) (Seeking (nextRow row b) spoiled own))
+    NoStore
 
--- "A jam bit, or any symbol heard from two or more, is stored as 0, never matches the delimiter and, anywhere in the reception, makes
--- the check wrong."
+-- "A jam bit, or any symbol heard from two or more, is stored as 0, never matches the delimiter and, anywhere in the
+-- reception, makes the check wrong."
 abbrev pub seekSpoiled : Bool → Received
 seekSpoiled own = hearing (Seeking noRow true own) NoStore
 
@@ -77,7 +84,8 @@ addressed address buffer = equal (destinationOf buffer) address || equal (destin
 
 -- the opening rules, of n bits collected; of more octets than are kept the frame is too long
 unfoldable pub openAnswer : (buffer : List ℕ) (n : ℕ) (spoiled : Bool) → Answer
-openAnswer buffer n spoiled = pick (ltb bufferOctets (n / 8)) frameTooLong (opened spoiled (take (n / 8) buffer) (n % 8) .status)
+openAnswer buffer n spoiled =
+    pick (ltb bufferOctets (n / 8)) frameTooLong (opened spoiled (take (n / 8) buffer) (n % 8) .status)
 
 -- what a status reports: its first value numbers it, receiveOK has the octets of client data behind that
 unfoldable pub gotEvent : Answer → (octets : ℕ) → ReceiveEvent
@@ -100,11 +108,11 @@ unfoldable pub opening : (buffer : List ℕ) (n : ℕ) (spoiled : Bool) → Rece
 opening buffer n spoiled =
     deciding (readableAfter (openAnswer buffer n spoiled) (n / 8)) (gotEvent (openAnswer buffer n spoiled) (n / 8))
 
--- "The step after the stretch decides: under 512 collected bits, or the station emitted during it, nothing; destination neither own
--- nor broadcast, nothing; else the opening rules."
+-- "The step after the stretch decides: under 512 collected bits, or the station emitted during it, nothing; destination
+-- neither own nor broadcast, nothing; else the opening rules."
 unfoldable pub decide : (address buffer : List ℕ) (n : ℕ) (spoiled own : Bool) → Received
 decide address buffer n spoiled own =
-    pick (ltb n 512) (deciding Listening NoReceive)
+    pick (ltb n shortestFrame) (deciding Listening NoReceive)
     (pick own (deciding Listening NoReceive)
     (pick (addressed address buffer) (opening buffer n spoiled) (deciding Listening NoReceive)))
 
@@ -115,12 +123,12 @@ ended address buffer (Readable n) = deciding (Readable n) NoReceive
 ended address buffer (Seeking row spoiled own) = deciding Listening NoReceive
 ended address buffer (Collecting n spoiled own) = decide address buffer n spoiled own
 
--- a step of the receiver: the octets that it collected so far, what it hears, and whether its station emits in this step
+-- a step of the receiver: the octets that it collected so far, what it hears, and whether its station emits in this
+-- step
 unfoldable pub receive : (address buffer : List ℕ) → Receiver → Heard → (emits : Bool) → Received
 receive address buffer r Nothing emits = ended address buffer r
 receive address buffer r (Clean b) emits = hear r true b emits
-receive address buffer r Jammed emits = hear r false false emits
-receive address buffer r Several emits = hear r false false emits
+receive address buffer r Spoiled emits = hear r false false emits
 
 -- the row, and the bits, that a receiver carries
 abbrev pub rowIn : Receiver → ℕ

@@ -6,8 +6,10 @@ ghost use Prim.Native.Nat.{_+_, _*_, _<_};
 ghost use Rattle.octets.specs.Bits.{digit};
 ghost use Rattle.station_receive.specs.declared.ReceiveEvent.the-variants.{NoReceive};
 ghost use Rattle.station_receive.specs.Receive.{rowIn, bitsIn, nextRow, seekBit, seek, storedBit, collect, hear};
+ghost use Rattle.station_receive.specs.Receive.{rowLimit};
 
-// What a receiver reports in a step, at most one: a frame got: with receiveOK the octets of client data, else the whole octets collected.
+// What a receiver reports in a step, at most one: a frame got: with receiveOK the octets of client data, else the whole
+// octets collected.
 pub enum ReceiveEvent {
     NoReceive,
     GotOk(u32),
@@ -99,7 +101,7 @@ fn seek(row: u32, spoiled: bool, own: bool, clean: bool, one: bool) -> Received
 fn stored_bit(n: u32, one: bool) -> Stored
     ensures { λ r. ⌜ r ≡ storedBit n one ⌝ }
 {
-    if n < 12144 {
+    if (n as usize) < frame_build::limits::BUFFER_BITS {
         return Stored::Store { bit: n, one };
     }
     Stored::NoStore
@@ -125,7 +127,7 @@ fn collect(n: u32, spoiled: bool, own: bool, clean: bool, one: bool) -> Received
 
 // A step in which others are heard.
 pub fn hear(r: Receiver, clean: bool, one: bool, emits: bool) -> Received
-    requires { ⌜ (rowIn r < 512) × (bitsIn r < 4294967295) ⌝ }
+    requires { ⌜ (rowIn r < rowLimit) × (bitsIn r < 4294967295) ⌝ }
     ensures { λ q. ⌜ q ≡ hear r clean one emits ⌝ }
 {
     match r {

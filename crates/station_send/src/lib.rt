@@ -10,28 +10,30 @@ ghost use Prim.Native.Nat.{_+_, _*_, _<_};
 ghost use Rattle.station_transmit.specs.Transmit.{afterBit, collision, sendBit, headBit, resting, backoffBit, transmit};
 ghost use Rattle.station_state.specs.State.{numberIn};
 
-// How a collided attempt goes on after packet bit k.
-fn after_bit(jam: u32, k: u32) -> Transmitter
-    ensures { λ r. ⌜ r ≡ afterBit jam k ⌝ }
+// How a collided attempt goes on after packet bit k, whose frame ends or not.
+fn after_bit(jam: u32, k: u32, ends: bool) -> Transmitter
+    ensures { λ r. ⌜ r ≡ afterBit jam k ends ⌝ }
 {
     if k < 64 {
         return Transmitter::Heading(k + 1);
     }
-    Transmitter::Jamming(jam)
+    Transmitter::Jamming { left: jam, ends }
 }
 
 fn collided(f: Figures, k: u32) -> Transmitted
     ensures { λ r. ⌜ r ≡ collision f k ⌝ }
 {
-    let phase = after_bit(f.jam, k);
     if f.slot < k {
+        let closes = f.ends == 1;
+        let ending = after_bit(f.jam, k, closes);
         return Transmitted {
-            phase,
+            phase: ending,
             emission: Emission::PacketBit(k),
-            event: TransmitEvent::Late(k),
+            event: TransmitEvent::Late { bit: k, closes },
             drew: false,
         };
     }
+    let phase = after_bit(f.jam, k, false);
     Transmitted {
         phase,
         emission: Emission::PacketBit(k),
@@ -88,7 +90,7 @@ fn backoff_bit(left: u32) -> Transmitted
 fn head_bit(f: Figures, k: u32) -> Transmitted
     ensures { λ r. ⌜ r ≡ headBit f k ⌝ }
 {
-    let phase = after_bit(f.jam, k);
+    let phase = after_bit(f.jam, k, false);
     Transmitted {
         phase,
         emission: Emission::PacketBit(k),
@@ -122,6 +124,6 @@ pub fn transmit(
         Transmitter::BackingOff(left) => backoff_bit(left),
         Transmitter::Sending(k) => send_bit(f, frame, n, k, hears),
         Transmitter::Heading(k) => head_bit(f, k),
-        Transmitter::Jamming(left) => station_transmit::jam_bit(f, n, draw, left),
+        Transmitter::Jamming { left, ends } => station_transmit::jam_bit(f, n, draw, left, ends),
     }
 }

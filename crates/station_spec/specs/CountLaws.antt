@@ -1,7 +1,7 @@
 -- A law for each way through the counting code. Assumes nothing.
 use Prim.Native.Nat.{ℕ, _+_, _-_, _≤_, _<_, min}
 use mathlib.Core.Path.{_≡_, _∙_}
-use mathlib.Core.Bool.{Bool, true, false}
+use mathlib.Core.Bool.{Bool, true, false, _&&_}
 use mathlib.Core.List.{List}
 use native.Mathlib.Omega.{arith}
 use lib.Dec.{leb, eqb}
@@ -11,11 +11,14 @@ use Rattle.station_state.specs.declared.Receiver.the-variants.{Readable}
 use Rattle.station_spec.specs.declared.Stepped.{Stepped}
 use Rattle.station_transmit.specs.declared.TransmitEvent.{TransmitEvent}
 use Rattle.station_transmit.specs.declared.TransmitEvent.the-variants.{NoTransmit, Collision, Late, Sent, GivenUp}
+use Rattle.station_transmit.specs.declared.TransmitEvent.the-variants.{LateEnded}
 use Rattle.station_receive.specs.declared.ReceiveEvent.{ReceiveEvent}
-use Rattle.station_receive.specs.declared.ReceiveEvent.the-variants.{NoReceive, GotOk, GotTooLong, GotAlignment, GotCheck, GotLength}
+use Rattle.station_receive.specs.declared.ReceiveEvent.the-variants.{NoReceive, GotOk, GotTooLong, GotAlignment}
+use Rattle.station_receive.specs.declared.ReceiveEvent.the-variants.{GotCheck, GotLength}
 use Rattle.station_spec.specs.Count.{added, addedIf, countSent, countTransmit, countReceive, octetsIn, counted}
 
-pub added-more : (cs : List ℕ) (k n : ℕ) → n ≤ 4294967295 → getD cs k 0 ≤ 4294967295 - n → set cs k (getD cs k 0 + n) ≡ added cs k n
+pub added-more : (cs : List ℕ) (k n : ℕ) → n ≤ 4294967295 → getD cs k 0 ≤ 4294967295 - n
+    → set cs k (getD cs k 0 + n) ≡ added cs k n
 unfolding added
 added-more cs k n g h = let e : min (getD cs k 0 + n) 4294967295 ≡ getD cs k 0 + n = omega arith in rw e
 
@@ -31,10 +34,12 @@ pub added-no : (b : Bool) (cs : List ℕ) (k : ℕ) → b ≡ false → cs ≡ a
 unfolding addedIf
 added-no b cs k q = rw q
 
-pub sent-is : (cs a b c d e : List ℕ) (n z x : ℕ) (w : Bool) → e ≡ addedIf w d 8 → d ≡ addedIf (leb 3 n) c 6 → c ≡ addedIf (eqb n 2) b 5
+pub sent-is : (cs a b c d e : List ℕ) (n z x : ℕ) (w v : Bool) → e ≡ addedIf v d 8 → v ≡ (w && eqb n 1)
+    → d ≡ addedIf (leb 3 n) c 6
+    → c ≡ addedIf (eqb n 2) b 5
     → b ≡ added a 7 x → x ≡ z - 18 → a ≡ added cs 4 1 → e ≡ countSent cs n z w
 unfolding countSent
-sent-is cs a b c d e n z x w p₁ p₂ p₃ p₄ p₅ p₆ = p₁ ∙ rw (p₂, p₃, p₄, p₅, p₆)
+sent-is cs a b c d e n z x w v p₁ q p₂ p₃ p₄ p₅ p₆ = p₁ ∙ rw (q, p₂, p₃, p₄, p₅, p₆)
 
 module _ (cs r : List ℕ) (v : TransmitEvent) (z : ℕ) (w : Bool) where
   pub transmit-none : v ≡ NoTransmit → cs ≡ countTransmit cs v z w
@@ -45,9 +50,10 @@ module _ (cs r : List ℕ) (v : TransmitEvent) (z : ℕ) (w : Bool) where
   unfolding countTransmit
   transmit-collision k p q = rw p q
 
-  pub transmit-late : (k : ℕ) (a : List ℕ) → v ≡ Late k → r ≡ added a 3 1 → a ≡ added cs 2 1 → r ≡ countTransmit cs v z w
+  pub transmit-late : (k : ℕ) (closes : Bool) (a : List ℕ) → v ≡ Late k closes → r ≡ added a 3 1 → a ≡ added cs 2 1
+      → r ≡ countTransmit cs v z w
   unfolding countTransmit
-  transmit-late k a p q e = rw p (rw e at q)
+  transmit-late k closes a p q e = rw p (rw e at q)
 
   pub transmit-sent : (n : ℕ) → v ≡ Sent n → r ≡ countSent cs n z w → r ≡ countTransmit cs v z w
   unfolding countTransmit
@@ -57,12 +63,17 @@ module _ (cs r : List ℕ) (v : TransmitEvent) (z : ℕ) (w : Bool) where
   unfolding countTransmit
   transmit-given-up n p q = rw p q
 
+  pub transmit-late-ended : (n : ℕ) → v ≡ LateEnded n → r ≡ added cs 16 1 → r ≡ countTransmit cs v z w
+  unfolding countTransmit
+  transmit-late-ended n p q = rw p q
+
 module _ (cs r : List ℕ) (v : ReceiveEvent) (z : ℕ) where
   pub receive-none : v ≡ NoReceive → cs ≡ countReceive cs v z
   unfolding countReceive
   receive-none p = rw p
 
-  pub receive-ok : (n x : ℕ) (a : List ℕ) → v ≡ GotOk n → r ≡ added a 11 x → x ≡ z - 18 → a ≡ added cs 10 1 → r ≡ countReceive cs v z
+  pub receive-ok : (n x : ℕ) (a : List ℕ) → v ≡ GotOk n → r ≡ added a 11 x → x ≡ z - 18 → a ≡ added cs 10 1
+      → r ≡ countReceive cs v z
   unfolding countReceive
   receive-ok n x a p q e f = q ∙ rw (p, e, f)
 
@@ -85,7 +96,9 @@ module _ (cs r : List ℕ) (v : ReceiveEvent) (z : ℕ) where
 pub octets-is : (r : Receiver) (n : ℕ) → r ≡ Readable n → n ≡ octetsIn r
 octets-is r n p = rw p
 
-pub counted-is : (cs a b r : List ℕ) (o : Stepped) (z : ℕ) → r ≡ countReceive b (o .got) z → z ≡ octetsIn (o .station .receiver)
-    → b ≡ countTransmit a (o .sent) (o .station .frame) (o .station .deferred) → a ≡ addedIf (o .start) cs 1 → r ≡ counted cs o
+pub counted-is : (cs a b r : List ℕ) (o : Stepped) (z : ℕ) → r ≡ countReceive b (o .got) z
+    → z ≡ octetsIn (o .station .receiver)
+    → b ≡ countTransmit a (o .sent) (o .station .frame) (o .station .deferred) → a ≡ addedIf (o .start) cs 1
+    → r ≡ counted cs o
 unfolding counted
 counted-is cs a b r o z p q e f = p ∙ rw (q, e, f)

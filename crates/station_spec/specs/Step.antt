@@ -1,6 +1,6 @@
 -- A station's step, from deference, transmitter and receiver (document 01, "One bit time").
--- It is local: a function of the layout's figures, the station's own state, draws and collected octets, and what it hears.
--- The laws are in StepLaws. Assumes nothing.
+-- It is local: a function of the layout's figures, the station's own state, draws and collected octets, and what it
+-- hears. The laws are in StepLaws. Assumes nothing.
 use Prim.Native.Nat.{ℕ, _+_, _<_, _≤_}
 use mathlib.Core.Bool.{Bool, not, _||_, _&&_}
 use mathlib.Core.List.{List}
@@ -17,7 +17,7 @@ use Rattle.station_symbols.specs.Packet.{hearsAny, isEmission}
 use Rattle.station_defer.specs.Defer.{defer}
 use Rattle.station_transmit.specs.Transmit.{waits, octetsHeld, transmit}
 use Rattle.station_state.specs.State.{numberIn}
-use Rattle.station_receive.specs.Receive.{rowIn, bitsIn, receive}
+use Rattle.station_receive.specs.Receive.{rowIn, bitsIn, receive, rowLimit}
 use Rattle.frame_build.specs.Limits.{bufferOctets}
 
 -- "its attempt counts, in the first step .."
@@ -38,7 +38,8 @@ deferring f s h = defer f (s .deference) (hearsAny h) (s .emitted) (waits (s .tr
 
 abbrev pub sending : Figures → Station → (draw : ℕ) → Heard → Transmitted
 sending f s draw h =
-    transmit f (s .transmitter) (s .frame) (triesAfter (s .attempts) (deferring f s h .start)) draw (deferring f s h .start) (hearsAny h)
+    transmit f (s .transmitter) (s .frame) (triesAfter (s .attempts) (deferring f s h .start)) draw
+    (deferring f s h .start) (hearsAny h)
 
 abbrev pub receiving : Figures → Station → (draw : ℕ) → (buffer : List ℕ) → Heard → Received
 receiving f s draw buffer h = receive (s .address) buffer (s .receiver) h (isEmission (sending f s draw h .emission))
@@ -79,6 +80,6 @@ pub record Roomy (f : Figures) (s : Station) (n : ℕ) : Type 0 where
   pub number : numberIn (s .transmitter) < 4294967295
   pub attempts : s .attempts < 4294967295
   pub draw : s .draw < 4294967295
-  pub row : rowIn (s .receiver) < 512
+  pub row : rowIn (s .receiver) < rowLimit
   pub bits : bitsIn (s .receiver) < 4294967295
   pub buffer : bufferOctets ≤ n

@@ -18,7 +18,8 @@ use Rattle.station_defer.specs.Defer.{defer}
 use Rattle.station_transmit.specs.Transmit.{waits, octetsHeld, transmit}
 use Rattle.station_transmit.specs.TransmitLaws.{held-transmits}
 use Rattle.station_receive.specs.Receive.{receive}
-use Rattle.station_spec.specs.Step.{triesAfter, drawAfter, deferredAfter, deferring, sending, receiving, nextStation, stepped}
+use Rattle.station_spec.specs.Step.{triesAfter, drawAfter, deferredAfter, deferring, sending, receiving}
+use Rattle.station_spec.specs.Step.{nextStation, stepped}
 
 pub tries-more : (n : ℕ) (start : Bool) → start ≡ true → n + 1 ≡ triesAfter n start
 unfolding triesAfter
@@ -41,7 +42,8 @@ module _ (place draws : ℕ) (drew : Bool) where
   unfolding drawAfter
   draw-same p = rw p
 
-pub deferred-is : (d w start b c r : Bool) (n : ℕ) → r ≡ (d || b) → b ≡ (w && c) → c ≡ (eqb n 0 && not start) → r ≡ deferredAfter d w n start
+pub deferred-is : (d w start b c r : Bool) (n : ℕ) → r ≡ (d || b) → b ≡ (w && c) → c ≡ (eqb n 0 && not start)
+    → r ≡ deferredAfter d w n start
 unfolding deferredAfter
 deferred-is d w start b c r n p q e = p ∙ rw (q, e)
 
@@ -67,8 +69,10 @@ finished s draws d o q tries emits =
       stored = q .stored;
     }
 
-pub finished-is : (s : Station) (draws : ℕ) (d : Deferred) (o : Transmitted) (q : Received) (tries : ℕ) (emits w b : Bool) (p : ℕ)
-    → b ≡ deferredAfter (s .deferred) w (s .attempts) (d .start) → w ≡ waits (s .transmitter) → p ≡ drawAfter (s .draw) draws (o .drew)
+pub finished-is : (s : Station) (draws : ℕ) (d : Deferred) (o : Transmitted) (q : Received) (tries : ℕ)
+    (emits w b : Bool) (p : ℕ)
+    → b ≡ deferredAfter (s .deferred) w (s .attempts) (d .start) → w ≡ waits (s .transmitter)
+    → p ≡ drawAfter (s .draw) draws (o .drew)
     → record {
       station = record {
         address = s .address;
@@ -110,18 +114,23 @@ finished-is s draws d o q tries emits w b p e f g =
 
 -- the three parts one after the other are the step
 parts : (f : Figures) (s : Station) (draws draw : ℕ) (buffer : List ℕ) (h : Heard)
-    → finished s draws (deferring f s h) (sending f s draw h) (receiving f s draw buffer h) (triesAfter (s .attempts) (deferring f s h .start)) (isEmission (sending f s draw h .emission))
+    → finished s draws (deferring f s h) (sending f s draw h) (receiving f s draw buffer h)
+    (triesAfter (s .attempts) (deferring f s h .start)) (isEmission (sending f s draw h .emission))
     ≡ stepped f s draws draw buffer h
 unfolding finished stepped nextStation
 parts f s draws draw buffer h = refl
 
-pub step-is : (f : Figures) (s : Station) (draws draw : ℕ) (buffer : List ℕ) (h : Heard) (hears waiting emits : Bool) (tries z : ℕ)
+pub step-is : (f : Figures) (s : Station) (draws draw : ℕ) (buffer : List ℕ) (h : Heard) (hears waiting emits : Bool)
+    (tries z : ℕ)
     (d : Deferred) (o : Transmitted) (q : Received) (r : Stepped)
-    → r ≡ finished s draws d o q tries emits → q ≡ receive (s .address) buffer (s .receiver) h emits → emits ≡ isEmission (o .emission)
-    → o ≡ transmit f (s .transmitter) z tries draw (d .start) hears → z ≡ octetsHeld (s .transmitter) (s .frame) → tries ≡ triesAfter (s .attempts) (d .start)
+    → r ≡ finished s draws d o q tries emits → q ≡ receive (s .address) buffer (s .receiver) h emits
+    → emits ≡ isEmission (o .emission)
+    → o ≡ transmit f (s .transmitter) z tries draw (d .start) hears → z ≡ octetsHeld (s .transmitter) (s .frame)
+    → tries ≡ triesAfter (s .attempts) (d .start)
     → d ≡ defer f (s .deference) hears (s .emitted) waiting → waiting ≡ waits (s .transmitter) → hears ≡ hearsAny h
     → r ≡ stepped f s draws draw buffer h
 step-is f s draws draw buffer h hears waiting emits tries z d o q r er eq ee eo ez et ed ew eh =
     let e : o ≡ transmit f (s .transmitter) (s .frame) tries draw (d .start) hears =
-    eo ∙ ap (λ (y : ℕ). transmit f (s .transmitter) y tries draw (d .start) hears) ez ∙ held-transmits f (s .transmitter) (s .frame) tries draw (d .start) hears in
+    eo ∙ ap (λ (y : ℕ). transmit f (s .transmitter) y tries draw (d .start) hears) ez
+    ∙ held-transmits f (s .transmitter) (s .frame) tries draw (d .start) hears in
     er ∙ rw (eq, ee, e, et, ed, ew, eh) (parts f s draws draw buffer h)

@@ -1,4 +1,5 @@
-// One station by value, and what its bit time is (document 01, "One bit time"): the definitions (specs), and the outcome of a step.
+// One station by value, and what its bit time is (document 01, "One bit time"): the definitions (specs), and the
+// outcome of a step.
 
 use station_receive::ReceiveEvent;
 use station_receive::Stored;
@@ -6,7 +7,8 @@ use station_state::Station;
 use station_symbols::Emission;
 use station_transmit::TransmitEvent;
 
-// What a step leads to: the next state, what is emitted, whether a frame started, the events, the collected bit to store.
+// What a step leads to: the next state, what is emitted, whether a frame started, the events, the collected bit to
+// store.
 pub struct Stepped {
     pub station: Station,
     pub emission: Emission,

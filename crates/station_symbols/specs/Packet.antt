@@ -8,7 +8,7 @@ use Rattle.octets.specs.Bits.{bitsOf}
 use Rattle.station_symbols.specs.declared.Symbol.{Symbol}
 use Rattle.station_symbols.specs.declared.Symbol.the-variants.{Silence, Bit, Jam}
 use Rattle.station_symbols.specs.declared.Heard.{Heard}
-use Rattle.station_symbols.specs.declared.Heard.the-variants.{Nothing, Clean, Jammed, Several}
+use Rattle.station_symbols.specs.declared.Heard.the-variants.{Nothing, Clean, Spoiled}
 use Rattle.station_symbols.specs.declared.Emission.{Emission}
 use Rattle.station_symbols.specs.declared.Emission.the-variants.{Rest, PacketBit, JamBit}
 
@@ -16,8 +16,7 @@ use Rattle.station_symbols.specs.declared.Emission.the-variants.{Rest, P
 abbrev pub hearsAny : Heard → Bool
 hearsAny Nothing = false
 hearsAny (Clean b) = true
-hearsAny Jammed = true
-hearsAny Several = true
+hearsAny Spoiled = true
 
 -- whether anything is emitted
 abbrev pub isEmission : Emission → Bool

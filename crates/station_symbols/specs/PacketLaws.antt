@@ -24,7 +24,8 @@ pub frame-bit-past : (f : List ℕ) (j : ℕ) → length f ≤ j / 8 → false �
 unfolding frameBit
 frame-bit-past f j h = sym (octet-bit-past f j h)
 
-pub frame-bit : (f : List ℕ) (j x : ℕ) → x ≡ getD f (j / 8) 0 → j / 8 < length f → eqb (x / 2 ^ (j % 8) % 2) 1 ≡ frameBit f j
+pub frame-bit : (f : List ℕ) (j x : ℕ) → x ≡ getD f (j / 8) 0 → j / 8 < length f
+    → eqb (x / 2 ^ (j % 8) % 2) 1 ≡ frameBit f j
 unfolding frameBit
 frame-bit f j x p h = ap (λ (y : ℕ). eqb (y / 2 ^ (j % 8) % 2) 1) p ∙ sym (octet-bit f j h)
 
@@ -62,5 +63,6 @@ module _ (f : List ℕ) (k : ℕ) where
   pub bit-of-frame : (b : Bool) → 64 < k → b ≡ frameBit f (k - 65) → b ≡ packetBit f k
   bit-of-frame b h p = p ∙ sym (past-header f k h)
 
-pub symbol-bit : (f : List ℕ) (e : Emission) (k : ℕ) (b : Bool) → e ≡ PacketBit k → b ≡ packetBit f k → Bit b ≡ symbolOf f e
+pub symbol-bit : (f : List ℕ) (e : Emission) (k : ℕ) (b : Bool) → e ≡ PacketBit k → b ≡ packetBit f k
+    → Bit b ≡ symbolOf f e
 symbol-bit f e k b p q = rw p (ap Bit q)

@@ -10,12 +10,12 @@ pub enum Symbol {
     Jam,
 }
 
-// What a station hears of the others in a step: nothing, one symbol (a clean bit, or jam), or several at once.
+// What a station hears of the others in a step: nothing, a clean bit, or what is spoiled: a jam bit, or any
+// symbol from two or more.
 pub enum Heard {
     Nothing,
     Clean(bool),
-    Jammed,
-    Several,
+    Spoiled,
 }
 
 // What a station is to emit: nothing, its packet's bit with this number, or a jam bit.
@@ -31,8 +31,7 @@ pub fn hears_any(h: Heard) -> bool
     match h {
         Heard::Nothing => false,
         Heard::Clean(_) => true,
-        Heard::Jammed => true,
-        Heard::Several => true,
+        Heard::Spoiled => true,
     }
 }
 

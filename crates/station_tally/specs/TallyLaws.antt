@@ -1,14 +1,22 @@
 -- Laws of counting: that the words have room, and one for each way through the code. Assumes nothing.
-use Prim.Native.Nat.{ℕ, zero, suc, _+_, _*_, _≤_, _<_}
-use mathlib.Core.Path.{_≡_, refl, subst}
+use Prim.Native.Nat.{ℕ, zero, suc, _+_, _-_, _*_, _≤_, _<_}
+use mathlib.Core.Bool.{Bool, not}
+use mathlib.Core.Path.{_≡_, refl, _∙_, ap, subst}
 use mathlib.Core.List.{List, [], _∷_}
 use native.Mathlib.Omega.{arith}
+use lib.Dec.{eqb}
 use lib.ListN.{getD, set, replicate}
+use borrow.Author.Tests.{eq-eqb, ne-eqb}
+use Rattle.octets.specs.BaseLaws.{by-test}
 use Rattle.station_receive.specs.declared.ReceiveEvent.{ReceiveEvent}
-use Rattle.station_receive.specs.declared.ReceiveEvent.the-variants.{NoReceive, GotOk, GotTooLong, GotAlignment, GotCheck, GotLength}
+use Rattle.station_receive.specs.declared.ReceiveEvent.the-variants.{NoReceive, GotOk, GotTooLong, GotAlignment}
+use Rattle.station_receive.specs.declared.ReceiveEvent.the-variants.{GotCheck, GotLength}
 use Rattle.station_transmit.specs.declared.TransmitEvent.{TransmitEvent}
 use Rattle.station_transmit.specs.declared.TransmitEvent.the-variants.{NoTransmit, Collision, Late, Sent, GivenUp}
-use Rattle.station_tally.specs.Tally.{bumped, sentCounted, gotCounted, wordCount}
+use Rattle.station_transmit.specs.declared.TransmitEvent.the-variants.{LateEnded}
+use Rattle.station_tally.specs.Words.{transmitWord, receiveWord, lastTransmit, wordCount, isTransmit}
+use Rattle.station_tally.specs.Words.{isReceive}
+use Rattle.station_tally.specs.Tally.{bumped, counted, sentCounted, gotCounted}
 
 -- ---- the words have room
 
@@ -35,31 +43,23 @@ more-bounded : (ws : List ℕ) (m : ℕ) → Bounded ws m → Bounded ws (m + 1)
 unfolding Bounded
 more-bounded ws m h j = omega (arith, h j)
 
-pub sent-is-bounded : (ws : List ℕ) (e : TransmitEvent) (m : ℕ) → Bounded ws m → Bounded (sentCounted ws e) (m + 1)
-unfolding sentCounted
-sent-is-bounded ws NoTransmit m h = more-bounded ws m h
-sent-is-bounded ws (Collision k) m h = bumped-bounded ws 0 m h
-sent-is-bounded ws (Late k) m h = bumped-bounded ws 1 m h
-sent-is-bounded ws (Sent n) m h = bumped-bounded ws 2 m h
-sent-is-bounded ws (GivenUp n) m h = bumped-bounded ws 3 m h
+pub counted-bounded : (ws : List ℕ) (w m : ℕ) → Bounded ws m → Bounded (counted ws w) (m + 1)
+unfolding counted
+counted-bounded ws w m h =
+    by-test (eqb w 0) (λ e. rw e (more-bounded ws m h)) (λ e. rw e (bumped-bounded ws (w - 1) m h))
 
-pub got-is-bounded : (ws : List ℕ) (e : ReceiveEvent) (m : ℕ) → Bounded ws m → Bounded (gotCounted ws e) (m + 1)
-unfolding gotCounted
-got-is-bounded ws NoReceive m h = more-bounded ws m h
-got-is-bounded ws (GotOk n) m h = bumped-bounded ws 4 m h
-got-is-bounded ws (GotTooLong n) m h = bumped-bounded ws 5 m h
-got-is-bounded ws (GotAlignment n) m h = bumped-bounded ws 6 m h
-got-is-bounded ws (GotCheck n) m h = bumped-bounded ws 7 m h
-got-is-bounded ws (GotLength n) m h = bumped-bounded ws 8 m h
+pub sent-bounded : (ws vs : List ℕ) (e : TransmitEvent) (m : ℕ) → vs ≡ sentCounted ws e → Bounded ws m
+    → Bounded vs (m + 1)
+sent-bounded ws vs e m p h = rw p (counted-bounded ws (transmitWord e) m h)
 
-pub sent-bounded : (ws vs : List ℕ) (e : TransmitEvent) (m : ℕ) → vs ≡ sentCounted ws e → Bounded ws m → Bounded vs (m + 1)
-sent-bounded ws vs e m p h = rw p (sent-is-bounded ws e m h)
-
-pub got-bounded : (ws vs us : List ℕ) (e : TransmitEvent) (g : ReceiveEvent) (m i : ℕ) → us ≡ gotCounted vs g → vs ≡ sentCounted ws e → Bounded ws (m + 2 * i)
+pub got-bounded : (ws vs us : List ℕ) (e : TransmitEvent) (g : ReceiveEvent) (m i : ℕ) → us ≡ gotCounted vs g
+    → vs ≡ sentCounted ws e → Bounded ws (m + 2 * i)
     → Bounded us (m + 2 * (i + 1))
 got-bounded ws vs us e g m i p q h =
     let z : m + 2 * i + 1 + 1 ≡ m + 2 * (i + 1) = omega arith in
-    rw (p, q) (subst (Bounded (gotCounted (sentCounted ws e) g)) z (got-is-bounded (sentCounted ws e) g (m + 2 * i + 1) (sent-is-bounded ws e (m + 2 * i) h)))
+    rw (p, q) (subst (Bounded (gotCounted (sentCounted ws e) g)) z
+    (counted-bounded (sentCounted ws e) (receiveWord g) (m + 2 * i + 1)
+    (counted-bounded ws (transmitWord e) (m + 2 * i) h)))
 
 pub start-bounded : (ws : List ℕ) (m : ℕ) → Bounded ws m → Bounded ws (m + 2 * 0)
 start-bounded ws m h = let z : m ≡ m + 2 * 0 = omega arith in subst (Bounded ws) z h
@@ -70,51 +70,47 @@ pub bump-is : (ws : List ℕ) (k : ℕ) → set ws k (getD ws k 0 + 1) ≡ bumpe
 unfolding bumped
 bump-is ws k = refl
 
-module _ (ws : List ℕ) (e : TransmitEvent) where
-  pub sent-none : e ≡ NoTransmit → ws ≡ sentCounted ws e
-  unfolding sentCounted
-  sent-none p = rw p
+module _ (ws : List ℕ) (w : ℕ) where
+  pub counted-none : w ≡ 0 → ws ≡ counted ws w
+  unfolding counted
+  counted-none p = rw (eq-eqb w 0 p)
 
-  pub sent-collision : (vs : List ℕ) (k : ℕ) → e ≡ Collision k → vs ≡ bumped ws 0 → vs ≡ sentCounted ws e
-  unfolding sentCounted
-  sent-collision vs k p q = rw p q
+  pub counted-some : (vs : List ℕ) (k : ℕ) → (w ≡ 0 → ⊥) → vs ≡ bumped ws k → k ≡ w - 1 → vs ≡ counted ws w
+  unfolding counted
+  counted-some vs k ne p q = rw (ne-eqb w 0 ne) (p ∙ ap (bumped ws) q)
 
-  pub sent-late : (vs : List ℕ) (k : ℕ) → e ≡ Late k → vs ≡ bumped ws 1 → vs ≡ sentCounted ws e
-  unfolding sentCounted
-  sent-late vs k p q = rw p q
+pub sent-counted : (ws vs : List ℕ) (e : TransmitEvent) (w : ℕ) → w ≡ transmitWord e → vs ≡ counted ws w
+    → vs ≡ sentCounted ws e
+sent-counted ws vs e w p q = q ∙ ap (counted ws) p
 
-  pub sent-sent : (vs : List ℕ) (k : ℕ) → e ≡ Sent k → vs ≡ bumped ws 2 → vs ≡ sentCounted ws e
-  unfolding sentCounted
-  sent-sent vs k p q = rw p q
+pub got-counted : (ws vs : List ℕ) (e : ReceiveEvent) (w : ℕ) → w ≡ receiveWord e → vs ≡ counted ws w
+    → vs ≡ gotCounted ws e
+got-counted ws vs e w p q = q ∙ ap (counted ws) p
 
-  pub sent-given : (vs : List ℕ) (k : ℕ) → e ≡ GivenUp k → vs ≡ bumped ws 3 → vs ≡ sentCounted ws e
-  unfolding sentCounted
-  sent-given vs k p q = rw p q
+pub transmit-is : (e : TransmitEvent) (w : ℕ) (b : Bool) → b ≡ not (eqb w 0) → w ≡ transmitWord e → b ≡ isTransmit e
+transmit-is e w b p q = p ∙ ap (λ (k : ℕ). not (eqb k 0)) q
 
-module _ (ws : List ℕ) (e : ReceiveEvent) where
-  pub got-none : e ≡ NoReceive → ws ≡ gotCounted ws e
-  unfolding gotCounted
-  got-none p = rw p
+pub receive-is : (e : ReceiveEvent) (w : ℕ) (b : Bool) → b ≡ not (eqb w 0) → w ≡ receiveWord e → b ≡ isReceive e
+receive-is e w b p q = p ∙ ap (λ (k : ℕ). not (eqb k 0)) q
 
-  pub got-ok : (vs : List ℕ) (k : ℕ) → e ≡ GotOk k → vs ≡ bumped ws 4 → vs ≡ gotCounted ws e
-  unfolding gotCounted
-  got-ok vs k p q = rw p q
+-- ---- each event has a word, or none
 
-  pub got-long : (vs : List ℕ) (k : ℕ) → e ≡ GotTooLong k → vs ≡ bumped ws 5 → vs ≡ gotCounted ws e
-  unfolding gotCounted
-  got-long vs k p q = rw p q
+pub transmit-few : (e : TransmitEvent) → transmitWord e ≤ lastTransmit
+transmit-few NoTransmit = omega arith
+transmit-few (Collision k) = omega arith
+transmit-few (Late k closes) = omega arith
+transmit-few (Sent n) = omega arith
+transmit-few (GivenUp n) = omega arith
+transmit-few (LateEnded n) = omega arith
 
-  pub got-alignment : (vs : List ℕ) (k : ℕ) → e ≡ GotAlignment k → vs ≡ bumped ws 6 → vs ≡ gotCounted ws e
-  unfolding gotCounted
-  got-alignment vs k p q = rw p q
-
-  pub got-check : (vs : List ℕ) (k : ℕ) → e ≡ GotCheck k → vs ≡ bumped ws 7 → vs ≡ gotCounted ws e
-  unfolding gotCounted
-  got-check vs k p q = rw p q
-
-  pub got-length : (vs : List ℕ) (k : ℕ) → e ≡ GotLength k → vs ≡ bumped ws 8 → vs ≡ gotCounted ws e
-  unfolding gotCounted
-  got-length vs k p q = rw p q
+pub receive-few : (e : ReceiveEvent)
+    → (receiveWord e ≤ wordCount) × ((receiveWord e ≡ 0 → ⊥) → lastTransmit < receiveWord e)
+receive-few NoReceive = (omega arith, λ h. absurd (h refl))
+receive-few (GotOk n) = (omega arith, λ h. omega arith)
+receive-few (GotTooLong n) = (omega arith, λ h. omega arith)
+receive-few (GotAlignment n) = (omega arith, λ h. omega arith)
+receive-few (GotCheck n) = (omega arith, λ h. omega arith)
+receive-few (GotLength n) = (omega arith, λ h. omega arith)
 
 pub zero-bounded : (ws : List ℕ) → Bounded ws 0 → Bounded ws (32 * 0)
 zero-bounded ws h = h

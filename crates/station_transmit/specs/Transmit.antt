@@ -7,10 +7,12 @@ use Rattle.octets.specs.Base.{pick}
 use Rattle.sheet_layout.specs.declared.Figures.{Figures}
 use Rattle.station_transmit.specs.declared.TransmitEvent.{TransmitEvent}
 use Rattle.station_transmit.specs.declared.TransmitEvent.the-variants.{NoTransmit, Collision, Late, Sent, GivenUp}
+use Rattle.station_transmit.specs.declared.TransmitEvent.the-variants.{LateEnded}
 use Rattle.station_symbols.specs.declared.Emission.{Emission}
 use Rattle.station_symbols.specs.declared.Emission.the-variants.{Rest, PacketBit, JamBit}
 use Rattle.station_state.specs.declared.Transmitter.{Transmitter}
-use Rattle.station_state.specs.declared.Transmitter.the-variants.{NoFrame, Waiting, BackingOff, Sending, Heading, Jamming}
+use Rattle.station_state.specs.declared.Transmitter.the-variants.{NoFrame, Waiting, BackingOff, Sending, Heading}
+use Rattle.station_state.specs.declared.Transmitter.the-variants.{Jamming}
 use Rattle.station_transmit.specs.declared.Transmitted.{Transmitted}
 
 -- whether a frame waits; one in backoff does not
@@ -20,7 +22,7 @@ waits Waiting = true
 waits (BackingOff w) = false
 waits (Sending k) = false
 waits (Heading k) = false
-waits (Jamming n) = false
+waits (Jamming n ends) = false
 
 -- the octets of the frame that a station holds: what its record has for them, and 0 where it holds none
 abbrev pub octetsHeld : Transmitter → ℕ → ℕ
@@ -29,7 +31,7 @@ octetsHeld Waiting z = z
 octetsHeld (BackingOff w) z = z
 octetsHeld (Sending k) z = z
 octetsHeld (Heading k) z = z
-octetsHeld (Jamming n) z = z
+octetsHeld (Jamming n ends) z = z
 
 -- a step that emits nothing, and one that emits without an event
 abbrev pub resting : Transmitter → Transmitted
@@ -42,13 +44,24 @@ emitting t e v = record { phase = t; emission = e; event = v; drew = false }
 abbrev pub packetLength : ℕ → ℕ
 packetLength frame = 64 + 8 * frame
 
--- "Bit k goes out, header bits through 64 too, then jam bits."
-unfoldable pub afterBit : (jam k : ℕ) → Transmitter
-afterBit jam k = pick (ltb k 64) (Heading (k + 1)) (Jamming jam)
+-- the bits of the shortest packet
+abbrev pub shortestPacket : Figures → ℕ
+shortestPacket f = 576
 
--- "The first step of an attempt in which a sending station hears another is its collision, at bit k, and late if k > slot."
+-- "Bit k goes out, header bits through 64 too, then jam bits." `ends`: whether the frame ends after them
+unfoldable pub afterBit : (jam k : ℕ) → (ends : Bool) → Transmitter
+afterBit jam k ends = pick (ltb k 64) (Heading (k + 1)) (Jamming jam ends)
+
+-- N1: "0, the default, retries; 1 reports lateCollisionError": whether a late collision closes the frame
+abbrev pub closesFrame : Figures → Bool
+closesFrame f = eqb (f .ends) 1
+
+-- "The first step of an attempt in which a sending station hears another is its collision, at bit k, and late if k >
+-- slot."
 unfoldable pub collision : Figures → ℕ → Transmitted
-collision f k = emitting (afterBit (f .jam) k) (PacketBit k) (pick (ltb (f .slot) k) (Late k) (Collision k))
+collision f k =
+    pick (ltb (f .slot) k) (emitting (afterBit (f .jam) k (closesFrame f)) (PacketBit k) (Late k (closesFrame f)))
+    (emitting (afterBit (f .jam) k false) (PacketBit k) (Collision k))
 
 -- "With no collision, the step of the last bit reports sent", with the attempts. Else the next bit follows.
 unfoldable pub sendBit : Figures → (frame n k : ℕ) → (hears : Bool) → Transmitted
@@ -59,7 +72,7 @@ sendBit f frame n k hears =
 
 -- a header bit after a collision
 unfoldable pub headBit : Figures → ℕ → Transmitted
-headBit f k = emitting (afterBit (f .jam) k) (PacketBit k) NoTransmit
+headBit f k = emitting (afterBit (f .jam) k false) (PacketBit k) NoTransmit
 
 -- "2^min(n, backoff limit), a range kept in a sixteen-entry table"
 unfoldable pub backoffRange : (n backoff : ℕ) → ℕ
@@ -77,8 +90,11 @@ lastJam f n draw =
     pick (eqb n (f .limit)) (emitting NoFrame JamBit (GivenUp n))
     (record { phase = backOff f n draw; emission = JamBit; event = NoTransmit; drew = true })
 
-unfoldable pub jamBit : Figures → (n draw left : ℕ) → Transmitted
-jamBit f n draw left = pick (leb left 1) (lastJam f n draw) (emitting (Jamming (left - 1)) JamBit NoTransmit)
+-- N1: "1 reports lateCollisionError at the last jam bit, before the attempt limit is looked at"
+unfoldable pub jamBit : Figures → (n draw left : ℕ) → (ends : Bool) → Transmitted
+jamBit f n draw left ends =
+    pick (leb left 1) (pick ends (emitting NoFrame JamBit (LateEnded n)) (lastJam f n draw))
+    (emitting (Jamming (left - 1) ends) JamBit NoTransmit)
 
 -- a step of backoff: after the last of them the frame waits
 unfoldable pub backoffBit : ℕ → Transmitted
@@ -95,4 +111,4 @@ transmit f Waiting frame n draw start hears = waitBit f frame n start hears
 transmit f (BackingOff w) frame n draw start hears = backoffBit w
 transmit f (Sending k) frame n draw start hears = sendBit f frame n k hears
 transmit f (Heading k) frame n draw start hears = headBit f k
-transmit f (Jamming left) frame n draw start hears = jamBit f n draw left
+transmit f (Jamming left ends) frame n draw start hears = jamBit f n draw left ends

@@ -6,38 +6,45 @@ use mathlib.Core.List.{List}
 use native.Mathlib.Nat.{mod-lt, lt-of-le-of-lt, mul-le-mul-left, mul-lt-mul-of-pos-right}
 use native.Mathlib.Omega.{arith}
 use lib.Pow.{pow-pos, pow-lt}
+use lib.Dec.{eqb}
 use lib.ListN.{getD}
 use borrow.Author.Tests.{lt-ltb, le-ltb, le-leb, lt-leb, eq-eqb, ne-eqb}
 use Rattle.octets.specs.Table.{tabulated, entry}
 use Rattle.sheet_layout.specs.declared.Figures.{Figures}
 use Rattle.station_transmit.specs.declared.TransmitEvent.{TransmitEvent}
 use Rattle.station_transmit.specs.declared.TransmitEvent.the-variants.{NoTransmit, Collision, Late, Sent, GivenUp}
+use Rattle.station_transmit.specs.declared.TransmitEvent.the-variants.{LateEnded}
 use Rattle.station_symbols.specs.declared.Emission.{Emission}
 use Rattle.station_symbols.specs.declared.Emission.the-variants.{Rest, PacketBit, JamBit}
 use Rattle.station_state.specs.declared.Transmitter.{Transmitter}
-use Rattle.station_state.specs.declared.Transmitter.the-variants.{NoFrame, Waiting, BackingOff, Sending, Heading, Jamming}
+use Rattle.station_state.specs.declared.Transmitter.the-variants.{NoFrame, Waiting, BackingOff, Sending, Heading}
+use Rattle.station_state.specs.declared.Transmitter.the-variants.{Jamming}
 use Rattle.station_transmit.specs.declared.Transmitted.{Transmitted}
 use Rattle.station_state.specs.State.{numberIn}
-use Rattle.station_transmit.specs.Transmit.{octetsHeld, resting, emitting, afterBit, collision, sendBit, headBit, backoffRange, backOff, lastJam, jamBit, backoffBit, waitBit, transmit}
+use Rattle.station_transmit.specs.Transmit.{closesFrame, octetsHeld, resting, emitting, afterBit, collision}
+use Rattle.station_transmit.specs.Transmit.{sendBit, headBit}
+use Rattle.station_transmit.specs.Transmit.{backoffRange, backOff, lastJam, jamBit, backoffBit, waitBit, transmit}
 
-pub after-heading : (jam k : ℕ) → k < 64 → Heading (k + 1) ≡ afterBit jam k
+pub after-heading : (jam k : ℕ) (ends : Bool) → k < 64 → Heading (k + 1) ≡ afterBit jam k ends
 unfolding afterBit
-after-heading jam k h = rw (lt-ltb k 64 h)
+after-heading jam k ends h = rw (lt-ltb k 64 h)
 
-pub after-jamming : (jam k : ℕ) → 64 ≤ k → Jamming jam ≡ afterBit jam k
+pub after-jamming : (jam k : ℕ) (ends : Bool) → 64 ≤ k → Jamming jam ends ≡ afterBit jam k ends
 unfolding afterBit
-after-jamming jam k h = rw (le-ltb k 64 h)
+after-jamming jam k ends h = rw (le-ltb k 64 h)
 
 module _ (f : Figures) (k : ℕ) (t : Transmitter) where
-  pub collision-late : t ≡ afterBit (f .jam) k → f .slot < k → emitting t (PacketBit k) (Late k) ≡ collision f k
+  pub collision-late : (c : Bool) → t ≡ afterBit (f .jam) k c → c ≡ closesFrame f → f .slot < k
+      → emitting t (PacketBit k) (Late k c) ≡ collision f k
   unfolding collision
-  collision-late p h = rw (p, lt-ltb (f .slot) k h)
+  collision-late c p q h = rw (p, q, lt-ltb (f .slot) k h)
 
-  pub collision-early : t ≡ afterBit (f .jam) k → k ≤ f .slot → emitting t (PacketBit k) (Collision k) ≡ collision f k
+  pub collision-early : t ≡ afterBit (f .jam) k false → k ≤ f .slot
+      → emitting t (PacketBit k) (Collision k) ≡ collision f k
   unfolding collision
   collision-early p h = rw (p, le-ltb (f .slot) k h)
 
-  pub head-bit : t ≡ afterBit (f .jam) k → emitting t (PacketBit k) NoTransmit ≡ headBit f k
+  pub head-bit : t ≡ afterBit (f .jam) k false → emitting t (PacketBit k) NoTransmit ≡ headBit f k
   unfolding headBit
   head-bit p = rw p
 
@@ -50,7 +57,8 @@ module _ (f : Figures) (z n k : ℕ) (hears : Bool) where
   unfolding sendBit
   send-last q e = rw (q, eq-eqb k (64 + 8 * z) e)
 
-  pub send-on : hears ≡ false → (k ≡ 64 + 8 * z → ⊥) → emitting (Sending (k + 1)) (PacketBit k) NoTransmit ≡ sendBit f z n k hears
+  pub send-on : hears ≡ false → (k ≡ 64 + 8 * z → ⊥)
+      → emitting (Sending (k + 1)) (PacketBit k) NoTransmit ≡ sendBit f z n k hears
   unfolding sendBit
   send-on q e = rw (q, ne-eqb k (64 + 8 * z) e)
 
@@ -66,7 +74,8 @@ module _ (f : Figures) (n draw g : ℕ) where
   unfolding backOff
   back-now p h = rw (← p, eq-eqb (f .slot * (draw % g)) 0 h)
 
-  pub back-later : g ≡ backoffRange n (f .backoff) → (f .slot * (draw % g) ≡ 0 → ⊥) → BackingOff (f .slot * (draw % g)) ≡ backOff f n draw
+  pub back-later : g ≡ backoffRange n (f .backoff) → (f .slot * (draw % g) ≡ 0 → ⊥)
+      → BackingOff (f .slot * (draw % g)) ≡ backOff f n draw
   unfolding backOff
   back-later p h = rw (← p, ne-eqb (f .slot * (draw % g)) 0 h)
 
@@ -80,13 +89,18 @@ module _ (f : Figures) (n draw : ℕ) where
   unfolding lastJam
   jam-draws t p q = rw (p, ne-eqb n (f .limit) q)
 
-  pub jam-last : (left : ℕ) (r : Transmitted) → r ≡ lastJam f n draw → left ≤ 1 → r ≡ jamBit f n draw left
-  unfolding jamBit
-  jam-last left r p h = p ∙ rw (le-leb left 1 h)
+  module _ (left : ℕ) (ends : Bool) where
+    pub jam-ends : ends ≡ true → left ≤ 1 → emitting NoFrame JamBit (LateEnded n) ≡ jamBit f n draw left ends
+    unfolding jamBit
+    jam-ends e h = rw (le-leb left 1 h, e)
 
-  pub jam-more : (left : ℕ) → 1 < left → emitting (Jamming (left - 1)) JamBit NoTransmit ≡ jamBit f n draw left
-  unfolding jamBit
-  jam-more left h = rw (lt-leb left 1 h)
+    pub jam-last : (r : Transmitted) → r ≡ lastJam f n draw → ends ≡ false → left ≤ 1 → r ≡ jamBit f n draw left ends
+    unfolding jamBit
+    jam-last r p e h = p ∙ rw (le-leb left 1 h, e)
+
+    pub jam-more : 1 < left → emitting (Jamming (left - 1) ends) JamBit NoTransmit ≡ jamBit f n draw left ends
+    unfolding jamBit
+    jam-more h = rw (lt-leb left 1 h)
 
 pub backoff-over : (left : ℕ) (r : Transmitted) → r ≡ resting Waiting → left ≤ 1 → r ≡ backoffBit left
 unfolding backoffBit
@@ -123,26 +137,29 @@ module _ (f : Figures) (t : Transmitter) (z n draw : ℕ) (start hears : Bool) (
   unfolding transmit
   transmit-heads k p q = rw p q
 
-  pub transmit-jams : (left : ℕ) → t ≡ Jamming left → r ≡ jamBit f n draw left → r ≡ transmit f t z n draw start hears
+  pub transmit-jams : (left : ℕ) (ends : Bool) → t ≡ Jamming left ends → r ≡ jamBit f n draw left ends
+      → r ≡ transmit f t z n draw start hears
   unfolding transmit
-  transmit-jams left p q = rw p q
+  transmit-jams left ends p q = rw p q
 
 -- a step looks at the octets of a frame only where one is held
-pub held-transmits : (f : Figures) (t : Transmitter) (z n draw : ℕ) (start hears : Bool) → transmit f t (octetsHeld t z) n draw start hears ≡ transmit f t z n draw start hears
+pub held-transmits : (f : Figures) (t : Transmitter) (z n draw : ℕ) (start hears : Bool)
+    → transmit f t (octetsHeld t z) n draw start hears ≡ transmit f t z n draw start hears
 unfolding transmit
 held-transmits f NoFrame z n draw start hears = refl
 held-transmits f Waiting z n draw start hears = refl
 held-transmits f (BackingOff w) z n draw start hears = refl
 held-transmits f (Sending k) z n draw start hears = refl
 held-transmits f (Heading k) z n draw start hears = refl
-held-transmits f (Jamming left) z n draw start hears = refl
+held-transmits f (Jamming left ends) z n draw start hears = refl
 
 -- ---- bounds for the code's sums and products
 
 power-small : (i : ℕ) → i < 16 → (0 < 2 ^ i) × (2 ^ i < 65536)
 power-small i h = (pow-pos i, pow-lt h)
 
-pub range-small : (n b i : ℕ) → i ≡ min n b → b < 16 → (0 < getD (tabulated (λ k. 2 ^ k) 0 16) i 0) × (getD (tabulated (λ k. 2 ^ k) 0 16) i 0 < 65536)
+pub range-small : (n b i : ℕ) → i ≡ min n b → b < 16
+    → (0 < getD (tabulated (λ k. 2 ^ k) 0 16) i 0) × (getD (tabulated (λ k. 2 ^ k) 0 16) i 0 < 65536)
 range-small n b i p h =
     let q = power-small i (omega arith) in
     let e : getD (tabulated (λ k. 2 ^ k) 0 16) i 0 ≡ 2 ^ i = entry (λ k. 2 ^ k) 0 16 i (omega arith) in

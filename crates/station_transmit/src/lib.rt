@@ -7,13 +7,16 @@ ghost use mathlib.Core.Path.{_≡_};
 ghost use Prim.Native.Nat.{_*_, _<_, _≤_, min};
 ghost use Rattle.station_transmit.specs.Transmit.{waits, octetsHeld, jamBit, lastJam, backOff, backoffRange};
 
-// What a transmitter reports in a step, at most one: a collision or a late one with its bit; sent or given up with the frame's attempts.
+// What a transmitter reports in a step, at most one: a collision with its bit, or a late one, which closes the frame or
+// not; sent, given up or ended
+// after a late collision with the frame's attempts.
 pub enum TransmitEvent {
     NoTransmit,
     Collision(u32),
-    Late(u32),
+    Late { bit: u32, closes: bool },
     Sent(u32),
     GivenUp(u32),
+    LateEnded(u32),
 }
 
 // What a step of the transmitter leads to: the next phase, the emission, the event, and whether a draw was used.
@@ -53,7 +56,7 @@ pub fn is_waiting(t: Transmitter) -> bool
         Transmitter::BackingOff(_) => false,
         Transmitter::Sending(_) => false,
         Transmitter::Heading(_) => false,
-        Transmitter::Jamming(_) => false,
+        Transmitter::Jamming { left: _, ends: _ } => false,
     }
 }
 
@@ -67,7 +70,7 @@ pub fn octets_held(t: Transmitter, frame: u32) -> u32
         Transmitter::BackingOff(_) => frame,
         Transmitter::Sending(_) => frame,
         Transmitter::Heading(_) => frame,
-        Transmitter::Jamming(_) => frame,
+        Transmitter::Jamming { left: _, ends: _ } => frame,
     }
 }
 
@@ -122,15 +125,26 @@ fn last_jam(f: Figures, n: u32, draw: u32) -> Transmitted
     }
 }
 
-pub fn jam_bit(f: Figures, n: u32, draw: u32, left: u32) -> Transmitted
+pub fn jam_bit(f: Figures, n: u32, draw: u32, left: u32, ends: bool) -> Transmitted
     requires { ⌜ (f .backoff < 16) × (f .slot < 65536) ⌝ }
-    ensures { λ r. ⌜ r ≡ jamBit f n draw left ⌝ }
+    ensures { λ r. ⌜ r ≡ jamBit f n draw left ends ⌝ }
 {
     if left <= 1 {
+        if ends {
+            return Transmitted {
+                phase: Transmitter::NoFrame,
+                emission: Emission::JamBit,
+                event: TransmitEvent::LateEnded(n),
+                drew: false,
+            };
+        }
         return last_jam(f, n, draw);
     }
     Transmitted {
-        phase: Transmitter::Jamming(left - 1),
+        phase: Transmitter::Jamming {
+            left: left - 1,
+            ends,
+        },
         emission: Emission::JamBit,
         event: TransmitEvent::NoTransmit,
         drew: false,

@@ -11,7 +11,7 @@ use Rattle.sheet_layout.specs.Layout.{gapOf}
 use Rattle.station_symbols.specs.declared.Heard.the-variants.{Nothing, Clean}
 use Rattle.station_symbols.specs.declared.Symbol.the-variants.{Silence, Bit}
 use Rattle.station_symbols.specs.Packet.{packetBit}
-use Rattle.station_transmit.specs.Transmit.{packetLength}
+use Rattle.station_transmit.specs.Transmit.{packetLength, shortestPacket}
 use Rattle.trace.specs.Basic.{either}
 use Rattle.trace.specs.Trace.{Clear, alone, apart, listens, silent-before, silent-after}
 use Rattle.bus_meeting.specs.Net.{Net}
@@ -30,7 +30,7 @@ pub record Passes (P : Net) (inp : ℕ → List (Offer P)) (i a e : ℕ) (F : Li
   pub after : sees P inp j (suc (e + P .d i j)) ≡ Nothing
   pub listens : (s : ℕ) → a + P .d i j ≤ s → s ≤ e + P .d i j → sig P inp j s ≡ Silence
 
-module _ (P : Net) (inp : ℕ → List (Offer P)) (span : ℕ) (L : Sound P span) (g : gapOf (P .fig) ≤ 64 + P .fig .jam) (fits : 2 * span ≤ 576) where
+module _ (P : Net) (inp : ℕ → List (Offer P)) (span : ℕ) (L : Sound P span) (g : gapOf (P .fig) ≤ 64 + P .fig .jam) (fits : 2 * span ≤ shortestPacket (P .fig)) where
   module _ (i a e : ℕ) (hi : i < P .n) (w : Whole P inp i a e) where
     clear : Clear (P .n) span (P .d) (emits P inp) i a e
     clear =
@@ -45,10 +45,12 @@ module _ (P : Net) (inp : ℕ → List (Offer P)) (span : ℕ) (L : Sound P span
         }
 
     -- Another station emits well before the packet passes it, or well after.
-    pub others-apart : (k s : ℕ) → k < P .n → (i ≡ k → ⊥) → emits P inp k s ≡ true → (s + P .d i k + suc (gapOf (P .fig)) ≤ a) ⊎ (e + P .d i k + suc (gapOf (P .fig)) ≤ s)
+    pub others-apart : (k s : ℕ) → k < P .n → (i ≡ k → ⊥) → emits P inp k s ≡ true
+        → (s + P .d i k + suc (gapOf (P .fig)) ≤ a) ⊎ (e + P .d i k + suc (gapOf (P .fig)) ≤ s)
     others-apart k s hk ne o = apart (lawful P inp span L g) clear k s hk ne o
 
-    only : (j k : ℕ) → j < P .n → (i ≡ j → ⊥) → k < packetLength (length (w .frame)) → Only (P .n) (P .d) (sig P inp) j (a + P .d i j + k) (Bit (packetBit (w .frame) (k + 1)))
+    only : (j k : ℕ) → j < P .n → (i ≡ j → ⊥) → k < packetLength (length (w .frame))
+        → Only (P .n) (P .d) (sig P inp) j (a + P .d i j + k) (Bit (packetBit (w .frame) (k + 1)))
     only j k hj ne l =
         record {
           from = i;
@@ -58,7 +60,8 @@ module _ (P : Net) (inp : ℕ → List (Offer P)) (span : ℕ) (L : Sound P span
           delay = omega arith;
           is = w .bits k l;
           rest = λ x y hx nj nf z. by-test (on (sig P inp x y))
-              (λ o. absurd (either (alone (lawful P inp span L g) clear j x y (a + P .d i j + k) hj hx (λ q. nf (sym q)) (some-gap P inp span L) o z)
+              (λ o. absurd (either (alone (lawful P inp span L g) clear j x y (a + P .d i j + k) hj hx (λ q. nf (sym q))
+              (some-gap P inp span L) o z)
               (λ h. omega arith) (λ h. omega (arith, w .long))))
               (λ o. off-is (sig P inp x y) o);
         }
@@ -68,8 +71,11 @@ module _ (P : Net) (inp : ℕ → List (Offer P)) (span : ℕ) (L : Sound P span
     unfolding sees
     passes j hj ne =
         record {
-          comes = λ k l. only-heard P (sig P inp) j (a + P .d i j + k) (Bit (packetBit (w .frame) (k + 1))) (only j k hj ne l);
-          before = λ t z. silence-heard P (sig P inp) j t (silent-before (lawful P inp span L g) clear j t hj ne (some-gap P inp span L) z);
-          after = silence-heard P (sig P inp) j (suc (e + P .d i j)) (silent-after (lawful P inp span L g) clear j hj ne (some-gap P inp span L));
+          comes = λ k l. only-heard P (sig P inp) j (a + P .d i j + k) (Bit (packetBit (w .frame) (k + 1)))
+              (only j k hj ne l);
+          before = λ t z. silence-heard P (sig P inp) j t
+              (silent-before (lawful P inp span L g) clear j t hj ne (some-gap P inp span L) z);
+          after = silence-heard P (sig P inp) j (suc (e + P .d i j))
+              (silent-after (lawful P inp span L g) clear j hj ne (some-gap P inp span L));
           listens = λ s lo up. off-is (sig P inp j s) (listens (lawful P inp span L g) clear j s hj ne lo up);
         }

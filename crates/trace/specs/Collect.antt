@@ -1,4 +1,5 @@
--- Collected bits: a frame's bits, stored one after the other, leave the frame, whatever the buffer held. Assumes nothing.
+-- Collected bits: a frame's bits, stored one after the other, leave the frame, whatever the buffer held. Assumes
+-- nothing.
 use Prim.Native.Nat.{ℕ, zero, suc, _+_, _*_, _/_, _%_, _^_, _≤_, _<_}
 use mathlib.Core.Path.{_≡_, _∙_, ap}
 use mathlib.Core.List.{List}
@@ -75,7 +76,8 @@ module _ (F : List ℕ) (o : Octets F) (n : ℕ) (b : List ℕ) (v : Filled F n 
   last-bit e =
       let q : suc n / 8 ≡ suc (n / 8) = omega arith in
       let p : suc n % 8 ≡ 0 = omega arith in
-      let w : getD next (n / 8) 0 ≡ getD F (n / 8) 0 = next-octet ∙ ap (λ (k : ℕ). getD F (n / 8) 0 % 2 ^ (1 + k)) e ∙ mod-eq-of-lt small in
+      let w : getD next (n / 8) 0 ≡ getD F (n / 8) 0 = next-octet ∙ ap (λ (k : ℕ). getD F (n / 8) 0 % 2 ^ (1 + k)) e
+      ∙ mod-eq-of-lt small in
       record {
         room = next-room;
         whole = λ k l. by-eq k (n / 8) (λ z. rw z w) (λ z. next-other k z ∙ v .whole k (omega (arith, z)));
@@ -90,7 +92,8 @@ module _ (F : List ℕ) (o : Octets F) (n : ℕ) (b : List ℕ) (v : Filled F n 
       record {
         room = next-room;
         whole = λ k l. next-other k (λ z. omega arith) ∙ v .whole k (omega arith);
-        part = rw (q, p) (ap (λ (x : ℕ). x % 2 ^ (1 + n % 8)) next-octet ∙ mod-mod (getD F (n / 8) 0) (2 ^ (1 + n % 8)));
+        part =
+            rw (q, p) (ap (λ (x : ℕ). x % 2 ^ (1 + n % 8)) next-octet ∙ mod-mod (getD F (n / 8) 0) (2 ^ (1 + n % 8)));
       }
 
   -- One bit more is stored.
@@ -105,10 +108,12 @@ filled-all F b v =
     ext-getD 0 (take (length F) b) F e
     (λ i p. let q : i < length F = omega arith in getD-take (length F) b i 0 q ∙ v .whole i (omega arith))
 
-filled-collected : (F b : List ℕ) → Octets F → length F ≤ length b → (n : ℕ) → n ≤ 8 * length F → Filled F n (collected b F n)
+filled-collected : (F b : List ℕ) → Octets F → length F ≤ length b → (n : ℕ) → n ≤ 8 * length F
+    → Filled F n (collected b F n)
 unfolding collected
 filled-collected F b o h zero l = filled-none F b h
-filled-collected F b o h (suc n) l = filled-more F o n (collected b F n) (filled-collected F b o h n (omega arith)) (omega arith)
+filled-collected F b o h (suc n) l =
+    filled-more F o n (collected b F n) (filled-collected F b o h n (omega arith)) (omega arith)
 
 -- A frame's bits, stored in a row into a buffer with room for it, leave the frame in front.
 pub collects : (F b : List ℕ) → Octets F → length F ≤ length b → take (length F) (collected b F (8 * length F)) ≡ F

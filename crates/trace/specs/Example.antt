@@ -1,4 +1,5 @@
--- A layout that meets what the theorems ask for, so that they say something: two stations, ten bit times apart. Assumes nothing.
+-- A layout that meets what the theorems ask for, so that they say something: two stations, ten bit times apart. Assumes
+-- nothing.
 use Prim.Native.Nat.{ℕ, _+_, _-_, _*_, _≤_}
 use mathlib.Core.Path.{_≡_, refl}
 use native.Mathlib.Omega.{arith}
@@ -12,9 +13,10 @@ use Rattle.bus_meeting.specs.Net.{Net}
 use Rattle.trace.specs.World.{Offer}
 use Rattle.trace.specs.Run.{Sound}
 use Rattle.trace.specs.Frames.{octets-replicate}
+use Rattle.station_transmit.specs.Transmit.{shortestPacket}
 
 abbrev pub figures : Figures
-figures = record { slot = 512; gap1 = 64; gap2 = 32; jam = 32; limit = 16; backoff = 10 }
+figures = record { slot = 512; gap1 = 64; gap2 = 32; jam = 32; limit = 16; backoff = 10; ends = 0 }
 
 abbrev pub two : Net
 two =
@@ -37,6 +39,7 @@ figured =
       jam = (omega arith, omega arith);
       limit = (omega arith, omega arith);
       backoff = (omega arith, omega arith);
+      ends = omega arith;
     }
 
 metric : Metric 2 10 (two .d)
@@ -59,7 +62,8 @@ two-sound =
       metric = metric;
     }
 
-pub two-fits : (2 * 10 ≤ two .fig .slot) × (2 * 10 ≤ 576) × (gapOf (two .fig) ≤ 64 + two .fig .jam)
+pub two-fits : (2 * 10 ≤ two .fig .slot) × (2 * 10 ≤ shortestPacket (two .fig))
+    × (gapOf (two .fig) ≤ 64 + two .fig .jam)
 unfolding gapOf
 two-fits = (omega arith, omega arith, omega arith)
 

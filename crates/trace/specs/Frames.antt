@@ -1,5 +1,5 @@
--- The frame of an accepted offer: each of its octets is below 256, the check sequence's too, and it opens with receiveOK; a whole packet
--- carries such a frame. Assumes nothing.
+-- The frame of an accepted offer: each of its octets is below 256, the check sequence's too, and it opens with
+-- receiveOK; a whole packet carries such a frame. Assumes nothing.
 use Prim.Native.Nat.{ℕ, zero, suc, _+_, _-_, _/_, _%_, _<_}
 use mathlib.Core.Path.{_≡_, refl, sym, _∙_, ap, subst}
 use mathlib.Core.Bool.{false, _||_}
@@ -41,7 +41,8 @@ unfolding Octets
 octets-append a b o p k =
     by-le (length a) k
     (λ h. let e : k ≡ length a + (k - length a) = omega arith in
-    subst (λ (x : ℕ). x < 256) (sym (ap (λ (i : ℕ). getD (a ++ b) i 0) e ∙ getD-append-add a b (k - length a) 0)) (p (k - length a)))
+    subst (λ (x : ℕ). x < 256) (sym (ap (λ (i : ℕ). getD (a ++ b) i 0) e ∙ getD-append-add a b (k - length a) 0))
+    (p (k - length a)))
     (λ h. subst (λ (x : ℕ). x < 256) (sym (List·getD-append a b 0 k h)) (o k))
 
 pub octets-replicate : (n x : ℕ) → x < 256 → Octets (replicate n x)
@@ -51,7 +52,9 @@ octets-replicate (suc n) x h = octets-cons x (replicate n x) h (octets-replicate
 octets-spelled : (w v : ℕ) → Octets (spelled w v)
 unfolding spelled
 octets-spelled zero v = octets-none
-octets-spelled (suc w) v = octets-append (spelled w (v / 256)) (v % 256 ∷ []) (octets-spelled w (v / 256)) (octets-cons (v % 256) [] (omega arith) octets-none)
+octets-spelled (suc w) v =
+    octets-append (spelled w (v / 256)) (v % 256 ∷ []) (octets-spelled w (v / 256))
+    (octets-cons (v % 256) [] (omega arith) octets-none)
 
 octets-low : (n x : ℕ) → Octets (lowOctets n x)
 octets-low zero x = octets-none
@@ -73,7 +76,8 @@ octets-frame d s v x od os ox =
 unfoldable pub clientIn : List ℕ → ℕ
 clientIn F = length (opened false F 0 .clientData)
 
-client-of : (F y : List ℕ) → opened false F 0 ≡ received y → (opened false F 0 .status ≡ receiveOK (clientIn F)) × (clientIn F ≡ length y)
+client-of : (F y : List ℕ) → opened false F 0 ≡ received y
+    → (opened false F 0 .status ≡ receiveOK (clientIn F)) × (clientIn F ≡ length y)
 unfolding clientIn
 client-of F y e =
     let z : length (opened false F 0 .clientData) ≡ length y = ap (λ (o : Opening). length (o .clientData)) e in
@@ -81,7 +85,8 @@ client-of F y e =
 
 -- ---- the frame of an offer to a station
 
-module _ (P : Net) (span : ℕ) (L : Sound P span) (os : List (Offer P)) (i : ℕ) (hi : i < P .n) (F : List ℕ) (m : Made P os i F) where
+module _ (P : Net) (span : ℕ) (L : Sound P span) (os : List (Offer P)) (i : ℕ) (hi : i < P .n) (F : List ℕ)
+    (m : Made P os i F) where
   source-six : length (P .address (m .offer .to)) ≡ 6
   source-six = ap (λ (k : ℕ). length (P .address k)) (m .to) ∙ L .address i hi
 
@@ -93,7 +98,8 @@ module _ (P : Net) (span : ℕ) (L : Sound P span) (os : List (Offer P)) (i : �
   unfolding frameFor
   made-octets =
       let o = m .offer in
-      subst Octets (sym (m .is)) (octets-frame (o .destination) (P .address (o .to)) (o .value) (o .payload) (o .octets) source-wide (o .contents))
+      subst Octets (sym (m .is)) (octets-frame (o .destination) (P .address (o .to)) (o .value) (o .payload)
+      (o .octets) source-wide (o .contents))
 
   -- it opens with receiveOK, with the offer's data, under a type with their padding
   pub made-opens : opened false F 0 ≡ received (handedBack (m .offer .value) (m .offer .payload))
@@ -101,7 +107,8 @@ module _ (P : Net) (span : ℕ) (L : Sound P span) (os : List (Offer P)) (i : �
   made-opens =
       let o = m .offer in
       ap (λ (f : List ℕ). opened false f 0) (m .is)
-      ∙ opens-frame (o .destination) (P .address (o .to)) (o .value) (o .payload) 0 (o .six) source-six (o .small) (o .allowed) (omega arith) .opens
+      ∙ opens-frame (o .destination) (P .address (o .to)) (o .value) (o .payload) 0 (o .six) source-six (o .small)
+      (o .allowed) (omega arith) .opens
 
   pub made-status : opened false F 0 .status ≡ receiveOK (clientIn F)
   made-status = client-of F (handedBack (m .offer .value) (m .offer .payload)) made-opens .0
@@ -113,23 +120,28 @@ module _ (P : Net) (span : ℕ) (L : Sound P span) (os : List (Offer P)) (i : �
   unfolding frameFor
   made-destination =
       let o = m .offer in
-      ap destinationOf (m .is) ∙ opens-frame (o .destination) (P .address (o .to)) (o .value) (o .payload) 0 (o .six) source-six (o .small) (o .allowed) (omega arith) .destination
+      ap destinationOf (m .is)
+      ∙ opens-frame (o .destination) (P .address (o .to)) (o .value) (o .payload) 0 (o .six) source-six (o .small)
+      (o .allowed) (omega arith) .destination
 
   pub made-source : sourceOf F ≡ P .address i
   unfolding frameFor
   made-source =
       let o = m .offer in
-      ap sourceOf (m .is) ∙ opens-frame (o .destination) (P .address (o .to)) (o .value) (o .payload) 0 (o .six) source-six (o .small) (o .allowed) (omega arith) .source
+      ap sourceOf (m .is) ∙ opens-frame (o .destination) (P .address (o .to)) (o .value) (o .payload) 0
+      (o .six) source-six (o .small) (o .allowed) (omega arith) .source
       ∙ ap (P .address) (m .to)
 
   -- whom it is for: "destination .. own" or "broadcast"
-  pub made-addressed : (A : List ℕ) → addressed A F ≡ (equal (m .offer .destination) A || equal (m .offer .destination) (replicate 6 255))
+  pub made-addressed : (A : List ℕ)
+      → addressed A F ≡ (equal (m .offer .destination) A || equal (m .offer .destination) (replicate 6 255))
   unfolding addressed
   made-addressed A = ap (λ (x : List ℕ). equal x A || equal x (replicate 6 255)) made-destination
 
 -- ---- the frame of a whole packet
 
-module _ (P : Net) (inp : ℕ → List (Offer P)) (span : ℕ) (L : Sound P span) (i a e : ℕ) (hi : i < P .n) (w : Whole P inp i a e) where
+module _ (P : Net) (inp : ℕ → List (Offer P)) (span : ℕ) (L : Sound P span) (i a e : ℕ) (hi : i < P .n)
+    (w : Whole P inp i a e) where
   -- whose offer it is
   pub whole-made : (since : ℕ) × Made P (inp since) i (w .frame)
   whole-made =

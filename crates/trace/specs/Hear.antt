@@ -7,7 +7,7 @@ use lib.Dec.{leb, eqb}
 use borrow.Author.Tests.{eqb-false, leb-true}
 use Rattle.octets.specs.BaseLaws.{by-test}
 use Rattle.station_symbols.specs.declared.Heard.{Heard}
-use Rattle.station_symbols.specs.declared.Heard.the-variants.{Nothing, Clean, Jammed, Several}
+use Rattle.station_symbols.specs.declared.Heard.the-variants.{Nothing, Clean, Spoiled}
 use Rattle.station_symbols.specs.declared.Symbol.{Symbol}
 use Rattle.station_symbols.specs.declared.Symbol.the-variants.{Silence, Bit, Jam}
 use Rattle.station_symbols.specs.Packet.{hearsAny}
@@ -15,7 +15,7 @@ use Rattle.area.specs.Area.{alone}
 use Rattle.trace.specs.Basic.{clash}
 use Rattle.trace.specs.Trace.{Hears}
 use Rattle.bus_meeting.specs.Net.{Net, reaches, heard}
-use Rattle.bus_meeting.specs.Gather.{on, off-is, One, Says, gathered-says, gathered-none, gathered-one, gathered-two}
+use Rattle.bus_meeting.specs.Gather.{on, off-is, One, Says, gathered-says, gathered-none, gathered-one}
 use Rattle.bus_meeting.specs.Reach.{reach-at, reach-none}
 
 -- Of what reaches station j in step u just one symbol, s, is not silence: station `from` emitted it in step `at`.
@@ -28,15 +28,10 @@ pub record Only (n : ℕ) (d : ℕ → ℕ → ℕ) (E : ℕ → ℕ → Symbol)
   pub is : E from at ≡ s
   pub rest : (i y : ℕ) → i < n → (i ≡ j → ⊥) → (i ≡ from → ⊥) → y + d i j ≡ u → E i y ≡ Silence
 
--- Two stations reach station j in step u.
-pub record Both (n : ℕ) (d : ℕ → ℕ → ℕ) (E : ℕ → ℕ → Symbol) (j u : ℕ) : Type 0 where
-  pub one : Hears n d (λ i y. on (E i y)) j u
-  pub two : Hears n d (λ i y. on (E i y)) j u
-  pub apart : one .from ≡ two .from → ⊥
-
 -- ---- what one station brings
 
-pub reaches-same : (d : ℕ → ℕ → ℕ) (E F : ℕ → ℕ → Symbol) (j u i : ℕ) → ((s : ℕ) → (i ≡ j → ⊥) → s + d i j ≡ u → E i s ≡ F i s)
+pub reaches-same : (d : ℕ → ℕ → ℕ) (E F : ℕ → ℕ → Symbol) (j u i : ℕ)
+    → ((s : ℕ) → (i ≡ j → ⊥) → s + d i j ≡ u → E i s ≡ F i s)
     → reaches d E j u i ≡ reaches d F j u i
 unfolding reaches
 reaches-same d E F j u i h =
@@ -59,7 +54,12 @@ came d E j u i o =
     (λ e. clash o (rw e))
     (λ e. by-test (leb (d i j) u)
     (λ f. let q = leb-true (d i j) u f in
-    record { at = u - d i j; other = eqb-false i j e; delay = omega arith; is = sym (reach-at d E j u i (u - d i j) (eqb-false i j e) (omega arith)) })
+    record {
+      at = u - d i j;
+      other = eqb-false i j e;
+      delay = omega arith;
+      is = sym (reach-at d E j u i (u - d i j) (eqb-false i j e) (omega arith));
+    })
     (λ f. clash o (rw (e, f))))
 
 -- ---- hearing
@@ -85,12 +85,9 @@ module _ (P : Net) (E : ℕ → ℕ → Symbol) (j u : ℕ) where
         rest = λ i y l ne nf w. sym (reach-at (P .d) E j u i y ne w) ∙ v .rest i l nf;
       }
 
-  -- one symbol, clean or jam
+  -- one symbol, clean
   pub heard-clean : (b : Bool) → heard P E j u ≡ Clean b → Only (P .n) (P .d) E j u (Bit b)
   heard-clean b e = only-of (Bit b) refl (says-of (Clean b) e)
-
-  pub heard-jammed : heard P E j u ≡ Jammed → Only (P .n) (P .d) E j u Jam
-  heard-jammed e = only-of Jam refl (says-of Jammed e)
 
   pub only-heard : (s : Symbol) → Only (P .n) (P .d) E j u s → heard P E j u ≡ alone s
   unfolding heard
@@ -105,38 +102,28 @@ module _ (P : Net) (E : ℕ → ℕ → Symbol) (j u : ℕ) where
       let c = came (P .d) E j u i o in
       record { from = i; at = c .at; station = l; other = c .other; delay = c .delay; on = ap on (c .is) ∙ o }
 
-  pub heard-several : heard P E j u ≡ Several → Both (P .n) (P .d) E j u
-  unfolding from-one
-  heard-several e =
-      let v = says-of Several e in
-      record {
-        one = from-one (v .first) (omega (arith, v .order, v .station)) (v .one);
-        two = from-one (v .second) (v .station) (v .other);
-        apart = λ z. omega (arith, v .order);
-      }
-
   pub heard-nothing : heard P E j u ≡ Nothing → (i y : ℕ) → i < P .n → (i ≡ j → ⊥) → y + P .d i j ≡ u → E i y ≡ Silence
   heard-nothing e i y l ne w = sym (reach-at (P .d) E j u i y ne w) ∙ says-of Nothing e i l
 
-  pub nothing-heard : ((i y : ℕ) → i < P .n → (i ≡ j → ⊥) → y + P .d i j ≡ u → E i y ≡ Silence) → heard P E j u ≡ Nothing
+  pub nothing-heard : ((i y : ℕ) → i < P .n → (i ≡ j → ⊥) → y + P .d i j ≡ u → E i y ≡ Silence)
+      → heard P E j u ≡ Nothing
   unfolding heard
-  nothing-heard h = gathered-none (P .n) (reaches (P .d) E j u) (λ i l. reach-none (P .d) E j u i (λ y ne w. h i y l ne w))
-
-  -- where two reach j it hears several
-  on-from : (v : Hears (P .n) (P .d) (λ k y. on (E k y)) j u) → on (reaches (P .d) E j u (v .from)) ≡ true
-  on-from v = ap on (reach-at (P .d) E j u (v .from) (v .at) (v .other) (v .delay)) ∙ v .on
-
-  pub both-heard : Both (P .n) (P .d) E j u → heard P E j u ≡ Several
-  unfolding heard
-  both-heard b =
-      gathered-two (P .n) (reaches (P .d) E j u) (b .one .from) (b .two .from) (b .one .station) (b .two .station) (b .apart) (on-from (b .one)) (on-from (b .two))
+  nothing-heard h =
+      gathered-none (P .n) (reaches (P .d) E j u) (λ i l. reach-none (P .d) E j u i (λ y ne w. h i y l ne w))
 
   -- whether any other is heard
   some-heard : (h : Heard) → hearsAny h ≡ true → heard P E j u ≡ h → Hears (P .n) (P .d) (λ i y. on (E i y)) j u
   some-heard Nothing o e = clash o refl
-  some-heard (Clean b) o e = let v = heard-clean b e in record { from = v .from; at = v .at; station = v .station; other = v .other; delay = v .delay; on = ap on (v .is) }
-  some-heard Jammed o e = let v = heard-jammed e in record { from = v .from; at = v .at; station = v .station; other = v .other; delay = v .delay; on = ap on (v .is) }
-  some-heard Several o e = heard-several e .one
+  some-heard (Clean b) o e =
+      let v = heard-clean b e in record {
+        from = v .from;
+        at = v .at;
+        station = v .station;
+        other = v .other;
+        delay = v .delay;
+        on = ap on (v .is);
+      }
+  some-heard Spoiled o e = let v = says-of Spoiled e in from-one (v .from) (v .station) (v .is-on)
 
   pub heard-yes : hearsAny (heard P E j u) ≡ true → Hears (P .n) (P .d) (λ i y. on (E i y)) j u
   heard-yes o = some-heard (heard P E j u) o refl
@@ -149,9 +136,3 @@ module _ (P : Net) (E : ℕ → ℕ → Symbol) (j u : ℕ) where
       nothing-heard (λ i y l ne w. by-test (on (E i y))
       (λ o. absurd (h (record { from = i; at = y; station = l; other = ne; delay = w; on = o })))
       (λ o. off-is (E i y) o))
-
-pub unheard : (h : Heard) → hearsAny h ≡ false → h ≡ Nothing
-unheard Nothing e = refl
-unheard (Clean b) e = clash refl e
-unheard Jammed e = clash refl e
-unheard Several e = clash refl e

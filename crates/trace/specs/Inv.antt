@@ -17,8 +17,10 @@ use Rattle.station_symbols.specs.declared.Emission.the-variants.{PacketBit, Jam
 use Rattle.station_symbols.specs.Packet.{packetBit, symbolOf}
 use Rattle.station_transmit.specs.declared.TransmitEvent.the-variants.{Sent}
 use Rattle.station_state.specs.declared.Transmitter.{Transmitter}
-use Rattle.station_state.specs.declared.Transmitter.the-variants.{NoFrame, Waiting, BackingOff, Sending, Heading, Jamming}
-use Rattle.station_transmit.specs.Transmit.{packetLength, afterBit, collision, sendBit, headBit, backoffRange, backOff, lastJam, jamBit, backoffBit, waitBit, transmit}
+use Rattle.station_state.specs.declared.Transmitter.the-variants.{NoFrame, Waiting, BackingOff, Sending, Heading}
+use Rattle.station_state.specs.declared.Transmitter.the-variants.{Jamming}
+use Rattle.station_transmit.specs.Transmit.{packetLength, afterBit, collision, sendBit, headBit, backoffRange, backOff}
+use Rattle.station_transmit.specs.Transmit.{closesFrame, lastJam, jamBit, backoffBit, waitBit, transmit}
 use Rattle.bus_spec.specs.Range.{NumberIn}
 use Rattle.bus_offer.specs.Offer.{holds}
 use Rattle.trace.specs.Basic.{clash}
@@ -96,19 +98,22 @@ TxInv P inp i t F Waiting = Resting P inp i t
 TxInv P inp i t F (BackingOff w) = Resting P inp i t
 TxInv P inp i t F (Sending k) = Sends P inp i t F k
 TxInv P inp i t F (Heading k) = Heads P inp i t k
-TxInv P inp i t F (Jamming r) = Jams P inp i t r
+TxInv P inp i t F (Jamming r ends) = Jams P inp i t r
 
 -- ---- what is emitted
 
 pub bit-sent : (f : Figures) (z n k : ℕ) (hears : Bool) → sendBit f z n k hears .emission ≡ PacketBit k
 unfolding sendBit collision
-bit-sent f z n k true = refl
+bit-sent f z n k true = by-test (ltb (f .slot) k) (λ e. rw e) (λ e. rw e)
 bit-sent f z n k false = by-test (eqb k (packetLength z)) (λ e. rw e) (λ e. rw e)
 
-pub jam-sent : (f : Figures) (n draw left : ℕ) → jamBit f n draw left .emission ≡ JamBit
+pub jam-sent : (f : Figures) (n draw left : ℕ) (ends : Bool) → jamBit f n draw left ends .emission ≡ JamBit
 unfolding jamBit lastJam
-jam-sent f n draw left =
-    by-test (leb left 1) (λ e. by-test (eqb n (f .limit)) (λ c. rw (e, c)) (λ c. rw (e, c))) (λ e. rw e)
+jam-sent f n draw left ends =
+    by-test (leb left 1)
+    (λ e. by-test ends (λ d. rw (e, d))
+    (λ d. by-test (eqb n (f .limit)) (λ c. rw (e, d, c)) (λ c. rw (e, d, c))))
+    (λ e. rw e)
 
 -- ---- the step
 
@@ -118,7 +123,11 @@ module _ (P : Net) (inp : ℕ → List (Offer P)) (span : ℕ) (L : Sound P span
   more a r o = record { start = r .start; on = λ s lo hi. by-eq s t (λ z. rw z o) (λ z. r .on s lo (omega arith)) }
 
   first : ((s : ℕ) → suc s ≡ t → emits P inp i s ≡ false) → emits P inp i t ≡ true → Ran P inp i t (suc t)
-  first fr o = record { start = record { on = o; fresh = fr }; on = λ s lo hi. subst (λ (x : ℕ). emits P inp i x ≡ true) (omega arith) o }
+  first fr o =
+      record {
+        start = record { on = o; fresh = fr };
+        on = λ s lo hi. subst (λ (x : ℕ). emits P inp i x ≡ true) (omega arith) o;
+      }
 
   rest : Over P inp i t → Resting P inp i (suc t)
   rest v b z o = subst (λ (x : ℕ). Over P inp i x) (sym (suc-inj z)) v
@@ -127,15 +136,17 @@ module _ (P : Net) (inp : ℕ → List (Offer P)) (span : ℕ) (L : Sound P span
   silent-rest e b z o = clash o (rw (suc-inj z) e)
 
   -- after bit k of a run with a collision
-  after-bit : (F : List ℕ) (a k : ℕ) → a + k ≡ suc t → 1 ≤ k → Ran P inp i a (suc t) → TxInv P inp i (suc t) F (afterBit (P .fig .jam) k)
+  after-bit : (F : List ℕ) (a k : ℕ) (ends : Bool) → a + k ≡ suc t → 1 ≤ k → Ran P inp i a (suc t)
+      → TxInv P inp i (suc t) F (afterBit (P .fig .jam) k ends)
   unfolding afterBit
-  after-bit F a k w p r =
+  after-bit F a k ends w p r =
       by-test (ltb k 64)
       (λ e. rw e (record { begin = a; place = omega arith; some = omega arith; ran = r }))
       (λ e. let l = ltb-false k 64 e in rw e (record { begin = a; place = omega arith; past = omega arith; ran = r }))
 
   -- bit k of the packet of F, of z octets, goes out in step t
-  send-bit : (F : List ℕ) (z n k : ℕ) (hears : Bool) (a : ℕ) → z ≡ length F → 64 ≤ z → z ≤ bufferOctets → k ≤ packetLength z
+  send-bit : (F : List ℕ) (z n k : ℕ) (hears : Bool) (a : ℕ) → z ≡ length F → 64 ≤ z → z ≤ bufferOctets
+      → k ≤ packetLength z
       → a + k ≡ suc t → 1 ≤ k → Ran P inp i a (suc t)
       → ((s : ℕ) → a ≤ s → s ≤ t → frameIn P inp i s ≡ F)
       → ((j : ℕ) → j < k → sig P inp i (a + j) ≡ Bit (packetBit F (suc j)))
@@ -144,7 +155,10 @@ module _ (P : Net) (inp : ℕ → List (Offer P)) (span : ℕ) (L : Sound P span
       → outAt P inp i t .sent ≡ sendBit (P .fig) z n k hears .event
       → TxInv P inp i (suc t) F (sendBit (P .fig) z n k hears .phase)
   unfolding sendBit collision
-  send-bit F z n k true a ez lo hi up w p r hd bs cl nh ev = after-bit F a k w p r
+  send-bit F z n k true a ez lo hi up w p r hd bs cl nh ev =
+      by-test (ltb (P .fig .slot) k)
+      (λ c. rw c (after-bit F a k (closesFrame (P .fig)) w p r))
+      (λ c. rw c (after-bit F a k false w p r))
   send-bit F z n k false a ez lo hi up w p r hd bs cl nh ev =
       by-test (eqb k (packetLength z))
       (λ e. let q = eqb-true k (packetLength z) e in
@@ -182,14 +196,21 @@ module _ (P : Net) (inp : ℕ → List (Offer P)) (span : ℕ) (L : Sound P span
   backed-off F n draw o =
       by-test (eqb (P .fig .slot * (draw % backoffRange n (P .fig .backoff))) 0) (λ e. rw e o) (λ e. rw e o)
 
-  jam-bit : (F : List ℕ) (n draw r : ℕ) → 1 ≤ r → Jams P inp i t r → sig P inp i t ≡ Jam → TxInv P inp i (suc t) F (jamBit (P .fig) n draw r .phase)
+  jam-bit : (F : List ℕ) (n draw r : ℕ) (ends : Bool) → 1 ≤ r → Jams P inp i t r → sig P inp i t ≡ Jam
+      → TxInv P inp i (suc t) F (jamBit (P .fig) n draw r ends .phase)
   unfolding jamBit lastJam
-  jam-bit F n draw r p j y =
+  jam-bit F n draw r ends p j y =
       let m = more (j .begin) (j .ran) (ap on y) in
       by-test (leb r 1)
       (λ e. let l = leb-true r 1 e in
-      let o : Resting P inp i (suc t) = rest (record { begin = j .begin; ran = m; long = omega (arith, j .place); how = inl y }) in
-      by-test (eqb n (P .fig .limit)) (λ c. rw (e, c) o) (λ c. rw (e, c) (backed-off F n draw o)))
+      let o : Resting P inp i (suc t) = rest (record {
+        begin = j .begin;
+        ran = m;
+        long = omega (arith, j .place);
+        how = inl y;
+      }) in
+      by-test ends (λ d. rw (e, d) o)
+      (λ d. by-test (eqb n (P .fig .limit)) (λ c. rw (e, d, c) o) (λ c. rw (e, d, c) (backed-off F n draw o))))
       (λ e. let l = leb-false r 1 e in
       rw e (record { begin = j .begin; place = omega (arith, j .place); past = omega (arith, j .past); ran = m }))
 
@@ -208,7 +229,8 @@ module _ (P : Net) (inp : ℕ → List (Offer P)) (span : ℕ) (L : Sound P span
   tx-step F Waiting z n draw true hears fi hz nu fr nh sy ev v =
       let h = hz refl in
       let y : sig P inp i t ≡ Bit (packetBit F 1) = sy ∙ ap (symbolOf F) (bit-sent (P .fig) z n 1 hears) in
-      send-bit F z n 1 hears t (h .0) (h .1) (h .2) (omega arith) (omega arith) (omega arith) (first (fr refl) (ap on y))
+      send-bit F z n 1 hears t (h .0) (h .1) (h .2) (omega arith) (omega arith) (omega arith)
+      (first (fr refl) (ap on y))
       (λ s l u. subst (λ (x : ℕ). frameIn P inp i x ≡ F) (omega arith) fi)
       (λ j l. let e : j ≡ 0 = omega arith in rw (e, add-zero t) y)
       (λ y l u. absurd (omega arith)) nh ev
@@ -222,13 +244,14 @@ module _ (P : Net) (inp : ℕ → List (Offer P)) (span : ℕ) (L : Sound P span
       let y : sig P inp i t ≡ Bit (packetBit F k) = sy ∙ ap (symbolOf F) (bit-sent (P .fig) z n k hears) in
       let c = v .place in
       let o = v .some in
-      send-bit F z n k hears (v .begin) (h .0) (h .1) (h .2) (nu .1) (v .place) (omega arith) (more (v .begin) (v .ran) (ap on y))
+      send-bit F z n k hears (v .begin) (h .0) (h .1) (h .2) (nu .1) (v .place) (omega arith)
+      (more (v .begin) (v .ran) (ap on y))
       (λ s l u. by-eq s t (λ q. rw q fi) (λ q. v .held s l (omega arith)))
       (λ j l. by-eq (suc j) k
       (λ q. let e : v .begin + j ≡ t = omega arith in rw (e, q) y)
       (λ q. v .bits j (omega arith)))
       (v .clear) nh ev
   tx-step F (Heading k) z n draw start hears fi hz nu fr nh sy ev v =
-      after-bit F (v .begin) k (v .place) (omega (arith, v .some)) (more (v .begin) (v .ran) (ap on sy))
-  tx-step F (Jamming r) z n draw start hears fi hz nu fr nh sy ev v =
-      jam-bit F n draw r (nu .0) v (sy ∙ ap (symbolOf F) (jam-sent (P .fig) n draw r))
+      after-bit F (v .begin) k false (v .place) (omega (arith, v .some)) (more (v .begin) (v .ran) (ap on sy))
+  tx-step F (Jamming r ends) z n draw start hears fi hz nu fr nh sy ev v =
+      jam-bit F n draw r ends (nu .0) v (sy ∙ ap (symbolOf F) (jam-sent (P .fig) n draw r ends))

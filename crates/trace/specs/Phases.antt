@@ -95,17 +95,20 @@ module _ (P : Net) (inp : ℕ → List (Offer P)) (span : ℕ) (L : Sound P span
         why = inr (record { last = c .last; place = omega (arith, c .place, c .fits); busy = c .was; idle = c .idle });
       }
 
-  quiet-step : (h m w : Bool) → Flags P inp i t h m → (m ≡ false → Calm P inp i t) → PhInv P inp i (suc t) (quietRule h m w .phase)
+  quiet-step : (h m w : Bool) → Flags P inp i t h m → (m ≡ false → Calm P inp i t)
+      → PhInv P inp i (suc t) (quietRule h m w .phase)
   unfolding quietRule
   quiet-step true m w f v = now (inl (f .hy refl))
   quiet-step false true w f v = now (inr (f .my refl))
   quiet-step false false w f v = inr (calm-on (v refl) (calm f))
 
   -- what a step without a start leaves
-  silent-next : (m h : Bool) → Flags P inp i t h m → m ≡ false → (emits P inp i t ≡ true → Emitted (emits P inp) i t) → Emitted (emits P inp) i (suc t) → ⊥
+  silent-next : (m h : Bool) → Flags P inp i t h m → m ≡ false → (emits P inp i t ≡ true → Emitted (emits P inp) i t)
+      → Emitted (emits P inp) i (suc t) → ⊥
   silent-next m h f e ss x = f .mn e (ss (rw (suc-inj (x .before)) at (x .on)))
 
-  gap-step : (k : ℕ) (o full back h m w : Bool) → (full ≡ true → gapOf (P .fig) ≤ k) → (full ≡ false → k < gapOf (P .fig)) → (back ≡ true → h ≡ true)
+  gap-step : (k : ℕ) (o full back h m w : Bool) → (full ≡ true → gapOf (P .fig) ≤ k)
+      → (full ≡ false → k < gapOf (P .fig)) → (back ≡ true → h ≡ true)
       → Flags P inp i t h m → (gapBy k o full back h m w .start ≡ true → emits P inp i t ≡ true)
       → (gapBy k o full back h m w .start ≡ false → emits P inp i t ≡ true → Emitted (emits P inp) i t)
       → Counting P inp i t k → PhInv P inp i (suc t) (gapBy k o full back h m w .phase)
@@ -144,18 +147,22 @@ module _ (P : Net) (inp : ℕ → List (Offer P)) (span : ℕ) (L : Sound P span
         rests = silent-next false false f refl (ss refl);
       }
   phase-step (Gap k o) h m w g f se ss v =
-      gap-step k o (leb (gapOf (P .fig)) k) (goesBack (P .fig .gap1) k o h) h m w (leb-true (gapOf (P .fig)) k) (leb-false (gapOf (P .fig)) k)
+      gap-step k o (leb (gapOf (P .fig)) k) (goesBack (P .fig .gap1) k o h) h m w (leb-true (gapOf (P .fig)) k)
+      (leb-false (gapOf (P .fig)) k)
       (back-heard (P .fig .gap1) k o h) f se ss v
 
   -- ---- a start
 
-  quiet-start : (h m w : Bool) → Flags P inp i t h m → quietRule h m w .start ≡ true → Calm P inp i t → Free (P .n) (P .d) (emits P inp) (gapOf (P .fig)) i t
+  quiet-start : (h m w : Bool) → Flags P inp i t h m → quietRule h m w .start ≡ true → Calm P inp i t
+      → Free (P .n) (P .d) (emits P inp) (gapOf (P .fig)) i t
   unfolding quietRule
   quiet-start true m w f e c = clash e refl
   quiet-start false true w f e c = clash e refl
-  quiet-start false false w f e c = record { since = c .since; past = c .past; quiet = c .still; now = λ l. f .hn refl; why = c .why }
+  quiet-start false false w f e c =
+      record { since = c .since; past = c .past; quiet = c .still; now = λ l. f .hn refl; why = c .why }
 
-  gap-free : (k : ℕ) (o full back h m w : Bool) → (full ≡ true → gapOf (P .fig) ≤ k) → Flags P inp i t h m → gapBy k o full back h m w .start ≡ true
+  gap-free : (k : ℕ) (o full back h m w : Bool) → (full ≡ true → gapOf (P .fig) ≤ k) → Flags P inp i t h m
+      → gapBy k o full back h m w .start ≡ true
       → Counting P inp i t k → Free (P .n) (P .d) (emits P inp) (gapOf (P .fig)) i t
   unfolding gapOver calm-new
   gap-free k o false true h m w fy f e v = clash e refl
@@ -166,7 +173,8 @@ module _ (P : Net) (inp : ℕ → List (Offer P)) (span : ℕ) (L : Sound P span
   gap-free k o true back h m false fy f e v = quiet-start h m false f e (calm-new k (fy refl) v)
 
   -- A frame that starts is free to.
-  pub free : (x : Deference) (h m w : Bool) → Flags P inp i t h m → (Emitted (emits P inp) i t → ⊥) → defer (P .fig) x h m w .start ≡ true → PhInv P inp i t x
+  pub free : (x : Deference) (h m w : Bool) → Flags P inp i t h m → (Emitted (emits P inp) i t → ⊥)
+      → defer (P .fig) x h m w .start ≡ true → PhInv P inp i t x
       → Free (P .n) (P .d) (emits P inp) (gapOf (P .fig)) i t
   unfolding defer busyRule gapRule
   free Quiet h m w f ne e v = either v (λ q. absurd (ne q)) (λ c. quiet-start h m w f e c)
@@ -183,7 +191,8 @@ module _ (P : Net) (inp : ℕ → List (Offer P)) (span : ℕ) (L : Sound P span
   quiet-fresh false true w f e q = clash e refl
   quiet-fresh false false w f e q = f .mn refl q
 
-  pub start-fresh : (x : Deference) (h m w : Bool) → Flags P inp i t h m → defer (P .fig) x h m w .start ≡ true → PhInv P inp i t x → Emitted (emits P inp) i t → ⊥
+  pub start-fresh : (x : Deference) (h m w : Bool) → Flags P inp i t h m → defer (P .fig) x h m w .start ≡ true
+      → PhInv P inp i t x → Emitted (emits P inp) i t → ⊥
   unfolding defer busyRule
   start-fresh Quiet h m w f e v q = quiet-fresh h m w f e q
   start-fresh (Busy o) true m w f e v q = clash e refl

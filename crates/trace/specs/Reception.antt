@@ -27,8 +27,10 @@ use Rattle.trace.specs.Inv.{Whole}
 use Rattle.trace.specs.Alone.{Passes, passes}
 use Rattle.trace.specs.Collect.{Filled, filled-none, filled-more, filled-all}
 use Rattle.trace.specs.Frames.{whole-octets}
-use Rattle.trace.specs.Listen.{receptionAt, receiver-next, buffer-next, buffer-length, reception-nothing, reception-clean, Idle, ended-idle}
+use Rattle.trace.specs.Listen.{receptionAt, receiver-next, buffer-next, buffer-length, reception-nothing}
+use Rattle.trace.specs.Listen.{reception-clean, Idle, ended-idle}
 use Rattle.frame_build.specs.Limits.{bufferBits}
+use Rattle.station_transmit.specs.Transmit.{shortestPacket}
 
 -- ---- a reception of clean symbols
 
@@ -37,7 +39,8 @@ along : Receiver → List Bool → Receiver
 along r [] = r
 along r (b ∷ l) = along (hear r true b false .receiver) l
 
-along-more : (r : Receiver) (l : List Bool) (b : Bool) → along r (l ++ (b ∷ [])) ≡ hear (along r l) true b false .receiver
+along-more : (r : Receiver) (l : List Bool) (b : Bool)
+    → along r (l ++ (b ∷ [])) ≡ hear (along r l) true b false .receiver
 unfolding along
 along-more r [] b = refl
 along-more r (x ∷ l) b = along-more (hear r true x false .receiver) l b
@@ -52,14 +55,16 @@ along-header (Readable n) v = refl
 along-header (Seeking row spoiled own) v = absurd v
 along-header (Collecting n spoiled own) v = absurd v
 
-collect-clean : (n : ℕ) (b : Bool) → n < bufferBits → hear (Collecting n false false) true b false ≡ hearing (Collecting (suc n) false false) (Store n b)
+collect-clean : (n : ℕ) (b : Bool) → n < bufferBits
+    → hear (Collecting n false false) true b false ≡ hearing (Collecting (suc n) false false) (Store n b)
 unfolding hear collect collectBit storedBit
 collect-clean n b h = let e : n + 1 ≡ suc n = omega arith in rw (e, lt-ltb n bufferBits h)
 
 -- the packet's bits, by place
 header-bit : (F : List ℕ) (k : ℕ) → k < 64 → packetBit F (k + 1) ≡ getD header k false
 unfolding packetBit packetBits header
-header-bit F k h = let e : k + 1 ≡ suc k = omega arith in rw e (List·getD-append (preamble 7 ++ delimiter) (bitsOf F) false k h)
+header-bit F k h =
+    let e : k + 1 ≡ suc k = omega arith in rw e (List·getD-append (preamble 7 ++ delimiter) (bitsOf F) false k h)
 
 body-bit : (F : List ℕ) (n : ℕ) → packetBit F (64 + n + 1) ≡ frameBit F n
 body-bit F n =
@@ -72,7 +77,8 @@ pub record Complete (P : Net) (inp : ℕ → List (Offer P)) (j u : ℕ) (F : Li
   pub buffer : take (length F) (bufferIn P inp j u) ≡ F
   pub silence : sees P inp j u ≡ Nothing
 
-module _ (P : Net) (inp : ℕ → List (Offer P)) (span : ℕ) (L : Sound P span) (g : gapOf (P .fig) ≤ 64 + P .fig .jam) (fits : 2 * span ≤ 576) where
+module _ (P : Net) (inp : ℕ → List (Offer P)) (span : ℕ) (L : Sound P span) (g : gapOf (P .fig) ≤ 64 + P .fig .jam)
+    (fits : 2 * span ≤ shortestPacket (P .fig)) where
   module _ (i a e : ℕ) (hi : i < P .n) (w : Whole P inp i a e) (j : ℕ) (hj : j < P .n) (ne : i ≡ j → ⊥) where
     come : Passes P inp i a e (w .frame) j
     come = passes P inp span L g fits i a e hi w j hj ne
@@ -86,31 +92,40 @@ module _ (P : Net) (inp : ℕ → List (Offer P)) (span : ℕ) (L : Sound P span
         let t : ℕ = a + P .d i j - 1 in
         let z : suc t ≡ a + P .d i j = omega (arith, L .metric .pos i j hi hj ne) in
         subst (λ (x : ℕ). Idle (state P inp x j .receiver)) z
-        (subst Idle (sym (receiver-next P inp span L j hj t ∙ ap (λ (r : Received). r .receiver) (reception-nothing P inp span L j hj t (come .before t z))))
+        (subst Idle (sym (receiver-next P inp span L j hj t ∙ ap (λ (r : Received). r .receiver)
+        (reception-nothing P inp span L j hj t (come .before t z))))
         (ended-idle (P .address j) (bufferIn P inp j t) (state P inp t j .receiver)))
 
     clean-step : (k : ℕ) (b : Bool) → k < 64 + 8 * length (w .frame) → packetBit (w .frame) (k + 1) ≡ b
         → receptionAt P inp j (a + P .d i j + k) ≡ hear (state P inp (a + P .d i j + k) j .receiver) true b false
-    clean-step k b l q = reception-clean P inp span L j hj (a + P .d i j + k) b (come .comes k l ∙ ap Clean q) (quiet k l)
+    clean-step k b l q =
+        reception-clean P inp span L j hj (a + P .d i j + k) b (come .comes k l ∙ ap Clean q) (quiet k l)
 
     -- its header
-    header-step : (k : ℕ) → k < 64 → state P inp (a + P .d i j + k) j .receiver ≡ along (state P inp (a + P .d i j) j .receiver) (take k header)
-        → state P inp (suc (a + P .d i j + k)) j .receiver ≡ along (state P inp (a + P .d i j) j .receiver) (take (suc k) header)
+    header-step : (k : ℕ) → k < 64
+        → state P inp (a + P .d i j + k) j .receiver ≡ along (state P inp (a + P .d i j) j .receiver) (take k header)
+        → state P inp (suc (a + P .d i j + k)) j .receiver ≡ along (state P inp (a + P .d i j) j .receiver)
+        (take (suc k) header)
     unfolding header
     header-step k l h =
         receiver-next P inp span L j hj (a + P .d i j + k)
-        ∙ ap (λ (r : Received). r .receiver) (clean-step k (getD header k false) (omega arith) (header-bit (w .frame) k l))
+        ∙ ap (λ (r : Received). r .receiver)
+        (clean-step k (getD header k false) (omega arith) (header-bit (w .frame) k l))
         ∙ ap (λ (r : Receiver). hear r true (getD header k false) false .receiver) h
         ∙ sym (along-more (state P inp (a + P .d i j) j .receiver) (take k header) (getD header k false))
         ∙ ap (along (state P inp (a + P .d i j) j .receiver)) (sym (take-suc header k false l))
 
-    header-start : state P inp (a + P .d i j + 0) j .receiver ≡ along (state P inp (a + P .d i j) j .receiver) (take 0 header)
+    header-start : state P inp (a + P .d i j + 0) j .receiver ≡ along (state P inp (a + P .d i j) j .receiver)
+        (take 0 header)
     unfolding along
     header-start = ap (λ (x : ℕ). state P inp x j .receiver) (add-zero (a + P .d i j))
 
-    in-header : (k : ℕ) → k ≤ 64 → state P inp (a + P .d i j + k) j .receiver ≡ along (state P inp (a + P .d i j) j .receiver) (take k header)
+    in-header : (k : ℕ) → k ≤ 64
+        → state P inp (a + P .d i j + k) j .receiver ≡ along (state P inp (a + P .d i j) j .receiver) (take k header)
     in-header zero l = header-start
-    in-header (suc k) l = ap (λ (x : ℕ). state P inp x j .receiver) (add-suc (a + P .d i j) k) ∙ header-step k l (in-header k (omega arith))
+    in-header (suc k) l =
+        ap (λ (x : ℕ). state P inp x j .receiver) (add-suc (a + P .d i j) k)
+        ∙ header-step k l (in-header k (omega arith))
 
     past-header : state P inp (a + P .d i j + 64) j .receiver ≡ Collecting 0 false false
     unfolding header
@@ -128,10 +143,12 @@ module _ (P : Net) (inp : ℕ → List (Offer P)) (span : ℕ) (L : Sound P span
     collect-start =
         record {
           receiver = past-header;
-          buffer = filled-none (w .frame) (bufferIn P inp j (a + P .d i j + 64)) (omega (arith, w .size, L .room j hj, buffer-length P inp (a + P .d i j + 64) j));
+          buffer = filled-none (w .frame) (bufferIn P inp j (a + P .d i j + 64))
+              (omega (arith, w .size, L .room j hj, buffer-length P inp (a + P .d i j + 64) j));
         }
 
-    collect-step : (n : ℕ) → n < 8 * length (w .frame) → Collects n (a + P .d i j + (64 + n)) → Collects (suc n) (suc (a + P .d i j + (64 + n)))
+    collect-step : (n : ℕ) → n < 8 * length (w .frame) → Collects n (a + P .d i j + (64 + n))
+        → Collects (suc n) (suc (a + P .d i j + (64 + n)))
     collect-step n l v =
         let t : ℕ = a + P .d i j + (64 + n) in
         let q : receptionAt P inp j t ≡ hearing (Collecting (suc n) false false) (Store n (frameBit (w .frame) n)) =
@@ -140,7 +157,9 @@ module _ (P : Net) (inp : ℕ → List (Offer P)) (span : ℕ) (L : Sound P span
         ∙ collect-clean n (frameBit (w .frame) n) (omega (arith, w .size)) in
         record {
           receiver = receiver-next P inp span L j hj t ∙ ap (λ (r : Received). r .receiver) q;
-          buffer = subst (Filled (w .frame) (suc n)) (sym (buffer-next P inp span L j hj t ∙ ap (λ (r : Received). storedIn (bufferIn P inp j t) (r .stored)) q))
+          buffer = subst (Filled (w .frame) (suc n))
+              (sym (buffer-next P inp span L j hj t
+              ∙ ap (λ (r : Received). storedIn (bufferIn P inp j t) (r .stored)) q))
               (filled-more (w .frame) (whole-octets P inp span L i a e hi w) n (bufferIn P inp j t) (v .buffer) l);
         }
 
@@ -154,7 +173,8 @@ module _ (P : Net) (inp : ℕ → List (Offer P)) (span : ℕ) (L : Sound P span
         let v = collecting (8 * length (w .frame)) (omega arith) in
         let z : a + P .d i j + (64 + 8 * length (w .frame)) ≡ suc (e + P .d i j) = omega (arith, w .long) in
         record {
-          receiver = subst (λ (x : ℕ). state P inp x j .receiver ≡ Collecting (8 * length (w .frame)) false false) z (v .receiver);
+          receiver = subst (λ (x : ℕ). state P inp x j .receiver ≡ Collecting (8 * length (w .frame)) false false) z
+              (v .receiver);
           buffer = subst (λ (x : ℕ). take (length (w .frame)) (bufferIn P inp j x) ≡ w .frame) z
               (filled-all (w .frame) (bufferIn P inp j (a + P .d i j + (64 + 8 * length (w .frame)))) (v .buffer));
           silence = come .after;

@@ -1,5 +1,5 @@
--- Executions of a world, without end: what offers leave, what a step makes of each field, and the trace of symbols. The files above
--- this one speak of `sig`, `sees`, `state`, `frameIn` and `outAt`, not of worlds. Assumes nothing.
+-- Executions of a world, without end: what offers leave, what a step makes of each field, and the trace of symbols. The
+-- files above this one speak of `sig`, `sees`, `state`, `frameIn` and `outAt`, not of worlds. Assumes nothing.
 use Prim.Native.Nat.{ℕ, zero, suc, _+_, _≤_, _<_, max}
 use mathlib.Core.Path.{_≡_, refl, sym, _∙_, ap, subst}
 use mathlib.Core.Bool.{Bool, false}
@@ -14,7 +14,7 @@ use Rattle.octets.specs.NumberLaws.{Octets}
 use Rattle.frame_build.specs.BuildLaws.{frame-size, data-within}
 use Rattle.sheet_layout.specs.CheckLaws.{Figured}
 use Rattle.station_symbols.specs.declared.Heard.{Heard}
-use Rattle.station_symbols.specs.declared.Heard.the-variants.{Nothing, Clean, Jammed, Several}
+use Rattle.station_symbols.specs.declared.Heard.the-variants.{Nothing, Clean, Spoiled}
 use Rattle.station_symbols.specs.declared.Symbol.{Symbol}
 use Rattle.station_symbols.specs.declared.Symbol.the-variants.{Silence, Bit, Jam}
 use Rattle.station_symbols.specs.declared.Emission.{Emission}
@@ -22,7 +22,8 @@ use Rattle.station_symbols.specs.declared.Emission.the-variants.{Rest, PacketBi
 use Rattle.station_symbols.specs.Packet.{symbolOf, isEmission}
 use Rattle.station_defer.specs.declared.Deferred.{Deferred}
 use Rattle.station_state.specs.declared.Transmitter.{Transmitter}
-use Rattle.station_state.specs.declared.Transmitter.the-variants.{NoFrame, Waiting, BackingOff, Sending, Heading, Jamming}
+use Rattle.station_state.specs.declared.Transmitter.the-variants.{NoFrame, Waiting, BackingOff, Sending, Heading}
+use Rattle.station_state.specs.declared.Transmitter.the-variants.{Jamming}
 use Rattle.station_transmit.specs.declared.Transmitted.{Transmitted}
 use Rattle.station_receive.specs.declared.Received.{Received}
 use Rattle.station_state.specs.declared.Station.{Station}
@@ -35,9 +36,10 @@ use Rattle.trace.specs.Basic.{either, clash}
 use Rattle.trace.specs.Trace.{Metric}
 use Rattle.bus_spec.specs.After.{storedIn}
 use Rattle.bus_meeting.specs.Net.{Net, gathered, reaches, heard, grown}
-use Rattle.trace.specs.World.{Offer, frameFor, World, outcome, symbol, step, given, offer, offers, freshStation, fresh, before, ready}
+use Rattle.trace.specs.World.{Offer, frameFor, World, outcome, symbol, step, given, offer, offers, freshStation}
+use Rattle.trace.specs.World.{fresh, before, ready}
 use Rattle.bus_meeting.specs.Gather.{on, gathered-same}
-use Rattle.trace.specs.Hear.{Only, Both, reaches-same, heard-clean, heard-jammed, only-heard, heard-several, both-heard, heard-nothing, nothing-heard}
+use Rattle.trace.specs.Hear.{Only, reaches-same, heard-clean, only-heard, heard-nothing, nothing-heard}
 use Rattle.frame_build.specs.Limits.{bufferOctets}
 
 -- ---- an execution's words
@@ -74,10 +76,11 @@ unfoldable pub sendAt : (P : Net) → (ℕ → List (Offer P)) → (i t : ℕ) �
 sendAt P inp i t = sending (P .fig) (state P inp t i) (P .draw i (state P inp t i .draw)) (sees P inp i t)
 
 unfoldable pub receiveAt : (P : Net) → (ℕ → List (Offer P)) → (i t : ℕ) → Received
-receiveAt P inp i t = receiving (P .fig) (state P inp t i) (P .draw i (state P inp t i .draw)) (bufferIn P inp i t) (sees P inp i t)
+receiveAt P inp i t =
+    receiving (P .fig) (state P inp t i) (P .draw i (state P inp t i .draw)) (bufferIn P inp i t) (sees P inp i t)
 
--- What a net is known to be: addresses of six octets, buffers with room for the largest frame; the fits of span, slot and gap are not
--- among it.
+-- What a net is known to be: addresses of six octets, buffers with room for the largest frame; the fits of span, slot
+-- and gap are not among it.
 pub record Sound (P : Net) (span : ℕ) : Type 0 where
   pub figures : Figured (P .fig)
   pub depth : 1 ≤ P .depth
@@ -101,7 +104,8 @@ pub record Made (P : Net) (os : List (Offer P)) (i : ℕ) (F : List ℕ) : Type 
 
 -- Station i, from s with frame F to r with frame G: as it was, or one of the offers os was accepted.
 abbrev pub Kept : (P : Net) → List (Offer P) → ℕ → (s r : Station) (F G : List ℕ) → Type 0
-Kept P os i s r F G = ((r ≡ s) × (G ≡ F)) ⊎ ((s .transmitter ≡ NoFrame) × (r ≡ offeredStation s (length G)) × Made P os i G)
+Kept P os i s r F G =
+    ((r ≡ s) × (G ≡ F)) ⊎ ((s .transmitter ≡ NoFrame) × (r ≡ offeredStation s (length G)) × Made P os i G)
 
 holds-not : (x : Transmitter) → holds x ≡ false → x ≡ NoFrame
 holds-not NoFrame e = refl
@@ -109,18 +113,29 @@ holds-not Waiting e = clash refl e
 holds-not (BackingOff w) e = clash refl e
 holds-not (Sending k) e = clash refl e
 holds-not (Heading k) e = clash refl e
-holds-not (Jamming k) e = clash refl e
+holds-not (Jamming k ends) e = clash refl e
 
-given-kept : (P : Net) (o : Offer P) (os : List (Offer P)) (w : World) (i : ℕ) → holds (w .station (o .to) .transmitter) ≡ false
+given-kept : (P : Net) (o : Offer P) (os : List (Offer P)) (w : World) (i : ℕ)
+    → holds (w .station (o .to) .transmitter) ≡ false
     → Kept P (o ∷ os) i (w .station i) (given P o w .station i) (w .frame i) (given P o w .frame i)
 unfolding given
 given-kept P o os w i h =
     by-test (eqb i (o .to))
     (λ e. let z = eqb-true i (o .to) e in
-    rw e (inr (holds-not (w .station i .transmitter) (rw z h), refl, record { offer = o; among = inl refl; to = sym z; is = refl })))
+    rw e (inr (
+      holds-not (w .station i .transmitter) (rw z h),
+      refl,
+      record {
+        offer = o;
+        among = inl refl;
+        to = sym z;
+        is = refl;
+      },
+    )))
     (λ e. rw e (inl (refl, refl)))
 
-offer-kept : (P : Net) (o : Offer P) (os : List (Offer P)) (w : World) (i : ℕ) → Kept P (o ∷ os) i (w .station i) (offer P o w .station i) (w .frame i) (offer P o w .frame i)
+offer-kept : (P : Net) (o : Offer P) (os : List (Offer P)) (w : World) (i : ℕ)
+    → Kept P (o ∷ os) i (w .station i) (offer P o w .station i) (w .frame i) (offer P o w .frame i)
 unfolding offer
 offer-kept P o os w i =
     by-test (holds (w .station (o .to) .transmitter))
@@ -138,16 +153,29 @@ kept-trans : (P : Net) (o : Offer P) (os : List (Offer P)) (i : ℕ) (s r q : St
     → Kept P (o ∷ os) i s r F G → Kept P os i r q G H → Kept P (o ∷ os) i s q F H
 kept-trans P o os i s r q F G H a b =
     either a
-    (λ x. either b (λ y. inl (y .0 ∙ x .0, y .1 ∙ x .1)) (λ y. inr (sym (ap (λ (k : Station). k .transmitter) (x .0)) ∙ y .0, y .1 ∙ ap (λ (k : Station). offeredStation k (length H)) (x .0), more-among P o os i H (y .2))))
+    (λ x. either b (λ y. inl (y .0 ∙ x .0, y .1 ∙ x .1))
+    (λ y. inr (
+      sym (ap (λ (k : Station). k .transmitter) (x .0)) ∙ y .0,
+      y .1
+          ∙ ap (λ (k : Station). offeredStation k (length H)) (x .0),
+      more-among P o os i H (y .2),
+    )))
     (λ x. either b
-    (λ y. inr (x .0, y .0 ∙ x .1 ∙ ap (λ (l : List ℕ). offeredStation s (length l)) (sym (y .1)), subst (Made P (o ∷ os) i) (sym (y .1)) (x .2)))
+    (λ y. inr (
+      x .0,
+      y .0 ∙ x .1 ∙ ap (λ (l : List ℕ). offeredStation s (length l))
+          (sym (y .1)),
+      subst (Made P (o ∷ os) i) (sym (y .1)) (x .2),
+    ))
     (λ y. absurd (took-waits s r (length G) (x .1) (y .0))))
 
-offers-kept : (P : Net) (os : List (Offer P)) (w : World) (i : ℕ) → Kept P os i (w .station i) (offers P os w .station i) (w .frame i) (offers P os w .frame i)
+offers-kept : (P : Net) (os : List (Offer P)) (w : World) (i : ℕ)
+    → Kept P os i (w .station i) (offers P os w .station i) (w .frame i) (offers P os w .frame i)
 unfolding offers
 offers-kept P [] w i = inl (refl, refl)
 offers-kept P (o ∷ os) w i =
-    kept-trans P o os i (w .station i) (offer P o w .station i) (offers P os (offer P o w) .station i) (w .frame i) (offer P o w .frame i) (offers P os (offer P o w) .frame i)
+    kept-trans P o os i (w .station i) (offer P o w .station i) (offers P os (offer P o w) .station i) (w .frame i)
+    (offer P o w .frame i) (offers P os (offer P o w) .frame i)
     (offer-kept P o os w i) (offers-kept P os (offer P o w) i)
 
 -- the rest of a world is as it was
@@ -181,7 +209,8 @@ offers-buffer P (o ∷ os) w = offers-buffer P os (offer P o w) ∙ offer-buffer
 -- ---- the execution's clock and history
 
 module _ (P : Net) (inp : ℕ → List (Offer P)) where
-  pub ready-kept : (t i : ℕ) → Kept P (inp t) i (before P inp t .station i) (state P inp t i) (before P inp t .frame i) (frameIn P inp i t)
+  pub ready-kept : (t i : ℕ)
+      → Kept P (inp t) i (before P inp t .station i) (state P inp t i) (before P inp t .frame i) (frameIn P inp i t)
   unfolding ready
   ready-kept t i = offers-kept P (inp t) (before P inp t) i
 
@@ -261,9 +290,12 @@ module _ (P : Net) (inp : ℕ → List (Offer P)) where
         ∙ gathered-same (P .n) _ _ (λ k l. reaches-same (P .d) (ready P inp t .past) (sig P inp) i t k
         (λ s ne w. past-is t k s (omega (arith, L .metric .pos k i l hi ne))))
 
-    pub out-is : outAt P inp i t ≡ stepped (P .fig) (state P inp t i) (P .depth) (P .draw i (state P inp t i .draw)) (bufferIn P inp i t) (sees P inp i t)
+    pub out-is : outAt P inp i t ≡ stepped (P .fig) (state P inp t i) (P .depth) (P .draw i (state P inp t i .draw))
+        (bufferIn P inp i t) (sees P inp i t)
     unfolding outAt outcome
-    out-is = ap (λ (h : Heard). stepped (P .fig) (state P inp t i) (P .depth) (P .draw i (state P inp t i .draw)) (bufferIn P inp i t) h) sees-is
+    out-is =
+        ap (λ (h : Heard). stepped (P .fig) (state P inp t i) (P .depth) (P .draw i (state P inp t i .draw))
+        (bufferIn P inp i t) h) sees-is
 
     pub out-start : outAt P inp i t .start ≡ deferAt P inp i t .start
     unfolding stepped deferAt
@@ -290,7 +322,8 @@ module _ (P : Net) (inp : ℕ → List (Offer P)) where
     unfolding sig symbol outAt
     sig-is = ap (λ (e : Emission). symbolOf (frameIn P inp i t) e) out-emission
 
-    next-is : before P inp (suc t) .station i ≡ nextStation (P .fig) (state P inp t i) (P .depth) (P .draw i (state P inp t i .draw)) (bufferIn P inp i t) (sees P inp i t)
+    next-is : before P inp (suc t) .station i ≡ nextStation (P .fig) (state P inp t i) (P .depth)
+        (P .draw i (state P inp t i .draw)) (bufferIn P inp i t) (sees P inp i t)
     unfolding stepped
     next-is = station-suc t i ∙ ap (λ (o : Stepped). o .station) out-is
 
@@ -314,7 +347,8 @@ module _ (P : Net) (inp : ℕ → List (Offer P)) where
     unfolding nextStation
     next-size = ap (λ (s : Station). s .frame) next-is
 
-    pub next-attempts : before P inp (suc t) .station i .attempts ≡ triesAfter (state P inp t i .attempts) (deferAt P inp i t .start)
+    pub next-attempts : before P inp (suc t) .station i .attempts ≡ triesAfter (state P inp t i .attempts)
+        (deferAt P inp i t .start)
     unfolding nextStation deferAt
     next-attempts = ap (λ (s : Station). s .attempts) next-is
 
@@ -334,43 +368,36 @@ module _ (P : Net) (inp : ℕ → List (Offer P)) (j u : ℕ) where
   unfolding sees
   sees-clean b e = heard-clean P (sig P inp) j u b e
 
-  pub sees-jammed : sees P inp j u ≡ Jammed → Only (P .n) (P .d) (sig P inp) j u Jam
-  unfolding sees
-  sees-jammed e = heard-jammed P (sig P inp) j u e
-
   pub only-seen : (s : Symbol) → Only (P .n) (P .d) (sig P inp) j u s → sees P inp j u ≡ alone s
   unfolding sees
   only-seen s v = only-heard P (sig P inp) j u s v
 
-  pub sees-several : sees P inp j u ≡ Several → Both (P .n) (P .d) (sig P inp) j u
-  unfolding sees
-  sees-several e = heard-several P (sig P inp) j u e
-
-  pub both-seen : Both (P .n) (P .d) (sig P inp) j u → sees P inp j u ≡ Several
-  unfolding sees
-  both-seen b = both-heard P (sig P inp) j u b
-
-  pub sees-nothing : sees P inp j u ≡ Nothing → (i y : ℕ) → i < P .n → (i ≡ j → ⊥) → y + P .d i j ≡ u → sig P inp i y ≡ Silence
+  pub sees-nothing : sees P inp j u ≡ Nothing → (i y : ℕ) → i < P .n → (i ≡ j → ⊥) → y + P .d i j ≡ u
+      → sig P inp i y ≡ Silence
   unfolding sees
   sees-nothing e = heard-nothing P (sig P inp) j u e
 
-  pub nothing-seen : ((i y : ℕ) → i < P .n → (i ≡ j → ⊥) → y + P .d i j ≡ u → sig P inp i y ≡ Silence) → sees P inp j u ≡ Nothing
+  pub nothing-seen : ((i y : ℕ) → i < P .n → (i ≡ j → ⊥) → y + P .d i j ≡ u → sig P inp i y ≡ Silence)
+      → sees P inp j u ≡ Nothing
   unfolding sees
   nothing-seen h = nothing-heard P (sig P inp) j u h
 
 -- ---- ranges
 
 -- "64..1518"
-pub made-size : (P : Net) (span : ℕ) → Sound P span → (os : List (Offer P)) (i : ℕ) → i < P .n → (F : List ℕ) → Made P os i F → (64 ≤ length F) × (length F ≤ bufferOctets)
+pub made-size : (P : Net) (span : ℕ) → Sound P span → (os : List (Offer P)) (i : ℕ) → i < P .n → (F : List ℕ)
+    → Made P os i F → (64 ≤ length F) × (length F ≤ bufferOctets)
 unfolding frameFor
 made-size P span L os i hi F m =
     let o = m .offer in
     let a : length (P .address (o .to)) ≡ 6 = ap (λ (k : ℕ). length (P .address k)) (m .to) ∙ L .address i hi in
-    let e : length F ≡ max 46 (length (o .payload)) + 18 = ap length (m .is) ∙ frame-size (o .destination) (P .address (o .to)) (o .value) (o .payload) (o .six) a in
+    let e : length F ≡ max 46 (length (o .payload)) + 18 = ap length (m .is)
+    ∙ frame-size (o .destination) (P .address (o .to)) (o .value) (o .payload) (o .six) a in
     let w = data-within (o .value) (length (o .payload)) (o .allowed) in (omega arith, omega arith)
 
 module _ (P : Net) (inp : ℕ → List (Offer P)) (span : ℕ) (L : Sound P span) where
-  offered-fine : (t : ℕ) (s : Station) (n : ℕ) → 64 ≤ n → n ≤ bufferOctets → Fine (P .fig) (P .depth) t s → Fine (P .fig) (P .depth) t (offeredStation s n)
+  offered-fine : (t : ℕ) (s : Station) (n : ℕ) → 64 ≤ n → n ≤ bufferOctets → Fine (P .fig) (P .depth) t s
+      → Fine (P .fig) (P .depth) t (offeredStation s n)
   unfolding offeredStation
   offered-fine t s n lo hi v =
       record {
@@ -383,37 +410,59 @@ module _ (P : Net) (inp : ℕ → List (Offer P)) (span : ℕ) (L : Sound P span
         wide = omega arith;
       }
 
-  kept-fine : (t i : ℕ) → i < P .n → (os : List (Offer P)) (s r : Station) (F G : List ℕ) → Kept P os i s r F G → Fine (P .fig) (P .depth) t s → Fine (P .fig) (P .depth) t r
+  kept-fine : (t i : ℕ) → i < P .n → (os : List (Offer P)) (s r : Station) (F G : List ℕ) → Kept P os i s r F G
+      → Fine (P .fig) (P .depth) t s → Fine (P .fig) (P .depth) t r
   kept-fine t i hi os s r F G k v =
       either k
       (λ x. subst (Fine (P .fig) (P .depth) t) (sym (x .0)) v)
-      (λ x. let z = made-size P span L os i hi G (x .2) in subst (Fine (P .fig) (P .depth) t) (sym (x .1)) (offered-fine t s (length G) (z .0) (z .1) v))
+      (λ x. let z = made-size P span L os i hi G (x .2) in subst (Fine (P .fig) (P .depth) t) (sym (x .1))
+      (offered-fine t s (length G) (z .0) (z .1) v))
 
   fresh-fine : (i : ℕ) → Fine (P .fig) (P .depth) 0 (before P inp 0 .station i)
   unfolding before fresh freshStation
-  fresh-fine i = record { gap = tt; number = tt; attempts = omega arith; frame = tt; receiver = tt; draw = L .depth; wide = omega arith }
+  fresh-fine i =
+      record {
+        gap = tt;
+        number = tt;
+        attempts = omega arith;
+        frame = tt;
+        receiver = tt;
+        draw = L .depth;
+        wide = omega arith;
+      }
 
-  step-fine : (t i : ℕ) → i < P .n → Fine (P .fig) (P .depth) t (state P inp t i) → Fine (P .fig) (P .depth) (suc t) (before P inp (suc t) .station i)
+  step-fine : (t i : ℕ) → i < P .n → Fine (P .fig) (P .depth) t (state P inp t i)
+      → Fine (P .fig) (P .depth) (suc t) (before P inp (suc t) .station i)
   step-fine t i hi v =
-      subst (Fine (P .fig) (P .depth) (suc t)) (sym (station-suc P inp t i ∙ ap (λ (o : Stepped). o .station) (out-is P inp span L i hi t)))
-      (fine-stepped (P .fig) (L .figures) (P .depth) t (state P inp t i) (P .draw i (state P inp t i .draw)) (bufferIn P inp i t) (sees P inp i t) v)
+      subst (Fine (P .fig) (P .depth) (suc t))
+      (sym (station-suc P inp t i ∙ ap (λ (o : Stepped). o .station) (out-is P inp span L i hi t)))
+      (fine-stepped (P .fig) (L .figures) (P .depth) t (state P inp t i) (P .draw i (state P inp t i .draw))
+      (bufferIn P inp i t) (sees P inp i t) v)
 
   pub fine-before : (t i : ℕ) → i < P .n → Fine (P .fig) (P .depth) t (before P inp t .station i)
   fine-before zero i hi = fresh-fine i
-  fine-before (suc t) i hi = step-fine t i hi (kept-fine t i hi (inp t) (before P inp t .station i) (state P inp t i) (before P inp t .frame i) (frameIn P inp i t) (ready-kept P inp t i) (fine-before t i hi))
+  fine-before (suc t) i hi =
+      step-fine t i hi (kept-fine t i hi (inp t) (before P inp t .station i) (state P inp t i) (before P inp t .frame i)
+      (frameIn P inp i t) (ready-kept P inp t i) (fine-before t i hi))
 
   -- every station is in range before every step
   pub fine : (t i : ℕ) → i < P .n → Fine (P .fig) (P .depth) t (state P inp t i)
-  fine t i hi = kept-fine t i hi (inp t) (before P inp t .station i) (state P inp t i) (before P inp t .frame i) (frameIn P inp i t) (ready-kept P inp t i) (fine-before t i hi)
+  fine t i hi =
+      kept-fine t i hi (inp t) (before P inp t .station i) (state P inp t i) (before P inp t .frame i)
+      (frameIn P inp i t) (ready-kept P inp t i) (fine-before t i hi)
 
   -- ---- a station's address is the layout's
 
-  kept-address : (i : ℕ) (os : List (Offer P)) (s r : Station) (F G : List ℕ) → Kept P os i s r F G → r .address ≡ s .address
+  kept-address : (i : ℕ) (os : List (Offer P)) (s r : Station) (F G : List ℕ) → Kept P os i s r F G
+      → r .address ≡ s .address
   unfolding offeredStation
-  kept-address i os s r F G k = either k (λ x. ap (λ (q : Station). q .address) (x .0)) (λ x. ap (λ (q : Station). q .address) (x .1))
+  kept-address i os s r F G k =
+      either k (λ x. ap (λ (q : Station). q .address) (x .0)) (λ x. ap (λ (q : Station). q .address) (x .1))
 
   ready-address : (t i : ℕ) → state P inp t i .address ≡ before P inp t .station i .address
-  ready-address t i = kept-address i (inp t) (before P inp t .station i) (state P inp t i) (before P inp t .frame i) (frameIn P inp i t) (ready-kept P inp t i)
+  ready-address t i =
+      kept-address i (inp t) (before P inp t .station i) (state P inp t i) (before P inp t .frame i) (frameIn P inp i t)
+      (ready-kept P inp t i)
 
   fresh-address : (i : ℕ) → before P inp 0 .station i .address ≡ P .address i
   unfolding before fresh freshStation

@@ -1,5 +1,5 @@
--- The theorem over traces: no state machine, only who emits when. A collision comes within twice the span, and a whole run that was not
--- disturbed passes every station alone. Assumes nothing.
+-- The theorem over traces: no state machine, only who emits when. A collision comes within twice the span, and a whole
+-- run that was not disturbed passes every station alone. Assumes nothing.
 use mathlib.Core.Path.{_≡_, refl, sym, subst}
 use mathlib.Core.Bool.{Bool, true, false}
 use mathlib.Core.Logic.{_⊎_, inl, inr}
@@ -78,10 +78,18 @@ pub record Clear (n span : ℕ) (d : ℕ → ℕ → ℕ) (E : ℕ → ℕ → B
 
 module _ {n span g m : ℕ} {d : ℕ → ℕ → ℕ} {E : ℕ → ℕ → Bool} (T : Lawful n span g m d E) where
   -- A heard run that ended before a start ended a gap before it.
-  ended : (i c t e : ℕ) → i < n → c < n → (c ≡ i → ⊥) → Start E i t → E c e ≡ true → E c (suc e) ≡ false → e + d c i < t → e + d c i + suc g ≤ t
+  ended : (i c t e : ℕ) → i < n → c < n → (c ≡ i → ⊥) → Start E i t → E c e ≡ true → E c (suc e) ≡ false → e + d c i < t
+      → e + d c i + suc g ≤ t
   ended i c t e hi hc ne st on off lt =
       let f = T .rules .start i t hi st in
-      let h : Hears n d E i (e + d c i) = record { from = c; at = e; station = hc; other = ne; delay = refl; on = on } in
+      let h : Hears n d E i (e + d c i) = record {
+        from = c;
+        at = e;
+        station = hc;
+        other = ne;
+        delay = refl;
+        on = on;
+      } in
       let lo = T .rules .long c e hc on off in
       by-le (f .since) (e + d c i) (λ k. absurd (f .quiet (e + d c i) k lt (inl h))) (λ k.
       either (f .why) (λ z. absurd (omega arith)) (λ gp.
@@ -96,10 +104,15 @@ module _ {n span g m : ℕ} {d : ℕ → ℕ → ℕ} {E : ℕ → ℕ → Bool}
   ended-own i t e hi st on off lt =
       let f = T .rules .start i t hi st in
       by-eq (suc e) t (λ k. clash (st .on) (subst (λ (x : ℕ). E i x ≡ false) k off)) (λ ne.
-      by-le (f .since) (suc e) (λ k. absurd (f .quiet (suc e) k (omega arith) (inr (record { at = e; before = refl; on = on })))) (λ k.
+      by-le (f .since) (suc e) (λ k. absurd (f .quiet (suc e) k (omega arith) (inr (record {
+        at = e;
+        before = refl;
+        on = on;
+      })))) (λ k.
       either (f .why) (λ z. absurd (omega arith)) (λ gp.
       by-le (suc e) (gp .last) (λ q. omega (arith, gp .place, f .past)) (λ q.
-      let hs : E i (gp .last) ≡ true = T .rules .whole i e hi on off (gp .last) (omega arith) (omega (arith, gp .place)) in
+      let hs : E i (gp .last) ≡ true = T .rules .whole i e hi on off (gp .last) (omega arith)
+      (omega (arith, gp .place)) in
       absurd (gp .idle (inr (record { at = gp .last; before = refl; on = hs })))))))
 
   -- A station that starts while it hears another does so at the end of a gap.
@@ -115,7 +128,14 @@ module _ {n span g m : ℕ} {d : ℕ → ℕ → ℕ} {E : ℕ → ℕ → Bool}
   -- What was last heard before the gap had ended, and so had what was last emitted.
   heard-ended : (b l : ℕ) → (Busy n d E b (suc l) → ⊥) → (h : Hears n d E b l) → E (h .from) (suc (h .at)) ≡ false
   heard-ended b l idle h = by-test (E (h .from) (suc (h .at)))
-      (λ e. absurd (idle (inl (record { from = h .from; at = suc (h .at); station = h .station; other = h .other; delay = omega (arith, h .delay); on = e }))))
+      (λ e. absurd (idle (inl (record {
+        from = h .from;
+        at = suc (h .at);
+        station = h .station;
+        other = h .other;
+        delay = omega (arith, h .delay);
+        on = e;
+      }))))
       (λ e. e)
 
   own-ended : (b l : ℕ) → (Busy n d E b (suc l) → ⊥) → (o : Emitted E b l) → E b (suc (o .at)) ≡ false
@@ -134,14 +154,25 @@ module _ {n span g m : ℕ} {d : ℕ → ℕ → ℕ} {E : ℕ → ℕ → Bool}
       nb z = ne (sym z)
 
       heard : (t : ℕ) → ta + d a b ≤ t → t ≤ tb → Hears n d E b t
-      heard t lo hi = record { from = a; at = t - d a b; station = ha; other = ne; delay = omega arith; on = on (t - d a b) (omega arith) (omega arith) }
+      heard t lo hi =
+          record {
+            from = a;
+            at = t - d a b;
+            station = ha;
+            other = ne;
+            delay = omega arith;
+            on = on (t - d a b) (omega arith) (omega arith);
+          }
 
       -- the gap began before a's run came
       late : (gp : Gap n d E g b tb) → suc (gp .last) < ta + d a b
-      late gp = by-le (ta + d a b) (suc (gp .last)) (λ q. absurd (gp .idle (inl (heard (suc (gp .last)) q (omega (arith, gp .place)))))) (λ q. q)
+      late gp =
+          by-le (ta + d a b) (suc (gp .last))
+          (λ q. absurd (gp .idle (inl (heard (suc (gp .last)) q (omega (arith, gp .place)))))) (λ q. q)
 
       -- it was not a run of a that ended there
-      not-a : {l : ℕ} (h : Hears n d E b l) → h .from ≡ a → l + suc g ≡ tb → suc l < ta + d a b → E (h .from) (suc (h .at)) ≡ false → ⊥
+      not-a : {l : ℕ} (h : Hears n d E b l) → h .from ≡ a → l + suc g ≡ tb → suc l < ta + d a b
+          → E (h .from) (suc (h .at)) ≡ false → ⊥
       not-a h c at lt e =
           let w : h .at + d a b ≡ _ = rw c at (h .delay) in
           let r = ended-own a ta (h .at) ha sa (rw c at (h .on)) (rw c at e) (omega arith) in
@@ -155,7 +186,8 @@ module _ {n span g m : ℕ} {d : ℕ → ℕ → ℕ} {E : ℕ → ℕ → Bool}
           by-eq (h .from) a
           (λ c. absurd (not-a h c at lt e))
           (λ c. by-le ta (h .at + d (h .from) a)
-          (λ q. absurd (quiet (h .at + d (h .from) a) q (omega (arith, h .delay, T .metric .tri (h .from) b a, T .metric .symm a b))
+          (λ q. absurd (quiet (h .at + d (h .from) a) q
+          (omega (arith, h .delay, T .metric .tri (h .from) b a, T .metric .symm a b))
           (record { from = h .from; at = h .at; station = h .station; other = c; delay = refl; on = h .on })))
           (λ q. let r = ended a (h .from) ta (h .at) ha (h .station) c sa (h .on) e q in
           let w = T .metric .wide (h .from) b (h .station) hb in
@@ -180,15 +212,32 @@ module _ {n span g m : ℕ} {d : ℕ → ℕ → ℕ} {E : ℕ → ℕ → Bool}
 
   -- The start of the run that holds a step.
   run-start : (i s : ℕ) → E i s ≡ true → (t : ℕ) × (t ≤ s) × Start E i t × ((u : ℕ) → t ≤ u → u ≤ s → E i u ≡ true)
-  run-start i zero on = (0, omega arith, record { on = on; fresh = λ s z. absurd (omega arith) }, λ u lo hi. subst (λ (x : ℕ). E i x ≡ true) (omega arith) on)
+  run-start i zero on = (
+    0,
+    omega arith,
+    record {
+      on = on;
+      fresh = λ s z. absurd (omega arith);
+    },
+    λ u lo hi. subst (λ (x : ℕ). E i x ≡ true) (omega arith) on,
+  )
   run-start i (suc s) on =
       by-test (E i s)
       (λ e. let r = run-start i s e in
       (r .0, omega (arith, r .1), r .2, λ u lo hi. by-eq u (suc s) (λ z. rw z on) (λ z. r .3 u lo (omega arith))))
-      (λ e. (suc s, omega arith, record { on = on; fresh = λ x z. rw (suc-inj z) e }, λ u lo hi. subst (λ (x : ℕ). E i x ≡ true) (omega arith) on))
+      (λ e. (
+        suc s,
+        omega arith,
+        record {
+          on = on;
+          fresh = λ x z. rw (suc-inj z) e;
+        },
+        λ u lo hi. subst (λ (x : ℕ). E i x ≡ true) (omega arith) on,
+      ))
 
   -- The end of a run that ends within k steps.
-  run-end : (i s k : ℕ) → E i s ≡ true → E i (s + k) ≡ false → (e : ℕ) × (s ≤ e) × (e < s + k) × (E i e ≡ true) × (E i (suc e) ≡ false)
+  run-end : (i s k : ℕ) → E i s ≡ true → E i (s + k) ≡ false
+      → (e : ℕ) × (s ≤ e) × (e < s + k) × (E i e ≡ true) × (E i (suc e) ≡ false)
   run-end i s zero on off = clash on (rw add-zero at off)
   run-end i s (suc k) on off =
       by-test (E i (s + k))
@@ -210,7 +259,14 @@ module _ {n span g m : ℕ} {d : ℕ → ℕ → ℕ} {E : ℕ → ℕ → Bool}
       let ne : a ≡ b → ⊥ = λ z. h .other (sym z) in
       let first : tb ≡ h .at =
       by-le (h .at) tb (λ q. omega (arith, r .1)) (λ q. absurd (quiet (u - 1) (omega arith) (omega arith)
-      (record { from = b; at = h .at - 1; station = h .station; other = h .other; delay = omega (arith, h .delay); on = r .3 (h .at - 1) (omega arith) (omega arith) }))) in
+      (record {
+        from = b;
+        at = h .at - 1;
+        station = h .station;
+        other = h .other;
+        delay = omega (arith, h .delay);
+        on = r .3 (h .at - 1) (omega arith) (omega arith);
+      }))) in
       by-le (ta + d a b) tb
       (λ q. let k = main a b ta tb ha (h .station) ne sa (r .2) q (λ s lo hi. on s lo (omega (arith, h .delay)))
       (λ y lo hi. quiet y lo (omega (arith, h .delay))) in
@@ -222,20 +278,23 @@ module _ {n span g m : ℕ} {d : ℕ → ℕ → ℕ} {E : ℕ → ℕ → Bool}
     pub apart : (b s : ℕ) → b < n → (a ≡ b → ⊥) → E b s ≡ true → (s + d a b + suc g ≤ ta) ⊎ (te + d a b + suc g ≤ s)
     apart b s hb ne o =
         by-le ta (s + d a b)
-        (λ q. by-le (s + d a b) te (λ z. absurd (c .quiet (s + d a b) q z (heard s (s + d a b) refl o))) (λ z. inr (after z)))
+        (λ q. by-le (s + d a b) te (λ z. absurd (c .quiet (s + d a b) q z (heard s (s + d a b) refl o)))
+        (λ z. inr (after z)))
         (λ q. inl (before q))
       where
         nb : b ≡ a → ⊥
         nb z = ne (sym z)
 
         heard : (x t : ℕ) → x + d a b ≡ t → E b x ≡ true → Hears n d E a t
-        heard x t w e = record { from = b; at = x; station = hb; other = nb; delay = omega (arith, T .metric .symm a b); on = e }
+        heard x t w e =
+            record { from = b; at = x; station = hb; other = nb; delay = omega (arith, T .metric .symm a b); on = e }
 
         before : s + d a b < ta → s + d a b + suc g ≤ ta
         before q = by-test (E b (s + (ta - (s + d a b))))
             (λ e. absurd (c .quiet ta (omega arith) (c .order) (heard (s + (ta - (s + d a b))) ta (omega arith) e)))
             (λ e. let r = run-end b s (ta - (s + d a b)) o e in
-            let k = ended a b ta (r .0) (c .station) hb nb (c .start) (r .3) (r .4) (omega (arith, r .2, T .metric .symm a b)) in
+            let k = ended a b ta (r .0) (c .station) hb nb (c .start) (r .3) (r .4)
+            (omega (arith, r .2, T .metric .symm a b)) in
             omega (arith, r .1, T .metric .symm a b))
 
         after : te < s + d a b → te + d a b + suc g ≤ s
@@ -245,15 +304,20 @@ module _ {n span g m : ℕ} {d : ℕ → ℕ → ℕ} {E : ℕ → ℕ → Bool}
             let w = T .metric .wide a b (c .station) hb in
             let late : te < tb + d a b =
             by-le (suc te) (tb + d a b) (λ z. z) (λ z.
-            by-le ta (tb + d a b) (λ y. absurd (c .quiet (tb + d a b) y (omega arith) (heard tb (tb + d a b) refl (r .2 .on))))
-            (λ y. absurd (c .quiet ta (omega arith) (c .order) (heard (ta - d a b) ta (omega arith) (r .3 (ta - d a b) (omega arith) (omega arith)))))) in
+            by-le ta (tb + d a b) (λ y. absurd (c .quiet (tb + d a b) y (omega arith)
+            (heard tb (tb + d a b) refl (r .2 .on))))
+            (λ y. absurd (c .quiet ta (omega arith) (c .order)
+            (heard (ta - d a b) ta (omega arith) (r .3 (ta - d a b) (omega arith) (omega arith)))))) in
             by-le (suc (te + d a b)) tb
-            (λ z. let k = ended b a tb te hb (c .station) ne (r .2) (c .on te (c .order) (omega arith)) (c .off) z in omega (arith, r .1))
-            (λ z. let k = main a b ta tb (c .station) hb ne (c .start) (r .2) (omega arith) (λ x lo hi. c .on x lo (omega arith)) (λ y lo hi. c .quiet y lo (omega arith)) in
+            (λ z. let k = ended b a tb te hb (c .station) ne (r .2) (c .on te (c .order) (omega arith))
+            (c .off) z in omega (arith, r .1))
+            (λ z. let k = main a b ta tb (c .station) hb ne (c .start) (r .2) (omega arith)
+            (λ x lo hi. c .on x lo (omega arith)) (λ y lo hi. c .quiet y lo (omega arith)) in
             absurd (omega (arith, k .0, k .1)))
 
     -- At station j: nothing of another station from one step before the run to one step after it.
-    pub alone : (j b s t : ℕ) → j < n → b < n → (a ≡ b → ⊥) → 0 < g → E b s ≡ true → s + d b j ≡ t → (suc t < ta + d a j) ⊎ (te + d a j + 1 < t)
+    pub alone : (j b s t : ℕ) → j < n → b < n → (a ≡ b → ⊥) → 0 < g → E b s ≡ true → s + d b j ≡ t
+        → (suc t < ta + d a j) ⊎ (te + d a j + 1 < t)
     alone j b s t hj hb ne pos o w =
         either (apart b s hb ne o)
         (λ h. inl (omega (arith, T .metric .tri a b j, T .metric .tri b a j, T .metric .symm a b)))
@@ -271,10 +335,13 @@ module _ {n span g m : ℕ} {d : ℕ → ℕ → ℕ} {E : ℕ → ℕ → Bool}
     silent-before j t hj ne pos w h =
         by-eq a (h .from)
         (λ z. clash (rw (← z) at (h .on)) (c .start .fresh (h .at) (omega (arith, rw (← z) at (h .delay)))))
-        (λ z. either (alone j (h .from) (h .at) t hj (h .station) z pos (h .on) (h .delay)) (λ k. omega arith) (λ k. omega arith))
+        (λ z. either (alone j (h .from) (h .at) t hj (h .station) z pos (h .on) (h .delay)) (λ k. omega arith)
+        (λ k. omega arith))
 
     pub silent-after : (j : ℕ) → j < n → (a ≡ j → ⊥) → 0 < g → Hears n d E j (suc (te + d a j)) → ⊥
     silent-after j hj ne pos h =
         by-eq a (h .from)
-        (λ z. clash (rw (← z) at (h .on)) (subst (λ (x : ℕ). E a x ≡ false) (omega (arith, rw (← z) at (h .delay))) (c .off)))
-        (λ z. either (alone j (h .from) (h .at) (suc (te + d a j)) hj (h .station) z pos (h .on) (h .delay)) (λ k. omega arith) (λ k. omega arith))
+        (λ z. clash (rw (← z) at (h .on))
+        (subst (λ (x : ℕ). E a x ≡ false) (omega (arith, rw (← z) at (h .delay))) (c .off)))
+        (λ z. either (alone j (h .from) (h .at) (suc (te + d a j)) hj (h .station) z pos (h .on) (h .delay))
+        (λ k. omega arith) (λ k. omega arith))

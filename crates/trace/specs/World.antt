@@ -1,5 +1,5 @@
--- The pair in document 01's words: stations, their frames and buffers, and every symbol emitted so far. Numbers have no bound here.
--- The laws are in Run and Hear. Assumes nothing.
+-- The pair in document 01's words: stations, their frames and buffers, and every symbol emitted so far. Numbers have no
+-- bound here. The laws are in Run and Hear. Assumes nothing.
 use Prim.Native.Nat.{ℕ, zero, suc, _<_}
 use mathlib.Core.Path.{_≡_}
 use mathlib.Core.Bool.{false}
@@ -39,8 +39,8 @@ pub record Offer (P : Net) : Type 0 where
 unfoldable pub frameFor : (P : Net) → Offer P → List ℕ
 frameFor P o = frameOf (o .destination) (P .address (o .to)) (o .value) (o .payload)
 
--- frame i is that of station i's last accepted offer, buffer i what it collected; past i s is what it emitted in step s, silence from
--- the clock on
+-- frame i is that of station i's last accepted offer, buffer i what it collected; past i s is what it emitted in step
+-- s, silence from the clock on
 pub record World : Type 0 where
   pub clock : ℕ
   pub station : ℕ → Station
@@ -51,7 +51,9 @@ pub record World : Type 0 where
 -- ---- a step
 
 unfoldable pub outcome : Net → World → ℕ → Stepped
-outcome P w i = stepped (P .fig) (w .station i) (P .depth) (P .draw i (w .station i .draw)) (w .buffer i) (heard P (w .past) i (w .clock))
+outcome P w i =
+    stepped (P .fig) (w .station i) (P .depth) (P .draw i (w .station i .draw)) (w .buffer i)
+    (heard P (w .past) i (w .clock))
 
 unfoldable pub symbol : Net → World → ℕ → Symbol
 symbol P w i = symbolOf (w .frame i) (outcome P w i .emission)

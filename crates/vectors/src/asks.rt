@@ -148,7 +148,7 @@ fn run(area: &mut [u8], a: &[u8], out: &mut [u8]) -> u32 {
     if a.len() < 4 {
         return 0;
     }
-    if out.len() < 48 {
+    if out.len() < c_words::RUN_OUT {
         return 0;
     }
     let r = fast_run::run(area, octets_words::get32(a, 0));

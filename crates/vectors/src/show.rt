@@ -27,8 +27,8 @@ fn print_words(out: &[u8], n: usize) {
     }
 }
 
-// The words that a call writes, of which the first ones tell enough: the figures and the fit of a sheet, where client data lie, the counts of a
-// run and how it ended, the counters, the events of two stations.
+// The words that a call writes, of which the first ones tell enough: the figures and the fit of a sheet, where client
+// data lie, the counts of a run and how it ended, the counters, the events of two stations.
 fn words_of(call: u8) -> usize {
     match call {
         b's' => 8,

@@ -3,6 +3,9 @@ use Rattle.area.specs.CodeLaws.{figures-are}
 use borrow.Author.Needs.{needs}
 use Rattle.area.proofs.read_figures.Statement.{statement}
 use Rattle.area.proofs.read_figures.Tie as tie
+use Rattle.area.proofs.read_figures.Reads as reads
+use Rattle.area.proofs.read_figures.Lts as lts
+use Rattle.octets_words.proofs.get32.Reads as get32-reads
 
 get32-requires : tie.Need-get32-requires
 get32-requires c κs = search needs
@@ -22,6 +25,9 @@ get32-requires-5 c κs = search needs
 get32-requires-6 : tie.Need-get32-requires-6
 get32-requires-6 c κs = search needs
 
+get32-requires-7 : tie.Need-get32-requires-7
+get32-requires-7 c κs = search needs
+
 returns : tie.Need-returns
 returns c = search figures-are
 
@@ -35,4 +41,5 @@ read-figures-spec =
     get32-requires-4
     get32-requires-5
     get32-requires-6
+    get32-requires-7
     returns)

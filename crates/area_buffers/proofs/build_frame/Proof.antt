@@ -33,7 +33,9 @@ same-length : tie.Need-same-length
 same-length c = search needs
 
 returns : tie.Need-returns
-returns c = built-is _ _ _ _ _ _ _ _ (c .before .before .build .ensures) (c .before .before .before .before .read-address .ensures) (omega arith) (omega arith) (omega arith) (omega arith)
+returns c =
+    built-is _ _ _ _ _ _ _ _ (c .before .before .build .ensures)
+    (c .before .before .before .before .read-address .ensures) (omega arith) (omega arith) (omega arith) (omega arith)
 
 pub build-frame-spec : {M : Type 1} → statement M
 build-frame-spec =

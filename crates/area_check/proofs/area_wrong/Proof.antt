@@ -1,5 +1,6 @@
 -- `area_check::area_wrong` meets its contract. Assumes nothing.
-use Rattle.area_check.specs.AreaCheckLaws.{wrong-layout, wrong-depth, wrong-clock, wrong-station, count-small, gap-small, slot-small}
+use Rattle.area_check.specs.AreaCheckLaws.{wrong-layout, wrong-depth, wrong-clock, wrong-station, count-small}
+use Rattle.area_check.specs.AreaCheckLaws.{gap-small, slot-small}
 use native.Mathlib.Omega.{arith}
 use borrow.Author.Needs.{needs}
 use Rattle.area_check.proofs.area_wrong.Statement.{statement}

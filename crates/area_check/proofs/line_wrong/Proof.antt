@@ -9,12 +9,14 @@ use Rattle.area_check.specs.Valid.{symbolWrong}
 use Rattle.area_check.specs.AreaCheckLaws.{line-none, line-more, line-end}
 use Rattle.area_check.proofs.line_wrong.Statement.{statement}
 use Rattle.area_check.proofs.line_wrong.Tie as tie
+use Rattle.area.specs.Offsets.{ring}
+use Rattle.area.specs.Area.{maxCode}
 
 abbrev Inv-loop : tie.InvT-loop
-Inv-loop area i top₀ u₀ top u = (u ≤ 256) × (some (symbolWrong area i) u ≡ ltb 4 top)
+Inv-loop area i top₀ u₀ top u = (u ≤ ring) × (some (symbolWrong area i) u ≡ ltb maxCode top)
 
 abbrev μ-loop : tie.MeasureT-loop
-μ-loop area i top₀ u₀ top u = 256 - u
+μ-loop area i top₀ u₀ top u = ring - u
 
 loop-holds : tie.Need-loop-holds Inv-loop μ-loop
 loop-holds c = (omega arith, search line-none)
@@ -38,4 +40,6 @@ returns : tie.Need-returns Inv-loop μ-loop
 returns c = search line-end
 
 pub line-wrong-spec : {M : Type 1} → statement M
-line-wrong-spec = tie.close (tie.spec Inv-loop μ-loop loop-holds read-symbol-requires larger-requires add-u loop-less loop-again returns)
+line-wrong-spec =
+    tie.close (tie.spec Inv-loop μ-loop loop-holds read-symbol-requires larger-requires add-u loop-less loop-again
+    returns)

@@ -1,5 +1,6 @@
 -- `area_check::receiver_wrong` meets its contract. Assumes nothing.
-use Rattle.area_check.specs.RecordLaws.{receiver-1, receiver-2, receiver-3, receiver-4, receiver-5, receiver-6, receiver-7}
+use Rattle.area_check.specs.RecordLaws.{receiver-1, receiver-2, receiver-3, receiver-4, receiver-5, receiver-6}
+use Rattle.area_check.specs.RecordLaws.{receiver-7}
 use borrow.Author.Needs.{needs}
 use Rattle.area_check.proofs.receiver_wrong.Statement.{statement}
 use Rattle.area_check.proofs.receiver_wrong.Tie as tie

@@ -1,5 +1,6 @@
 -- `area_check::transmitter_wrong` meets its contract. Assumes nothing.
-use Rattle.area_check.specs.RecordLaws.{transmitter-1, transmitter-2, transmitter-3, transmitter-4, transmitter-5, transmitter-6, frame-small}
+use Rattle.area_check.specs.RecordLaws.{transmitter-1, transmitter-2, transmitter-3, transmitter-4, transmitter-5}
+use Rattle.area_check.specs.RecordLaws.{transmitter-6, frame-small}
 use native.Mathlib.Omega.{arith}
 use borrow.Author.Needs.{needs}
 use Rattle.area_check.proofs.transmitter_wrong.Statement.{statement}
@@ -7,6 +8,9 @@ use Rattle.area_check.proofs.transmitter_wrong.Tie as tie
 
 read-word-requires : tie.Need-read-word-requires
 read-word-requires c κs = search needs
+
+last-phase-requires : tie.Need-last-phase-requires
+last-phase-requires c κs = search needs
 
 returns : tie.Need-returns
 returns c = search transmitter-1
@@ -52,6 +56,7 @@ transmitter-wrong-spec =
     tie.close
     (tie.spec
     read-word-requires
+    last-phase-requires
     returns
     read-word-requires-2
     attempts-wrong-requires

@@ -1,5 +1,5 @@
 -- `area_line::heard_of` meets its contract. Assumes nothing.
-use Rattle.area.specs.CodeLaws.{heard-nothing, heard-zero, heard-one, heard-jam, heard-several}
+use Rattle.area.specs.CodeLaws.{heard-nothing, heard-zero, heard-one, heard-spoiled}
 use Rattle.area_line.proofs.heard_of.Statement.{statement}
 use Rattle.area_line.proofs.heard_of.Tie as tie
 
@@ -13,10 +13,7 @@ returns-3 : tie.Need-returns-3
 returns-3 c = search heard-one
 
 returns-4 : tie.Need-returns-4
-returns-4 c = search heard-jam
-
-returns-5 : tie.Need-returns-5
-returns-5 c = search heard-several
+returns-4 c = search heard-spoiled
 
 pub heard-of-spec : {M : Type 1} → statement M
-heard-of-spec = tie.close (tie.spec returns returns-2 returns-3 returns-4 returns-5)
+heard-of-spec = tie.close (tie.spec returns returns-2 returns-3 returns-4)

@@ -21,7 +21,12 @@ same-length : tie.Need-same-length
 same-length c = search needs
 
 returns : tie.Need-returns
-returns c = accepted-is _ _ _ _ _ _ _ _ _ _ (c .before .before .count-offer .ensures) (c .before .before .before .before .before .before .hold-frame .ensures) (c .before .before .before .before .before .before .before .frame-size .ensures) (c .before .before .before .before .before .before .before .before .before .before .before .build-frame .ensures) (c .before .before .before .before .before .before .before .before .before .before .before .before .before .before .before .pre .1) (omega arith) (address-six _ _ (omega arith) (omega arith))
+returns c =
+    accepted-is _ _ _ _ _ _ _ _ _ _ (c .before .before .count-offer .ensures)
+    (c .before .before .before .before .before .before .hold-frame .ensures)
+    (c .before .before .before .before .before .before .before .frame-size .ensures)
+    (c .before .before .before .before .before .before .before .before .before .before .before .build-frame .ensures)
+    (c .before .before .before .before .before .before .before .before .before .before .before .before .before .before .before .pre .1) (omega arith) (address-six _ _ (omega arith) (omega arith))
 
 pub accept-spec : {M : Type 1} → statement M
 accept-spec =

@@ -33,7 +33,10 @@ same-length-3 : tie.Need-same-length-3
 same-length-3 c = search needs
 
 returns-3 : tie.Need-returns-3
-returns-3 c = offer-data _ _ _ _ _ _ _ _ (c .before .before .before .before .before .before .refusal .ensures) (c .before .before .before .before .before .if1 .left) (c .before .before .before .read-count .ensures) (c .before .before .if2 .left) (c .before .refuses .ensures) (c .if3 .taken)
+returns-3 c =
+    offer-data _ _ _ _ _ _ _ _ (c .before .before .before .before .before .before .refusal .ensures)
+    (c .before .before .before .before .before .if1 .left) (c .before .before .before .read-count .ensures)
+    (c .before .before .if2 .left) (c .before .refuses .ensures) (c .if3 .taken)
 
 read-station-requires : tie.Need-read-station-requires
 read-station-requires c κs = (search passes-station, search passes-long)
@@ -45,16 +48,20 @@ same-length-4 : tie.Need-same-length-4
 same-length-4 c = search needs
 
 returns-4 : tie.Need-returns-4
-returns-4 c = offer-held _ _ _ _ _ _ _ _ _ _ (c .before .before .before .before .before .before .before .before .before .before .refusal .ensures) (c .before .before .before .before .before .before .before .before .before .if1 .left) (c .before .before .before .before .before .before .before .read-count .ensures) (c .before .before .before .before .before .before .if2 .left) (c .before .before .before .before .before .refuses .ensures) (c .before .before .before .before .if3 .left) (c .before .has-frame .ensures) (c .before .before .read-station .ensures) (c .if4 .taken)
+returns-4 c =
+    offer-held _ _ _ _ _ _ _ _ _ _ (c .before .before .before .before .before .before .before .before .before .before .refusal .ensures) (c .before .before .before .before .before .before .before .before .before .if1 .left) (c .before .before .before .before .before .before .before .read-count .ensures) (c .before .before .before .before .before .before .if2 .left) (c .before .before .before .before .before .refuses .ensures) (c .before .before .before .before .if3 .left) (c .before .has-frame .ensures) (c .before .before .read-station .ensures) (c .if4 .taken)
 
 accept-requires : tie.Need-accept-requires
-accept-requires c κs = ((passes-station _ _ _ _ (c .before .before .before .before .before .before .before .before .before .before .before .refusal .ensures) (c .before .before .before .before .before .before .before .before .before .before .if1 .left) (c .before .before .before .before .before .before .before .before .read-count .ensures) (c .before .before .before .before .before .before .before .if2 .left), passes-long _ _ (c .before .before .before .before .before .before .before .before .before .before .before .refusal .ensures) (c .before .before .before .before .before .before .before .before .before .before .if1 .left)), not-refused _ _ _ (c .before .before .before .before .before .before .refuses .ensures) (c .before .before .before .before .before .if3 .left))
+accept-requires c κs =
+    ((passes-station _ _ _ _ (c .before .before .before .before .before .before .before .before .before .before .before .refusal .ensures) (c .before .before .before .before .before .before .before .before .before .before .if1 .left) (c .before .before .before .before .before .before .before .before .read-count .ensures) (c .before .before .before .before .before .before .before .if2 .left), passes-long _ _ (c .before .before .before .before .before .before .before .before .before .before .before .refusal .ensures) (c .before .before .before .before .before .before .before .before .before .before .if1 .left)), not-refused _ _ _ (c .before .before .before .before .before .before .refuses .ensures) (c .before .before .before .before .before .if3 .left))
 
 same-length-5 : tie.Need-same-length-5
 same-length-5 c = search needs
 
 returns-5 : tie.Need-returns-5
-returns-5 c = offer-made _ _ _ _ _ _ _ _ _ _ _ (c .before .before .accept .ensures) (c .before .before .before .before .before .before .before .before .before .before .before .before .before .before .refusal .ensures) (c .before .before .before .before .before .before .before .before .before .before .before .before .before .if1 .left) (c .before .before .before .before .before .before .before .before .before .before .before .read-count .ensures) (c .before .before .before .before .before .before .before .before .before .before .if2 .left) (c .before .before .before .before .before .before .before .before .before .refuses .ensures) (c .before .before .before .before .before .before .before .before .if3 .left) (c .before .before .before .before .before .has-frame .ensures) (c .before .before .before .before .before .before .read-station .ensures) (c .before .before .before .before .if4 .left)
+returns-5 c =
+    offer-made _ _ _ _ _ _ _ _ _ _ _ (c .before .before .accept .ensures)
+    (c .before .before .before .before .before .before .before .before .before .before .before .before .before .before .refusal .ensures) (c .before .before .before .before .before .before .before .before .before .before .before .before .before .if1 .left) (c .before .before .before .before .before .before .before .before .before .before .before .read-count .ensures) (c .before .before .before .before .before .before .before .before .before .before .if2 .left) (c .before .before .before .before .before .before .before .before .before .refuses .ensures) (c .before .before .before .before .before .before .before .before .if3 .left) (c .before .before .before .before .before .has-frame .ensures) (c .before .before .before .before .before .before .read-station .ensures) (c .before .before .before .before .if4 .left)
 
 pub offer-spec : {M : Type 1} → statement M
 offer-spec =

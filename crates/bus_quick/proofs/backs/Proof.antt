@@ -43,7 +43,11 @@ both-requires : tie.Need-both-requires
 both-requires c κs = search needs
 
 returns : tie.Need-returns
-returns c = (search backs-is, octets-by _ (λ k. omega (arith, c .before .before .before .before .before .shared-slice-known .given k)))
+returns c = (
+  search backs-is,
+  octets-by _ (λ k.
+      omega (arith, c .before .before .before .before .before .shared-slice-known .given k)),
+)
 
 pub backs-spec : {M : Type 1} → statement M
 backs-spec =

@@ -31,7 +31,8 @@ both-requires : tie.Need-both-requires
 both-requires c κs = search needs
 
 returns : tie.Need-returns
-returns c = (search hears-is, octets-by _ (λ k. omega (arith, c .before .before .before .before .shared-slice-known .given k)))
+returns c =
+    (search hears-is, octets-by _ (λ k. omega (arith, c .before .before .before .before .shared-slice-known .given k)))
 
 pub hears-spec : {M : Type 1} → statement M
 hears-spec =

@@ -29,7 +29,11 @@ is-readable-requires : tie.Need-is-readable-requires
 is-readable-requires c κs = search needs
 
 returns-3 : tie.Need-returns-3
-returns-3 c = read-none _ _ _ _ _ _ _ 0 (c .before .before .before .before .before .before .refusal .ensures .0) (c .before .before .before .before .before .if1 .left) (c .before .before .before .before .read-count .ensures) (c .before .before .before .if2 .left) (c .before .before .read-station .ensures) (c .before .is-readable .ensures) (not-true _ (c .if3 .taken))
+returns-3 c =
+    read-none _ _ _ _ _ _ _ 0 (c .before .before .before .before .before .before .refusal .ensures .0)
+    (c .before .before .before .before .before .if1 .left) (c .before .before .before .before .read-count .ensures)
+    (c .before .before .before .if2 .left) (c .before .before .read-station .ensures) (c .before .is-readable .ensures)
+    (not-true _ (c .if3 .taken))
 
 octets-in-requires : tie.Need-octets-in-requires
 octets-in-requires c κs = search needs
@@ -38,7 +42,13 @@ cast-if4 : tie.Need-cast-if4
 cast-if4 c = search needs
 
 returns-4 : tie.Need-returns-4
-returns-4 c = read-short _ _ _ _ _ _ _ _ (c .before .before .before .before .before .before .before .before .refusal .ensures .0) (c .before .before .before .before .before .before .before .if1 .left) (c .before .before .before .before .before .before .read-count .ensures) (c .before .before .before .before .before .if2 .left) (c .before .before .before .before .read-station .ensures) (c .before .before .before .is-readable .ensures) (not-false _ (c .before .before .if3 .left)) (c .before .octets-in .ensures) (c .if4 .taken)
+returns-4 c =
+    read-short _ _ _ _ _ _ _ _ (c .before .before .before .before .before .before .before .before .refusal .ensures .0)
+    (c .before .before .before .before .before .before .before .if1 .left)
+    (c .before .before .before .before .before .before .read-count .ensures)
+    (c .before .before .before .before .before .if2 .left) (c .before .before .before .before .read-station .ensures)
+    (c .before .before .before .is-readable .ensures) (not-false _ (c .before .before .if3 .left))
+    (c .before .octets-in .ensures) (c .if4 .taken)
 
 cast-copy-frame : tie.Need-cast-copy-frame
 cast-copy-frame c = search needs
@@ -50,7 +60,8 @@ same-length : tie.Need-same-length
 same-length c = search needs
 
 returns-5 : tie.Need-returns-5
-returns-5 c = read-made _ _ _ _ _ _ _ _ (c .before .before .before .before .before .before .before .before .before .before .before .before .refusal .ensures .0) (c .before .before .before .before .before .before .before .before .before .before .before .if1 .left) (c .before .before .before .before .before .before .before .before .before .before .read-count .ensures) (c .before .before .before .before .before .before .before .before .before .if2 .left) (c .before .before .before .before .before .before .before .before .read-station .ensures) (c .before .before .before .before .before .before .before .is-readable .ensures) _ (not-false _ (c .before .before .before .before .before .before .if3 .left)) (c .before .before .before .before .before .octets-in .ensures) (c .before .before .before .before .if4 .left) (c .before .before .copy-frame .ensures)
+returns-5 c =
+    read-made _ _ _ _ _ _ _ _ (c .before .before .before .before .before .before .before .before .before .before .before .before .refusal .ensures .0) (c .before .before .before .before .before .before .before .before .before .before .before .if1 .left) (c .before .before .before .before .before .before .before .before .before .before .read-count .ensures) (c .before .before .before .before .before .before .before .before .before .if2 .left) (c .before .before .before .before .before .before .before .before .read-station .ensures) (c .before .before .before .before .before .before .before .is-readable .ensures) _ (not-false _ (c .before .before .before .before .before .before .if3 .left)) (c .before .before .before .before .before .octets-in .ensures) (c .before .before .before .before .if4 .left) (c .before .before .copy-frame .ensures)
 
 pub read-frame-spec : {M : Type 1} → statement M
 read-frame-spec =

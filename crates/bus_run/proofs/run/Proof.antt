@@ -23,7 +23,12 @@ read-clock-requires : tie.Need-read-clock-requires
 read-clock-requires c κs = search passes-long
 
 sub-if2 : tie.Need-sub-if2
-sub-if2 c = omega (arith, clock-within _ _ _ (c .before .before .before .refusal .ensures .0) (c .before .before .if1 .left) (c .before .before .before .refusal .ensures .1) (c .read-clock .ensures))
+sub-if2 c =
+    omega (
+      arith,
+      clock-within _ _ _ (c .before .before .before .refusal .ensures .0) (c .before .before .if1 .left)
+          (c .before .before .before .refusal .ensures .1) (c .read-clock .ensures),
+    )
 
 no-run-requires-2 : tie.Need-no-run-requires-2
 no-run-requires-2 c κs = search needs
@@ -44,7 +49,12 @@ same-length-3 : tie.Need-same-length-3
 same-length-3 c = search needs
 
 returns-3 : tie.Need-returns-3
-returns-3 c = ran-made _ _ _ _ _ (c .before .before .before .run-steps .ensures) (c .before .before .before .before .before .before .before .before .before .before .refusal .ensures .0) (c .before .before .before .before .before .before .before .before .before .if1 .left) (c .before .before .before .before .before .before .before .read-clock .ensures) (clock-within _ _ _ (c .before .before .before .before .before .before .before .before .before .before .refusal .ensures .0) (c .before .before .before .before .before .before .before .before .before .if1 .left) (c .before .before .before .before .before .before .before .before .before .before .refusal .ensures .1) (c .before .before .before .before .before .before .before .read-clock .ensures)) (omega arith)
+returns-3 c =
+    ran-made _ _ _ _ _ (c .before .before .before .run-steps .ensures)
+    (c .before .before .before .before .before .before .before .before .before .before .refusal .ensures .0)
+    (c .before .before .before .before .before .before .before .before .before .if1 .left)
+    (c .before .before .before .before .before .before .before .read-clock .ensures)
+    (clock-within _ _ _ (c .before .before .before .before .before .before .before .before .before .before .refusal .ensures .0) (c .before .before .before .before .before .before .before .before .before .if1 .left) (c .before .before .before .before .before .before .before .before .before .before .refusal .ensures .1) (c .before .before .before .before .before .before .before .read-clock .ensures)) (omega arith)
 
 pub run-spec : {M : Type 1} → statement M
 run-spec =

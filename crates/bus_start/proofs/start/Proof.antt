@@ -1,6 +1,7 @@
 -- `bus_start::start` meets its contract. Assumes nothing.
 use native.Mathlib.Omega.{arith}
-use Rattle.bus_start.specs.StartLaws.{start-short, start-layout, start-depth, start-made, start-few, start-shallow}
+use Rattle.bus_start.specs.StartLaws.{start-short, start-layout, start-depth, start-made, start-few}
+use Rattle.bus_start.specs.StartLaws.{start-shallow}
 use borrow.Author.Needs.{needs}
 use Rattle.bus_start.proofs.start.Statement.{statement}
 use Rattle.bus_start.proofs.start.Tie as tie

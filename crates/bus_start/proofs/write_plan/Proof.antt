@@ -24,7 +24,11 @@ same-length : tie.Need-same-length
 same-length c = search needs
 
 returns : tie.Need-returns
-returns c = plan-written _ _ _ _ _ _ _ _ _ (c .before .before .write-draws .ensures) (c .before .before .before .before .before .before .write-depth .ensures) (c .before .before .before .before .before .before .before .before .before .before .write-taps .ensures) (c .before .before .before .before .before .before .before .before .before .before .before .before .before .before .write-figures .ensures) refl
+returns c =
+    plan-written _ _ _ _ _ _ _ _ _ (c .before .before .write-draws .ensures)
+    (c .before .before .before .before .before .before .write-depth .ensures)
+    (c .before .before .before .before .before .before .before .before .before .before .write-taps .ensures)
+    (c .before .before .before .before .before .before .before .before .before .before .before .before .before .before .write-figures .ensures) refl
 
 pub write-plan-spec : {M : Type 1} → statement M
 write-plan-spec =

@@ -28,7 +28,10 @@ same-length-2 : tie.Need-same-length-2
 same-length-2 c = search needs
 
 returns-2 : tie.Need-returns-2
-returns-2 c = step-over _ _ (c .no-step2 .result) _ (c .no-step2 .ensures .0) (c .no-step2 .ensures .1) (c .before .before .before .before .before .refusal .ensures .0) (c .before .before .before .before .if1 .left) (c .before .before .read-clock .ensures) (c .before .if2 .taken)
+returns-2 c =
+    step-over _ _ (c .no-step2 .result) _ (c .no-step2 .ensures .0) (c .no-step2 .ensures .1)
+    (c .before .before .before .before .before .refusal .ensures .0) (c .before .before .before .before .if1 .left)
+    (c .before .before .read-clock .ensures) (c .before .if2 .taken)
 
 step-requires : tie.Need-step-requires
 step-requires c κs = (search passes-long, omega arith, search step-ready)

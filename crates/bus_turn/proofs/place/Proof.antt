@@ -20,7 +20,11 @@ same-length : tie.Need-same-length
 same-length c = search needs
 
 returns : tie.Need-returns
-returns c = placed-is _ _ _ _ _ _ _ _ (c .before .before .put-arrival .ensures) (c .before .before .before .before .before .before .keep-bit .ensures) (c .before .before .before .before .before .before .before .before .before .before .count-step .ensures) (c .before .before .before .before .before .before .before .before .before .before .before .before .before .before .store .ensures)
+returns c =
+    placed-is _ _ _ _ _ _ _ _ (c .before .before .put-arrival .ensures)
+    (c .before .before .before .before .before .before .keep-bit .ensures)
+    (c .before .before .before .before .before .before .before .before .before .before .count-step .ensures)
+    (c .before .before .before .before .before .before .before .before .before .before .before .before .before .before .store .ensures)
 
 pub place-spec : {M : Type 1} → statement M
 place-spec =

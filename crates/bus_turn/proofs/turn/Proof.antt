@@ -43,7 +43,15 @@ returns-3 : tie.Need-returns-3
 returns-3 c = (search taken-area, search no-events)
 
 work-requires-2 : tie.Need-work-requires-2
-work-requires-2 c κs = (omega arith, omega arith, omega arith, omega arith, still-able _ _ _ _ _ _ _ _ (c .before .before .before .before .hearing .ensures) (c .before .if3 .left) (c .before .before .before .before .before .before .before .before .before .before .pre .4))
+work-requires-2 c κs = (
+  omega arith,
+  omega arith,
+  omega arith,
+  omega arith,
+  still-able _ _ _ _ _ _ _ _
+      (c .before .before .before .before .hearing .ensures) (c .before .if3 .left)
+      (c .before .before .before .before .before .before .before .before .before .before .pre .4),
+)
 
 same-length-4 : tie.Need-same-length-4
 same-length-4 c = search needs

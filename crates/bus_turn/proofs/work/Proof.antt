@@ -22,7 +22,15 @@ returns : tie.Need-returns
 returns c = (search taken-area, search no-events)
 
 general-requires : tie.Need-general-requires
-general-requires c κs = (omega arith, omega arith, omega arith, omega arith, still-able _ _ _ _ _ _ _ _ (c .before .before .before .before .waits .ensures) (c .before .if2 .left) (c .before .before .before .before .before .before .before .before .before .before .pre .4))
+general-requires c κs = (
+  omega arith,
+  omega arith,
+  omega arith,
+  omega arith,
+  still-able _ _ _ _ _ _ _ _
+      (c .before .before .before .before .waits .ensures) (c .before .if2 .left)
+      (c .before .before .before .before .before .before .before .before .before .before .pre .4),
+)
 
 same-length-2 : tie.Need-same-length-2
 same-length-2 c = search needs

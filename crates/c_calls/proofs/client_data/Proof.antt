@@ -1,5 +1,6 @@
 -- `c_calls::client_data` meets its contract. Assumes nothing.
-use Rattle.c_calls.specs.CallLaws.{status-number-low, client-refused, client-short, client-value-small, client-made}
+use Rattle.c_calls.specs.CallLaws.{status-number-low, client-refused, client-short, client-value-small}
+use Rattle.c_calls.specs.CallLaws.{client-made}
 use borrow.Author.Needs.{needs}
 use Rattle.c_calls.proofs.client_data.Statement.{statement}
 use Rattle.c_calls.proofs.client_data.Tie as tie

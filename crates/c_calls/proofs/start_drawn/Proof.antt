@@ -1,5 +1,6 @@
 -- `c_calls::start_drawn` meets its contract. Assumes nothing.
-use Rattle.c_calls.specs.CallLaws.{drawn-depth, drawn-size, drawn-made, start-number-low, draws-few, draws-deep, draws-room}
+use Rattle.c_calls.specs.CallLaws.{drawn-depth, drawn-size, drawn-made, start-number-low, draws-few, draws-deep}
+use Rattle.c_calls.specs.CallLaws.{draws-room}
 use Prim.Native.Nat.{_*_, _≤_}
 use native.Mathlib.Omega.{arith}
 use borrow.Author.Needs.{needs}
@@ -19,10 +20,14 @@ cast-n : tie.Need-cast-n
 cast-n c = search needs
 
 mul-if2 : tie.Need-mul-if2
-mul-if2 c = let h : c .before .before .before .before .before .args .y .count * c .before .before .before .before .before .args .depth ≤ 256 = search draws-few in omega arith
+mul-if2 c =
+    let h : c .before .before .before .before .before .args .y .count *
+    c .before .before .before .before .before .args .depth ≤ 256 = search draws-few in omega arith
 
 mul-if2-2 : tie.Need-mul-if2-2
-mul-if2-2 c = let h : c .before .before .before .before .before .args .y .count * c .before .before .before .before .before .args .depth ≤ 256 = search draws-few in omega arith
+mul-if2-2 c =
+    let h : c .before .before .before .before .before .args .y .count *
+    c .before .before .before .before .before .args .depth ≤ 256 = search draws-few in omega arith
 
 reply-requires-2 : tie.Need-reply-requires-2
 reply-requires-2 c κs = search needs

@@ -22,6 +22,9 @@ get32-requires-5 c κs = search needs
 get32-requires-6 : tie.Need-get32-requires-6
 get32-requires-6 c κs = search needs
 
+get32-requires-7 : tie.Need-get32-requires-7
+get32-requires-7 c κs = search needs
+
 returns : tie.Need-returns
 returns c = search figures-read
 
@@ -35,4 +38,5 @@ read-figures-spec =
     get32-requires-4
     get32-requires-5
     get32-requires-6
+    get32-requires-7
     returns)

@@ -9,9 +9,10 @@ use Rattle.sheet_layout.specs.Layout.{placesOf}
 use Rattle.c_checks.specs.CheckCalls.{tapWritten}
 use Rattle.c_checks.proofs.read_taps.Statement.{statement}
 use Rattle.c_checks.proofs.read_taps.Tie as tie
+use Rattle.sheet_layout.specs.Limits.{maxStations}
 
 abbrev Inv-loop : tie.InvT-loop
-Inv-loop s all₀ i₀ all i = (i ≤ 16) × (length all ≡ 16) × (all ≡ placesOf (tapWritten s) i)
+Inv-loop s all₀ i₀ all i = (i ≤ maxStations) × (length all ≡ 16) × (all ≡ placesOf (tapWritten s) i)
 
 abbrev μ-loop : tie.MeasureT-loop
 μ-loop s all₀ i₀ all i = 16 - i
@@ -35,7 +36,12 @@ loop-less : tie.Need-loop-less Inv-loop μ-loop
 loop-less c = omega arith
 
 loop-again : tie.Need-loop-again Inv-loop μ-loop
-loop-again c = (omega arith, simp length-set (search needs), filled-more _ (tapWritten _) _ 16 _ _ (c .read-tap .ensures) (omega arith) (omega arith) (c .before .before .loop .inv .2))
+loop-again c = (
+  omega arith,
+  simp length-set (search needs),
+  filled-more _ (tapWritten _) _ 16 _ _ (c .read-tap .ensures)
+      (omega arith) (omega arith) (c .before .before .loop .inv .2),
+)
 
 returns : tie.Need-returns Inv-loop μ-loop
 returns c = search filled-end

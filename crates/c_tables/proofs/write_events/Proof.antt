@@ -8,9 +8,10 @@ use borrow.Author.Needs.{needs}
 use native.Mathlib.Omega.{arith}
 use Rattle.c_tables.proofs.write_events.Statement.{statement}
 use Rattle.c_tables.proofs.write_events.Tie as tie
+use Rattle.sheet_layout.specs.Limits.{maxStations}
 
 abbrev Inv-loop : tie.InvT-loop
-Inv-loop out₀ events i₀ out i = (i ≤ 16) × (length out ≡ length out₀) × (out ≡ eventsPut events i out₀)
+Inv-loop out₀ events i₀ out i = (i ≤ maxStations) × (length out ≡ length out₀) × (out ≡ eventsPut events i out₀)
 
 abbrev μ-loop : tie.MeasureT-loop
 μ-loop out₀ events i₀ out i = 16 - i

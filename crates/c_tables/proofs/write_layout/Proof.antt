@@ -16,6 +16,9 @@ store-words-requires c κs = search needs
 write-taps-requires : tie.Need-write-taps-requires
 write-taps-requires c κs = search needs
 
+put32-requires : tie.Need-put32-requires
+put32-requires c κs = search needs
+
 same-length : tie.Need-same-length
 same-length c = search needs
 
@@ -30,5 +33,6 @@ write-layout-spec =
     slice-aggregate-store-words
     store-words-requires
     write-taps-requires
+    put32-requires
     same-length
     returns)

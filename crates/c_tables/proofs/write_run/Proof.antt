@@ -13,6 +13,9 @@ slice-aggregate-store-words c = search needs
 store-words-requires : tie.Need-store-words-requires
 store-words-requires c κs = search needs
 
+mul-store-words : tie.Need-mul-store-words
+mul-store-words c = search needs
+
 slice-aggregate-store-words-2 : tie.Need-slice-aggregate-store-words-2
 slice-aggregate-store-words-2 c = search needs
 
@@ -32,6 +35,7 @@ write-run-spec =
     ended-words-requires
     slice-aggregate-store-words
     store-words-requires
+    mul-store-words
     slice-aggregate-store-words-2
     store-words-requires-2
     same-length

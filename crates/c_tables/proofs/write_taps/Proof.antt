@@ -8,9 +8,10 @@ use borrow.Author.Needs.{needs}
 use native.Mathlib.Omega.{arith}
 use Rattle.c_tables.proofs.write_taps.Statement.{statement}
 use Rattle.c_tables.proofs.write_taps.Tie as tie
+use Rattle.sheet_layout.specs.Limits.{maxStations}
 
 abbrev Inv-loop : tie.InvT-loop
-Inv-loop out₀ taps i₀ out i = (i ≤ 16) × (length out ≡ length out₀) × (out ≡ tapsPut taps i out₀)
+Inv-loop out₀ taps i₀ out i = (i ≤ maxStations) × (length out ≡ length out₀) × (out ≡ tapsPut taps i out₀)
 
 abbrev μ-loop : tie.MeasureT-loop
 μ-loop out₀ taps i₀ out i = 16 - i

@@ -1,5 +1,6 @@
 use native.Mathlib.Omega.{arith}
-use Rattle.fast_advance.specs.AdvanceLaws.{leap-none, left-ready, left-room, leap-silence, leap-most, unmoved-ready, unmoved-room, leap-window, window-most}
+use Rattle.fast_advance.specs.AdvanceLaws.{leap-none, left-ready, left-room, leap-silence, leap-most}
+use Rattle.fast_advance.specs.AdvanceLaws.{unmoved-ready, unmoved-room, leap-window, window-most}
 use borrow.Author.Needs.{needs}
 use Rattle.fast_advance.proofs.leap.Statement.{statement}
 use Rattle.fast_advance.proofs.leap.Tie as tie

@@ -18,7 +18,16 @@ ahead-of-requires : tie.Need-ahead-of-requires
 ahead-of-requires c κs = search needs
 
 silent-runs-requires : tie.Need-silent-runs-requires
-silent-runs-requires c κs = (omega arith, omega arith, omega arith, omega arith, search needs, search needs, search start-bits, search under-start)
+silent-runs-requires c κs = (
+  omega arith,
+  omega arith,
+  omega arith,
+  omega arith,
+  search needs,
+  search needs,
+  search start-bits,
+  search under-start,
+)
 
 returns-2 : tie.Need-returns-2
 returns-2 c = search needs

@@ -13,7 +13,8 @@ use Rattle.area.proofs.read_word.Reads as read-word-reads
 use Rattle.fast_heard.proofs.counted.Reads as counted-reads
 
 abbrev Inv-loop : tie.InvT-loop
-Inv-loop area n list₀ count₀ i₀ list count i = (i ≤ n) × (count ≤ i) × (length list ≡ length list₀) × Lists area i list count
+Inv-loop area n list₀ count₀ i₀ list count i =
+    (i ≤ n) × (count ≤ i) × (length list ≡ length list₀) × Lists area i list count
 
 abbrev μ-loop : tie.MeasureT-loop
 μ-loop area n list₀ count₀ i₀ list count i = n - i

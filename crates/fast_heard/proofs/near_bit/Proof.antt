@@ -17,7 +17,8 @@ returns-3 : tie.Need-returns-3
 returns-3 c = search bit-jam
 
 read-word-requires-2 : tie.Need-read-word-requires-2
-read-word-requires-2 c κs = (c .before .before .before .before .before .before .pre .1 (omega arith), omega arith, omega arith)
+read-word-requires-2 c κs =
+    (c .before .before .before .before .before .before .pre .1 (omega arith), omega arith, omega arith)
 
 returns-4 : tie.Need-returns-4
 returns-4 c = search bit-next

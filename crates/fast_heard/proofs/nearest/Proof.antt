@@ -15,7 +15,9 @@ use Rattle.area.proofs.read_position.Reads as read-position-reads
 use Rattle.fast_heard.proofs.note.Reads as note-reads
 
 abbrev Inv-loop : tie.InvT-loop
-Inv-loop area n j list count p near₀ k₀ near k = (k ≤ count) × (p ≡ positionAt area j) × (near ≡ turns (λ s u. noted (emitsAt area) (spaceTo area j) j (getD list s 0) u) k noNear)
+Inv-loop area n j list count p near₀ k₀ near k =
+    (k ≤ count) × (p ≡ positionAt area j)
+    × (near ≡ turns (λ s u. noted (emitsAt area) (spaceTo area j) j (getD list s 0) u) k noNear)
 
 abbrev μ-loop : tie.MeasureT-loop
 μ-loop area n j list count p near₀ k₀ near k = count - k

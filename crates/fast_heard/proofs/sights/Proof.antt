@@ -15,7 +15,8 @@ use Rattle.fast_heard.proofs.emitters.Reads as emitters-reads
 use Rattle.fast_heard.proofs.see.Reads as see-reads
 
 abbrev Inv-loop : tie.InvT-loop
-Inv-loop area n list count all₀ j₀ all j = (j ≤ n) × (length all ≡ 16) × Lists area n list count × (all ≡ filled unseen (sightOf area n) j)
+Inv-loop area n list count all₀ j₀ all j =
+    (j ≤ n) × (length all ≡ 16) × Lists area n list count × (all ≡ filled unseen (sightOf area n) j)
 
 abbrev μ-loop : tie.MeasureT-loop
 μ-loop area n list count all₀ j₀ all j = n - j

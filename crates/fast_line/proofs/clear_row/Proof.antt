@@ -9,9 +9,11 @@ use Rattle.fast_line.proofs.clear_row.Statement.{statement}
 use Rattle.fast_line.proofs.clear_row.Tie as tie
 use Rattle.fast_line.proofs.clear_row.Reads as reads
 use Rattle.fast_line.proofs.clear_row.Lts as lts
+use Rattle.area.specs.Offsets.{ring, from, theLine}
 
 abbrev Inv-loop : tie.InvT-loop
-Inv-loop area₀ j u n first s₀ area s = (s ≤ n) × (first ≡ 4096 + 256 * j + u % 256) × (length area ≡ length area₀) × (area ≡ cleared u j s area₀)
+Inv-loop area₀ j u n first s₀ area s =
+    (s ≤ n) × (first ≡ from (theLine j) + u % ring) × (length area ≡ length area₀) × (area ≡ cleared u j s area₀)
 
 abbrev μ-loop : tie.MeasureT-loop
 μ-loop area₀ j u n first s₀ area s = n - s

@@ -9,12 +9,13 @@ use Rattle.fast_line.specs.Line.{inUse}
 use Rattle.fast_line.specs.LineLaws.{clear-none, clear-more, clear-end}
 use Rattle.fast_line.proofs.is_clear.Statement.{statement}
 use Rattle.fast_line.proofs.is_clear.Tie as tie
+use Rattle.area.specs.Offsets.{ring}
 
 abbrev Inv-loop : tie.InvT-loop
-Inv-loop area j all₀ u₀ all u = (u ≤ 256) × (some (inUse area j) u ≡ not (eqb all 0))
+Inv-loop area j all₀ u₀ all u = (u ≤ ring) × (some (inUse area j) u ≡ not (eqb all 0))
 
 abbrev μ-loop : tie.MeasureT-loop
-μ-loop area j all₀ u₀ all u = 256 - u
+μ-loop area j all₀ u₀ all u = ring - u
 
 loop-holds : tie.Need-loop-holds Inv-loop μ-loop
 loop-holds c = (omega arith, search clear-none)

@@ -22,11 +22,13 @@ abbrev μ-loop : tie.MeasureT-loop
 
 -- src/lib.rt:93:9
 go-on-requires : tie.Need-go-on-requires Inv-loop μ-loop
-go-on-requires c κs = (omega arith, omega arith, omega arith, omega arith, omega arith, omega arith, omega arith, search alike-none)
+go-on-requires c κs =
+    (omega arith, omega arith, omega arith, omega arith, omega arith, omega arith, omega arith, search alike-none)
 
 -- src/lib.rt:94:9
 go-on-requires-2 : tie.Need-go-on-requires-2 Inv-loop μ-loop
-go-on-requires-2 c κs = (omega arith, omega arith, omega arith, omega arith, omega arith, omega arith, omega arith, search needs)
+go-on-requires-2 c κs =
+    (omega arith, omega arith, omega arith, omega arith, omega arith, omega arith, omega arith, search needs)
 
 -- src/lib.rt:96:5
 loop-holds : tie.Need-loop-holds Inv-loop μ-loop

@@ -12,9 +12,12 @@ use Rattle.fast_line.proofs.note_bits.Lts as lts
 use Rattle.area_buffers.proofs.frame.Reads as frame-reads
 use Rattle.fast_line.proofs.bit_code.Reads as bit-code-reads
 use Rattle.bus_quick.proofs.capped.Reads as capped-reads
+use Rattle.area.specs.Offsets.{ring}
 
 abbrev Inv-loop : tie.InvT-loop
-Inv-loop area i octets k steps codes₀ at frame m from first put₀ codes put = (put ≤ m) × (m ≡ min 256 steps) × (from ≡ steps - m) × (first ≡ at + (256 - m)) × (length codes ≡ length codes₀) × Noted codes first m steps (bitsFrom frame k) put × Below at codes₀ codes
+Inv-loop area i octets k steps codes₀ at frame m from first put₀ codes put =
+    (put ≤ m) × (m ≡ min ring steps) × (from ≡ steps - m) × (first ≡ at + (ring - m)) × (length codes ≡ length codes₀)
+    × Noted codes first m steps (bitsFrom frame k) put × Below at codes₀ codes
 
 abbrev μ-loop : tie.MeasureT-loop
 μ-loop area i octets k steps codes₀ at frame m from first put₀ codes put = m - put
@@ -73,7 +76,16 @@ loop-less c = omega arith
 
 -- src/lib.rt:201:5
 loop-again : tie.Need-loop-again Inv-loop μ-loop
-loop-again c = (omega arith, omega arith, omega arith, omega arith, simp length-set (search needs), search bits-noted, search below-more)
+loop-again c = (
+  omega arith,
+  omega arith,
+  omega arith,
+  omega arith,
+  simp length-set
+      (search needs),
+  search bits-noted,
+  search below-more,
+)
 
 -- src/lib.rt:183:1
 same-length : tie.Need-same-length Inv-loop μ-loop

@@ -10,9 +10,12 @@ use Rattle.fast_line.proofs.note_jam.Tie as tie
 use Rattle.fast_line.proofs.note_jam.Reads as reads
 use Rattle.fast_line.proofs.note_jam.Lts as lts
 use Rattle.bus_quick.proofs.capped.Reads as capped-reads
+use Rattle.area.specs.Offsets.{ring}
 
 abbrev Inv-loop : tie.InvT-loop
-Inv-loop steps codes₀ at m first s₀ codes s = (s ≤ m) × (m ≡ min 256 steps) × (first ≡ at + (256 - m)) × (length codes ≡ length codes₀) × Noted codes first m steps jams s × Below at codes₀ codes
+Inv-loop steps codes₀ at m first s₀ codes s =
+    (s ≤ m) × (m ≡ min ring steps) × (first ≡ at + (ring - m)) × (length codes ≡ length codes₀)
+    × Noted codes first m steps jams s × Below at codes₀ codes
 
 abbrev μ-loop : tie.MeasureT-loop
 μ-loop steps codes₀ at m first s₀ codes s = m - s
@@ -51,7 +54,8 @@ loop-less c = omega arith
 
 -- src/lib.rt:216:5
 loop-again : tie.Need-loop-again Inv-loop μ-loop
-loop-again c = (omega arith, omega arith, omega arith, simp length-set (search needs), search jam-noted, search below-more)
+loop-again c =
+    (omega arith, omega arith, omega arith, simp length-set (search needs), search jam-noted, search below-more)
 
 -- src/lib.rt:208:1
 same-length : tie.Need-same-length Inv-loop μ-loop

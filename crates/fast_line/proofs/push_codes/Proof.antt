@@ -67,7 +67,11 @@ same-length c = search needs
 
 -- src/lib.rt:244:1
 returns : tie.Need-returns
-returns c = codes-rows _ _ _ _ _ _ _ _ _ _ _ _ _ (c .before .before .before .before .before .before .before .before .before .capped .ensures) refl refl (c .before .before .before .before .before .before .before .before .capped2 .ensures) (c .before .before .before .before .before .before .put-row .ensures) (c .before .before .put-row2 .ensures)
+returns c =
+    codes-rows _ _ _ _ _ _ _ _ _ _ _ _ _
+    (c .before .before .before .before .before .before .before .before .before .capped .ensures) refl refl
+    (c .before .before .before .before .before .before .before .before .capped2 .ensures)
+    (c .before .before .before .before .before .before .put-row .ensures) (c .before .before .put-row2 .ensures)
 
 pub push-codes-spec : {M : Type 1} → statement M
 push-codes-spec =

@@ -9,10 +9,12 @@ use Rattle.fast_line.proofs.put_row.Statement.{statement}
 use Rattle.fast_line.proofs.put_row.Tie as tie
 use Rattle.fast_line.proofs.put_row.Reads as reads
 use Rattle.fast_line.proofs.put_row.Lts as lts
-use Rattle.fast_line.proofs.mixed.Reads as mixed-reads
+use Rattle.area.specs.Offsets.{ring, from, theLine}
 
 abbrev Inv-loop : tie.InvT-loop
-Inv-loop area₀ j u codes at n first s₀ area s = (s ≤ n) × (first ≡ 4096 + 256 * j + u % 256) × (length area ≡ length area₀) × (area ≡ codesPut j u codes at s area₀)
+Inv-loop area₀ j u codes at n first s₀ area s =
+    (s ≤ n) × (first ≡ from (theLine j) + u % ring) × (length area ≡ length area₀)
+    × (area ≡ codesPut j u codes at s area₀)
 
 abbrev μ-loop : tie.MeasureT-loop
 μ-loop area₀ j u codes at n first s₀ area s = n - s

@@ -12,7 +12,8 @@ use Rattle.fast_lines.proofs.note_all.Lts as lts
 use Rattle.fast_lines.proofs.note_from.Reads as note-from-reads
 
 abbrev Inv-loop : tie.InvT-loop
-Inv-loop area n steps codes₀ from i₀ codes i = (i ≤ n) × (length codes ≡ length codes₀) × AllCoded codes steps from area i
+Inv-loop area n steps codes₀ from i₀ codes i =
+    (i ≤ n) × (length codes ≡ length codes₀) × AllCoded codes steps from area i
 
 abbrev μ-loop : tie.MeasureT-loop
 μ-loop area n steps codes₀ from i₀ codes i = n - i

@@ -13,7 +13,8 @@ use Rattle.fast_lines.proofs.push_all.Lts as lts
 use Rattle.fast_lines.proofs.push_from.Reads as push-from-reads
 
 abbrev Inv-loop : tie.InvT-loop
-Inv-loop area₀ n j t steps codes from i₀ area i = (i ≤ n) × (length area ≡ length area₀) × (area ≡ waysTo area₀ (planBy area₀ from) steps j i area₀)
+Inv-loop area₀ n j t steps codes from i₀ area i =
+    (i ≤ n) × (length area ≡ length area₀) × (area ≡ waysTo area₀ (planBy area₀ from) steps j i area₀)
 
 abbrev μ-loop : tie.MeasureT-loop
 μ-loop area₀ n j t steps codes from i₀ area i = n - i

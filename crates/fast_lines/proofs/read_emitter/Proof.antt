@@ -21,7 +21,9 @@ read-word-requires-3 : tie.Need-read-word-requires-3
 read-word-requires-3 c κs = search needs
 
 returns-3 : tie.Need-returns-3
-returns-3 c = emitter-sends _ _ _ _ _ (c .read-word3 .ensures) (c .before .read-word2 .ensures) (c .before .before .before .before .read-word .ensures) (omega arith) (omega arith)
+returns-3 c =
+    emitter-sends _ _ _ _ _ (c .read-word3 .ensures) (c .before .read-word2 .ensures)
+    (c .before .before .before .before .read-word .ensures) (omega arith) (omega arith)
 
 pub read-emitter-spec : {M : Type 1} → statement M
 read-emitter-spec =

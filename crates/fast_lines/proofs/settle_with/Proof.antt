@@ -14,7 +14,9 @@ use Rattle.fast_lines.proofs.note_all.Reads as note-all-reads
 use Rattle.fast_lines.proofs.settle_line.Reads as settle-line-reads
 
 abbrev Inv-loop : tie.InvT-loop
-Inv-loop area₀ n t steps from codes j₀ area j = (j ≤ n) × (length area ≡ length area₀) × (area ≡ linesDone area₀ (planBy area₀ from) steps j area₀) × AllCoded codes steps from area₀ n
+Inv-loop area₀ n t steps from codes j₀ area j =
+    (j ≤ n) × (length area ≡ length area₀) × (area ≡ linesDone area₀ (planBy area₀ from) steps j area₀)
+    × AllCoded codes steps from area₀ n
 
 abbrev μ-loop : tie.MeasureT-loop
 μ-loop area₀ n t steps from codes j₀ area j = n - j

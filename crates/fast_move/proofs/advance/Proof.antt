@@ -23,11 +23,13 @@ is-emitting-requires c κs = search needs
 
 -- src/lib.rt:196:8
 can-move-requires : tie.Need-can-move-requires
-can-move-requires c κs = (omega arith, omega arith, omega arith, search moving-movable, search moving-held, search needs)
+can-move-requires c κs =
+    (omega arith, omega arith, omega arith, search moving-movable, search moving-held, search needs)
 
 -- src/lib.rt:197:9
 move-at-once-requires : tie.Need-move-at-once-requires
-move-at-once-requires c κs = (omega arith, omega arith, search moving-movable, search needs, omega arith, omega arith, search needs)
+move-at-once-requires c κs =
+    (omega arith, omega arith, search moving-movable, search needs, omega arith, omega arith, search needs)
 
 -- src/lib.rt:198:9
 same-length : tie.Need-same-length
@@ -35,7 +37,8 @@ same-length c = search needs
 
 -- src/lib.rt:198:9
 returns : tie.Need-returns
-returns c = (advance-all _ _ _ _ _ (c .before .before .before .before .before .before .before .before .before .before .before .before .pre .6) _ _ _ _ _ _ _ _ _ (c .before .before .before .before .before .before .before .before .before .before .before .before .pre .2) (c .before .before .before .before .before .before .before .before .before .before .before .before .pre .3) (c .before .before .before .before .before .before .before .before .before .before .before .before .pre .7) (c .before .before .before .before .before .before .before .before .read-station .ensures) refl (c .before .before .before .before .before .before .before .is-emitting .ensures) (c .before .before .before .before .before .can-move .ensures) (c .before .before .before .before .if1 .taken) (c .before .before .move-at-once .ensures), (omega arith, omega arith))
+returns c =
+    (advance-all _ _ _ _ _ (c .before .before .before .before .before .before .before .before .before .before .before .before .pre .6) _ _ _ _ _ _ _ _ _ (c .before .before .before .before .before .before .before .before .before .before .before .before .pre .2) (c .before .before .before .before .before .before .before .before .before .before .before .before .pre .3) (c .before .before .before .before .before .before .before .before .before .before .before .before .pre .7) (c .before .before .before .before .before .before .before .before .read-station .ensures) refl (c .before .before .before .before .before .before .before .is-emitting .ensures) (c .before .before .before .before .before .can-move .ensures) (c .before .before .before .before .if1 .taken) (c .before .before .move-at-once .ensures), (omega arith, omega arith))
 
 -- src/lib.rt:200:9
 heard-first-requires : tie.Need-heard-first-requires

@@ -17,7 +17,10 @@ same-length : tie.Need-same-length
 same-length c = search needs
 
 returns : tie.Need-returns
-returns c = left-is _ _ _ _ _ _ (c .before .before .keep-bit .ensures) (c .before .before .before .before .before .before .count-step .ensures) (c .before .before .before .before .before .before .before .before .before .before .write-station .ensures)
+returns c =
+    left-is _ _ _ _ _ _ (c .before .before .keep-bit .ensures)
+    (c .before .before .before .before .before .before .count-step .ensures)
+    (c .before .before .before .before .before .before .before .before .before .before .write-station .ensures)
 
 pub leave-spec : {M : Type 1} → statement M
 leave-spec =

@@ -57,7 +57,13 @@ same-length : tie.Need-same-length
 same-length c = search needs
 
 returns-5 : tie.Need-returns-5
-returns-5 c = (octets-heard _ _ _ _ _ _ _ _ _ _ _ _ (c .before .before .before .before .before .before .before .before .before .before .before .before .pre .0) (c .before .before .before .before .before .before .before .before .before .before .before .before .pre .1) (λ k. omega (arith, c .before .before .before .before .before .before .before .before .before .before .shared-slice-known .given k)) (c .before .before .before .before .before .before .before .before .before .if1 .left) (c .before .before .before .before .before .before .before .before .if2 .left) (c .before .before .before .before .before .before .before .if3 .left) (c .before .before .before .before .before .before .octets-left .ensures) (c .before .before .before .before .before .if4 .left) (c .either .ensures) (c .before .before .before .copy-octets .ensures), (omega arith, omega arith, omega arith))
+returns-5 c = (
+  octets-heard _ _ _ _ _ _ _ _ _ _ _ _
+      (c .before .before .before .before .before .before .before .before .before .before .before .before .pre .0)
+      (c .before .before .before .before .before .before .before .before .before .before .before .before .pre .1)
+      (λ k. omega (arith, c .before .before .before .before .before .before .before .before .before .before .shared-slice-known .given k)) (c .before .before .before .before .before .before .before .before .before .if1 .left) (c .before .before .before .before .before .before .before .before .if2 .left) (c .before .before .before .before .before .before .before .if3 .left) (c .before .before .before .before .before .before .octets-left .ensures) (c .before .before .before .before .before .if4 .left) (c .either .ensures) (c .before .before .before .copy-octets .ensures),
+  (omega arith, omega arith, omega arith),
+)
 
 pub collect-octets-spec : {M : Type 1} → statement M
 collect-octets-spec =

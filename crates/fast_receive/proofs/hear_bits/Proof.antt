@@ -2,7 +2,7 @@
 use Prim.Native.Nat.{_≤_, _<_, _-_, _+_}
 use mathlib.Core.Path.{_≡_, refl}
 use lib.ListN.{length}
-use Rattle.station_receive.specs.Receive.{rowIn, bitsIn}
+use Rattle.station_receive.specs.Receive.{rowIn, bitsIn, rowLimit}
 use borrow.Author.Needs.{needs}
 use native.Mathlib.Omega.{arith}
 use Rattle.fast_receive.specs.Received.{taken, heardAll, bitsFrom}
@@ -11,7 +11,9 @@ use Rattle.fast_receive.proofs.hear_bits.Statement.{statement}
 use Rattle.fast_receive.proofs.hear_bits.Tie as tie
 
 abbrev Inv-loop : tie.InvT-loop
-Inv-loop area₀ j frame a e m q₀ s₀ area q s = (s ≤ m) × (length area ≡ length area₀) × (taken q area ≡ heardAll j e (bitsFrom frame a) s (taken q₀ area₀)) × (rowIn q < 512) × (bitsIn q ≤ bitsIn q₀ + s)
+Inv-loop area₀ j frame a e m q₀ s₀ area q s =
+    (s ≤ m) × (length area ≡ length area₀) × (taken q area ≡ heardAll j e (bitsFrom frame a) s (taken q₀ area₀))
+    × (rowIn q < rowLimit) × (bitsIn q ≤ bitsIn q₀ + s)
 
 abbrev μ-loop : tie.MeasureT-loop
 μ-loop area₀ j frame a e m q₀ s₀ area q s = m - s

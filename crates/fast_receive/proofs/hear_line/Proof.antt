@@ -1,7 +1,7 @@
 use Rattle.fast_receive.specs.Strides.{line-on, line-left}
 use Rattle.fast_receive.specs.CodeLaws.{all-none, all-end}
 use Rattle.fast_receive.specs.Received.{taken, heardAll, lineFrom}
-use Rattle.station_receive.specs.Receive.{rowIn, bitsIn}
+use Rattle.station_receive.specs.Receive.{rowIn, bitsIn, rowLimit}
 use lib.ListN.{length}
 use mathlib.Core.Path.{_≡_, refl}
 use Prim.Native.Nat.{_≤_, _<_, _-_, _+_}
@@ -14,7 +14,9 @@ use Rattle.fast_receive.proofs.hear_line.Lts as lts
 use Rattle.fast_receive.proofs.hear_some.Reads as hear-some-reads
 
 abbrev Inv-loop : tie.InvT-loop
-Inv-loop area₀ j u e m q₀ s₀ area q s = (s ≤ m) × (length area ≡ length area₀) × (taken q area ≡ heardAll j e (lineFrom area₀ j u) s (taken q₀ area₀)) × (rowIn q < 512) × (bitsIn q ≤ bitsIn q₀ + s)
+Inv-loop area₀ j u e m q₀ s₀ area q s =
+    (s ≤ m) × (length area ≡ length area₀) × (taken q area ≡ heardAll j e (lineFrom area₀ j u) s (taken q₀ area₀))
+    × (rowIn q < rowLimit) × (bitsIn q ≤ bitsIn q₀ + s)
 
 abbrev μ-loop : tie.MeasureT-loop
 μ-loop area₀ j u e m q₀ s₀ area q s = m - s
@@ -37,7 +39,8 @@ sub-hear-some c = omega arith
 
 -- src/lib.rt:160:13
 hear-some-requires : tie.Need-hear-some-requires Inv-loop μ-loop
-hear-some-requires c κs = (omega arith, omega arith, omega arith, omega arith, omega arith, search line-left, omega arith)
+hear-some-requires c κs =
+    (omega arith, omega arith, omega arith, omega arith, omega arith, search line-left, omega arith)
 
 -- src/lib.rt:162:9
 add-s : tie.Need-add-s Inv-loop μ-loop

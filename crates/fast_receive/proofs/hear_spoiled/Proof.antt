@@ -1,5 +1,6 @@
 -- `fast_receive::hear_spoiled` meets its contract. Assumes nothing.
-use Rattle.fast_receive.specs.CodeLaws.{spoiled-none, spoiled-listens, spoiled-reads, spoiled-seeks, spoiled-collects, collects-bits, collects-room}
+use Rattle.fast_receive.specs.CodeLaws.{spoiled-none, spoiled-listens, spoiled-reads, spoiled-seeks}
+use Rattle.fast_receive.specs.CodeLaws.{spoiled-collects, collects-bits, collects-room}
 use native.Mathlib.Omega.{arith}
 use borrow.Author.Needs.{needs}
 use Rattle.fast_receive.proofs.hear_spoiled.Statement.{statement}

@@ -1,6 +1,6 @@
 use Rattle.fast_receive.specs.CodeLaws.{all-none, join}
 use Rattle.fast_receive.specs.Received.{taken, heardAll, bitsFrom}
-use Rattle.station_receive.specs.Receive.{rowIn, bitsIn}
+use Rattle.station_receive.specs.Receive.{rowIn, bitsIn, rowLimit}
 use lib.ListN.{length}
 use mathlib.Core.Path.{_≡_, refl}
 use Prim.Native.Nat.{_≤_, _<_, _-_, _+_}
@@ -14,7 +14,9 @@ use Rattle.fast_receive.proofs.begins_octet.Reads as begins-octet-reads
 use Rattle.fast_receive.proofs.hear_next.Reads as hear-next-reads
 
 abbrev Inv-loop : tie.InvT-loop
-Inv-loop area₀ j frame a e m q₀ s₀ area q s = (s ≤ m) × (length area ≡ length area₀) × (taken q area ≡ heardAll j e (bitsFrom frame a) s (taken q₀ area₀)) × (rowIn q < 512) × (bitsIn q ≤ bitsIn q₀ + s)
+Inv-loop area₀ j frame a e m q₀ s₀ area q s =
+    (s ≤ m) × (length area ≡ length area₀) × (taken q area ≡ heardAll j e (bitsFrom frame a) s (taken q₀ area₀))
+    × (rowIn q < rowLimit) × (bitsIn q ≤ bitsIn q₀ + s)
 
 abbrev μ-loop : tie.MeasureT-loop
 μ-loop area₀ j frame a e m q₀ s₀ area q s = m - s

@@ -9,7 +9,12 @@ buffer-requires : tie.Need-buffer-requires
 buffer-requires c κs = search needs
 
 shared-slice-read-wide : tie.Need-shared-slice-read-wide
-shared-slice-read-wide c = omega (arith, buffer-long _ _ _ (c .before .buffer .ensures) (c .before .before .before .before .pre .0) (c .before .before .before .before .pre .1))
+shared-slice-read-wide c =
+    omega (
+      arith,
+      buffer-long _ _ _ (c .before .buffer .ensures) (c .before .before .before .before .pre .0)
+          (c .before .before .before .before .pre .1),
+    )
 
 wide-requires : tie.Need-wide-requires
 wide-requires c κs = search needs

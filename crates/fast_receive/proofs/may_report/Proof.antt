@@ -1,5 +1,6 @@
 -- `fast_receive::may_report` meets its contract. Assumes nothing.
-use Rattle.fast_receive.specs.EndLaws.{may-listening, may-readable, may-seeking, may-short, may-own, may-early, may-addressed}
+use Rattle.fast_receive.specs.EndLaws.{may-listening, may-readable, may-seeking, may-short, may-own, may-early}
+use Rattle.fast_receive.specs.EndLaws.{may-addressed}
 use Rattle.fast_receive.specs.CodeLaws.{collecting-room}
 use borrow.Author.Needs.{needs}
 use Rattle.fast_receive.proofs.may_report.Statement.{statement}

@@ -34,7 +34,10 @@ either-requires c κs = search needs
 
 -- src/lib.rt:207:1
 returns-2 : tie.Need-returns-2
-returns-2 c = (pass-some _ _ _ _ _ _ _ _ (c .before .before .preamble-left .ensures) (c .before .if1 .left) (c .either .ensures), (omega arith, omega arith, omega arith))
+returns-2 c = (
+  pass-some _ _ _ _ _ _ _ _ (c .before .before .preamble-left .ensures) (c .before .if1 .left) (c .either .ensures),
+  (omega arith, omega arith, omega arith),
+)
 
 pub pass-row-spec : {M : Type 1} → statement M
 pass-row-spec =

@@ -13,8 +13,8 @@ enum-told-2 c = search needs
 enum-known-x : tie.Need-enum-known-x
 enum-known-x c = search needs
 
-sub-t9 : tie.Need-sub-t9
-sub-t9 c = search needs
+sub-t10 : tie.Need-sub-t10
+sub-t10 c = search needs
 
 returns : tie.Need-returns
 returns c = search tx-backs
@@ -53,7 +53,7 @@ rest-transmitter-spec =
     enum-told
     enum-told-2
     enum-known-x
-    sub-t9
+    sub-t10
     returns
     enum-known-x-2
     enum-known-x-3

@@ -11,15 +11,18 @@ use Rattle.fast_advance.specs.AdvanceLaws.{advance-runs, run-goes-on, run-stops
 use Rattle.station_tally.specs.TallyLaws.{Bounded, zero-bounded}
 use Rattle.fast_run.proofs.run_steps.Statement.{statement}
 use Rattle.fast_run.proofs.run_steps.Tie as tie
+use Rattle.sheet_layout.specs.Limits.{maxStations}
 
 abbrev Inv-loop : tie.InvT-loop
-Inv-loop area words n ended₀ t events i₀ ended i = (i ≤ 16) × (ended ≡ All) × NoneLate events i
+Inv-loop area words n ended₀ t events i₀ ended i = (i ≤ maxStations) × (ended ≡ All) × NoneLate events i
 
 abbrev μ-loop : tie.MeasureT-loop
 μ-loop area words n ended₀ t events i₀ ended i = 16 - i
 
 abbrev Inv-steps : tie.InvT-steps
-Inv-steps area₀ words₀ n ended₀ t₀ area words ended t = (t ≤ n) × (length area ≡ length area₀) × (length words ≡ length words₀) × (ended ≡ All) × Runnable (n - t) area × Bounded words (32 * t) × (runOf (n - t) t words area ≡ runOf n 0 words₀ area₀)
+Inv-steps area₀ words₀ n ended₀ t₀ area words ended t =
+    (t ≤ n) × (length area ≡ length area₀) × (length words ≡ length words₀) × (ended ≡ All) × Runnable (n - t) area
+    × Bounded words (32 * t) × (runOf (n - t) t words area ≡ runOf n 0 words₀ area₀)
 
 abbrev μ-steps : tie.MeasureT-steps
 μ-steps area₀ words₀ n ended₀ t₀ area words ended t = n - t
@@ -49,7 +52,8 @@ steps-less : tie.Need-steps-less Inv-loop μ-loop Inv-steps μ-steps
 steps-less c = omega arith
 
 steps-again : tie.Need-steps-again Inv-loop μ-loop Inv-steps μ-steps
-steps-again c = (omega arith, omega arith, omega arith, search needs, search advance-runs, search run-bounded, search run-goes-on)
+steps-again c =
+    (omega arith, omega arith, omega arith, search needs, search advance-runs, search run-bounded, search run-goes-on)
 
 mul-e : tie.Need-mul-e Inv-loop μ-loop Inv-steps μ-steps
 mul-e c = omega arith
@@ -57,8 +61,8 @@ mul-e c = omega arith
 array-copy-out-e : tie.Need-array-copy-out-e Inv-loop μ-loop Inv-steps μ-steps
 array-copy-out-e c = omega arith
 
-is-late-requires : tie.Need-is-late-requires Inv-loop μ-loop Inv-steps μ-steps
-is-late-requires c κs = tt
+ends-run-requires : tie.Need-ends-run-requires Inv-loop μ-loop Inv-steps μ-steps
+ends-run-requires c κs = tt
 
 cast-late-end : tie.Need-cast-late-end Inv-loop μ-loop Inv-steps μ-steps
 cast-late-end c = omega arith
@@ -112,7 +116,7 @@ run-steps-spec =
     steps-again
     mul-e
     array-copy-out-e
-    is-late-requires
+    ends-run-requires
     cast-late-end
     late-end-requires
     add-i

@@ -17,6 +17,9 @@ line-top-requires c κs = (omega arith, omega arith)
 returns : tie.Need-returns Inv-loop μ-loop
 returns c = search line-clear
 
+cast-smaller : tie.Need-cast-smaller Inv-loop μ-loop
+cast-smaller c = omega arith
+
 smaller-requires : tie.Need-smaller-requires Inv-loop μ-loop
 smaller-requires c κs = tt
 
@@ -55,6 +58,7 @@ line-rests-spec =
     μ-loop
     line-top-requires
     returns
+    cast-smaller
     smaller-requires
     loop-holds
     add-read-symbol

@@ -4,12 +4,13 @@ use Prim.Native.Nat.{_≤_, _-_}
 use Rattle.fast_search.specs.SearchLaws.{AtMost, most-none, most-more, most-end}
 use Rattle.fast_search.proofs.line_top.Statement.{statement}
 use Rattle.fast_search.proofs.line_top.Tie as tie
+use Rattle.area.specs.Offsets.{ring}
 
 abbrev Inv-loop : tie.InvT-loop
-Inv-loop area i top₀ u₀ top u = (u ≤ 256) × AtMost top area i u
+Inv-loop area i top₀ u₀ top u = (u ≤ ring) × AtMost top area i u
 
 abbrev μ-loop : tie.MeasureT-loop
-μ-loop area i top₀ u₀ top u = 256 - u
+μ-loop area i top₀ u₀ top u = ring - u
 
 loop-holds : tie.Need-loop-holds Inv-loop μ-loop
 loop-holds c = (omega arith, search most-none)

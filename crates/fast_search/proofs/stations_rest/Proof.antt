@@ -33,7 +33,11 @@ loop-less : tie.Need-loop-less Inv-loop μ-loop
 loop-less c = omega arith
 
 loop-again : tie.Need-loop-again Inv-loop μ-loop
-loop-again c = (omega arith, stations-more _ _ _ _ _ _ _ (c .before .before .before .before .before .before .pre .3) (c .before .read-station .ensures) (c .least-rest .ensures) (c .before .before .before .before .loop .inv .1))
+loop-again c = (
+  omega arith,
+  stations-more _ _ _ _ _ _ _ (c .before .before .before .before .before .before .pre .3)
+      (c .before .read-station .ensures) (c .least-rest .ensures) (c .before .before .before .before .loop .inv .1),
+)
 
 returns-2 : tie.Need-returns-2 Inv-loop μ-loop
 returns-2 c = search stations-few

@@ -1,5 +1,6 @@
 -- `fast_station::calm` meets its contract. Assumes nothing.
-use Rattle.fast_station.specs.CodeLaws.{calm-collected, calm-collects, calm-listens, calm-readable, calm-seeks, calm-sought}
+use Rattle.fast_station.specs.CodeLaws.{calm-collected, calm-collects, calm-listens, calm-readable, calm-seeks}
+use Rattle.fast_station.specs.CodeLaws.{calm-sought}
 use borrow.Author.Needs.{needs}
 use Rattle.fast_station.proofs.calm.Statement.{statement}
 use Rattle.fast_station.proofs.calm.Tie as tie

@@ -17,8 +17,8 @@ enum-known-x c = search needs
 enum-known-x-2 : tie.Need-enum-known-x-2
 enum-known-x-2 c = search needs
 
-add-t9 : tie.Need-add-t9
-add-t9 c = search sum-sends
+add-t10 : tie.Need-add-t10
+add-t10 c = search sum-sends
 
 enum-known-x-3 : tie.Need-enum-known-x-3
 enum-known-x-3 c = search needs
@@ -26,8 +26,8 @@ enum-known-x-3 c = search needs
 add-if1 : tie.Need-add-if1
 add-if1 c = search sum-heads
 
-add-t12 : tie.Need-add-t12
-add-t12 c = search needs
+add-t13 : tie.Need-add-t13
+add-t13 c = search needs
 
 returns : tie.Need-returns
 returns c = search on-heads
@@ -64,10 +64,10 @@ emit-transmitter-spec =
     enum-told-2
     enum-known-x
     enum-known-x-2
-    add-t9
+    add-t10
     enum-known-x-3
     add-if1
-    add-t12
+    add-t13
     returns
     enum-known-x-4
     less-requires

@@ -14,7 +14,8 @@ use Rattle.fast_window.proofs.move_all.Lts as lts
 use Rattle.fast_window.proofs.move_station.Reads as move-station-reads
 
 abbrev Inv-loop : tie.InvT-loop
-Inv-loop area₀ f depth n t m seen j₀ area j = (j ≤ n) × (length area ≡ length area₀) × (area ≡ ownAll area₀ (planOf area₀) m j area₀)
+Inv-loop area₀ f depth n t m seen j₀ area j =
+    (j ≤ n) × (length area ≡ length area₀) × (area ≡ ownAll area₀ (planOf area₀) m j area₀)
 
 abbrev μ-loop : tie.MeasureT-loop
 μ-loop area₀ f depth n t m seen j₀ area j = n - j
@@ -33,7 +34,16 @@ array-copy-out-w c = omega arith
 
 -- src/lib.rt:163:9
 move-station-requires : tie.Need-move-station-requires Inv-loop μ-loop
-move-station-requires c κs = (omega arith, omega arith, omega arith, search sight-bit, search sight-from, search sight-octets, search begins-gap, search all-moving)
+move-station-requires c κs = (
+  omega arith,
+  omega arith,
+  omega arith,
+  search sight-bit,
+  search sight-from,
+  search sight-octets,
+  search begins-gap,
+  search all-moving,
+)
 
 -- src/lib.rt:164:9
 add-j : tie.Need-add-j Inv-loop μ-loop

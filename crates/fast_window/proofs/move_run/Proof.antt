@@ -35,7 +35,8 @@ add-advance c = search needs
 
 -- src/lib.rt:62:5
 advance-requires : tie.Need-advance-requires
-advance-requires c κs = (omega arith, omega arith, omega arith, omega arith, omega arith, omega arith, search needs, search run-audible)
+advance-requires c κs =
+    (omega arith, omega arith, omega arith, omega arith, omega arith, omega arith, search needs, search run-audible)
 
 -- src/lib.rt:41:1
 same-length : tie.Need-same-length

@@ -13,7 +13,8 @@ use Rattle.fast_window.proofs.move_runs.Lts as lts
 use Rattle.fast_window.proofs.move_run.Reads as move-run-reads
 
 abbrev Inv-loop : tie.InvT-loop
-Inv-loop area₀ f depth j t near bit frame m s₀ area s = (s ≤ m) × (length area ≡ length area₀) × (area ≡ byItself f depth j (heardBy area₀ j t near frame bit) s area₀)
+Inv-loop area₀ f depth j t near bit frame m s₀ area s =
+    (s ≤ m) × (length area ≡ length area₀) × (area ≡ byItself f depth j (heardBy area₀ j t near frame bit) s area₀)
 
 abbrev μ-loop : tie.MeasureT-loop
 μ-loop area₀ f depth j t near bit frame m s₀ area s = m - s
@@ -24,7 +25,8 @@ loop-holds c = (omega arith, refl, search runs-none)
 
 -- src/lib.rt:82:14
 move-run-requires : tie.Need-move-run-requires Inv-loop μ-loop
-move-run-requires c κs = (omega arith, omega arith, omega arith, omega arith, omega arith, omega arith, search runs-moving)
+move-run-requires c κs =
+    (omega arith, omega arith, omega arith, omega arith, omega arith, omega arith, search runs-moving)
 
 -- src/lib.rt:82:9
 add-s : tie.Need-add-s Inv-loop μ-loop

@@ -12,7 +12,8 @@ use Rattle.octets.specs.Variant.{first-six}
 use Rattle.frame_open.specs.Open.{statusAnswer, receiveOK, opened}
 use Rattle.frame_open.specs.OpenLaws.{client-room, client-ok, client-none, other-status, refused-status}
 use Rattle.frame_open.specs.declared.ReceiveStatus.{ReceiveStatus}
-use Rattle.frame_open.specs.declared.ReceiveStatus.the-variants.{Refused, Fragment, FrameTooLong, FrameCheckError, AlignmentError, LengthError, ReceiveOk}
+use Rattle.frame_open.specs.declared.ReceiveStatus.the-variants.{Refused, Fragment, FrameTooLong, FrameCheckError}
+use Rattle.frame_open.specs.declared.ReceiveStatus.the-variants.{AlignmentError, LengthError, ReceiveOk}
 use Rattle.frame_open.proofs.ReceiveStatus.{the-type}
 use Rattle.frame_open.proofs.client_data.Statement.{statement}
 use Rattle.frame_open.proofs.client_data.Tie as tie
@@ -44,7 +45,9 @@ returns : tie.Need-returns
 returns c = search other-way
 
 add-end : tie.Need-add-end
-add-end c = let h : 14 + c .before .n .given .0 .0 ≤ length (c .before .before .before .before .before .args .frame .now) = search client-room in omega arith
+add-end c =
+    let h : 14 + c .before .n .given .0 .0 ≤ length
+    (c .before .before .before .before .before .args .frame .now) = search client-room in omega arith
 
 sub-result : tie.Need-sub-result
 sub-result c = search needs

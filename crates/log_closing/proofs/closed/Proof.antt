@@ -15,7 +15,8 @@ mul-put-first : tie.Need-mul-put-first
 mul-put-first c = search needs
 
 put-first-requires : tie.Need-put-first-requires
-put-first-requires c κs = omega (arith, room-for _ _ _ _ _ _ (c .before .before .before .refusal .ensures) (c .before .before .if1 .left))
+put-first-requires c κs =
+    omega (arith, room-for _ _ _ _ _ _ (c .before .before .before .refusal .ensures) (c .before .before .if1 .left))
 
 same-length : tie.Need-same-length
 same-length c = search needs

@@ -47,4 +47,6 @@ returns : tie.Need-returns Inv-loop μ-loop
 returns c = search stored-all
 
 pub put-spec : {M : Type 1} → statement M
-put-spec = tie.close (tie.spec Inv-loop μ-loop loop-holds mul-out shared-slice-read-out mul-out-2 slice-write-out add-i loop-less loop-again same-length returns)
+put-spec =
+    tie.close (tie.spec Inv-loop μ-loop loop-holds mul-out shared-slice-read-out mul-out-2 slice-write-out add-i
+    loop-less loop-again same-length returns)

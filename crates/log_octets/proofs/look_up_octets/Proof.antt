@@ -11,7 +11,8 @@ use Rattle.log_octets.proofs.look_up_octets.Statement.{statement}
 use Rattle.log_octets.proofs.look_up_octets.Tie as tie
 
 abbrev Inv-loop : tie.InvT-loop
-Inv-loop log n windows out m s₀ k₀ s k = (k ≤ m) × (m ≡ length log / 6) × (leftOf windows s log m k ≡ over windows (openedOf n) (entriesOf log))
+Inv-loop log n windows out m s₀ k₀ s k =
+    (k ≤ m) × (m ≡ length log / 6) × (leftOf windows s log m k ≡ over windows (openedOf n) (entriesOf log))
 
 abbrev μ-loop : tie.MeasureT-loop
 μ-loop log n windows out m s₀ k₀ s k = m - k

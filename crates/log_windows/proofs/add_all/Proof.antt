@@ -9,7 +9,8 @@ use Rattle.log_windows.proofs.add_all.Statement.{statement}
 use Rattle.log_windows.proofs.add_all.Tie as tie
 
 abbrev Inv-loop : tie.InvT-loop
-Inv-loop counts₀ windows time station word m w₀ counts w = (w ≤ m) × (counts ≡ turns (λ v x. added windows time station word v x) w counts₀)
+Inv-loop counts₀ windows time station word m w₀ counts w =
+    (w ≤ m) × (counts ≡ turns (λ v x. added windows time station word v x) w counts₀)
 
 abbrev μ-loop : tie.MeasureT-loop
 μ-loop counts₀ windows time station word m w₀ counts w = m - w

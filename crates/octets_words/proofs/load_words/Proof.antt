@@ -11,7 +11,8 @@ use Rattle.octets_words.proofs.load_words.Statement.{statement}
 use Rattle.octets_words.proofs.load_words.Tie as tie
 
 abbrev Inv-loop : tie.InvT-loop
-Inv-loop s at words₀ k₀ words k = (k ≤ length words₀) × (length words ≡ length words₀) × (words ≡ wordsAt k s at ++ drop k words₀)
+Inv-loop s at words₀ k₀ words k =
+    (k ≤ length words₀) × (length words ≡ length words₀) × (words ≡ wordsAt k s at ++ drop k words₀)
 
 abbrev μ-loop : tie.MeasureT-loop
 μ-loop s at words₀ k₀ words k = length words₀ - k

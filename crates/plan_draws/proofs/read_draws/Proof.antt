@@ -10,7 +10,8 @@ use Rattle.plan_draws.proofs.read_draws.Statement.{statement}
 use Rattle.plan_draws.proofs.read_draws.Tie as tie
 
 abbrev Inv-loop : tie.InvT-loop
-Inv-loop s at n d all₀ place₀ i₀ all place i = (i ≤ n) × (length all ≡ 16) × (place ≡ at + 2 * (i * d)) × (all ≡ drawsIn s at i d)
+Inv-loop s at n d all₀ place₀ i₀ all place i =
+    (i ≤ n) × (length all ≡ 16) × (place ≡ at + 2 * (i * d)) × (all ≡ drawsIn s at i d)
 
 abbrev μ-loop : tie.MeasureT-loop
 μ-loop s at n d all₀ place₀ i₀ all place i = n - i
@@ -31,7 +32,9 @@ mul-place : tie.Need-mul-place Inv-loop μ-loop
 mul-place c = omega arith
 
 add-place : tie.Need-add-place Inv-loop μ-loop
-add-place c = let h : c .before .before .loop .place + 2 * c .before .before .before .before .args .d ≤ length (c .before .before .before .before .args .s .now) = search row-room in omega arith
+add-place c =
+    let h : c .before .before .loop .place + 2 * c .before .before .before .before .args .d ≤ length
+    (c .before .before .before .before .args .s .now) = search row-room in omega arith
 
 add-i : tie.Need-add-i Inv-loop μ-loop
 add-i c = omega arith

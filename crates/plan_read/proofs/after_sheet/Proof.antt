@@ -37,13 +37,19 @@ cast-c-2 : tie.Need-cast-c-2
 cast-c-2 c = search needs
 
 mul-c : tie.Need-mul-c
-mul-c c = let h : c .before .before .before .before .before .before .before .args .y .count * c .before .before .before .wide .result ≤ 256 = search few in omega arith
+mul-c c =
+    let h : c .before .before .before .before .before .before .before .args .y .count *
+    c .before .before .before .wide .result ≤ 256 = search few in omega arith
 
 mul-c-2 : tie.Need-mul-c-2
-mul-c-2 c = let h : c .before .before .before .before .before .before .before .args .y .count * c .before .before .before .wide .result ≤ 256 = search few in omega arith
+mul-c-2 c =
+    let h : c .before .before .before .before .before .before .before .args .y .count *
+    c .before .before .before .wide .result ≤ 256 = search few in omega arith
 
 add-c-2 : tie.Need-add-c-2
-add-c-2 c = let h : c .before .before .before .before .before .before .before .args .y .count * c .before .before .before .wide .result ≤ 256 = search few in omega arith
+add-c-2 c =
+    let h : c .before .before .before .before .before .before .before .args .y .count *
+    c .before .before .before .wide .result ≤ 256 = search few in omega arith
 
 unread-plan-requires-3 : tie.Need-unread-plan-requires-3
 unread-plan-requires-3 c κs = search needs

@@ -7,12 +7,15 @@ use lib.ListN.{length}
 use Rattle.octets.specs.Base.{some}
 use Rattle.octets.specs.BaseLaws.{some-none}
 use Rattle.plan_read.specs.Plan.{offerPlace, timeBefore, timeFalls}
-use Rattle.plan_read.specs.PlanLaws.{walk-first, walk-zero, walk-short, walk-falls, walk-cut, walk-place, walk-time, walk-rising, walk-left, walk-end}
+use Rattle.plan_read.specs.PlanLaws.{walk-first, walk-zero, walk-short, walk-falls, walk-cut, walk-place}
+use Rattle.plan_read.specs.PlanLaws.{walk-time, walk-rising, walk-left, walk-end}
 use Rattle.plan_read.proofs.offers_wrong.Statement.{statement}
 use Rattle.plan_read.proofs.offers_wrong.Tie as tie
 
 abbrev Inv-loop : tie.InvT-loop
-Inv-loop s at count n place₀ last₀ k₀ place last k = (k ≤ count) × (place ≤ length s) × (place ≡ offerPlace s at k) × (last ≡ timeBefore s at k) × (some (timeFalls s at) k ≡ false)
+Inv-loop s at count n place₀ last₀ k₀ place last k =
+    (k ≤ count) × (place ≤ length s) × (place ≡ offerPlace s at k) × (last ≡ timeBefore s at k)
+    × (some (timeFalls s at) k ≡ false)
 
 abbrev μ-loop : tie.MeasureT-loop
 μ-loop s at count n place₀ last₀ k₀ place last k = count - k

@@ -8,9 +8,12 @@ use Rattle.report_lines.specs.Events.{stepLines}
 use Rattle.report_lines.specs.EventsLaws.{lines-none, lines-more, lines-end}
 use Rattle.report_lines.proofs.put_step.Statement.{statement}
 use Rattle.report_lines.proofs.put_step.Tie as tie
+use Rattle.sheet_layout.specs.Limits.{maxStations}
 
 abbrev Inv-loop : tie.InvT-loop
-Inv-loop out₀ t events at₀ i₀ out at i = (i ≤ 16) × (length out ≡ length out₀) × (at ≤ 96 * i) × (written at out ≡ puts out₀ 0 (stepLines t events i))
+Inv-loop out₀ t events at₀ i₀ out at i =
+    (i ≤ maxStations) × (length out ≡ length out₀) × (at ≤ 96 * i)
+    × (written at out ≡ puts out₀ 0 (stepLines t events i))
 
 abbrev μ-loop : tie.MeasureT-loop
 μ-loop out₀ t events at₀ i₀ out at i = 16 - i

@@ -1,7 +1,8 @@
 -- `report_next::advance_on` meets its contract. Assumes nothing.
 use native.Mathlib.Omega.{arith}
 use borrow.Author.Needs.{needs}
-use Rattle.report_spec.specs.PieceLaws.{on-refused, on-ended, on-last, on-offer, on-step, due-offers, due-lies, refusal-room-left, refusal-offers, refusal-steps}
+use Rattle.report_spec.specs.PieceLaws.{on-refused, on-ended, on-last, on-offer, on-step, due-offers, due-lies}
+use Rattle.report_spec.specs.PieceLaws.{refusal-room-left, refusal-offers, refusal-steps}
 use Rattle.report_next.proofs.advance_on.Statement.{statement}
 use Rattle.report_next.proofs.advance_on.Tie as tie
 
@@ -39,7 +40,12 @@ is-due-requires : tie.Need-is-due-requires
 is-due-requires c κs = (search needs, search refusal-offers)
 
 offer-piece-requires : tie.Need-offer-piece-requires
-offer-piece-requires c κs = (due-lies _ _ _ _ (c .before .before .before .is-due .ensures) (c .before .before .if4 .taken) (refusal-offers _ _ _ _ _ (c .before .before .before .before .before .before .before .before .before .refusal .ensures .0) (c .before .before .before .before .before .before .before .before .if1 .left)), search due-offers, search refusal-room-left)
+offer-piece-requires c κs = (
+  due-lies _ _ _ _ (c .before .before .before .is-due .ensures) (c .before .before .if4 .taken)
+      (refusal-offers _ _ _ _ _ (c .before .before .before .before .before .before .before .before .before .refusal .ensures .0) (c .before .before .before .before .before .before .before .before .if1 .left)),
+  search due-offers,
+  search refusal-room-left,
+)
 
 same-length-5 : tie.Need-same-length-5
 same-length-5 c = search needs
@@ -51,7 +57,8 @@ returns-4 : tie.Need-returns-4
 returns-4 c = search on-offer
 
 step-piece-requires : tie.Need-step-piece-requires
-step-piece-requires c κs = ((search needs, search refusal-steps, omega arith), (search refusal-offers, search refusal-room-left))
+step-piece-requires c κs =
+    ((search needs, search refusal-steps, omega arith), (search refusal-offers, search refusal-room-left))
 
 same-length-7 : tie.Need-same-length-7
 same-length-7 c = search needs

@@ -24,10 +24,12 @@ put-offer-requires : tie.Need-put-offer-requires
 put-offer-requires c κs = search needs
 
 add-t10 : tie.Need-add-t10
-add-t10 c = omega (arith, offer-room _ _ (c .before .before .before .before .before .before .before .before .before .before .before .before .before .pre .0))
+add-t10 c =
+    omega (arith, offer-room _ _ (c .before .before .before .before .before .before .before .before .before .before .before .before .before .pre .0))
 
 add-t16 : tie.Need-add-t16
-add-t16 c = omega (arith, lies-room _ _ (c .before .before .before .before .before .before .before .before .before .before .before .before .before .pre .0) .1, c .before .before .before .before .before .before .before .before .before .get16 .ensures .0)
+add-t16 c =
+    omega (arith, lies-room _ _ (c .before .before .before .before .before .before .before .before .before .before .before .before .before .pre .0) .1, c .before .before .before .before .before .before .before .before .before .get16 .ensures .0)
 
 sub-t9 : tie.Need-sub-t9
 sub-t9 c = search needs

@@ -9,9 +9,10 @@ use Rattle.bus_spec.specs.Run.{lateAt}
 use Rattle.report_spec.specs.PieceLaws.{late-hit, late-more}
 use Rattle.report_spec.proofs.is_late.Statement.{statement}
 use Rattle.report_spec.proofs.is_late.Tie as tie
+use Rattle.sheet_layout.specs.Limits.{maxStations}
 
 abbrev Inv-loop : tie.InvT-loop
-Inv-loop events i₀ i = (i ≤ 16) × (some (lateAt events) i ≡ false)
+Inv-loop events i₀ i = (i ≤ maxStations) × (some (lateAt events) i ≡ false)
 
 abbrev μ-loop : tie.MeasureT-loop
 μ-loop events i₀ i = 16 - i
@@ -25,8 +26,8 @@ mul-e c = omega arith
 array-copy-out-e : tie.Need-array-copy-out-e Inv-loop μ-loop
 array-copy-out-e c = omega arith
 
-is-late-requires : tie.Need-is-late-requires Inv-loop μ-loop
-is-late-requires c κs = omega arith
+ends-run-requires : tie.Need-ends-run-requires Inv-loop μ-loop
+ends-run-requires c κs = omega arith
 
 returns : tie.Need-returns Inv-loop μ-loop
 returns c = search late-hit
@@ -52,7 +53,7 @@ is-late-spec =
     loop-holds
     mul-e
     array-copy-out-e
-    is-late-requires
+    ends-run-requires
     returns
     add-i
     loop-less

@@ -16,7 +16,12 @@ read-clock-requires : tie.Need-read-clock-requires
 read-clock-requires c κs = search needs
 
 sub-if2 : tie.Need-sub-if2
-sub-if2 c = omega (arith, clock-within _ _ _ (c .before .before .refusal .ensures .0) (c .before .if1 .left) (c .before .before .refusal .ensures .1) (c .read-clock .ensures))
+sub-if2 c =
+    omega (
+      arith,
+      clock-within _ _ _ (c .before .before .refusal .ensures .0) (c .before .if1 .left)
+          (c .before .before .refusal .ensures .1) (c .read-clock .ensures),
+    )
 
 returns-2 : tie.Need-returns-2
 returns-2 c = (search refusal-clock, search needs)

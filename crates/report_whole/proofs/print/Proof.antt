@@ -24,7 +24,8 @@ part-store-run-end : tie.Need-part-store-run-end
 part-store-run-end c = search needs
 
 store-run-requires : tie.Need-store-run-requires
-store-run-requires c κs = (search needs, print-room _ _ _ (c .before .before .before .fits2 .ensures) (c .before .before .if2 .left))
+store-run-requires c κs =
+    (search needs, print-room _ _ _ (c .before .before .before .fits2 .ensures) (c .before .before .if2 .left))
 
 same-length : tie.Need-same-length
 same-length c = search needs
@@ -33,7 +34,13 @@ same-length-2 : tie.Need-same-length-2
 same-length-2 c = search needs
 
 returns-3 : tie.Need-returns-3
-returns-3 c = print-whole _ _ _ (omega arith) _ (c .before .before .before .before .before .before .before .before .fits2 .ensures) _ _ _ (c .before .before .before .before .before .before .before .if2 .left) (c .before .before .before .before .store-run .ensures .0) (c .before .before .before .before .store-run .ensures .1 .0) (c .before .before .before .before .store-run .ensures .1 .1)
+returns-3 c =
+    print-whole _ _ _ (omega arith) _
+    (c .before .before .before .before .before .before .before .before .fits2 .ensures) _ _ _
+    (c .before .before .before .before .before .before .before .if2 .left)
+    (c .before .before .before .before .store-run .ensures .0)
+    (c .before .before .before .before .store-run .ensures .1 .0)
+    (c .before .before .before .before .store-run .ensures .1 .1)
 
 pub print-spec : {M : Type 1} → statement M
 print-spec =

@@ -12,7 +12,8 @@ use Rattle.report_whole.proofs.rest_fits.Statement.{statement}
 use Rattle.report_whole.proofs.rest_fits.Tie as tie
 
 abbrev Inv-loop : tie.InvT-loop
-Inv-loop input area₀ room at buf₀ at₀ g₀ area buf at' g = (Along input at' g area) × (at' ≤ room) × (length buf ≡ 2048) × (length area ≡ length area₀)
+Inv-loop input area₀ room at buf₀ at₀ g₀ area buf at' g =
+    (Along input at' g area) × (at' ≤ room) × (length buf ≡ 2048) × (length area ≡ length area₀)
 
 abbrev μ-loop : tie.MeasureT-loop
 μ-loop input area₀ room at buf₀ at₀ g₀ area buf at' g = pieces g

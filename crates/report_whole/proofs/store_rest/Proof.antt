@@ -14,7 +14,10 @@ use Rattle.report_whole.proofs.store_rest.Statement.{statement}
 use Rattle.report_whole.proofs.store_rest.Tie as tie
 
 abbrev Inv-loop : tie.InvT-loop
-Inv-loop input area₀ out₀ at buf₀ at₀ g₀ area out buf at' g = (Along input at' g area) × (length buf ≡ 2048) × (length area ≡ length area₀) × (length out ≡ length out₀) × (remaining input g area .octets ≡ remaining input g₀ area₀ .octets) × (sets out at' (drop at' (printed input)) ≡ sets out₀ at (drop at (printed input)))
+Inv-loop input area₀ out₀ at buf₀ at₀ g₀ area out buf at' g =
+    (Along input at' g area) × (length buf ≡ 2048) × (length area ≡ length area₀) × (length out ≡ length out₀)
+    × (remaining input g area .octets ≡ remaining input g₀ area₀ .octets)
+    × (sets out at' (drop at' (printed input)) ≡ sets out₀ at (drop at (printed input)))
 
 abbrev μ-loop : tie.MeasureT-loop
 μ-loop input area₀ out₀ at buf₀ at₀ g₀ area out buf at' g = pieces g
@@ -41,7 +44,12 @@ store-requires : tie.Need-store-requires Inv-loop μ-loop
 store-requires c κs = search along-store
 
 add-at : tie.Need-add-at Inv-loop μ-loop
-add-at c = omega (arith, along-room _ _ _ _ _ _ _ _ (c .before .before .before .before .before .before .before .before .before .before .before .before .before .before .loop .inv .0) (c .before .before .before .before .before .before .before .before .before .before .before .before .if1 .taken) (c .before .before .before .before .before .before .before .before .before .next .ensures .1) (c .before .before .before .before .before .before .before .before .before .next .ensures .0))
+add-at c =
+    omega (
+      arith,
+      along-room _ _ _ _ _ _ _ _
+          (c .before .before .before .before .before .before .before .before .before .before .before .before .before .before .loop .inv .0) (c .before .before .before .before .before .before .before .before .before .before .before .before .if1 .taken) (c .before .before .before .before .before .before .before .before .before .next .ensures .1) (c .before .before .before .before .before .before .before .before .before .next .ensures .0),
+    )
 
 loop-less : tie.Need-loop-less Inv-loop μ-loop
 loop-less c = search along-less

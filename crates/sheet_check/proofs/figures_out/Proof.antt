@@ -22,6 +22,9 @@ out-of-requires-4 c κs = search needs
 out-of-requires-5 : tie.Need-out-of-requires-5
 out-of-requires-5 c κs = search needs
 
+out-of-requires-6 : tie.Need-out-of-requires-6
+out-of-requires-6 c κs = search needs
+
 either-requires : tie.Need-either-requires
 either-requires c κs = search needs
 
@@ -37,6 +40,9 @@ either-requires-4 c κs = search needs
 either-requires-5 : tie.Need-either-requires-5
 either-requires-5 c κs = search needs
 
+either-requires-6 : tie.Need-either-requires-6
+either-requires-6 c κs = search needs
+
 returns : tie.Need-returns
 returns c = search figures-is
 
@@ -50,9 +56,11 @@ figures-out-spec =
     out-of-requires-3
     out-of-requires-4
     out-of-requires-5
+    out-of-requires-6
     either-requires
     either-requires-2
     either-requires-3
     either-requires-4
     either-requires-5
+    either-requires-6
     returns)

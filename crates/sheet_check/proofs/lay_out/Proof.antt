@@ -10,7 +10,8 @@ use Rattle.sheet_check.proofs.lay_out.Statement.{statement}
 use Rattle.sheet_check.proofs.lay_out.Tie as tie
 
 abbrev Inv-loop : tie.InvT-loop
-Inv-loop n positions₀ addresses₀ y i₀ positions addresses i = (i ≤ n) × (length positions ≡ 16) × (length addresses ≡ 16) × Laid y i positions addresses
+Inv-loop n positions₀ addresses₀ y i₀ positions addresses i =
+    (i ≤ n) × (length positions ≡ 16) × (length addresses ≡ 16) × Laid y i positions addresses
 
 abbrev μ-loop : tie.MeasureT-loop
 μ-loop n positions₀ addresses₀ y i₀ positions addresses i = n - i
@@ -46,7 +47,14 @@ loop-less : tie.Need-loop-less Inv-loop μ-loop
 loop-less c = omega arith
 
 loop-again : tie.Need-loop-again Inv-loop μ-loop
-loop-again c = (omega arith, simp length-set (search needs), simp length-set (search needs), laid-more _ _ _ _ _ _ (omega arith) (omega arith) refl (c .number .ensures .0) (c .number .ensures .1 .0) (c .number .ensures .1 .1) (c .before .before .before .before .loop .inv .3))
+loop-again c = (
+  omega arith,
+  simp length-set (search needs),
+  simp length-set (search needs),
+  laid-more _ _ _ _ _ _ (omega arith)
+      (omega arith) refl (c .number .ensures .0) (c .number .ensures .1 .0) (c .number .ensures .1 .1)
+      (c .before .before .before .before .loop .inv .3),
+)
 
 same-length : tie.Need-same-length Inv-loop μ-loop
 same-length c = search needs

@@ -33,7 +33,14 @@ add-result : tie.Need-add-result
 add-result c = search needs
 
 returns : tie.Need-returns
-returns c = (search number-is, (octets-by _ (λ k. let f : Fits w8 (getD (c .before .before .before .before .args .t1) k 0) = search needs in f .fits), search needs))
+returns c = (
+  search number-is,
+  (
+    octets-by _
+        (λ k. let f : Fits w8 (getD (c .before .before .before .before .args .t1) k 0) = search needs in f .fits),
+    search needs,
+  ),
+)
 
 pub number-spec : {M : Type 1} → statement M
 number-spec =

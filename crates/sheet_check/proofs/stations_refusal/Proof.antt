@@ -1,6 +1,7 @@
 -- `sheet_check::stations_refusal` meets its contract. Assumes nothing.
 use Prim.Native.Nat.{_-_}
-use Rattle.sheet_check.specs.PlainLaws.{count-above, count-below, count-most, plain-position, plain-count, plain-order, plain-address, plain-none}
+use Rattle.sheet_check.specs.PlainLaws.{count-above, count-below, count-most, plain-position, plain-count}
+use Rattle.sheet_check.specs.PlainLaws.{plain-order, plain-address, plain-none}
 use borrow.Author.Needs.{needs}
 use Rattle.sheet_check.proofs.stations_refusal.Statement.{statement}
 use Rattle.sheet_check.proofs.stations_refusal.Tie as tie

@@ -22,10 +22,21 @@ add-result-5 c = search needs
 add-result-6 : tie.Need-add-result-6
 add-result-6 c = search needs
 
+add-result-7 : tie.Need-add-result-7
+add-result-7 c = search needs
+
 returns : tie.Need-returns
 returns c = (search ends-is, search needs)
 
 pub fields-end-spec : {M : Type 1} → statement M
 fields-end-spec =
     tie.close
-    (tie.spec add-result add-result-2 add-result-3 add-result-4 add-result-5 add-result-6 returns)
+    (tie.spec
+    add-result
+    add-result-2
+    add-result-3
+    add-result-4
+    add-result-5
+    add-result-6
+    add-result-7
+    returns)

@@ -22,6 +22,9 @@ field-size-requires-5 c κs = search needs
 field-size-requires-6 : tie.Need-field-size-requires-6
 field-size-requires-6 c κs = search needs
 
+field-size-requires-7 : tie.Need-field-size-requires-7
+field-size-requires-7 c κs = search needs
+
 returns : tie.Need-returns
 returns c = (search sizes-is, search needs)
 
@@ -35,4 +38,5 @@ map-sizes-spec =
     field-size-requires-4
     field-size-requires-5
     field-size-requires-6
+    field-size-requires-7
     returns)

@@ -1,5 +1,6 @@
 -- `sheet_read::read_sheet` meets its contract. Assumes nothing.
-use Rattle.sheet_read.specs.SheetLaws.{sheet-empty, sheet-no-count, sheet-short, sheet-unknown, sheet-refused, sheet-read}
+use Rattle.sheet_read.specs.SheetLaws.{sheet-empty, sheet-no-count, sheet-short, sheet-unknown, sheet-refused}
+use Rattle.sheet_read.specs.SheetLaws.{sheet-read}
 use borrow.Author.Needs.{needs}
 use Rattle.sheet_read.proofs.read_sheet.Statement.{statement}
 use Rattle.sheet_read.proofs.read_sheet.Tie as tie
@@ -52,9 +53,6 @@ unread-sheet-requires-3 c κs = search needs
 returns-3 : tie.Need-returns-3
 returns-3 c = search sheet-short
 
-either-requires : tie.Need-either-requires
-either-requires c κs = search needs
-
 unread-sheet-requires-4 : tie.Need-unread-sheet-requires-4
 unread-sheet-requires-4 c κs = search needs
 
@@ -96,7 +94,6 @@ read-sheet-spec =
     add-used-2
     unread-sheet-requires-3
     returns-3
-    either-requires
     unread-sheet-requires-4
     returns-4
     read-layout-requires

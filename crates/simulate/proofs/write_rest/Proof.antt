@@ -12,7 +12,8 @@ use Rattle.simulate.proofs.write_rest.Statement.{statement}
 use Rattle.simulate.proofs.write_rest.Tie as tie
 
 abbrev Inv-loop : tie.InvT-loop
-Inv-loop input area₀ at buf₀ at₀ g₀ area buf at' g = (Along input at' g area) × (at' + 2048 * pieces g ≤ most) × (length buf ≡ 2048) × (length area ≡ length area₀)
+Inv-loop input area₀ at buf₀ at₀ g₀ area buf at' g =
+    (Along input at' g area) × (at' + 2048 * pieces g ≤ most) × (length buf ≡ 2048) × (length area ≡ length area₀)
 
 abbrev μ-loop : tie.MeasureT-loop
 μ-loop input area₀ at buf₀ at₀ g₀ area buf at' g = pieces g
@@ -36,7 +37,8 @@ part-write-piece-end : tie.Need-part-write-piece-end Inv-loop μ-loop
 part-write-piece-end c = search needs
 
 write-piece-requires : tie.Need-write-piece-requires Inv-loop μ-loop
-write-piece-requires c κs = (along-part _ _ _ _ _ _ _ _ (c .before .before .before .before .before .before .before .before .before .before .loop .inv .0) (c .before .before .before .before .before .before .before .before .if1 .taken) (c .before .before .before .before .before .next .ensures .1) (c .before .before .before .before .before .next .ensures .0), search next-room)
+write-piece-requires c κs =
+    (along-part _ _ _ _ _ _ _ _ (c .before .before .before .before .before .before .before .before .before .before .loop .inv .0) (c .before .before .before .before .before .before .before .before .if1 .taken) (c .before .before .before .before .before .next .ensures .1) (c .before .before .before .before .before .next .ensures .0), search next-room)
 
 same-length : tie.Need-same-length Inv-loop μ-loop
 same-length c = omega arith

@@ -21,7 +21,12 @@ part-write-piece-end : tie.Need-part-write-piece-end
 part-write-piece-end c = search needs
 
 write-piece-requires : tie.Need-write-piece-requires
-write-piece-requires c κs = (begun-part _ _ _ _ _ _ (c .before .before .before .before .before .first .ensures .1) (c .before .before .before .before .before .before .before .before .before .before .pre) (c .before .before .before .before .before .first .ensures .0), search first-fits)
+write-piece-requires c κs = (
+  begun-part _ _ _ _ _ _ (c .before .before .before .before .before .first .ensures .1)
+      (c .before .before .before .before .before .before .before .before .before .before .pre)
+      (c .before .before .before .before .before .first .ensures .0),
+  search first-fits,
+)
 
 same-length : tie.Need-same-length
 same-length c = search needs

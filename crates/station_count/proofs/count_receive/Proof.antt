@@ -1,5 +1,6 @@
 -- `station_count::count_receive` meets its contract. Assumes nothing.
-use Rattle.station_spec.specs.CountLaws.{receive-none, receive-ok, receive-long, receive-alignment, receive-check, receive-length}
+use Rattle.station_spec.specs.CountLaws.{receive-none, receive-ok, receive-long, receive-alignment, receive-check}
+use Rattle.station_spec.specs.CountLaws.{receive-length}
 use borrow.Author.Needs.{needs}
 use Rattle.station_count.proofs.count_receive.Statement.{statement}
 use Rattle.station_count.proofs.count_receive.Tie as tie

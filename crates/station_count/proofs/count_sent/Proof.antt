@@ -19,6 +19,9 @@ add-if-requires c κs = search needs
 add-if-requires-2 : tie.Need-add-if-requires-2
 add-if-requires-2 c κs = search needs
 
+both-requires : tie.Need-both-requires
+both-requires c κs = search needs
+
 add-if-requires-3 : tie.Need-add-if-requires-3
 add-if-requires-3 c κs = search needs
 
@@ -34,5 +37,6 @@ count-sent-spec =
     add-requires-2
     add-if-requires
     add-if-requires-2
+    both-requires
     add-if-requires-3
     returns)

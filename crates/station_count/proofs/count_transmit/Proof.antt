@@ -1,5 +1,6 @@
 -- `station_count::count_transmit` meets its contract. Assumes nothing.
-use Rattle.station_spec.specs.CountLaws.{transmit-none, transmit-collision, transmit-late, transmit-sent, transmit-given-up}
+use Rattle.station_spec.specs.CountLaws.{transmit-none, transmit-collision, transmit-late, transmit-sent}
+use Rattle.station_spec.specs.CountLaws.{transmit-given-up, transmit-late-ended}
 use borrow.Author.Needs.{needs}
 use Rattle.station_count.proofs.count_transmit.Statement.{statement}
 use Rattle.station_count.proofs.count_transmit.Tie as tie
@@ -34,6 +35,12 @@ enum-told-4 c = search needs
 add-requires-4 : tie.Need-add-requires-4
 add-requires-4 c κs = search needs
 
+enum-told-5 : tie.Need-enum-told-5
+enum-told-5 c = search needs
+
+add-requires-5 : tie.Need-add-requires-5
+add-requires-5 c κs = search needs
+
 returns : tie.Need-returns
 returns c = search transmit-none
 
@@ -49,6 +56,9 @@ returns-4 c = search transmit-sent
 returns-5 : tie.Need-returns-5
 returns-5 c = search transmit-given-up
 
+returns-6 : tie.Need-returns-6
+returns-6 c = search transmit-late-ended
+
 pub count-transmit-spec : {M : Type 1} → statement M
 count-transmit-spec =
     tie.close
@@ -63,8 +73,11 @@ count-transmit-spec =
     count-sent-requires
     enum-told-4
     add-requires-4
+    enum-told-5
+    add-requires-5
     returns
     returns-2
     returns-3
     returns-4
-    returns-5)
+    returns-5
+    returns-6)

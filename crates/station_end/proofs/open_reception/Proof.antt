@@ -19,11 +19,14 @@ use Rattle.station_end.proofs.open_reception.Statement.{statement}
 use Rattle.station_end.proofs.open_reception.Tie as tie
 
 -- the way of `else`: the status is one of the first six
-other-way : (buffer : List ℕ) (n : ℕ) (sp : Bool) (s : ReceiveStatus) (v : ReceiveEvent) → statusAnswer s ≡ openAnswer buffer n sp
-    → v ≡ gotError s (n / 8) → OneOf (0 ∷ 1 ∷ 2 ∷ 3 ∷ 4 ∷ 5 ∷ []) (tagOf the-type s) → deciding Listening v ≡ opening buffer n sp
+other-way : (buffer : List ℕ) (n : ℕ) (sp : Bool) (s : ReceiveStatus) (v : ReceiveEvent)
+    → statusAnswer s ≡ openAnswer buffer n sp
+    → v ≡ gotError s (n / 8) → OneOf (0 ∷ 1 ∷ 2 ∷ 3 ∷ 4 ∷ 5 ∷ []) (tagOf the-type s)
+    → deciding Listening v ≡ opening buffer n sp
 other-way buffer n sp s v p q h =
     opening-error buffer n sp s v p q
-    (λ k e. let t : tagOf the-type s ≡ 6 = ap (tagOf the-type) e in let l : tagOf the-type s < 6 = first-six (tagOf the-type s) h in omega arith)
+    (λ k e. let t : tagOf the-type s ≡ 6 = ap (tagOf the-type) e in let l : tagOf the-type s < 6 = first-six
+    (tagOf the-type s) h in omega arith)
 
 open-buffer-requires : tie.Need-open-buffer-requires
 open-buffer-requires c κs = search needs

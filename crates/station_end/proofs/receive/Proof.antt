@@ -1,5 +1,5 @@
 -- `station_end::receive` meets its contract. Assumes nothing.
-use Rattle.station_receive.specs.ReceiveLaws.{receive-nothing, receive-clean, receive-jammed, receive-several}
+use Rattle.station_receive.specs.ReceiveLaws.{receive-nothing, receive-clean, receive-spoiled}
 use borrow.Author.Needs.{needs}
 use Rattle.station_end.proofs.receive.Statement.{statement}
 use Rattle.station_end.proofs.receive.Tie as tie
@@ -22,12 +22,6 @@ enum-told-2 c = search needs
 hear-requires-2 : tie.Need-hear-requires-2
 hear-requires-2 c κs = search needs
 
-enum-told-3 : tie.Need-enum-told-3
-enum-told-3 c = search needs
-
-hear-requires-3 : tie.Need-hear-requires-3
-hear-requires-3 c κs = search needs
-
 returns : tie.Need-returns
 returns c = search receive-nothing
 
@@ -35,10 +29,7 @@ returns-2 : tie.Need-returns-2
 returns-2 c = search receive-clean
 
 returns-3 : tie.Need-returns-3
-returns-3 c = search receive-jammed
-
-returns-4 : tie.Need-returns-4
-returns-4 c = search receive-several
+returns-3 c = search receive-spoiled
 
 pub receive-spec : {M : Type 1} → statement M
 receive-spec =
@@ -50,9 +41,6 @@ receive-spec =
     hear-requires
     enum-told-2
     hear-requires-2
-    enum-told-3
-    hear-requires-3
     returns
     returns-2
-    returns-3
-    returns-4)
+    returns-3)

@@ -1,99 +1,20 @@
 -- `station_tally::count_got` meets its contract. Assumes nothing.
-use native.Mathlib.Omega.{arith}
-use Rattle.station_tally.specs.TallyLaws.{bump-room, got-none, got-ok, got-long, got-alignment, got-check, got-length}
+use Rattle.station_tally.specs.TallyLaws.{got-counted}
 use borrow.Author.Needs.{needs}
 use Rattle.station_tally.proofs.count_got.Statement.{statement}
 use Rattle.station_tally.proofs.count_got.Tie as tie
 
-enum-told : tie.Need-enum-told
-enum-told c = search needs
+receive-word-requires : tie.Need-receive-word-requires
+receive-word-requires c κs = search needs
 
-enum-told-2 : tie.Need-enum-told-2
-enum-told-2 c = search needs
-
-bump-requires : tie.Need-bump-requires
-bump-requires c κs = (omega arith, search bump-room)
-
-enum-told-3 : tie.Need-enum-told-3
-enum-told-3 c = search needs
-
-bump-requires-2 : tie.Need-bump-requires-2
-bump-requires-2 c κs = (omega arith, search bump-room)
-
-enum-told-4 : tie.Need-enum-told-4
-enum-told-4 c = search needs
-
-bump-requires-3 : tie.Need-bump-requires-3
-bump-requires-3 c κs = (omega arith, search bump-room)
-
-enum-told-5 : tie.Need-enum-told-5
-enum-told-5 c = search needs
-
-bump-requires-4 : tie.Need-bump-requires-4
-bump-requires-4 c κs = (omega arith, search bump-room)
-
-enum-told-6 : tie.Need-enum-told-6
-enum-told-6 c = search needs
-
-bump-requires-5 : tie.Need-bump-requires-5
-bump-requires-5 c κs = (omega arith, search bump-room)
-
-returns : tie.Need-returns
-returns c = search got-none
+count-requires : tie.Need-count-requires
+count-requires c κs = search needs
 
 same-length : tie.Need-same-length
 same-length c = search needs
 
-returns-2 : tie.Need-returns-2
-returns-2 c = search got-ok
-
-same-length-2 : tie.Need-same-length-2
-same-length-2 c = search needs
-
-returns-3 : tie.Need-returns-3
-returns-3 c = search got-long
-
-same-length-3 : tie.Need-same-length-3
-same-length-3 c = search needs
-
-returns-4 : tie.Need-returns-4
-returns-4 c = search got-alignment
-
-same-length-4 : tie.Need-same-length-4
-same-length-4 c = search needs
-
-returns-5 : tie.Need-returns-5
-returns-5 c = search got-check
-
-same-length-5 : tie.Need-same-length-5
-same-length-5 c = search needs
-
-returns-6 : tie.Need-returns-6
-returns-6 c = search got-length
+returns : tie.Need-returns
+returns c = search got-counted
 
 pub count-got-spec : {M : Type 1} → statement M
-count-got-spec =
-    tie.close
-    (tie.spec
-    enum-told
-    enum-told-2
-    bump-requires
-    enum-told-3
-    bump-requires-2
-    enum-told-4
-    bump-requires-3
-    enum-told-5
-    bump-requires-4
-    enum-told-6
-    bump-requires-5
-    returns
-    same-length
-    returns-2
-    same-length-2
-    returns-3
-    same-length-3
-    returns-4
-    same-length-4
-    returns-5
-    same-length-5
-    returns-6)
+count-got-spec = tie.close (tie.spec receive-word-requires count-requires same-length returns)

@@ -18,7 +18,8 @@ array-read-result : tie.Need-array-read-result
 array-read-result c = search needs
 
 returns : tie.Need-returns
-returns c = (range-is _ _ _ (c .least .ensures .0) (omega arith), range-small _ _ _ (c .least .ensures .0) (omega arith))
+returns c =
+    (range-is _ _ _ (c .least .ensures .0) (omega arith), range-small _ _ _ (c .least .ensures .0) (omega arith))
 
 pub range-after-spec : {M : Type 1} → statement M
 range-after-spec = tie.close (tie.spec least-requires cast-i mul-result array-read-result returns)

@@ -19,7 +19,12 @@ calm-requires : tie.Need-calm-requires
 calm-requires c κs = search needs
 
 count-down-requires : tie.Need-count-down-requires
-count-down-requires c κs = (omega arith, omega arith, λ z. calm-more _ _ (c .before .before .before .before .read-word2 .ensures) _ (c .before .before .calm .ensures) (c .before .if2 .taken) z)
+count-down-requires c κs = (
+  omega arith,
+  omega arith,
+  λ z. calm-more _ _ (c .before .before .before .before .read-word2 .ensures) _
+      (c .before .before .calm .ensures) (c .before .if2 .taken) z,
+)
 
 add-write-word : tie.Need-add-write-word
 add-write-word c = search needs
@@ -31,7 +36,8 @@ same-length : tie.Need-same-length
 same-length c = search needs
 
 returns : tie.Need-returns
-returns c = gap-now _ _ _ _ _ _ (c .before .before .before .before .before .before .before .before .before .before .before .before .before .before .before .before .before .before .pre .0) (c .before .before .before .before .before .before .before .before .before .before .before .before .before .before .before .before .before .before .pre .1) (c .before .before .before .before .before .before .before .before .before .before .before .before .before .before .before .before .before .before .pre .2) (c .before .before .before .before .before .before .before .before .before .before .before .before .before .before .before .before .before .before .pre .4) (c .before .before .before .before .before .before .before .before .before .before .before .before .before .before .before .before .before .before .pre .5) _ _ _ _ _ (c .before .before .before .before .before .before .before .before .before .before .before .before .before .before .before .before .before .before .pre .6) (c .before .before .write-word .ensures) (c .before .before .before .before .before .before .count-down .ensures) (c .before .before .before .before .before .before .before .before .before .calm .ensures) (c .before .before .before .before .before .before .before .before .if2 .taken) (c .before .before .before .before .before .before .before .before .before .before .before .read-word2 .ensures) (c .before .before .before .before .before .before .before .before .before .before .before .before .before .if1 .taken) (c .before .before .before .before .before .before .before .before .before .before .before .before .before .before .before .before .before .before .pre .3) (c .before .before .before .before .before .before .before .before .before .before .before .before .before .before .before .read-word .ensures)
+returns c =
+    gap-now _ _ _ _ _ _ (c .before .before .before .before .before .before .before .before .before .before .before .before .before .before .before .before .before .before .pre .0) (c .before .before .before .before .before .before .before .before .before .before .before .before .before .before .before .before .before .before .pre .1) (c .before .before .before .before .before .before .before .before .before .before .before .before .before .before .before .before .before .before .pre .2) (c .before .before .before .before .before .before .before .before .before .before .before .before .before .before .before .before .before .before .pre .4) (c .before .before .before .before .before .before .before .before .before .before .before .before .before .before .before .before .before .before .pre .5) _ _ _ _ _ (c .before .before .before .before .before .before .before .before .before .before .before .before .before .before .before .before .before .before .pre .6) (c .before .before .write-word .ensures) (c .before .before .before .before .before .before .count-down .ensures) (c .before .before .before .before .before .before .before .before .before .calm .ensures) (c .before .before .before .before .before .before .before .before .if2 .taken) (c .before .before .before .before .before .before .before .before .before .before .before .read-word2 .ensures) (c .before .before .before .before .before .before .before .before .before .before .before .before .before .if1 .taken) (c .before .before .before .before .before .before .before .before .before .before .before .before .before .before .before .before .before .before .pre .3) (c .before .before .before .before .before .before .before .before .before .before .before .before .before .before .before .read-word .ensures)
 
 same-length-2 : tie.Need-same-length-2
 same-length-2 c = search needs

@@ -43,7 +43,11 @@ both-requires-2 : tie.Need-both-requires-2
 both-requires-2 c κs = search needs
 
 returns : tie.Need-returns
-returns c = (search bare-is, octets-by _ (λ k. omega (arith, c .before .before .before .before .before .before .shared-slice-known .given k)))
+returns c = (
+  search bare-is,
+  octets-by _ (λ k.
+      omega (arith, c .before .before .before .before .before .before .shared-slice-known .given k)),
+)
 
 pub rests-spec : {M : Type 1} → statement M
 rests-spec =

@@ -10,10 +10,22 @@ is-plain-requires : tie.Need-is-plain-requires
 is-plain-requires c κs = search needs
 
 gaps-requires : tie.Need-gaps-requires
-gaps-requires c κs = (omega arith, omega arith, plain-found _ _ _ (c .before .before .is-plain .ensures) (c .before .if1 .taken))
+gaps-requires c κs =
+    (omega arith, omega arith, plain-found _ _ _ (c .before .before .is-plain .ensures) (c .before .if1 .taken))
 
 gap-on-requires : tie.Need-gap-on-requires
-gap-on-requires c κs = (omega arith, omega arith, search needs, omega arith, search needs, plain-found _ _ _ (c .before .before .before .before .before .is-plain .ensures) (c .before .before .before .before .if1 .taken), found _ _ (c .before .before .gaps .ensures .0) (c .before .if2 .taken))
+gap-on-requires c κs = (
+  omega arith,
+  omega arith,
+  search needs,
+  omega arith,
+  search needs,
+  plain-found _ _ _
+      (c .before .before .before .before .before .is-plain .ensures)
+      (c .before .before .before .before .if1 .taken),
+  found _ _ (c .before .before .gaps .ensures .0)
+      (c .before .if2 .taken),
+)
 
 same-length : tie.Need-same-length
 same-length c = search needs
@@ -22,10 +34,25 @@ returns : tie.Need-returns
 returns c = search needs
 
 backs-requires : tie.Need-backs-requires
-backs-requires c κs = (omega arith, omega arith, plain-found _ _ _ (c .before .before .before .before .before .is-plain .ensures) (c .before .before .before .before .if1 .taken))
+backs-requires c κs = (
+  omega arith,
+  omega arith,
+  plain-found _ _ _ (c .before .before .before .before .before .is-plain .ensures)
+      (c .before .before .before .before .if1 .taken),
+)
 
 back-on-requires : tie.Need-back-on-requires
-back-on-requires c κs = (omega arith, omega arith, search needs, search needs, plain-found _ _ _ (c .before .before .before .before .before .before .before .before .is-plain .ensures) (c .before .before .before .before .before .before .before .if1 .taken), found _ _ (c .before .before .backs .ensures .0) (c .before .if3 .taken))
+back-on-requires c κs = (
+  omega arith,
+  omega arith,
+  search needs,
+  search needs,
+  plain-found _ _ _
+      (c .before .before .before .before .before .before .before .before .is-plain .ensures)
+      (c .before .before .before .before .before .before .before .if1 .taken),
+  found _ _
+      (c .before .before .backs .ensures .0) (c .before .if3 .taken),
+)
 
 same-length-2 : tie.Need-same-length-2
 same-length-2 c = search needs

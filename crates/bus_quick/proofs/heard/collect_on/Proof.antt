@@ -24,7 +24,11 @@ same-length : tie.Need-same-length
 same-length c = search needs
 
 returns : tie.Need-returns
-returns c = collected-is _ _ _ _ _ _ _ _ (c .before .before .keep-one .ensures) (c .before .before .before .before .before .before .spoil .ensures) (c .before .before .before .before .before .before .before .before .before .before .write-word .ensures) refl (c .before .before .before .before .before .before .before .before .before .before .before .before .read-word .ensures)
+returns c =
+    collected-is _ _ _ _ _ _ _ _ (c .before .before .keep-one .ensures)
+    (c .before .before .before .before .before .before .spoil .ensures)
+    (c .before .before .before .before .before .before .before .before .before .before .write-word .ensures) refl
+    (c .before .before .before .before .before .before .before .before .before .before .before .before .read-word .ensures)
 
 pub collect-on-spec : {M : Type 1} → statement M
 collect-on-spec =

@@ -9,7 +9,13 @@ read-word-requires : tie.Need-read-word-requires
 read-word-requires c κs = search needs
 
 sub-write-word : tie.Need-sub-write-word
-sub-write-word c = omega (arith, c .before .before .before .before .before .pre .2 (c .before .before .before .if1 .taken), c .before .read-word .ensures)
+sub-write-word c =
+    omega (
+      arith,
+      c .before .before .before .before .before .pre .2
+          (c .before .before .before .if1 .taken),
+      c .before .read-word .ensures,
+    )
 
 write-word-requires : tie.Need-write-word-requires
 write-word-requires c κs = search needs

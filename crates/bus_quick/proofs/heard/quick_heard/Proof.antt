@@ -22,16 +22,37 @@ put-arrival-requires : tie.Need-put-arrival-requires
 put-arrival-requires c κs = search needs
 
 count-down-requires : tie.Need-count-down-requires
-count-down-requires c κs = (omega arith, omega arith, λ z. calm-cleared _ _ _ _ _ _ (c .before .before .before .before .before .before .before .before .before .before .before .before .before .before .before .before .pre .0 .0) (c .before .before .before .before .before .before .before .before .before .before .read-word .ensures) (c .before .before .before .put-arrival .ensures) (c .before .before .before .before .before .before .before .before .calm .ensures) (c .before .before .before .before .before .before .before .if2 .taken) z)
+count-down-requires c κs = (
+  omega arith,
+  omega arith,
+  λ z. calm-cleared _ _ _ _ _ _
+      (c .before .before .before .before .before .before .before .before .before .before .before .before .before .before .before .before .pre .0 .0) (c .before .before .before .before .before .before .before .before .before .before .read-word .ensures) (c .before .before .before .put-arrival .ensures) (c .before .before .before .before .before .before .before .before .calm .ensures) (c .before .before .before .before .before .before .before .if2 .taken) z,
+)
 
 receive-on-requires : tie.Need-receive-on-requires
-receive-on-requires c κs = (omega arith, omega arith, omega (arith, count-number _ _ _ (c .before .before .before .before .before .before .before .before .before .before .before .before .before .before .before .before .before .before .before .before .pre .0 .0) (c .before .before .before .before .before .before .before .before .before .before .before .before .before .before .before .before .before .before .before .before .pre .0 .3) (c .before .before .before .before .before .before .before .before .before .before .before .before .before .before .before .before .before .hears .ensures .1) _ _ _ (c .before .before .before .count-down .ensures) (c .before .before .before .before .before .before .before .put-arrival .ensures), hears-room _ _ _ (c .before .before .before .before .before .before .before .before .before .before .before .before .before .before .before .before .before .before .before .before .pre .0 .4) _ _ refl (c .before .before .before .before .before .before .before .before .before .before .before .before .before .before .before .before .before .hears .ensures .0) (c .before .before .before .before .before .before .before .before .before .before .before .before .before .before .before .before .if1 .taken)), λ z. omega (arith, count-number _ _ _ (c .before .before .before .before .before .before .before .before .before .before .before .before .before .before .before .before .before .before .before .before .pre .0 .0) (c .before .before .before .before .before .before .before .before .before .before .before .before .before .before .before .before .before .before .before .before .pre .0 .3) (c .before .before .before .before .before .before .before .before .before .before .before .before .before .before .before .before .before .hears .ensures .1) _ _ _ (c .before .before .before .count-down .ensures) (c .before .before .before .before .before .before .before .put-arrival .ensures), hears-row _ _ _ (c .before .before .before .before .before .before .before .before .before .before .before .before .before .before .before .before .before .before .before .before .pre .0 .4) _ _ refl (c .before .before .before .before .before .before .before .before .before .before .before .before .before .before .before .before .before .hears .ensures .0) (c .before .before .before .before .before .before .before .before .before .before .before .before .before .before .before .before .if1 .taken) _ (c .before .before .before .before .before .before .before .before .before .read-word2 .ensures) z))
+receive-on-requires c κs = (
+  omega arith,
+  omega arith,
+  omega (
+    arith,
+    count-number _ _ _
+        (c .before .before .before .before .before .before .before .before .before .before .before .before .before .before .before .before .before .before .before .before .pre .0 .0) (c .before .before .before .before .before .before .before .before .before .before .before .before .before .before .before .before .before .before .before .before .pre .0 .3) (c .before .before .before .before .before .before .before .before .before .before .before .before .before .before .before .before .before .hears .ensures .1) _ _ _ (c .before .before .before .count-down .ensures) (c .before .before .before .before .before .before .before .put-arrival .ensures),
+    hears-room _ _ _ (c .before .before .before .before .before .before .before .before .before .before .before .before .before .before .before .before .before .before .before .before .pre .0 .4) _ _ refl (c .before .before .before .before .before .before .before .before .before .before .before .before .before .before .before .before .before .hears .ensures .0) (c .before .before .before .before .before .before .before .before .before .before .before .before .before .before .before .before .if1 .taken),
+  ),
+  λ z. omega (
+    arith,
+    count-number _ _ _
+        (c .before .before .before .before .before .before .before .before .before .before .before .before .before .before .before .before .before .before .before .before .pre .0 .0) (c .before .before .before .before .before .before .before .before .before .before .before .before .before .before .before .before .before .before .before .before .pre .0 .3) (c .before .before .before .before .before .before .before .before .before .before .before .before .before .before .before .before .before .hears .ensures .1) _ _ _ (c .before .before .before .count-down .ensures) (c .before .before .before .before .before .before .before .put-arrival .ensures),
+    hears-row _ _ _ (c .before .before .before .before .before .before .before .before .before .before .before .before .before .before .before .before .before .before .before .before .pre .0 .4) _ _ refl (c .before .before .before .before .before .before .before .before .before .before .before .before .before .before .before .before .before .hears .ensures .0) (c .before .before .before .before .before .before .before .before .before .before .before .before .before .before .before .before .if1 .taken) _ (c .before .before .before .before .before .before .before .before .before .read-word2 .ensures) z,
+  ),
+)
 
 same-length : tie.Need-same-length
 same-length c = search needs
 
 returns : tie.Need-returns
-returns c = heard-taken _ _ _ _ _ _ (c .before .before .before .before .before .before .before .before .before .before .before .before .before .before .before .before .before .before .before .before .before .before .before .pre .0 .0) (c .before .before .before .before .before .before .before .before .before .before .before .before .before .before .before .before .before .before .before .before .before .before .before .pre .0 .3) (c .before .before .before .before .before .before .before .before .before .before .before .before .before .before .before .before .before .before .before .before .hears .ensures .1) (c .before .before .before .before .before .before .before .before .before .before .before .before .before .before .before .before .before .before .before .before .before .before .before .pre .0 .5) _ _ _ _ _ _ _ _ (c .before .before .receive-on .ensures) (c .before .before .before .before .before .before .count-down .ensures) (c .before .before .before .before .before .before .before .before .before .before .put-arrival .ensures) (hears-room _ _ _ (c .before .before .before .before .before .before .before .before .before .before .before .before .before .before .before .before .before .before .before .before .before .before .before .pre .0 .4) _ _ refl (c .before .before .before .before .before .before .before .before .before .before .before .before .before .before .before .before .before .before .before .before .hears .ensures .0) (c .before .before .before .before .before .before .before .before .before .before .before .before .before .before .before .before .before .before .before .if1 .taken)) (c .before .before .before .before .before .before .before .before .before .before .before .before .read-word2 .ensures) (c .before .before .before .before .before .before .before .before .before .before .before .before .before .before .before .before .before .read-word .ensures) (c .before .before .before .before .before .before .before .before .before .before .before .before .before .before .before .before .before .before .before .before .before .before .before .pre .1 .0) (c .before .before .before .before .before .before .before .before .before .before .before .before .before .before .before .before .before .before .before .before .before .before .before .pre .1 .1) (c .before .before .before .before .before .before .before .before .before .before .before .before .before .before .before .before .before .before .before .before .hears .ensures .0) (c .before .before .before .before .before .before .before .before .before .before .before .before .before .before .before .before .before .before .before .if1 .taken) (c .before .before .before .before .before .before .before .before .before .before .before .before .before .before .before .calm .ensures) (c .before .before .before .before .before .before .before .before .before .before .before .before .before .before .if2 .taken)
+returns c =
+    heard-taken _ _ _ _ _ _ (c .before .before .before .before .before .before .before .before .before .before .before .before .before .before .before .before .before .before .before .before .before .before .before .pre .0 .0) (c .before .before .before .before .before .before .before .before .before .before .before .before .before .before .before .before .before .before .before .before .before .before .before .pre .0 .3) (c .before .before .before .before .before .before .before .before .before .before .before .before .before .before .before .before .before .before .before .before .hears .ensures .1) (c .before .before .before .before .before .before .before .before .before .before .before .before .before .before .before .before .before .before .before .before .before .before .before .pre .0 .5) _ _ _ _ _ _ _ _ (c .before .before .receive-on .ensures) (c .before .before .before .before .before .before .count-down .ensures) (c .before .before .before .before .before .before .before .before .before .before .put-arrival .ensures) (hears-room _ _ _ (c .before .before .before .before .before .before .before .before .before .before .before .before .before .before .before .before .before .before .before .before .before .before .before .pre .0 .4) _ _ refl (c .before .before .before .before .before .before .before .before .before .before .before .before .before .before .before .before .before .before .before .before .hears .ensures .0) (c .before .before .before .before .before .before .before .before .before .before .before .before .before .before .before .before .before .before .before .if1 .taken)) (c .before .before .before .before .before .before .before .before .before .before .before .before .read-word2 .ensures) (c .before .before .before .before .before .before .before .before .before .before .before .before .before .before .before .before .before .read-word .ensures) (c .before .before .before .before .before .before .before .before .before .before .before .before .before .before .before .before .before .before .before .before .before .before .before .pre .1 .0) (c .before .before .before .before .before .before .before .before .before .before .before .before .before .before .before .before .before .before .before .before .before .before .before .pre .1 .1) (c .before .before .before .before .before .before .before .before .before .before .before .before .before .before .before .before .before .before .before .before .hears .ensures .0) (c .before .before .before .before .before .before .before .before .before .before .before .before .before .before .before .before .before .before .before .if1 .taken) (c .before .before .before .before .before .before .before .before .before .before .before .before .before .before .before .calm .ensures) (c .before .before .before .before .before .before .before .before .before .before .before .before .before .before .if2 .taken)
 
 same-length-2 : tie.Need-same-length-2
 same-length-2 c = search needs

@@ -9,9 +9,11 @@ use Rattle.bus_spec.specs.RunLaws.{tally-none, tally-more, tally-end}
 use Rattle.station_tally.specs.TallyLaws.{Bounded, start-bounded, sent-bounded, got-bounded}
 use Rattle.bus_spec.proofs.course.count_events.Statement.{statement}
 use Rattle.bus_spec.proofs.course.count_events.Tie as tie
+use Rattle.sheet_layout.specs.Limits.{maxStations}
 
 abbrev Inv-loop : tie.InvT-loop
-Inv-loop words₀ top events i₀ words i = (i ≤ 16) × (length words ≡ length words₀) × (words ≡ tallied events i words₀) × Bounded words (top + 2 * i)
+Inv-loop words₀ top events i₀ words i =
+    (i ≤ maxStations) × (length words ≡ length words₀) × (words ≡ tallied events i words₀) × Bounded words (top + 2 * i)
 
 abbrev μ-loop : tie.MeasureT-loop
 μ-loop words₀ top events i₀ words i = 16 - i

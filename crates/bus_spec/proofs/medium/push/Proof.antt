@@ -11,7 +11,8 @@ use Rattle.bus_spec.proofs.medium.push.Statement.{statement}
 use Rattle.bus_spec.proofs.medium.push.Tie as tie
 
 abbrev Inv-loop : tie.InvT-loop
-Inv-loop area₀ n t i code p j₀ area j = (j ≤ n) × (length area ≡ length area₀) × (area ≡ turns (codeTo t i code) j area₀)
+Inv-loop area₀ n t i code p j₀ area j =
+    (j ≤ n) × (length area ≡ length area₀) × (area ≡ turns (codeTo t i code) j area₀)
 
 abbrev μ-loop : tie.MeasureT-loop
 μ-loop area₀ n t i code p j₀ area j = n - j
@@ -38,7 +39,12 @@ loop-less : tie.Need-loop-less Inv-loop μ-loop
 loop-less c = omega arith
 
 loop-again : tie.Need-loop-again Inv-loop μ-loop
-loop-again c = (omega arith, omega arith, push-more _ _ _ _ _ _ _ (c .before .before .send-to .ensures) (c .before .before .before .before .before .loop .inv .2))
+loop-again c = (
+  omega arith,
+  omega arith,
+  push-more _ _ _ _ _ _ _ (c .before .before .send-to .ensures)
+      (c .before .before .before .before .before .loop .inv .2),
+)
 
 same-length : tie.Need-same-length Inv-loop μ-loop
 same-length c = search needs

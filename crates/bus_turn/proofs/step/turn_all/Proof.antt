@@ -11,7 +11,9 @@ use Rattle.bus_turn.proofs.step.turn_all.Statement.{statement}
 use Rattle.bus_turn.proofs.step.turn_all.Tie as tie
 
 abbrev Inv-loop : tie.InvT-loop
-Inv-loop area₀ n depth t f all₀ i₀ area all i = (i ≤ n) × (length area ≡ length area₀) × (length all ≡ 16) × (area ≡ turnedIn f depth n t area₀ i) × (all ≡ eventsIn f depth t area₀ i)
+Inv-loop area₀ n depth t f all₀ i₀ area all i =
+    (i ≤ n) × (length area ≡ length area₀) × (length all ≡ 16) × (area ≡ turnedIn f depth n t area₀ i)
+    × (all ≡ eventsIn f depth t area₀ i)
 
 abbrev μ-loop : tie.MeasureT-loop
 μ-loop area₀ n depth t f all₀ i₀ area all i = n - i

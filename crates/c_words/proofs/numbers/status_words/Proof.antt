@@ -1,5 +1,6 @@
 -- `c_words::numbers::status_words` meets its contract. Assumes nothing.
-use Rattle.c_words.specs.AnswersLaws.{client-cast, client-refused, client-fragment, client-long, client-check, client-alignment, client-length, client-ok}
+use Rattle.c_words.specs.AnswersLaws.{client-cast, client-refused, client-fragment, client-long, client-check}
+use Rattle.c_words.specs.AnswersLaws.{client-alignment, client-length, client-ok}
 use borrow.Author.Needs.{needs}
 use Rattle.c_words.proofs.numbers.status_words.Statement.{statement}
 use Rattle.c_words.proofs.numbers.status_words.Tie as tie

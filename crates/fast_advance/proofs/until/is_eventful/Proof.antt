@@ -4,9 +4,10 @@ use Prim.Native.Nat.{_≤_, _-_}
 use Rattle.bus_spec.specs.UntilLaws.{Calm, calm-none, calm-more, calm-hit, calm-end}
 use Rattle.fast_advance.proofs.until.is_eventful.Statement.{statement}
 use Rattle.fast_advance.proofs.until.is_eventful.Tie as tie
+use Rattle.sheet_layout.specs.Limits.{maxStations}
 
 abbrev Inv-loop : tie.InvT-loop
-Inv-loop events i₀ i = (i ≤ 16) × Calm events i
+Inv-loop events i₀ i = (i ≤ maxStations) × Calm events i
 
 abbrev μ-loop : tie.MeasureT-loop
 μ-loop events i₀ i = 16 - i

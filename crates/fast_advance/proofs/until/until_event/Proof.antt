@@ -13,7 +13,9 @@ use Rattle.fast_advance.proofs.until.until_event.Statement.{statement}
 use Rattle.fast_advance.proofs.until.until_event.Tie as tie
 
 abbrev Inv-loop : tie.InvT-loop
-Inv-loop area₀ n t₀ area t = (t ≤ n) × (length area ≡ length area₀) × Runnable (n - t) area × (plus t (untilEvent (n - t) area) ≡ untilEvent n area₀)
+Inv-loop area₀ n t₀ area t =
+    (t ≤ n) × (length area ≡ length area₀) × Runnable (n - t) area
+    × (plus t (untilEvent (n - t) area) ≡ untilEvent n area₀)
 
 abbrev μ-loop : tie.MeasureT-loop
 μ-loop area₀ n t₀ area t = n - t
@@ -52,7 +54,9 @@ same-length-2 : tie.Need-same-length-2 Inv-loop μ-loop
 same-length-2 c = omega arith
 
 returns-2 : tie.Need-returns-2 Inv-loop μ-loop
-returns-2 c = onward-end _ _ _ _ _ _ (c .before .before .loop .inv .3) (c .before .loop-test .left) (c .eventless .ensures .0) (c .eventless .ensures .1)
+returns-2 c =
+    onward-end _ _ _ _ _ _ (c .before .before .loop .inv .3) (c .before .loop-test .left) (c .eventless .ensures .0)
+    (c .eventless .ensures .1)
 
 pub until-event-spec : {M : Type 1} → statement M
 until-event-spec =

@@ -24,7 +24,11 @@ same-length : tie.Need-same-length
 same-length c = search needs
 
 returns : tie.Need-returns
-returns c = header-is _ _ _ _ _ _ _ (c .before .before .put16 .ensures) (c .before .before .before .before .before .before .store2 .ensures) (c .before .before .before .before .before .before .before .before .before .before .before .store .ensures) (search needs) (omega arith)
+returns c =
+    header-is _ _ _ _ _ _ _ (c .before .before .put16 .ensures)
+    (c .before .before .before .before .before .before .store2 .ensures)
+    (c .before .before .before .before .before .before .before .before .before .before .before .store .ensures)
+    (search needs) (omega arith)
 
 pub write-header-spec : {M : Type 1} → statement M
 write-header-spec =
