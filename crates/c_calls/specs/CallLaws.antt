@@ -73,7 +73,7 @@ pub passes-long : {A : Type 0} (k : ℕ) (out : List ℕ) (keep : ℕ → A) (x 
 passes-long k out keep x h = passes (short k out) 0 0 keep x (long-so k out h)
 
 -- an answer and what is beside it
-code-given : (x : Outcome) (A : Answer) (o : List ℕ) (r n v : ℕ) → r ≡ replied n v → n ≡ numberOf A → v ≡ valueOf A
+pub code-given : (x : Outcome) (A : Answer) (o : List ℕ) (r n v : ℕ) → r ≡ replied n v → n ≡ numberOf A → v ≡ valueOf A
     → outcome A o ≡ x → given r o ≡ codeGiven x
 code-given x A o r n v p q e h = rw (p, q, e) (ap codeGiven h)
 

@@ -299,6 +299,9 @@ pub sheet-parts : (y : Layout) (fs ts : ℕ) → fs ≡ length (fieldsOctets (va
     → ts ≡ 7 * y .count → 2 + fs + ts ≡ length (headOctets (y .figures)) + 1 + 7 * y .count
 sheet-parts y fs ts p q = omega (arith, head-length (y .figures))
 
+pub sheet-most : (y : Layout) (fs ts : ℕ) → fs ≤ 14 → ts ≡ 7 * y .count → y .count ≤ maxStations → 2 + fs + ts ≤ 128
+sheet-most y fs ts p q h = omega arith
+
 pub sheet-put : (y : Layout) (l x z : List ℕ) (e : ℕ) → e ≡ length (headOctets (y .figures))
     → x ≡ sets l 0 (headOctets (y .figures)) → z ≡ sets x e (spelled 1 (y .count) ++ tapsOctets y (y .count))
     → z ≡ sets l 0 (written y)

@@ -11,7 +11,7 @@ use borrow.Author.Tests.{le-ltb, eq-eqb, ne-eqb, eqb-true}
 use lib.Dec.{ltb, eqb}
 use lib.ListN.{length, getD, take, drop, length-append}
 use lib.Seq.{getD-at, take-at, drop-at}
-use Rattle.octets.specs.Base.{pick, accepted}
+use Rattle.octets.specs.Base.{pick, Answer, refused, accepted}
 use Rattle.octets.specs.BaseLaws.{by-test, refused-none}
 use Rattle.octets.specs.Filled.{filled-at, filled-same}
 use Rattle.octets.specs.Number.{get, spelled}
@@ -26,6 +26,7 @@ use Rattle.sheet_layout.specs.Check.{refusalOf}
 use Rattle.sheet_layout.specs.CheckLaws.{Figured, Sound, sound, refusal-same}
 use Rattle.sheet_read.specs.Sheet.{mapOf, stands, fieldCount, row, width, fieldAt, field, figuresIn, countPlace}
 use Rattle.sheet_read.specs.Sheet.{countIn, tapIn, tapsFrom, layoutIn, sheetSize, Reading, unread, readSheet}
+use Rattle.sheet_read.specs.SheetLaws.{width-most}
 use Rattle.sheet_read.specs.SheetTheorems.{read-sound, read-formed, sheet-front}
 use Rattle.sheet_write.specs.Write.{joined, valuesOf, isAbsent, mapFrom, fieldOctets, fieldsOctets, headOctets}
 use Rattle.sheet_write.specs.Write.{tapOctets, tapsOctets, written}
@@ -118,6 +119,14 @@ unfolding joined
 fields-length vs k =
     length-append (fieldsOctets vs k) (fieldOctets (getD vs k 0) k)
     ∙ ap (λ (n : ℕ). length (fieldsOctets vs k) + n) (field-length (getD vs k 0) k)
+
+fields-most : (vs : List ℕ) (k : ℕ) → length (fieldsOctets vs k) ≤ 2 * k
+fields-most vs zero = omega (arith, fields-at vs)
+fields-most vs (suc k) = omega (arith, fields-most vs k, fields-length vs k, most (isAbsent (getD vs k 0) k))
+  where
+    most : (b : Bool) → pick b 0 (width k) ≤ 2
+    most true = omega arith
+    most false = width-most k
 
 turned : (b : Bool) (w : ℕ) → pick (pick b false true) w 0 ≡ pick b 0 w
 turned true w = refl
@@ -397,6 +406,18 @@ pub read-written : (y : Layout) → Writable y → (rest : List ℕ)
     → readSheet (written y ++ rest) ≡ record { answer = accepted (length (written y) ∷ []); layout = trimmed y }
 read-written y w rest = reads-back y (sound y (w .passes)) (w .formed) (w .passes) rest
 
+-- It has at most 128 octets.
+pub written-most : (y : Layout) → Writable y → length (written y) ≤ 128
+written-most y w =
+    let s = sound y (w .passes) in
+    omega (
+      arith,
+      length-written y s (w .formed),
+      head-length (y .figures),
+      fields-most (valuesOf (y .figures)) fieldCount,
+      s .count,
+    )
+
 -- "unequal layouts unequal ones": equal octets come from equal layouts
 pub same-layouts : (y z : Layout) → Writable y → Writable z → written y ≡ written z → Alike y z
 same-layouts y z u v e =
@@ -429,6 +450,41 @@ read-passes l n =
     go false true u q h = refused-none 4 (n ∷ []) h
     go false false true q h = eqb-true (refusalOf (layoutIn l)) 0 q
     go false false false q h = refused-none (refusalOf (layoutIn l)) (n ∷ []) h
+
+-- with a refusal the layout has no station, else the answer is the octets used
+refused-empty : (l : List ℕ) (n : ℕ) → readSheet l .answer ≡ refused n → readSheet l .layout .count ≡ 0
+unfolding readSheet
+refused-empty l n = go (ltb (length l) (sheetSize l)) (stands (mapOf l) 7) (eqb (refusalOf (layoutIn l)) 0)
+  where
+    go : (s t u : Bool) → pick s (unread 3) (pick t (unread 4) (pick u (record {
+      answer = accepted (sheetSize l ∷ []);
+      layout = layoutIn l;
+    }) (unread (refusalOf (layoutIn l))))) .answer ≡ refused n
+        → pick s (unread 3) (pick t (unread 4) (pick u (record {
+          answer = accepted (sheetSize l ∷ []);
+          layout = layoutIn l;
+        }) (unread (refusalOf (layoutIn l))))) .layout .count ≡ 0
+    go true t u h = refl
+    go false true u h = refl
+    go false false true h = refused-none n (sheetSize l ∷ []) (sym h)
+    go false false false h = refl
+
+accepted-size : (l vs : List ℕ) → readSheet l .answer ≡ accepted vs → readSheet l .answer ≡ accepted (sheetSize l ∷ [])
+unfolding readSheet
+accepted-size l vs = go (ltb (length l) (sheetSize l)) (stands (mapOf l) 7) (eqb (refusalOf (layoutIn l)) 0)
+  where
+    go : (s t u : Bool) → pick s (unread 3) (pick t (unread 4) (pick u (record {
+      answer = accepted (sheetSize l ∷ []);
+      layout = layoutIn l;
+    }) (unread (refusalOf (layoutIn l))))) .answer ≡ accepted vs
+        → pick s (unread 3) (pick t (unread 4) (pick u (record {
+          answer = accepted (sheetSize l ∷ []);
+          layout = layoutIn l;
+        }) (unread (refusalOf (layoutIn l))))) .answer ≡ accepted (sheetSize l ∷ [])
+    go true t u h = refused-none 3 vs h
+    go false true u h = refused-none 4 vs h
+    go false false true h = refl
+    go false false false h = refused-none (refusalOf (layoutIn l)) vs h
 
 figures-in : (l : List ℕ) → layoutIn l .figures ≡ figuresIn l
 unfolding layoutIn
@@ -483,6 +539,15 @@ places-least l f e (suc k) h =
     go false true p q i g = omega (arith, i, g)
     go false false p q i g =
         absurd (true≢false (sym (ap (λ (v : ℕ). isAbsent v k) held ∙ field-unwritten l k p) ∙ q))
+
+-- what a reader gives has addresses of six octets, refused or not
+pub always-formed : (l : List ℕ) → Formed (readSheet l .layout)
+always-formed l i g = six-of (readSheet l .layout) i (go (readSheet l .answer) refl)
+  where
+    go : (r : Answer) → readSheet l .answer ≡ r
+        → length (getD (readSheet l .layout .stations) i (record { position = 0; address = [] }) .address) ≡ 6
+    go (accepted vs) e = read-formed l (sheetSize l) (accepted-size l vs e) i g
+    go (refused n) e = absurd (omega (arith, refused-empty l n e))
 
 module _ (l : List ℕ) (n : ℕ) (h : readSheet l .answer ≡ accepted (n ∷ [])) where
   -- what was read can be written

@@ -17,7 +17,7 @@ ghost use Rattle.sheet_write.specs.Write.{tapsOctets, written, sheetWrit
 // The writer's answer: a refusal by its number, or the octets written.
 pub enum Written {
     Refused(u32),
-    Octets(usize),
+    Octets(u32),
 }
 
 // How many fields a sheet may have.
@@ -213,6 +213,7 @@ fn sheet_size(y: Layout) -> usize
     requires { ⌜ y .count ≤ maxStations ⌝ }
     ensures value { λ r. ⌜ r ≡ length (written y) ⌝ }
     ensures parts { λ r. ⌜ r ≡ length (headOctets (y .figures)) + 1 + 7 * y .count ⌝ }
+    ensures most { λ r. ⌜ r ≤ 128 ⌝ }
 {
     let stations = taps_size(y, y.count as usize);
     2 + fields_size(y.figures) + stations
@@ -241,5 +242,5 @@ pub fn write_sheet(y: Layout, out: &mut [u8]) -> Written
         return Written::Refused(15);
     }
     put_sheet(out, y);
-    Written::Octets(size)
+    Written::Octets(size as u32)
 }

@@ -1,5 +1,5 @@
 -- `sheet_write::sheet_size` meets its contract. Assumes nothing.
-use Rattle.sheet_write.specs.WriteLaws.{sheet-size, sheet-parts}
+use Rattle.sheet_write.specs.WriteLaws.{sheet-size, sheet-parts, sheet-most}
 use borrow.Author.Needs.{needs}
 use Rattle.sheet_write.proofs.sheet_size.Statement.{statement}
 use Rattle.sheet_write.proofs.sheet_size.Tie as tie
@@ -20,7 +20,7 @@ add-result-2 : tie.Need-add-result-2
 add-result-2 c = search needs
 
 returns : tie.Need-returns
-returns c = (search sheet-size, search sheet-parts)
+returns c = (search sheet-size, (search sheet-parts, search sheet-most))
 
 pub sheet-size-spec : {M : Type 1} → statement M
 sheet-size-spec =

@@ -20,6 +20,9 @@ returns-2 c = search write-short
 put-sheet-requires : tie.Need-put-sheet-requires
 put-sheet-requires c κs = ((search count-low, search count-high), omega arith)
 
+cast-t10 : tie.Need-cast-t10
+cast-t10 c = search needs
+
 same-length : tie.Need-same-length
 same-length c = search needs
 
@@ -35,5 +38,6 @@ write-sheet-spec =
     sheet-size-requires
     returns-2
     put-sheet-requires
+    cast-t10
     same-length
     returns-3)
