@@ -44,6 +44,7 @@ extern "C" {
 /* the octets of a work area, and of what the calls write into `out` */
 #define WISAVULOME_AREA 57344
 #define WISAVULOME_SHEET_OUT 196
+#define WISAVULOME_WRITE_OUT 128
 #define WISAVULOME_CLIENT_OUT 8
 #define WISAVULOME_STEP_OUT 256
 #define WISAVULOME_RUN_OUT 52
@@ -91,6 +92,10 @@ uint32_t wisavulome_fits(const uint8_t *sheet, size_t sheet_len);
 /* Checks a layout, given as the octets that wisavulome_read_sheet writes. Answer: 0. Refusals 3 (under 196 octets), 5 to 8. Whether it fits
  * (the eighth word) is not looked at. */
 uint32_t wisavulome_check_layout(const uint8_t *layout, size_t layout_len);
+
+/* Writes the shortest sheet that reads as the layout of this one; octets after the sheet do not matter. Answer: its octets, at most 128.
+ * Refusals 3 to 8, 15 (under those octets). out: the sheet. Two sheets that say the same give the same octets. */
+uint32_t wisavulome_write_sheet(const uint8_t *sheet, size_t sheet_len, uint8_t *out, size_t out_len);
 
 /* Reads a run input: sheet, draws, offers, bit times. Answer: 0. Refusals 3 to 9, 13, 16, and after them 15 (under 216 octets).
  * out: the layout as wisavulome_read_sheet writes it, 196 octets; then D, the octet at which the draws begin, the number of offers, the octet

@@ -23,6 +23,7 @@ WORD = 4  # octets of a number in an output
 SIZES = {
     "area": 57344,
     "sheet": 196,
+    "write": 128,
     "client": 8,
     "step": 256,
     "run": 52,
@@ -132,6 +133,7 @@ CALLS = {
     "read_sheet": ("slice", "buffer"),
     "fits": ("slice",),
     "check_layout": ("slice",),
+    "write_sheet": ("slice", "buffer"),
     "read_plan": ("slice", "buffer"),
     "build": ("u64", "u64", "u16", "slice", "buffer"),
     "status": ("slice", "u32"),
@@ -150,9 +152,6 @@ CALLS = {
     "print": ("slice", "buffer", "buffer"),
     "crc32": ("slice",),
 }
-
-# Calls that a later library has; what needs them says so where they are missing.
-LATER_CALLS = {"write_sheet": ("slice", "buffer")}
 
 # Where a station's state lies in a work area (crates/area/src/lib.rt, crates/area_record/src/lib.rt).
 # Only `Library.station` and `Library.clock` use it.
@@ -328,7 +327,7 @@ class Library:
     def __init__(self):
         loaded = load()
         self.functions = {}
-        for name, kinds in {**CALLS, **LATER_CALLS}.items():
+        for name, kinds in CALLS.items():
             function = declare(loaded, name, kinds)
             if function is None and name in CALLS:
                 raise LibraryMissing(f"the shared library has no function wisavulome_{name}: it is of another version")
@@ -340,7 +339,7 @@ class Library:
 
     def call(self, name, *values):
         """The answer of a call."""
-        kinds = CALLS.get(name) or LATER_CALLS[name]
+        kinds = CALLS[name]
         if not self.has(name):
             raise LibraryMissing(f"this library has no function wisavulome_{name} yet")
         answer = self.functions[name](*as_arguments(kinds, values))
@@ -384,10 +383,8 @@ class Library:
 
     def write_sheet(self, sheet):
         """The shortest sheet with the layout of this one."""
-        layout = buffer_of("sheet")
-        self.call("read_sheet", sheet, layout)
-        out = buffer_of("sheet")
-        size = self.call("write_sheet", layout.raw, out)
+        out = buffer_of("write")
+        size = self.call("write_sheet", sheet, out)
         return out.raw[:size]
 
     def read_plan(self, plan):

@@ -32,7 +32,8 @@ write-same : (y : Layout) (out : List ℕ) → (numberOf (sheetWritten y out .an
 unfolding sheetWritten
 write-same y out =
     by-test (eqb (refusalOf y) 0)
-    (λ p. by-test (ltb (length out) (length (written y))) (λ q. rw (p, q) (λ h. refl)) (λ q. rw (p, q) (λ h. absurd (h refl))))
+    (λ p. by-test (ltb (length out) (length (written y))) (λ q. rw (p, q) (λ h. refl))
+    (λ q. rw (p, q) (λ h. absurd (h refl))))
     (λ p. rw p (λ h. refl))
 
 write-small : (y : Layout) (out : List ℕ) → Formed y → valueOf (sheetWritten y out .answer) ≤ 128

@@ -307,7 +307,9 @@ pub sheet-put : (y : Layout) (l x z : List ℕ) (e : ℕ) → e ≡ length (head
     → z ≡ sets l 0 (written y)
 unfolding written
 sheet-put y l x z e p q r =
-    r ∙ rw q (sets-append (headOctets (y .figures)) (spelled 1 (y .count) ++ tapsOctets y (y .count)) l 0 e (omega arith))
+    r
+    ∙ rw q
+    (sets-append (headOctets (y .figures)) (spelled 1 (y .count) ++ tapsOctets y (y .count)) l 0 e (omega arith))
 
 -- ---- the order of the checks
 

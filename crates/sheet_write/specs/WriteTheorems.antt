@@ -1,6 +1,6 @@
 -- What a caller may rely on: what is written reads as the layout and uses just those octets, whatever follows; equal
--- layouts give equal octets, unequal ones unequal octets; writing what was read and written again gives the same octets;
--- no sheet that reads as the layout is shorter. All goes by the table's rows. Assumes nothing.
+-- layouts give equal octets, unequal ones unequal octets; a sheet read and written twice stays as after the first
+-- writing; no sheet that reads as the layout is shorter. All goes by the table's rows. Assumes nothing.
 use Prim.Native.Nat.{ℕ, zero, suc, _+_, _-_, _*_, _/_, _%_, _^_, _≤_, _<_, min}
 use mathlib.Core.Path.{_≡_, refl, sym, _∙_, ap, ap₂, subst}
 use mathlib.Core.Bool.{Bool, true, false, true≢false}
@@ -41,7 +41,8 @@ after t i (suc n) = after t i n ++ t (suc (n + i))
 
 joined-at : (t : ℕ → List ℕ) (i n : ℕ) → joined t (suc (n + i)) ≡ joined t i ++ (t i ++ after t i n)
 unfolding joined after
-joined-at t i zero = let e : 0 + i ≡ i = omega arith in rw e (ap (λ (l : List ℕ). joined t i ++ l) (sym (append-nil (t i))))
+joined-at t i zero =
+    let e : 0 + i ≡ i = omega arith in rw e (ap (λ (l : List ℕ). joined t i ++ l) (sym (append-nil (t i))))
 joined-at t i (suc n) =
     let e : suc n + i ≡ suc (n + i) = omega arith in
     rw e

@@ -11,7 +11,8 @@ use Rattle.sheet_write.proofs.put_fields.Statement.{statement}
 use Rattle.sheet_write.proofs.put_fields.Tie as tie
 
 abbrev Inv-loop : tie.InvT-loop
-Inv-loop out₀ all at₀ k₀ out at k = (k ≤ 7) × (at ≡ 1 + length (fieldsOctets all k)) × (at ≤ 1 + 2 * k) × (length out ≡ length out₀)
+Inv-loop out₀ all at₀ k₀ out at k = (k ≤ 7) × (at ≡ 1 + length (fieldsOctets all k)) × (at ≤ 1 + 2 * k)
+    × (length out ≡ length out₀)
     × (out ≡ sets out₀ 1 (fieldsOctets all k))
 
 abbrev μ-loop : tie.MeasureT-loop

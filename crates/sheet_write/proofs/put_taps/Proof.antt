@@ -12,7 +12,9 @@ use Rattle.sheet_write.proofs.put_taps.Statement.{statement}
 use Rattle.sheet_write.proofs.put_taps.Tie as tie
 
 abbrev Inv-loop : tie.InvT-loop
-Inv-loop out₀ at n y i₀ out i = (i ≤ n) × (length out ≡ length out₀) × (length (tapsOctets y i) ≡ 7 * i) × (out ≡ sets out₀ at (tapsOctets y i))
+Inv-loop out₀ at n y i₀ out i =
+    (i ≤ n) × (length out ≡ length out₀) × (length (tapsOctets y i) ≡ 7 * i)
+    × (out ≡ sets out₀ at (tapsOctets y i))
 
 abbrev μ-loop : tie.MeasureT-loop
 μ-loop out₀ at n y i₀ out i = n - i
