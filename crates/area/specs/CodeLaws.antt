@@ -15,6 +15,7 @@ use Rattle.octets.specs.Base.{pick, Answer, refused, accepted, Outcome, outcome
 use Rattle.octets.specs.BaseLaws.{by-test}
 use Rattle.octets.specs.Lent.{lent-store}
 use Rattle.octets.specs.Bits.{digit}
+use Rattle.octets.specs.BitsLaws.{shift-is}
 use Rattle.octets.specs.Number.{get, put}
 use Rattle.octets.specs.Store.{part, length-part}
 use Rattle.octets.specs.Words.{wordsAt, putWords}
@@ -267,14 +268,11 @@ joined-code a i u s c e ne = ap (set a (from (theLine i) + u % ring)) (go (symbo
 
 -- ---- a collected bit
 
-pub power-is : (p : ℕ) → p < 8 → 1 * 2 ^ p % 2 ^ 32 ≡ 2 ^ p
-power-is p h = let l : 2 ^ p ≤ 2 ^ 7 = pow-mono {j = 7} (omega arith) in omega arith
+pub power-some : (p u : ℕ) → p < 8 → u ≡ 2 ^ p → 0 < u
+power-some p u h e = omega (arith, pow-pos p)
 
-pub power-small : (p : ℕ) → p < 8 → (0 < 1 * 2 ^ p % 2 ^ 32) × (1 * 2 ^ p % 2 ^ 32 ≤ 128)
-power-small p h =
-    let e : 1 * 2 ^ p % 2 ^ 32 ≡ 2 ^ p = power-is p h in
-    let l : 2 ^ p ≤ 2 ^ 7 = pow-mono {j = 7} (omega arith) in
-    (omega (arith, pow-pos p), omega arith)
+pub power-small : (p u : ℕ) → p < 8 → u ≡ 2 ^ p → u ≤ 128
+power-small p u h e = let l : 2 ^ p ≤ 2 ^ 7 = pow-mono {j = 7} (omega arith) in omega arith
 
 pub low-is : (x p u : ℕ) → u ≡ 2 ^ p → bitAnd x (u - 1) ≡ x % u
 low-is x p u e = rw e (and-mask x p)
@@ -283,7 +281,7 @@ pub low-small : (x p u : ℕ) → u ≡ 2 ^ p → 0 < u → bitAnd x (u - 1) < u
 low-small x p u e h = rw (low-is x p u e) (mod-lt x h)
 
 shifted-is : (p : ℕ) (b : Bool) → p < 8 → digit b * 2 ^ p % 2 ^ 32 ≡ digit b * 2 ^ p
-shifted-is p true h = power-is p h ∙ omega arith
+shifted-is p true h = shift-is p (omega arith) ∙ omega arith
 shifted-is p false h = omega arith
 
 pub raised-is : (p d : ℕ) (b : Bool) → p < 8 → d ≡ digit b → d * 2 ^ p % 2 ^ 32 ≡ digit b * 2 ^ p
@@ -293,7 +291,7 @@ pub raised-small : (p d : ℕ) (b : Bool) → p < 8 → d ≡ digit b → d * 2 
 raised-small p d b h e = rw e (go b)
   where
     go : (c : Bool) → digit c * 2 ^ p % 2 ^ 32 ≤ 128
-    go true = power-small p h .1
+    go true = power-small p _ h (shift-is p (omega arith))
     go false = omega arith
 
 pub octet-is : (x y z p u r : ℕ) (b : Bool) → r ≡ digit b * 2 ^ p → z ≡ y % u → y ≡ x → u ≡ 2 ^ p

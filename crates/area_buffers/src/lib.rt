@@ -15,13 +15,13 @@ ghost use Rattle.area.specs.Offsets.{areaSize, frameRoom};
 ghost use Rattle.frame_build.specs.Limits.{bufferOctets, bufferBits};
 ghost use Rattle.sheet_layout.specs.Limits.{maxStations};
 
+// What bit p of an octet stands for.
 pub fn power(p: usize) -> u32
     requires { ⌜ p < 8 ⌝ }
     ensures value { λ r. ⌜ r ≡ 2 ^ p ⌝ }
     ensures some { λ r. ⌜ (0 < r) × (r ≤ 128) ⌝ }
 {
-    let place = p as u32;
-    1u32 << place
+    octets::power(p as u32)
 }
 
 // The p low bits of x, of which `unit` is 2^p.

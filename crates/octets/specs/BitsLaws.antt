@@ -4,12 +4,12 @@ use Prim.Native.Nat.{ℕ, zero, suc, _+_, _*_, _/_, _%_, _^_, _-_, _≤_, _<_}
 use mathlib.Core.Path.{_≡_, refl, sym, _∙_, ap, ap₂}
 use mathlib.Core.Bool.{Bool, true, false}
 use mathlib.Core.List.{List, [], _∷_, _++_}
-use native.Mathlib.Nat.{pow-suc, div-div-eq-div-mul, mul-comm, zero-mod, zero-div, not-suc-le-zero}
+use native.Mathlib.Nat.{pow-suc, mod-eq-of-lt, div-div-eq-div-mul, mul-comm, zero-mod, zero-div, not-suc-le-zero}
 use native.Mathlib.Decide.{decLt}
 use native.Mathlib.Omega.{arith}
 use borrow.Author.Tests.{eq-eqb, ne-eqb}
 use lib.Arith.{mod-mul}
-use lib.Pow.{pow-pos}
+use lib.Pow.{pow-pos, pow-lt}
 use lib.Dec.{eqb}
 use lib.ListN.{length, getD, take, drop, length-append, length-drop, take-append-drop, List·getD-append}
 use lib.ListN.{List·getD-eq-default}
@@ -122,3 +122,9 @@ length-bits-of (x ∷ l) = length-append (lowBits 8 x) (bitsOf l) ∙ omega (ari
 
 pub octet-bit-past : (l : List ℕ) (j : ℕ) → length l ≤ j / 8 → getD (bitsOf l) j false ≡ false
 octet-bit-past l j h = List·getD-eq-default (bitsOf l) false (omega (arith, length-bits-of l))
+
+-- ---- powers of two
+
+-- 1 shifted by p places
+pub shift-is : (p : ℕ) → p < 32 → 1 * 2 ^ p % 2 ^ 32 ≡ 2 ^ p
+shift-is p h = let l : 2 ^ p < 2 ^ 32 = pow-lt h in let e : 1 * 2 ^ p ≡ 2 ^ p = omega arith in rw e (mod-eq-of-lt l)

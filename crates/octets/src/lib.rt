@@ -1,9 +1,9 @@
-// What every crate stands on: octets as numbers, tests put together, and the definitions of octets, numbers and words
+// What every crate stands on: octets as numbers, tests put together, powers of two, and the definitions of octets, numbers and words
 // (specs).
 
 ghost use mathlib.Core.Path.{_≡_};
 ghost use mathlib.Core.Bool.{_||_, _&&_};
-ghost use Prim.Native.Nat.{_<_};
+ghost use Prim.Native.Nat.{_^_, _<_};
 ghost use Rattle.octets.specs.Base.{outside};
 
 // The answer of a call that gives nothing but its being done: a refusal by its number, or done.
@@ -40,4 +40,12 @@ pub fn out_of(x: u32, least: u32, most: u32) -> bool
     ensures { λ r. ⌜ r ≡ outside x least most ⌝ }
 {
     either(x < least, most < x)
+}
+
+// 2 to the power p.
+pub fn power(p: u32) -> u32
+    requires { ⌜ p < 32 ⌝ }
+    ensures { λ r. ⌜ r ≡ 2 ^ p ⌝ }
+{
+    1u32 << p
 }

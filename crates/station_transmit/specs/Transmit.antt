@@ -74,7 +74,7 @@ sendBit f frame n k hears =
 unfoldable pub headBit : Figures → ℕ → Transmitted
 headBit f k = emitting (afterBit (f .jam) k false) (PacketBit k) NoTransmit
 
--- "2^min(n, backoff limit), a range kept in a sixteen-entry table"
+-- "2^min(n, backoff limit)"; N6: "Work the range out as a power of two from the attempt and the backoff limit."
 unfoldable pub backoffRange : (n backoff : ℕ) → ℕ
 backoffRange n backoff = 2 ^ min n backoff
 

@@ -9,7 +9,6 @@ use lib.Pow.{pow-pos, pow-lt}
 use lib.Dec.{eqb}
 use lib.ListN.{getD}
 use borrow.Author.Tests.{lt-ltb, le-ltb, le-leb, lt-leb, eq-eqb, ne-eqb}
-use Rattle.octets.specs.Table.{tabulated, entry}
 use Rattle.sheet_layout.specs.declared.Figures.{Figures}
 use Rattle.station_transmit.specs.declared.TransmitEvent.{TransmitEvent}
 use Rattle.station_transmit.specs.declared.TransmitEvent.the-variants.{NoTransmit, Collision, Late, Sent, GivenUp}
@@ -64,10 +63,9 @@ module _ (f : Figures) (z n k : ℕ) (hears : Bool) where
 
 -- ---- backoff
 
--- the rule of the table of ranges, and the bounds of its entries
-pub range-is : (n b i : ℕ) → i ≡ min n b → b < 16 → getD (tabulated (λ k. 2 ^ k) 0 16) i 0 ≡ backoffRange n b
+pub range-is : (n b i r : ℕ) → i ≡ min n b → r ≡ 2 ^ i → r ≡ backoffRange n b
 unfolding backoffRange
-range-is n b i p h = entry (λ k. 2 ^ k) 0 16 i (omega arith) ∙ ap (λ (k : ℕ). 2 ^ k) p
+range-is n b i r p q = q ∙ ap (λ (k : ℕ). 2 ^ k) p
 
 module _ (f : Figures) (n draw g : ℕ) where
   pub back-now : g ≡ backoffRange n (f .backoff) → f .slot * (draw % g) ≡ 0 → Waiting ≡ backOff f n draw
@@ -155,15 +153,11 @@ held-transmits f (Jamming left ends) z n draw start hears = refl
 
 -- ---- bounds for the code's sums and products
 
-power-small : (i : ℕ) → i < 16 → (0 < 2 ^ i) × (2 ^ i < 65536)
-power-small i h = (pow-pos i, pow-lt h)
+pub range-low : (b i r : ℕ) → i ≤ b → b < 16 → r ≡ 2 ^ i → 0 < r
+range-low b i r p h q = omega (arith, pow-pos i)
 
-pub range-small : (n b i : ℕ) → i ≡ min n b → b < 16
-    → (0 < getD (tabulated (λ k. 2 ^ k) 0 16) i 0) × (getD (tabulated (λ k. 2 ^ k) 0 16) i 0 < 65536)
-range-small n b i p h =
-    let q = power-small i (omega arith) in
-    let e : getD (tabulated (λ k. 2 ^ k) 0 16) i 0 ≡ 2 ^ i = entry (λ k. 2 ^ k) 0 16 i (omega arith) in
-    (omega arith, omega arith)
+pub range-high : (b i r : ℕ) → i ≤ b → b < 16 → r ≡ 2 ^ i → r < 65536
+range-high b i r p h q = let l : 2 ^ i < 2 ^ 16 = pow-lt {j = 16} (omega arith) in omega arith
 
 pub wait-fits : (s d g : ℕ) → s < 65536 → 0 < g → g < 65536 → s * (d % g) < 4294967296
 wait-fits s d g h p q =

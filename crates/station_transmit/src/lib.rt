@@ -27,26 +27,6 @@ pub struct Transmitted {
     pub drew: bool,
 }
 
-// Range 2^i at place i.
-const RANGES: [u32; 16] = [
-    1,
-    2,
-    4,
-    8,
-    16,
-    32,
-    64,
-    128,
-    256,
-    512,
-    1024,
-    2048,
-    4096,
-    8192,
-    16384,
-    32768,
-];
-
 pub fn is_waiting(t: Transmitter) -> bool
     ensures { λ r. ⌜ r ≡ waits t ⌝ }
 {
@@ -81,14 +61,13 @@ fn least(a: u32, b: u32) -> u32
     if a < b { a } else { b }
 }
 
-// The backoff range after attempt n.
+// The backoff range after attempt n: a power of two.
 fn range_after(n: u32, backoff: u32) -> u32
     requires { ⌜ backoff < 16 ⌝ }
     ensures value { λ r. ⌜ r ≡ backoffRange n backoff ⌝ }
     ensures some { λ r. ⌜ (0 < r) × (r < 65536) ⌝ }
 {
-    let i = least(n, backoff) as usize;
-    RANGES[i]
+    octets::power(least(n, backoff))
 }
 
 // Where a frame goes after the last jam bit of attempt n, with this draw.
