@@ -58,11 +58,10 @@ module _ (y : Layout) (T : List Moment) (m : Moment) (holds : Demand3 y T m) (t 
   -- every frame that is due was got, and it is the frame of no other station
   pub always-got : ((k : ℕ) × (gotAt T (dueAt y t i j) j ≡ GotOk k)) × ((s : Sender y T (dueAt y t i j) j) → s .from ≡ i)
   unfolding from-sender
-  always-got =
-      (
-        holds .delivered (dueAt y t i j) j (omega (arith, g .made)) (g .addressee) from-sender,
-        (λ s. holds .one (dueAt y t i j) j (omega (arith, g .made)) (g .addressee) s from-sender),
-      )
+  always-got = (
+    holds .delivered (dueAt y t i j) j (omega (arith, g .made)) (g .addressee) from-sender,
+    (λ s. holds .one (dueAt y t i j) j (omega (arith, g .made)) (g .addressee) s from-sender),
+  )
 
 pub none-lost : (y : Layout) (T : List Moment) (m : Moment) → Demand3 y T m → (t i j : ℕ) → Lost y T t i j → ⊥
 none-lost y T m holds t i j l =
