@@ -39,7 +39,7 @@ fit-passed y h =
 
 -- ---- the moved layout
 
-module _ (y : Layout) (room : length (y .stations) ≡ maxStations) (w : Sound y) (d : ℕ) where
+module _ (y : Layout) (room : y .count ≤ length (y .stations)) (w : Sound y) (d : ℕ) where
   moved-here : tapAt (movedOut y d) (y .count - 1)
       ≡ record { position = positionAt y (y .count - 1) + d; address = addressAt y (y .count - 1) }
   unfolding movedOut tapAt
@@ -173,8 +173,8 @@ none-is y h =
     (λ e. (eqb-true (refusalOf y) 0 c, e)))
     (λ c. refused-none (refusalOf y) [] (rw c at h))
 
--- all sixteen places, as the code's layouts have them
-module _ (y : Layout) (room : length (y .stations) ≡ maxStations) where
+-- every station has a place, as in the code's layouts
+module _ (y : Layout) (room : y .count ≤ length (y .stations)) where
   -- where the margin is k, the layout with its last tap moved outward by d fits exactly where d ≤ k
   pub margin-exact : (k : ℕ) → marginOf y ≡ accepted (k ∷ []) → (d : ℕ)
       → (d ≤ k → fitOf (movedOut y d) ≡ accepted (1 ∷ [])) × (fitOf (movedOut y d) ≡ accepted (1 ∷ []) → d ≤ k)
