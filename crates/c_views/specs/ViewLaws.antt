@@ -69,7 +69,8 @@ passed a i h =
 
 -- ---- its words
 
-pub station-put : (a out x y ws vs : List ℕ) (i t h : ℕ) (s : Station) (g : Heard) → y ≡ putWords (length vs) x (4 * recordWords) vs
+pub station-put : (a out x y ws vs : List ℕ) (i t h : ℕ) (s : Station) (g : Heard)
+    → y ≡ putWords (length vs) x (4 * recordWords) vs
     → x ≡ putWords (length ws) out 0 ws → length ws ≡ recordWords → vs ≡ h ∷ t ∷ [] → h ≡ heardCode g
     → g ≡ arrivalAt a i t → t ≡ clockAt a → ws ≡ encoded s → s ≡ stationAt a i
     → y ≡ stationPut a i out
@@ -114,7 +115,8 @@ margin-low y =
     (λ p. by-test (fitsWell y) (λ q. rw (p, q) (omega arith)) (λ q. rw (p, q) (omega arith)))
     (λ p. rw p (layout-low y))
 
-pub margin-number-low : (y : Layout) (m : MarginAnswer) (k : ℕ) → k ≡ numberOf (marginAnswer m) → marginAnswer m ≡ marginOf y
+pub margin-number-low : (y : Layout) (m : MarginAnswer) (k : ℕ) → k ≡ numberOf (marginAnswer m)
+    → marginAnswer m ≡ marginOf y
     → k ≤ maxRefusal
 margin-number-low y m k p q =
     let h : numberOf (marginAnswer m) ≡ numberOf (marginOf y) = ap numberOf q in omega (arith, margin-low y)

@@ -1,6 +1,6 @@
--- What a caller may rely on. A look at a station that is refused leaves the lent output as it was. The margin of a sheet
--- that is read is below 255, and the layout fits exactly up to there with its last tap moved outward; or it is 256, and
--- the layout fits with no such move. Assumes nothing.
+-- What a caller may rely on. A look at a station that is refused leaves the lent output as it was. The margin of a
+-- sheet that is read is below 255, and the layout fits exactly up to there with its last tap moved outward; or it is
+-- 256, and the layout fits with no such move. Assumes nothing.
 use Prim.Native.Nat.{ℕ, zero, suc, _-_, _≤_, _<_}
 use mathlib.Core.Path.{_≡_, refl, sym, ap}
 use mathlib.Core.Bool.{Bool, true, false}

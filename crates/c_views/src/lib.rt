@@ -12,7 +12,8 @@ ghost use Rattle.sheet_fit.specs.Margin.{marginAnswer};
 ghost use Rattle.area.specs.Area.{heardCode};
 ghost use Rattle.area.specs.Offsets.{areaSize};
 ghost use Rattle.c_calls.specs.Calls.{given};
-ghost use Rattle.c_views.specs.Views.{stationOut, stationRefusal, stationPut, stationGiven, noMargin, marginGiven};
+ghost use Rattle.c_views.specs.Views.{stationOut, stationRefusal, stationPut, stationGiven};
+ghost use Rattle.c_views.specs.Views.{noMargin, marginGiven};
 
 // The octets of a station's state, and what stands for no margin.
 pub const STATION_OUT: usize = 64;

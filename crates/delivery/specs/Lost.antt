@@ -55,8 +55,9 @@ module _ (y : Layout) (T : List Moment) (m : Moment) (holds : Demand3 y T m) (t 
         for = g .for;
       }
 
-  -- every frame that is due was got, and it is the frame of no other station
-  pub always-got : ((k : ℕ) × (gotAt T (dueAt y t i j) j ≡ GotOk k)) × ((s : Sender y T (dueAt y t i j) j) → s .from ≡ i)
+  -- a frame that is due was got, and in that step no other station's
+  pub always-got : ((k : ℕ) × (gotAt T (dueAt y t i j) j ≡ GotOk k))
+      × ((s : Sender y T (dueAt y t i j) j) → s .from ≡ i)
   unfolding from-sender
   always-got = (
     holds .delivered (dueAt y t i j) j (omega (arith, g .made)) (g .addressee) from-sender,

@@ -24,8 +24,8 @@ use Rattle.sheet_fit.specs.MarginLaws.{fits-says}
 
 -- ---- a fit, both ways
 
-fits-from : (y : Layout) → 2 * spanOf y + gapOf (y .figures) ≤ y .figures .slot → gapOf (y .figures) ≤ 64 + y .figures .jam
-    → true ≡ fitsWell y
+fits-from : (y : Layout) → 2 * spanOf y + gapOf (y .figures) ≤ y .figures .slot
+    → gapOf (y .figures) ≤ 64 + y .figures .jam → true ≡ fitsWell y
 unfolding fitsWell
 fits-from y p q = rw (le-leb _ _ p, le-leb _ _ q)
 
@@ -34,7 +34,8 @@ unfolding fitOf
 fit-passed y h =
     by-test (eqb (refusalOf y) 0)
     (λ c. by-test (fitsWell y) (λ e. (eqb-true (refusalOf y) 0 c, e))
-    (λ e. absurd (let z : _≡_ {A = ℕ} 0 1 = ap (λ (r : Answer). getD (valuesOf r) 0 0) (rw (c, e) at h) in omega arith)))
+    (λ e. absurd (let z : _≡_ {A = ℕ} 0 1 = ap (λ (r : Answer). getD (valuesOf r) 0 0)
+    (rw (c, e) at h) in omega arith)))
     (λ c. refused-none (refusalOf y) (1 ∷ []) (rw c at h))
 
 -- ---- the moved layout
@@ -99,7 +100,8 @@ module _ (y : Layout) (room : y .count ≤ length (y .stations)) (w : Sound y) (
   unfolding movedOut refusalOf
   moved-passes ok far =
       (λ k. pick (figuresOut (y .figures)) 5
-      (pick (some-same (positionOut (movedOut y d)) (positionOut y) (min (y .count) maxStations) (positions-same far) k) 5
+      (pick (some-same (positionOut (movedOut y d)) (positionOut y) (min (y .count) maxStations)
+      (positions-same far) k) 5
       (pick (outside (y .count) 2 maxStations) 6
       (pick (some-same (falls (movedOut y d)) (falls y) (y .count - 1) falls-same k) 7
       (pick (some-same (addressWrong (movedOut y d)) (addressWrong y) (y .count) (λ i h. wrong-same i) k) 8 0)))))
