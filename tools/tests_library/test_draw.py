@@ -2,7 +2,6 @@
 
 import os
 import random
-import struct
 import subprocess
 
 from common import ROOT, STORED, TOOL, WORKED, CommandTest, call, stepped_cases, stored, stored_cases
@@ -159,10 +158,9 @@ class Runs(CommandTest):
         area = advance_to(self.library, octets, 0)
         stations = range(len(emits))
         spaces = [(j, i, course.layout.distance(i, j)) for j in stations for i in stations if i != j]
-        emitted_at = [table.RECORD_AT + table.RECORD_OCTETS * i + 4 * 13 for i in stations]
         for time in range(course.clock):
             make_due(self.library, area, course.plan, time)
-            heard = [area[table.LINE_AT + table.LINE_PLACES * j + time % table.LINE_PLACES][0] for j in stations]
+            heard = [self.library.station(area, j).hears for j in stations]
             sources = [[] for _ in stations]
             for j, i, away in spaces:
                 if time >= away and emits[i][time - away]:
@@ -174,7 +172,7 @@ class Runs(CommandTest):
                     return False
             self.library.call("step", area, STEP_OUT)
             for i in stations:
-                if struct.unpack_from(">I", area, emitted_at[i])[0] != (emits[i][time] > 0):
+                if self.library.station(area, i).emitted != (emits[i][time] > 0):
                     return False
         return True
 
