@@ -226,7 +226,7 @@ def as_arguments(kinds, values):
     """The C arguments for values: octets and buffers with their lengths."""
     for kind, value in zip(kinds, values):
         if kind in ("slice", "buffer"):
-            yield ctypes.cast(value, ctypes.c_char_p) if kind == "buffer" else bytes(value)
+            yield value if kind == "buffer" else bytes(value)
             yield len(value)
         else:
             yield value
@@ -322,12 +322,8 @@ class StationState(NamedTuple):
     @classmethod
     def of(cls, numbers):
         """The state that these numbers stand for."""
-        state = cls._make(numbers)
-        return state._replace(
-            deference=DEFERENCE[state.deference],
-            transmitter=TRANSMITTER[state.transmitter],
-            receiver=RECEIVER[state.receiver],
-        )
+        deference, stretch, gap, transmitter, count, receiver, *rest = numbers
+        return cls(DEFERENCE[deference], stretch, gap, TRANSMITTER[transmitter], count, RECEIVER[receiver], *rest)
 
 
 def layout_of(octets, used):

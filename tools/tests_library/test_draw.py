@@ -158,9 +158,9 @@ class Runs(CommandTest):
         area = advance_to(self.library, octets, 0)
         stations = range(len(emits))
         spaces = [(j, i, course.layout.distance(i, j)) for j in stations for i in stations if i != j]
+        states = [self.library.station(area, j) for j in stations]
         for time in range(course.clock):
-            make_due(self.library, area, course.plan, time)
-            heard = [self.library.station(area, j).hears for j in stations]
+            make_due(self.library, area, course.plan, time)  # an offer changes nothing of what is heard
             sources = [[] for _ in stations]
             for j, i, away in spaces:
                 if time >= away and emits[i][time - away]:
@@ -168,12 +168,12 @@ class Runs(CommandTest):
             for j in stations:
                 spoiled = (table.SPOILED,)
                 expected = {0: (0,), 1: spoiled if sources[j] == [2] else (1, 2)}.get(len(sources[j]), spoiled)
-                if heard[j] not in expected:
+                if states[j].hears not in expected:
                     return False
             self.library.call("step", area, STEP_OUT)
-            for i in stations:
-                if self.library.station(area, i).emitted != (emits[i][time] > 0):
-                    return False
+            states = [self.library.station(area, i) for i in stations]
+            if any(states[i].emitted != (emits[i][time] > 0) for i in stations):
+                return False
         return True
 
     def test_hearing(self):
