@@ -21,7 +21,7 @@ use Rattle.c_calls.specs.Calls.{Given, given, unless, kept, short}
 abbrev pub stationOut : ℕ
 stationOut = 4 * recordWords + 8
 
--- 1, 2; 10: "There is no such station"
+-- 1 and 2 of the area; 10 where station i is not counted; 0 where none stands
 unfoldable pub stationRefusal : (area : List ℕ) (i : ℕ) → ℕ
 stationRefusal a i = pick (eqb (areaRefusal a) 0) (pick (leb (countAt a) i) 10 0) (areaRefusal a)
 

@@ -4,12 +4,12 @@ use sheet_layout::Figures;
 use sheet_layout::Fit;
 use sheet_layout::Layout;
 ghost use mathlib.Core.Path.{_≡_};
+ghost use mathlib.Core.Bool.{true};
 ghost use Prim.Native.Nat.{_<_, _≤_};
 ghost use Rattle.sheet_layout.specs.Layout.{gapOf, spanOf, fitsWell};
+ghost use Rattle.sheet_layout.specs.Check.{refusalOf};
 ghost use Rattle.sheet_layout.specs.Fit.{fitAnswer, fitOf};
 ghost use Rattle.sheet_layout.specs.Limits.{maxStations};
-ghost use Rattle.sheet_layout.specs.Check.{refusalOf};
-ghost use mathlib.Core.Bool.{true};
 ghost use Rattle.sheet_fit.specs.Margin.{outwardOf, marginAnswer, marginOf};
 
 // How far the last tap may move outward: a refusal of the layout by its number, or that it does not fit as it is, or so
