@@ -31,6 +31,7 @@ from wisavulome.library import (
     SIZES,
     ZERO,
     Refused,
+    StationState,
     declare,
 )  # noqa: E402
 from wisavulome.window import window_of  # noqa: E402
@@ -57,6 +58,7 @@ class Table(unittest.TestCase):
 
     def test_sizes(self):
         self.assertEqual(SIZES["counters"], 4 * len(COUNTERS))
+        self.assertEqual(SIZES["station"], 4 * len(StationState._fields))
         self.assertEqual(SIZES["run"], 4 * (len(EVENTS) + 3))
         self.assertEqual(SIZES["plan"], SIZES["sheet"] + 20)
         self.assertEqual([figure.absent for figure in FIGURES], [512, 64, 32, 32, 16, 10, 0])
@@ -64,6 +66,11 @@ class Table(unittest.TestCase):
     def test_refusal_words(self):
         self.assertTrue(str(Refused(7)).startswith("refused 7: positions"))
         self.assertEqual(sorted(REFUSALS), [*range(1, 17), 20, 21])
+
+    def test_no_offset(self):
+        """No module knows where anything lies in a work area: areas are only handed to calls."""
+        for path in sorted((ROOT / "python" / "wisavulome").glob("*.py")):
+            self.assertNotRegex(path.read_text(), r"\barea(\.raw)?\[|(unpack_from|word_at)\([^)]*\barea\b", path.name)
 
     def test_missing_function(self):
         class Empty(dict):

@@ -50,6 +50,7 @@ extern "C" {
 #define WISAVULOME_STEP_OUT 256
 #define WISAVULOME_RUN_OUT 52
 #define WISAVULOME_COUNTERS_OUT 68
+#define WISAVULOME_STATION_OUT 64
 #define WISAVULOME_FRAME_OUT 1522
 #define WISAVULOME_PLAN_OUT 216
 #define WISAVULOME_PIECE_OUT 2048
@@ -87,6 +88,35 @@ extern "C" {
 #define WISAVULOME_GOT_CHECK 4
 #define WISAVULOME_GOT_LENGTH 5
 
+/* the answer of wisavulome_margin where the layout does not fit: past every margin */
+#define WISAVULOME_NO_MARGIN 256
+
+/* a station's deference */
+#define WISAVULOME_QUIET 0
+#define WISAVULOME_BUSY 1
+#define WISAVULOME_GAP 2
+
+/* a station's transmitter: ENDING jams after a late collision that closes the frame */
+#define WISAVULOME_NO_FRAME 0
+#define WISAVULOME_WAITING 1
+#define WISAVULOME_BACKING_OFF 2
+#define WISAVULOME_SENDING 3
+#define WISAVULOME_HEADING 4
+#define WISAVULOME_JAMMING 5
+#define WISAVULOME_ENDING 6
+
+/* a station's receiver */
+#define WISAVULOME_LISTENING 0
+#define WISAVULOME_READABLE 1
+#define WISAVULOME_SEEKING 2
+#define WISAVULOME_COLLECTING 3
+
+/* what a station hears: spoiled is a jam bit, or any symbol from two or more */
+#define WISAVULOME_HEARS_NOTHING 0
+#define WISAVULOME_HEARS_ZERO 1
+#define WISAVULOME_HEARS_ONE 2
+#define WISAVULOME_HEARS_SPOILED 3
+
 /* Reads a sheet. Answer: the octets used; more may follow. Refusals 3 to 8, 15 (under 196 octets).
  * out: slot, gap1, gap2, jam, attempt limit, backoff limit, N, fits (0 or 1); then for each of 16 places position (4 octets) and address
  * (6 octets), from octet 32 + 10 i on; places N and up are zeros; then, at octet 192, late-end: 0 where a late collision is retried, 1
@@ -95,6 +125,10 @@ uint32_t wisavulome_read_sheet(const uint8_t *sheet, size_t sheet_len, uint8_t *
 
 /* Whether the layout of a sheet fits. Answer: 0 or 1. Refusals 3 to 8. */
 uint32_t wisavulome_fits(const uint8_t *sheet, size_t sheet_len);
+
+/* How far the last tap may move outward so that the layout of a sheet still fits. Answer: so many bit times, 0 to 254: it fits exactly up to
+ * there; 256 where it does not fit as it is, and then it fits nowhere farther out either. Refusals 3 to 8. */
+uint32_t wisavulome_margin(const uint8_t *sheet, size_t sheet_len);
 
 /* Checks a layout, given as the octets that wisavulome_read_sheet writes. Answer: 0. Refusals 3 (under 196 octets), 5 to 8. Whether it fits
  * (the eighth word) is not looked at. */
@@ -161,6 +195,14 @@ uint32_t wisavulome_read_frame(const uint8_t *area, size_t area_len, uint32_t st
  * out: offered, attempts, collisions, late, sent, sent after one collision, sent after several, octets sent, deferred, excessive, received,
  * octets received, too-long, check, alignment, length, late-ended. */
 uint32_t wisavulome_counters(const uint8_t *area, size_t area_len, uint32_t station, uint8_t *out, size_t out_len);
+
+/* The state of a station, which it has after the last step. Answer: 0. Refusals 1, 2, 10, 15 (under 64 octets).
+ * out: deference; 1 where the station itself emitted in the busy stretch, or 0; the quiet bits counted in a gap; transmitter; its number (the
+ * steps of backoff left, the next bit of the packet or header, the jam bits left); receiver; its number (the octets of the readable frame, the
+ * row of clean symbols, the bits collected); 1 where a symbol of the reception was spoiled; 1 where the station itself emitted in it; the
+ * octets of the frame that it holds; its attempts; the place of the next draw; 1 where the frame was deferred; 1 where the station emitted in
+ * the last step; what it hears in the next step; the clock. A number that a state does not use is 0. */
+uint32_t wisavulome_station(const uint8_t *area, size_t area_len, uint32_t station, uint8_t *out, size_t out_len);
 
 /* What is printed for a run input, piece by piece: wisavulome_begin makes a fresh start and hands out the first piece, wisavulome_advance each
  * piece after it, until the fourth word of progress is not 0. Answer: the octets of the piece, 0 to 2048. Refusals of begin: 1, 15 (out under

@@ -24,6 +24,7 @@ pub const CLIENT_OUT: usize = 8;
 pub const STEP_OUT: usize = 256;
 pub const RUN_OUT: usize = 52;
 pub const COUNTERS_OUT: usize = 68;
+pub const STATION_OUT: usize = 64;
 pub const FRAME_OUT: usize = 1522;
 pub const PLAN_OUT: usize = 216;
 pub const PIECE_OUT: usize = 2048;
@@ -59,12 +60,44 @@ pub const GOT_ALIGNMENT: u32 = 3;
 pub const GOT_CHECK: u32 = 4;
 pub const GOT_LENGTH: u32 = 5;
 
+// The answer of `margin` where the layout does not fit: past every margin.
+pub const NO_MARGIN: u32 = 256;
+
+// A station's deference.
+pub const QUIET: u32 = 0;
+pub const BUSY: u32 = 1;
+pub const GAP: u32 = 2;
+
+// A station's transmitter: ENDING jams after a late collision that closes the frame.
+pub const NO_FRAME: u32 = 0;
+pub const WAITING: u32 = 1;
+pub const BACKING_OFF: u32 = 2;
+pub const SENDING: u32 = 3;
+pub const HEADING: u32 = 4;
+pub const JAMMING: u32 = 5;
+pub const ENDING: u32 = 6;
+
+// A station's receiver.
+pub const LISTENING: u32 = 0;
+pub const READABLE: u32 = 1;
+pub const SEEKING: u32 = 2;
+pub const COLLECTING: u32 = 3;
+
+// What a station hears: spoiled is a jam bit, or any symbol from two or more.
+pub const HEARS_NOTHING: u32 = 0;
+pub const HEARS_ZERO: u32 = 1;
+pub const HEARS_ONE: u32 = 2;
+pub const HEARS_SPOILED: u32 = 3;
+
 unsafe extern "C" {
     // The octets used; refusals 3 to 8, 15. out: 8 words, 16 places of 10 octets, late-end.
     pub fn wisavulome_read_sheet(sheet: *const u8, sheet_len: usize, out: *mut u8, out_len: usize) -> u32;
 
     // 0 or 1; refusals 3 to 8.
     pub fn wisavulome_fits(sheet: *const u8, sheet_len: usize) -> u32;
+
+    // How far the last tap may move outward, or NO_MARGIN; refusals 3 to 8.
+    pub fn wisavulome_margin(sheet: *const u8, sheet_len: usize) -> u32;
 
     // 0; refusals 3, 5 to 8. layout: 196 octets, as wisavulome_read_sheet writes them.
     pub fn wisavulome_check_layout(layout: *const u8, layout_len: usize) -> u32;
@@ -135,6 +168,9 @@ unsafe extern "C" {
 
     // 0; refusals 1, 2, 10, 15. out: the seventeen counters.
     pub fn wisavulome_counters(area: *const u8, area_len: usize, station: u32, out: *mut u8, out_len: usize) -> u32;
+
+    // 0; refusals 1, 2, 10, 15. out: the sixteen numbers of its state.
+    pub fn wisavulome_station(area: *const u8, area_len: usize, station: u32, out: *mut u8, out_len: usize) -> u32;
 
     // The octets of the first piece; refusals 1, 15. progress: 4 words, written; out: the piece.
     pub fn wisavulome_begin(
@@ -207,6 +243,10 @@ pub fn fits(sheet: &[u8]) -> Answer {
     answer(unsafe { wisavulome_fits(sheet.as_ptr(), sheet.len()) })
 }
 
+pub fn margin(sheet: &[u8]) -> Answer {
+    answer(unsafe { wisavulome_margin(sheet.as_ptr(), sheet.len()) })
+}
+
 pub fn check_layout(layout: &[u8]) -> Answer {
     answer(unsafe { wisavulome_check_layout(layout.as_ptr(), layout.len()) })
 }
@@ -271,6 +311,10 @@ pub fn read_frame(area: &[u8], station: u32, out: &mut [u8]) -> Answer {
 
 pub fn counters(area: &[u8], station: u32, out: &mut [u8]) -> Answer {
     answer(unsafe { wisavulome_counters(area.as_ptr(), area.len(), station, out.as_mut_ptr(), out.len()) })
+}
+
+pub fn station(area: &[u8], station: u32, out: &mut [u8]) -> Answer {
+    answer(unsafe { wisavulome_station(area.as_ptr(), area.len(), station, out.as_mut_ptr(), out.len()) })
 }
 
 pub fn begin(input: &[u8], area: &mut [u8], progress: &mut [u8], out: &mut [u8]) -> Answer {

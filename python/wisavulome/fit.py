@@ -19,8 +19,8 @@ input. A folder stands for all files in it.
 
 S is the last position less the first, G is gap1 + gap2. A layout fits if 2 x S + G <= slot and G
 <= 64 + jam. A margin is how much is left of the right side; below 0 the layout does not fit. The
-longest span is the one with the last tap as far out as it still fits; the library is asked about
-every moved sheet. In a table a default stands in parentheses.
+longest span is the one with the last tap as far out as it still fits, by the library's margin. In a
+table a default stands in parentheses.
 
 Exit status: 0 all fit, 1 one does not, 2 one is refused or the call is wrong, 3 the output could
 not be written."""

@@ -9,6 +9,7 @@ import os
 import struct
 from dataclasses import dataclass
 from pathlib import Path
+from typing import NamedTuple
 
 # ---- the table
 
@@ -28,6 +29,7 @@ SIZES = {
     "step": 256,
     "run": 52,
     "counters": 68,
+    "station": 64,
     "frame": 1522,
     "plan": 216,
     "piece": 2048,
@@ -43,6 +45,7 @@ ENTRY_OCTETS = 6  # of a log: time (4), station, event
 MAX_WINDOWS = 64  # of one call
 WINDOW_NUMBERS = 3  # station, first time, time past the last
 MAX_POSITION = 255
+NO_MARGIN = 256  # the margin of a layout that does not fit
 MAX_LENGTH = 1500  # the largest length/type value that is a length
 MIN_TYPE = 1536  # a value from this on is a type
 MIN_FRAME = 64  # octets
@@ -136,6 +139,7 @@ REFUSALS = {
 CALLS = {
     "read_sheet": ("slice", "buffer"),
     "fits": ("slice",),
+    "margin": ("slice",),
     "check_layout": ("slice",),
     "write_sheet": ("slice", "buffer"),
     "read_plan": ("slice", "buffer"),
@@ -151,6 +155,7 @@ CALLS = {
     "run_stepwise": ("buffer", "u32", "buffer"),
     "read_frame": ("buffer", "u32", "buffer"),
     "counters": ("buffer", "u32", "buffer"),
+    "station": ("buffer", "u32", "buffer"),
     "begin": ("slice", "buffer", "buffer", "buffer"),
     "advance": ("slice", "buffer", "buffer", "buffer"),
     "print": ("slice", "buffer", "buffer"),
@@ -158,17 +163,13 @@ CALLS = {
     "crc32": ("slice",),
 }
 
-# Where a station's state lies in a work area (crates/area/src/lib.rt, crates/area_record/src/lib.rt).
-# Only `Library.station` and `Library.clock` use it.
-CLOCK_AT = 0
-RECORD_AT, RECORD_OCTETS, RECORD_WORDS = 2048, 64, 14
-LINE_AT, LINE_PLACES = 4096, 256
+# The states of a station by their code.
 DEFERENCE = ("quiet", "busy", "gap")
 # ending: it jams after a late collision that closes the frame
 TRANSMITTER = ("no frame", "waiting", "backing off", "sending", "heading", "jamming", "ending")
 RECEIVER = ("listening", "readable", "seeking", "collecting")
 SILENCE, ZERO, ONE, JAM, SEVERAL = range(5)  # what a station hears, as heard.py and the waves number it
-SPOILED = 3  # in a delay line: jam, or several at once; the other places hold SILENCE, ZERO or ONE
+SPOILED = 3  # of a station's state: jam, or several at once; the other codes are SILENCE, ZERO and ONE
 
 # ---- failures
 
@@ -230,7 +231,7 @@ def as_arguments(kinds, values):
     """The C arguments for values: octets and buffers with their lengths."""
     for kind, value in zip(kinds, values):
         if kind in ("slice", "buffer"):
-            yield ctypes.cast(value, ctypes.c_char_p) if kind == "buffer" else bytes(value)
+            yield value if kind == "buffer" else bytes(value)
             yield len(value)
         elif kind == "numbers":
             yield value
@@ -306,20 +307,31 @@ class PlanHead:
     times: int
 
 
-@dataclass(frozen=True)
-class StationState:
-    """A station's state in numbers. `hears` is the place of its delay line for the next step."""
+class StationState(NamedTuple):
+    """A station's state after the last step, number by number as wisavulome_station writes it. A flag is 0 or 1."""
 
     deference: str
+    own_stretch: int  # flag: it emitted itself in the busy stretch
     gap_count: int
     transmitter: str
     transmitter_number: int
     receiver: str
     receiver_number: int
-    spoiled: bool
+    spoiled: int  # flag
+    own_reception: int  # flag: it emitted itself in the reception
+    frame: int  # octets
     attempts: int
-    emitted: bool
-    hears: int
+    draw: int
+    deferred: int  # flag
+    emitted: int  # flag
+    hears: int  # in the next step: SILENCE, ZERO, ONE or SPOILED
+    clock: int
+
+    @classmethod
+    def of(cls, numbers):
+        """The state that these numbers stand for."""
+        deference, stretch, gap, transmitter, count, receiver, *rest = numbers
+        return cls(DEFERENCE[deference], stretch, gap, TRANSMITTER[transmitter], count, RECEIVER[receiver], *rest)
 
 
 def entry_of(time, station, event):
@@ -375,25 +387,22 @@ class Library:
         """Whether the layout of a sheet fits."""
         return self.call("fits", sheet) == 1
 
+    def margin(self, sheet):
+        """How far the last tap may move outward so that the layout of a sheet still fits, or None: it does not fit."""
+        margin = self.call("margin", sheet)
+        return None if margin == NO_MARGIN else margin
+
     def farthest_last_tap(self, sheet):
         """The largest position of the last tap with which the layout fits, or None.
 
-        The library is asked about moved sheets, so nothing is decided here. Farther taps never fit where
-        nearer ones do not.
+        It is the margin of the sheet with that tap next to the one before it: so it is also found where the tap
+        must move inward.
         """
         layout = self.read_sheet(sheet)
-        head = sheet[: layout.used - 7]
-        tail = sheet[layout.used - 6 : layout.used]
-        low, high = layout.taps[-2].position + 1, MAX_POSITION
-        if not self.fits(head + bytes([low]) + tail):
-            return None
-        while low < high:
-            middle = (low + high + 1) // 2
-            if self.fits(head + bytes([middle]) + tail):
-                low = middle
-            else:
-                high = middle - 1
-        return low
+        nearest = layout.taps[-2].position + 1
+        moved = sheet[: layout.used - 7] + bytes([nearest]) + sheet[layout.used - 6 : layout.used]
+        margin = self.margin(moved)
+        return None if margin is None else nearest + margin
 
     def write_sheet(self, sheet):
         """The shortest sheet with the layout of this one."""
@@ -484,9 +493,8 @@ class Library:
         return steps, dict(zip(EVENTS, words_of(out.raw)))
 
     def clock(self, area):
-        """The clock of a work area. It is read by its offset, after checks 1 and 2."""
-        self.call("check_area", area)
-        return word_at(area, CLOCK_AT)
+        """The clock of a work area."""
+        return self.station(area, 0).clock
 
     def counters(self, area, station):
         """A station's counters, by name."""
@@ -506,19 +514,7 @@ class Library:
         return out.raw[:size]
 
     def station(self, area, station):
-        """A station's state. It is read by its offsets, until the library has a call for it."""
-        word = struct.unpack_from(f">{RECORD_WORDS}I", area, RECORD_AT + RECORD_OCTETS * station)
-        clock = word_at(area, CLOCK_AT)
-        hears = struct.unpack_from("B", area, LINE_AT + LINE_PLACES * station + clock % LINE_PLACES)[0]
-        return StationState(
-            deference=DEFERENCE[word[0]],
-            gap_count=word[2],
-            transmitter=TRANSMITTER[word[3]],
-            transmitter_number=word[4],
-            receiver=RECEIVER[word[5]],
-            receiver_number=word[6],
-            spoiled=bool(word[7]),
-            attempts=word[10],
-            emitted=bool(word[13]),
-            hears=hears,
-        )
+        """A station's state."""
+        out = buffer_of("station")
+        self.call("station", area, station, out)
+        return StationState.of(words_of(out.raw))

@@ -21,13 +21,6 @@ PLAN = TWO + "offer at 0 station 0 to station 1 value length data 0102\nrun 900\
 class Statuses(CommandTest):
     """Exit status 0 good, 1 no, 2 refused or usage, 3 output not written."""
 
-    def test_help(self):
-        for words in [["--help"], *([name, "--help"] for name in COMMANDS)]:
-            status, out, err = call(*words)
-            self.assertEqual((status, err), (0, ""), words)
-            self.assertIn("usage: wisavulome", out)
-            self.assertTrue(len(words) == 1 or "Exit status: 0" in out, words)
-
     def test_version(self):
         self.assertEqual(call("--version")[:2], (0, "wisavulome 0.1.0\n"))
 
@@ -53,66 +46,14 @@ class Statuses(CommandTest):
         self.assertEqual(call("audit", self.file("p", stored("slot-one-over")))[0], 1)
         self.assertEqual(call("audit", self.file("p", stored("gap-one-over")))[0], 1)
 
-    def test_not_readable(self):
-        """A file name, a directory, a closed input: each is said, and none is a refused plan."""
-        for name in ["run", "audit", "sweep", "write", "draw", "capture", "wave"]:
-            for path, why in [(self.folder, "Is a directory"), (self.folder / "none", "No such file or directory")]:
-                more = ["--as", "text"] if name == "write" else []
-                status, out, err = call(name, path, *more)
-                self.assertEqual((status, out, err), (2, "", f"wisavulome: {path} cannot be read: {why}\n"), name)
-        status, out, err = self.shell('"$W" run - <&-')
-        self.assertEqual(
-            (status, out, err), (2, "", "wisavulome: standard input cannot be read: Bad file descriptor\n")
-        )
-
     def test_endless_input(self):
         status, out, err = call("run", "/dev/zero")
         self.assertEqual((status, out), (2, ""))
         self.assertIn("/dev/zero has over 16777216 octets", err)
 
-    def test_full_disk(self):
-        for words in [
-            "run",
-            "audit",
-            "fit",
-            "write --as text",
-            "sweep --sets 3",
-            "--help",
-            "run --help",
-            "draw",
-            "capture",
-            "wave",
-        ]:
-            status, _out, err = self.shell(f'"$W" {words} {"" if "help" in words else WORKED} >/dev/full')
-            self.assertEqual(
-                (status, err), (3, "wisavulome: standard output could not be written: No space left on device\n"), words
-            )
-
     def test_closed_output(self):
         status, _out, err = self.shell(f'"$W" run {WORKED} >&-')
         self.assertEqual((status, err), (3, "wisavulome: standard output is closed: the output was not written\n"))
-
-    def test_closed_pipe(self):
-        """Nobody reads: no traceback, status 3."""
-        for words in [f"run {WORKED}", f"fit {WORKED}", f"draw {WORKED}", "--help"]:
-            script = f'{{ sleep 0.3; "$W" {words}; echo $? >status; }} | true; '
-            script += "while [ ! -s status ]; do sleep 0.1; done; cat status"
-            _status, out, err = self.shell(script)
-            self.assertEqual((out, err), ("3\n", ""), words)
-
-    def test_runinput(self):
-        """The older script: a closed pipe, a full disk and a closed output end in no traceback either."""
-        old = ROOT / "tools" / "runinput"
-        _status, out, err = self.shell(
-            f"{{ sleep 0.3; {old} write <{WORKED}; echo $? >status; }} | true; sleep 0.3; cat status"
-        )
-        self.assertEqual((out, err), ("3\n", ""))
-        for way, why in [
-            ("/dev/full", "could not be written: No space left on device"),
-            ("&-", "is closed: the output was not written"),
-        ]:
-            status, _out, err = self.shell(f"{old} write <{WORKED} >{way}")
-            self.assertEqual((status, err), (3, f"runinput: standard output {why}\n"))
 
     def test_output_file(self):
         """A file that cannot be written is said, and no half file stays."""
@@ -205,11 +146,6 @@ class Refusals(CommandTest):
         status, out, err = call(command, self.file("x", content))
         self.assertEqual((status, out), (2, ""), err)
         return err.removeprefix(f"wisavulome: {self.folder / 'x'}: ").rstrip("\n")
-
-    def test_sheet_alone(self):
-        """A sheet alone can be judged; as a plan it is refused with the reason."""
-        self.assertEqual(call("fit", self.file("s", SHEET))[0], 0)
-        self.assertTrue(self.refused(SHEET).startswith("refused 9: this is a sheet alone"))
 
     def test_places(self):
         worked = (ROOT / "crates" / "simulate" / "stdin").read_bytes()

@@ -2,7 +2,6 @@
 
 import os
 import random
-import struct
 import subprocess
 
 from common import ROOT, STORED, TOOL, WORKED, CommandTest, call, stepped_cases, stored, stored_cases
@@ -159,10 +158,9 @@ class Runs(CommandTest):
         area = advance_to(self.library, octets, 0)
         stations = range(len(emits))
         spaces = [(j, i, course.layout.distance(i, j)) for j in stations for i in stations if i != j]
-        emitted_at = [table.RECORD_AT + table.RECORD_OCTETS * i + 4 * 13 for i in stations]
+        states = [self.library.station(area, j) for j in stations]
         for time in range(course.clock):
-            make_due(self.library, area, course.plan, time)
-            heard = [area[table.LINE_AT + table.LINE_PLACES * j + time % table.LINE_PLACES][0] for j in stations]
+            make_due(self.library, area, course.plan, time)  # an offer changes nothing of what is heard
             sources = [[] for _ in stations]
             for j, i, away in spaces:
                 if time >= away and emits[i][time - away]:
@@ -170,12 +168,12 @@ class Runs(CommandTest):
             for j in stations:
                 spoiled = (table.SPOILED,)
                 expected = {0: (0,), 1: spoiled if sources[j] == [2] else (1, 2)}.get(len(sources[j]), spoiled)
-                if heard[j] not in expected:
+                if states[j].hears not in expected:
                     return False
             self.library.call("step", area, STEP_OUT)
-            for i in stations:
-                if struct.unpack_from(">I", area, emitted_at[i])[0] != (emits[i][time] > 0):
-                    return False
+            states = [self.library.station(area, i) for i in stations]
+            if any(states[i].emitted != (emits[i][time] > 0) for i in stations):
+                return False
         return True
 
     def test_hearing(self):

@@ -63,6 +63,28 @@ class Fit(CommandTest):
             seen += 1
         self.assertGreater(seen, 40)
 
+    def test_margin(self):
+        """The library's margin: with the last tap moved outward the sheet fits exactly up to there; None: nowhere."""
+        seen = set()
+        for name, octets, _printed in stored_cases():
+            try:
+                layout = self.library.read_sheet(octets)
+            except Refused as refusal:
+                with self.assertRaises(Refused) as again:
+                    self.library.margin(octets)
+                self.assertEqual(again.exception.number, refusal.number, name)
+                continue
+            sheet = octets[: layout.used]
+            margin = self.library.margin(sheet)
+            last = layout.taps[-1].position
+            fitting = [
+                moved for moved in range(256 - last) if self.library.fits(sheet[:-7] + bytes([last + moved]) + sheet[-6:])
+            ]
+            self.assertEqual(fitting, [] if margin is None else list(range(margin + 1)), name)
+            self.assertEqual(margin is None, not layout.fits, name)
+            seen.add(margin if margin is None else min(margin, 1))
+        self.assertEqual(seen, {None, 0, 1})
+
     def test_margins_and_verdict(self):
         """Both margins are 0 or more just where the library says yes, on every stored sheet."""
         found = rows(call("fit", STORED, "--pattern", "*.in", "--csv")[1])

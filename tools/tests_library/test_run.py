@@ -1,6 +1,7 @@
 """`wisavulome run` and `audit`."""
 
 import csv
+import ctypes
 import io
 import json
 import subprocess
@@ -8,9 +9,10 @@ import sys
 
 from common import LATE_PLAN, ROOT, STORED, TWO, WORKED, CommandTest, call, stored, stored_cases, taken_cases
 
-from wisavulome.course import follow
+from wisavulome.course import advance_to, follow, make_due
 from wisavulome.heard import Hearing
-from wisavulome.library import COUNTERS
+from wisavulome.library import COUNTERS, SILENCE, SIZES, SPOILED, Refused, buffer_of
+from wisavulome.wave import Emissions
 
 
 def runinput(command, given):
@@ -118,6 +120,70 @@ class Run(CommandTest):
         self.assertEqual(out[-2:], ["held 1 to-send 2", f"held 1 received {frame.hex()}"])
         rows = list(csv.DictReader(io.StringIO(call("run", "--held", "--format", "csv", self.file("p", plan))[1])))
         self.assertEqual(rows[-1]["frame"], frame.hex())
+
+
+class State(CommandTest):
+    """wisavulome_station: a station's state in numbers."""
+
+    def test_states(self):
+        """Step by step: the clock, who emitted, what is heard next, and what the events tell of the states."""
+        for name in ["worked", "gap-one-over", "case048"]:
+            octets = stored(name)
+            course = follow(self.library, octets)
+            stations = range(len(course.layout.taps))
+            hearings = [Hearing(course, station) for station in stations]
+            emissions = Emissions(course, (0, course.clock))
+            area = advance_to(self.library, octets, 0)
+            for time in range(course.clock):
+                make_due(self.library, area, course.plan, time)
+                before = [self.library.station(area, station) for station in stations]
+                events = list(self.library.step(area))
+                for station in stations:
+                    self.assertEqual(before[station].clock, time)
+                    self.assertEqual(before[station].hears, min(hearings[station].symbol(time), SPOILED), (name, time))
+                    emits = emissions.symbol(station, time) != SILENCE
+                    self.assertEqual(bool(self.library.station(area, station).emitted), emits, (name, time, station))
+                for station, word, number in events:
+                    self.check_event(before[station], self.library.station(area, station), word, number)
+
+    def check_event(self, before, after, word, number):
+        """What an event tells of the states around it."""
+        if word == "collision":
+            self.assertIn(before.transmitter, ("waiting", "sending"))
+            self.assertEqual(before.transmitter_number, number if before.transmitter == "sending" else 0)
+            self.assertIn(after.transmitter, ("heading", "jamming"))
+        elif word == "sent":
+            self.assertEqual((before.transmitter, before.attempts), ("sending", number))
+            self.assertEqual((before.transmitter_number, after.transmitter), (64 + 8 * before.frame, "no frame"))
+        elif word == "got ok":
+            self.assertEqual((before.receiver, after.receiver), ("collecting", "readable"))
+            self.assertEqual(before.receiver_number // 8, after.receiver_number)
+
+    def test_refusals(self):
+        """1, 2, 10 and 15 in this order, each with the output as it was; octets past the sixteen numbers stay."""
+        area = advance_to(self.library, stored("worked"), 0)
+        broken = buffer_of("area")
+        short = ctypes.create_string_buffer(SIZES["area"] - 1)
+        for lent, station, room, number in [
+            (short, 2, 0, 1),
+            (broken, 2, 0, 2),
+            (area, 2, 0, 10),
+            (area, 2**32 - 1, SIZES["station"], 10),
+            (area, 1, SIZES["station"] - 1, 15),
+        ]:
+            out = bytearray(b"\x5a" * room)
+            with self.assertRaises(Refused) as refused:
+                self.station_into(lent, station, out)
+            self.assertEqual(refused.exception.number, number)
+            self.assertEqual(out, b"\x5a" * room)
+        out = bytearray(b"\x5a" * 70)
+        self.assertEqual(self.station_into(area, 1, out), 0)
+        self.assertEqual(out, bytes(SIZES["station"]) + b"\x5a" * 6)
+
+    def station_into(self, area, station, out):
+        """The call, into an output of any size."""
+        lent = (ctypes.c_char * len(out)).from_buffer(out) if out else ctypes.create_string_buffer(0)
+        return self.library.call("station", area, station, lent)
 
 
 class Several(CommandTest):

@@ -10,6 +10,7 @@ ghost use Rattle.c_calls.specs.Calls.{given, left, sheetGiven, fitsGiven, build
 ghost use Rattle.c_calls.specs.Calls.{startGiven, offerGiven, stepLeft, runLeft, frameGiven, countersGiven};
 ghost use Rattle.c_checks.specs.CheckCalls.{receptionGiven, areaGiven, layoutGiven, planGiven, writeGiven};
 ghost use Rattle.c_log.specs.LogCalls.{windowsGiven};
+ghost use Rattle.c_views.specs.Views.{stationGiven, marginGiven};
 ghost use Rattle.c_text.specs.TextCalls.{lent, begunLent, advancedLent, printLeft};
 
 // Reads a sheet: the octets used. Refusals 3 to 8, 15.
@@ -26,6 +27,15 @@ pub extern "C" fn wisavulome_fits(sheet: &[u8]) -> u32
     ensures { λ r. ⌜ r ≡ fitsGiven (now (sheet .entry)) ⌝ }
 {
     c_calls::fits(sheet)
+}
+
+// How far the last tap of a sheet may move outward so that its layout still fits: so many bit times, or 256 where it
+// does not fit. Refusals 3 to 8.
+#[no_mangle]
+pub extern "C" fn wisavulome_margin(sheet: &[u8]) -> u32
+    ensures { λ r. ⌜ r ≡ marginGiven (now (sheet .entry)) ⌝ }
+{
+    c_views::margin(sheet)
 }
 
 // Checks a layout, as `wisavulome_read_sheet` writes one: 0. Refusals 3, 5 to 8.
@@ -185,6 +195,14 @@ pub extern "C" fn wisavulome_counters(area: &[u8], station: u32, out: &mut [u8])
     ensures { λ r. ⌜ given r (now (out .exit)) ≡ countersGiven (now (area .entry)) station (now (out .entry)) ⌝ }
 {
     c_calls::counters(area, station, out)
+}
+
+// The state of a station: 0. Refusals 1, 2, 10, 15.
+#[no_mangle]
+pub extern "C" fn wisavulome_station(area: &[u8], station: u32, out: &mut [u8]) -> u32
+    ensures { λ r. ⌜ given r (now (out .exit)) ≡ stationGiven (now (area .entry)) station (now (out .entry)) ⌝ }
+{
+    c_views::station(area, station, out)
 }
 
 // The first piece of what is printed for a run input: its octets, and where the run stands. Refusals 1, 15.

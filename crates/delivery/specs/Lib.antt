@@ -7,5 +7,6 @@ pub mod Calls
 pub mod Traced
 pub mod Demand3
 pub mod Theorem
+pub mod Lost
 pub mod Closing
 pub mod Two
