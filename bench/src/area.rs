@@ -34,6 +34,10 @@ pub const SHEET_OUT: usize = 196;
 pub const PLAN_OUT: usize = SHEET_OUT + 20;
 pub const RUN_OUT: usize = 4 * (WORDS + 3);
 pub const COUNTERS_OUT: usize = 4 * COUNTERS;
+pub const STATION_OUT: usize = 64;
+
+/// The margin of a layout that does not fit.
+const NO_MARGIN: u32 = 256;
 
 const CLOCK: usize = 0;
 const DEPTH: usize = 4;
@@ -126,6 +130,9 @@ fn sizes_wrong(area: &[u8], i: usize) -> bool {
         || record.receiver == 1 && long(record.receiver_number, collected_at(i))
 }
 
+/// How many words a station's record has.
+const RECORD_WORDS: usize = 14;
+
 /// The words of a station's record.
 struct Record {
     deference: u32,
@@ -165,8 +172,8 @@ impl Record {
         }
     }
 
-    fn put(&self, area: &mut [u8], i: usize) {
-        let words = [
+    fn words(&self) -> [u32; RECORD_WORDS] {
+        [
             self.deference,
             self.stretch_own,
             self.gap,
@@ -181,8 +188,11 @@ impl Record {
             self.draw_place,
             self.deferred,
             self.emitted,
-        ];
-        for (k, value) in words.into_iter().enumerate() {
+        ]
+    }
+
+    fn put(&self, area: &mut [u8], i: usize) {
+        for (k, value) in self.words().into_iter().enumerate() {
             put_word(area, record_at(i, k), value);
         }
     }
@@ -299,7 +309,7 @@ pub fn decode(area: &[u8]) -> World {
     World::resume(layout, clock, draws, stations, under_way)
 }
 
-fn put_station(area: &mut [u8], i: usize, station: &Station) {
+fn record_of(station: &Station) -> Record {
     let (deference, stretch_own, gap) = match station.deference {
         Deference::Quiet => (0, false, 0),
         Deference::Busy { own } => (1, own, 0),
@@ -320,7 +330,7 @@ fn put_station(area: &mut [u8], i: usize, station: &Station) {
         Receiver::Seeking { row, spoiled, own } => (2, row.0, spoiled, own),
         Receiver::Collecting { bits, spoiled, own } => (3, bits, spoiled, own),
     };
-    let record = Record {
+    Record {
         deference,
         stretch_own: stretch_own.into(),
         gap,
@@ -335,8 +345,11 @@ fn put_station(area: &mut [u8], i: usize, station: &Station) {
         draw_place: station.draw_place,
         deferred: station.deferred.into(),
         emitted: station.emitted.into(),
-    };
-    record.put(area, i);
+    }
+}
+
+fn put_station(area: &mut [u8], i: usize, station: &Station) {
+    record_of(station).put(area, i);
     for (k, value) in station.counters.0.into_iter().enumerate() {
         put_word(area, counter_at(i, k), value);
     }
@@ -466,6 +479,10 @@ pub fn fits(sheet: &[u8]) -> Answer {
     layout::fits(sheet).map(u32::from)
 }
 
+pub fn margin(sheet: &[u8]) -> Answer {
+    layout::margin(sheet).map(|margin| margin.unwrap_or(NO_MARGIN))
+}
+
 pub fn build(destination: u64, source: u64, value: u16, data: &[u8], out: &mut [u8]) -> Answer {
     let frame = frame::build(address(destination), address(source), value, data)?;
     room(out, frame.len())?;
@@ -584,5 +601,16 @@ pub fn counters(area: &[u8], station: u32, out: &mut [u8]) -> Answer {
     let counters = world.counters(station)?;
     room(out, COUNTERS_OUT)?;
     put_words(out, counters);
+    Ok(0)
+}
+
+/// The words of a station's record as a step writes them, what it hears in the next step, and the clock.
+pub fn station(area: &[u8], station: u32, out: &mut [u8]) -> Answer {
+    let world = decoded(area)?;
+    let state = world.stations.get(station as usize).ok_or(10u32)?;
+    room(out, STATION_OUT)?;
+    put_words(out, &record_of(state).words());
+    let heard = code_of(world.heard(station as usize, world.clock));
+    put_words(&mut out[4 * RECORD_WORDS..], &[heard.into(), world.clock]);
     Ok(0)
 }

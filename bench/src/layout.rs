@@ -133,6 +133,20 @@ pub fn write_sheet(layout: &Layout) -> Result<Vec<u8>, Refusal> {
     Ok(sheet)
 }
 
+/// How far the last station of a sheet may move outward so that its layout still fits, place by place; `None` where it does not fit.
+/// Refusals 3 to 8.
+pub fn margin(sheet: &[u8]) -> Result<Option<u32>, Refusal> {
+    let (layout, _) = read_sheet(sheet)?;
+    let last = layout.places.len() - 1;
+    let moved = |by| {
+        let mut layout = layout.clone();
+        layout.places[last].position += by;
+        layout
+    };
+    let end = 255 - layout.places[last].position;
+    Ok((0..=end).take_while(|&by| moved(by).fits()).last())
+}
+
 /// Whether the layout of a sheet fits. Refusals 3 to 8.
 pub fn fits(sheet: &[u8]) -> Result<bool, Refusal> {
     read_sheet(sheet).map(|(layout, _)| layout.fits())

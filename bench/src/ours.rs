@@ -30,6 +30,10 @@ pub fn fits(sheet: &[u8]) -> Answer {
     answer(unsafe { c::wisavulome_fits(sheet.as_ptr(), sheet.len()) })
 }
 
+pub fn margin(sheet: &[u8]) -> Answer {
+    answer(unsafe { c::wisavulome_margin(sheet.as_ptr(), sheet.len()) })
+}
+
 pub fn build(destination: u64, source: u64, value: u16, data: &[u8], out: &mut [u8]) -> Answer {
     answer(unsafe {
         c::wisavulome_build(destination, source, value, data.as_ptr(), data.len(), out.as_mut_ptr(), out.len())
@@ -83,6 +87,10 @@ pub fn read_frame(area: &[u8], station: u32, out: &mut [u8]) -> Answer {
 
 pub fn counters(area: &[u8], station: u32, out: &mut [u8]) -> Answer {
     answer(unsafe { c::wisavulome_counters(area.as_ptr(), area.len(), station, out.as_mut_ptr(), out.len()) })
+}
+
+pub fn station(area: &[u8], station: u32, out: &mut [u8]) -> Answer {
+    answer(unsafe { c::wisavulome_station(area.as_ptr(), area.len(), station, out.as_mut_ptr(), out.len()) })
 }
 
 pub fn reception_status(frame: &[u8], excess: u32, spoiled: u32) -> Answer {

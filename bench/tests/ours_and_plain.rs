@@ -8,7 +8,7 @@ use common::{
     by_station, cases, damaged, damaged_sheet, draws, made_up_area, offer, run_input, same_area, setting, sheet,
     spelled, Rng, Setting,
 };
-use wisavulome_bench::area::{self, AREA, COUNTERS_OUT, PLAN_OUT, RUN_OUT, SHEET_OUT};
+use wisavulome_bench::area::{self, AREA, COUNTERS_OUT, PLAN_OUT, RUN_OUT, SHEET_OUT, STATION_OUT};
 use wisavulome_bench::events::WORDS;
 use wisavulome_bench::plain::World;
 use wisavulome_bench::{crc, frame, layout, log, ours, program};
@@ -76,6 +76,7 @@ fn sheets() {
         let read = |out: &mut [u8]| ours::read_sheet(&sheet, out);
         tally.note(same_out(&out, &context, read, |out| area::read_sheet(&sheet, out)));
         assert_eq!(ours::fits(&sheet), area::fits(&sheet), "{}", context());
+        assert_eq!(ours::margin(&sheet), area::margin(&sheet), "{}", context());
     }
     tally.demand(&[0, 3, 4, 5, 6, 7, 8, 15]);
 }
@@ -423,6 +424,13 @@ fn lists_of_calls() {
                         |out| area::counters(&mirror, station, out),
                     );
                     tally.note(answer);
+                    let out = lent(rng, STATION_OUT);
+                    tally.note(same_out(
+                        &out,
+                        &context,
+                        |out| ours::station(&area, station, out),
+                        |out| area::station(&mirror, station, out),
+                    ));
                 }
             }
             area::encode(&world, &mut mirror);
@@ -583,12 +591,21 @@ fn made_up_areas() {
                 _ => {
                     let out = lent(rng, COUNTERS_OUT);
                     let context = || format!("case {case}, call {call}, check {check}: counters at {station}");
-                    same_call(
-                        areas,
+                    tally.note(same_call(
+                        (&mut *areas.0, &mut *areas.1),
                         &out,
                         &context,
                         |area, out| ours::counters(area, station, out),
                         |area, out| area::counters(area, station, out),
+                    ));
+                    let out = lent(rng, STATION_OUT);
+                    let context = || format!("case {case}, call {call}, check {check}: state at {station}");
+                    same_call(
+                        areas,
+                        &out,
+                        &context,
+                        |area, out| ours::station(area, station, out),
+                        |area, out| area::station(area, station, out),
                     )
                 }
             };
