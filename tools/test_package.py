@@ -135,8 +135,9 @@ class Logs(unittest.TestCase):
 
     def entries(self, printed):
         """The entries of a text, in hexadecimal; the same however it is cut into chunks of lines."""
-        made = windows.read_log("log", [printed.encode()])
-        self.assertEqual(windows.read_log("log", [line.encode() for line in printed.splitlines(keepends=True)]), made)
+        made = windows.read_log("log", [printed.encode()]).entries
+        lines = [line.encode() for line in printed.splitlines(keepends=True)]
+        self.assertEqual(windows.read_log("log", lines).entries, made)
         return [made[at : at + 6].hex() for at in range(0, len(made), 6)]
 
     def test_entries(self):
@@ -145,6 +146,11 @@ class Logs(unittest.TestCase):
             self.entries(printed),
             ["0000000a0001", "0000000a0101", "000003090003", "000003140106", "000005b30103", "000005be0006"],
         )
+
+    def test_stations(self):
+        """N is that of the lines that say it, the largest."""
+        for lines, stations in [("", None), ("stations 2 fit yes\n", 2), ("stations 3 fit no\nstations 2 fit yes\n", 3)]:
+            self.assertEqual(windows.read_log("log", [lines.encode()]).stations, stations)
 
     def test_every_word(self):
         lines = "".join(f"{at} 1 {word} 7\n" for at, word in enumerate(EVENTS))
@@ -193,7 +199,7 @@ class Logs(unittest.TestCase):
             path = Path(folder, "log")
             line = b"10 0 collision 11\n"
             path.write_bytes(line * 200000 + b"11 1 sent 1")
-            made = windows.read_log("log", windows.chunks_of(str(path)))
+            made = windows.read_log("log", windows.chunks_of(str(path))).entries
             self.assertEqual((len(made), made[-6:].hex()), (6 * 200001, "0000000b0103"))
             path.write_bytes(line * 200000 + b"what\n" + line)
             with self.assertRaises(Failure) as caught:

@@ -5,6 +5,7 @@
 //! - [`area`]: the same calls on a work area of 57,344 octets, by decoding it into the plain engine
 //! - [`fast`]: the fast engine, with a delay ring for each station
 //! - [`program`]: the run program, over either engine
+//! - [`log`]: many windows over one log (request N14)
 //! - [`rng`]: the generator that cases and rows come from
 //! - [`ours`]: the project's own library, through its C interface
 
@@ -14,6 +15,7 @@ pub mod events;
 pub mod fast;
 pub mod frame;
 pub mod layout;
+pub mod log;
 #[cfg(feature = "linked")]
 pub mod ours;
 pub mod plain;

@@ -138,6 +138,20 @@ pub fn print(input: &[u8], area: &mut [u8], out: &mut [u8]) -> Answer {
 }
 
 /// All 32 bits are the answer.
+pub fn windows(log: &[u8], stations: u32, windows: &[u32], out: &mut [u32]) -> Answer {
+    answer(unsafe {
+        c::wisavulome_windows(
+            log.as_ptr(),
+            log.len(),
+            stations,
+            windows.as_ptr(),
+            windows.len(),
+            out.as_mut_ptr(),
+            out.len(),
+        )
+    })
+}
+
 pub fn crc32(data: &[u8]) -> u32 {
     unsafe { c::wisavulome_crc32(data.as_ptr(), data.len()) }
 }

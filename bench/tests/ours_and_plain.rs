@@ -11,7 +11,7 @@ use common::{
 use wisavulome_bench::area::{self, AREA, COUNTERS_OUT, PLAN_OUT, RUN_OUT, SHEET_OUT};
 use wisavulome_bench::events::WORDS;
 use wisavulome_bench::plain::World;
-use wisavulome_bench::{crc, frame, layout, ours, program};
+use wisavulome_bench::{crc, frame, layout, log, ours, program};
 
 /// A buffer to lend: often as long as asked, else shorter or longer, and never zeros.
 fn lent(rng: &mut Rng, enough: usize) -> Vec<u8> {
@@ -51,7 +51,7 @@ fn run_both(area: &mut [u8], n: u32, out: &mut [u8], context: &dyn Fn() -> Strin
 
 /// How often each refusal came, so that a generator that never reaches one is seen.
 #[derive(Default)]
-struct Tally([u64; 17]);
+struct Tally([u64; 22]);
 
 impl Tally {
     fn note(&mut self, answer: Result<u32, u32>) {
@@ -552,4 +552,51 @@ fn made_up_areas() {
     assert!(words.iter().all(|&count| count > 0), "an event never came: {words:?}");
     let (passed, refused) = (tally.0[0], tally.0[2]);
     assert!(passed > refused / 4 && refused > passed / 10, "check 2 is lopsided: {:?}", tally.0);
+}
+
+/// A log whose times rise, now and then with a fault: a time that falls, a station or an event that is none.
+fn made_up_log(rng: &mut Rng, stations: u32) -> Vec<u8> {
+    let mut time = rng.edgy(0, 2_000);
+    let mut log = Vec::new();
+    let faulty = rng.one_in(3);
+    for _ in 0..rng.range(0, 60) {
+        time += rng.pick(&[0, 0, 1, 5, 100]);
+        let fault = faulty && rng.one_in(40);
+        let [fallen, astray, unknown] = [0, 1, 2].map(|kind| fault && rng.below(3) == kind);
+        log.extend(if fallen { time.saturating_sub(1) } else { time }.to_be_bytes());
+        log.push(if astray { rng.pick(&[stations, 255]) } else { rng.range(0, stations - 1) } as u8);
+        log.push(if unknown { rng.pick(&[0, 11, 255]) } else { rng.range(1, 10) } as u8);
+    }
+    log.extend(rng.octets(if rng.one_in(4) { 5 } else { 0 }));
+    log
+}
+
+/// Many windows over one log: counts, refusals, and numbers past what is written.
+#[test]
+fn windows_over_a_log() {
+    let mut tally = Tally::default();
+    for case in 0..cases(40_000) {
+        let rng = &mut Rng::new(16, case);
+        let stations = rng.range(1, 16);
+        let log = made_up_log(rng, stations);
+        let count = if rng.one_in(8) { rng.range(60, 68) } else { rng.range(0, 8) } as usize;
+        let faulty = rng.one_in(4);
+        let mut windows = Vec::new();
+        for _ in 0..count {
+            let first = rng.range(0, 2_500);
+            let past = if faulty && rng.one_in(8) { first.saturating_sub(1) } else { first + rng.range(0, 900) };
+            let station = if faulty && rng.one_in(30) { stations } else { rng.range(0, stations - 1) };
+            windows.extend([station, first, past]);
+        }
+        windows.extend([7, 7].iter().take(rng.below(3) as usize));
+        let room = lent(rng, 10 * count).len();
+        let mut out: Vec<u32> = (0..room).map(|_| rng.next() as u32).collect();
+        let mut plain_out = out.clone();
+        let answer = ours::windows(&log, stations, &windows, &mut out);
+        let plain = log::windows(&log, stations, &windows, &mut plain_out);
+        assert_eq!(answer, plain, "case {case}, log {log:02X?}, {stations} stations, windows {windows:?}");
+        assert_eq!(out, plain_out, "case {case}, log {log:02X?}, {stations} stations, windows {windows:?}");
+        tally.note(answer);
+    }
+    tally.demand(&[0, 5, 10, 15, 16, 20, 21]);
 }

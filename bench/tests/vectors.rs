@@ -21,7 +21,8 @@ fn vectors() -> Vec<PathBuf> {
     for folder in folders {
         let mut own = sorted(&folder);
         own.retain(|path| path.extension().is_some_and(|extension| extension == "in"));
-        assert!(own.len() >= 20, "{} holds {} vectors", folder.display(), own.len());
+        // A level that stands before those below it has its lists of calls alone.
+        assert!(own.is_empty() || own.len() >= 20, "{} holds {} vectors", folder.display(), own.len());
         inputs.append(&mut own);
     }
     inputs

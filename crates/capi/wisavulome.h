@@ -8,8 +8,8 @@
  *
  * Every function returns one number of 32 bits. 0x80000000 + n is refusal n, anything below is the answer (wisavulome_crc32: all 32 bits
  * are the answer). With a refusal every lent buffer keeps what it held. No call keeps a pointer, allocates or fails in any other way: any
- * octets and numbers are taken. A slice is a pointer and its length in octets; the pointer is not NULL, also where the length is 0, and
- * a buffer that is written is lent to that call alone.
+ * octets and numbers are taken. A slice is a pointer and its length in octets (of uint32_t: in numbers); the pointer is not NULL, also where
+ * the length is 0, and a buffer that is written is lent to that call alone.
  *
  * What is written into `out` are numbers of four octets, high octet first, unless it says otherwise. Octets past what is written stay.
  * An address is the low 48 bits of its number: 0x020000000001 is 02-00-00-00-00-01.
@@ -18,7 +18,8 @@
  * out of range, or the excess bits are over 7; 6 N is outside 2..16; 7 positions do not rise; 8 an address is a group's or repeats; 9 D or
  * the draws; 10 no such station; 11 the data or the length/type value; 12 the station still has a frame; 13 the clock would pass
  * 16,777,216; 14 no readable frame; 15 the lent output is too short; 16 the plan is over 16,384 octets, is short, has octets left over,
- * over 64 offers, or offer times that fall. They are checked in this order (a run input makes check 13 last).
+ * over 64 offers, or offer times that fall; over 64 windows. They are checked in this order (a run input makes check 13 last). Of windows over
+ * a log: 20 a window's second time is below its first; 21 the times of the entries fall.
  */
 #ifndef WISAVULOME_H
 #define WISAVULOME_H
@@ -54,6 +55,12 @@ extern "C" {
 
 /* the octets of where a run stands */
 #define WISAVULOME_PROGRESS 16
+
+/* the octets of a log's entry, the numbers of a window and of its answer, and the most windows */
+#define WISAVULOME_LOG_ENTRY 6
+#define WISAVULOME_WINDOW 3
+#define WISAVULOME_WINDOW_OUT 10
+#define WISAVULOME_MAX_WINDOWS 64
 
 /* the statuses of a frame */
 #define WISAVULOME_FRAGMENT 0
@@ -165,6 +172,15 @@ uint32_t wisavulome_advance(const uint8_t *input, size_t input_len, uint8_t *are
  * 2,147,483,647 octets). The run is made twice: once on an area of the call's own, to know the text's octets.
  * out: the text. area: what the run leaves; as it was where the text is `refused n`. */
 uint32_t wisavulome_print(const uint8_t *input, size_t input_len, uint8_t *area, size_t area_len, uint8_t *out, size_t out_len);
+
+/* Many windows over one log: how many events of each word every window holds. Answer: 0. Refusals 5 (an entry's event is none of 1 to 10), 10 (a
+ * window's or an entry's station is `stations` or more), 16 (over 64 windows), 20, 21, and after them 15 (out has under 10 numbers a window).
+ * log: 6 octets an entry: time (4, high octet first), station, event (1 collision, 2 late, 3 sent, 4 given-up, 5 late-end, 6 got ok, 7 got
+ * too-long, 8 got alignment, 9 got check, 10 got length); octets after the last whole entry are not looked at. windows: 3 numbers a window:
+ * station, first time, time past the last; numbers after the last whole window are not looked at.
+ * out, numbers of C: for each window how many events of each word it holds, in that order; a count stops at 4,294,967,295. */
+uint32_t wisavulome_windows(const uint8_t *log, size_t log_len, uint32_t stations, const uint32_t *windows, size_t windows_len,
+                            uint32_t *out, size_t out_len);
 
 /* The CRC-32 of octets: all 32 bits are the answer. That of "123456789" is 0xCBF43926. */
 uint32_t wisavulome_crc32(const uint8_t *payload, size_t payload_len);

@@ -2,7 +2,7 @@
 //
 // wisavulome.h, beside this file, declares the same functions for C and says what each answers, refuses and writes: a change to one is made
 // in both, and tools/check-interface compares them. Link with libwisavulome (`make install`) or libcapi.a (`rt staticlib capi`). A slice is
-// a pointer, never null, and its length in octets.
+// a pointer, never null, and its length in octets (of u32: in numbers).
 //
 // Take it in with `#[path = "wisavulome.rs"] mod wisavulome;`. Editions 2021 and 2024, Rust 1.82 or later, with or without std. The safe
 // functions over slices stand at the end: `Ok` is the answer, `Err` the number of the refusal.
@@ -27,6 +27,12 @@ pub const FRAME_OUT: usize = 1522;
 pub const PLAN_OUT: usize = 216;
 pub const PIECE_OUT: usize = 2048;
 pub const PROGRESS: usize = 16;
+
+// The octets of a log's entry, the numbers of a window and of its answer, and the most windows.
+pub const LOG_ENTRY: usize = 6;
+pub const WINDOW: usize = 3;
+pub const WINDOW_OUT: usize = 10;
+pub const MAX_WINDOWS: usize = 64;
 
 // The statuses of a frame.
 pub const FRAGMENT: u32 = 0;
@@ -160,6 +166,17 @@ unsafe extern "C" {
         out_len: usize,
     ) -> u32;
 
+    // 0; refusals 5, 10, 16, 20, 21, 15. log: 6 octets an entry; windows: 3 numbers each; out: 10 counts for each.
+    pub fn wisavulome_windows(
+        log: *const u8,
+        log_len: usize,
+        stations: u32,
+        windows: *const u32,
+        windows_len: usize,
+        out: *mut u32,
+        out_len: usize,
+    ) -> u32;
+
     // The CRC-32, all 32 bits.
     pub fn wisavulome_crc32(payload: *const u8, payload_len: usize) -> u32;
 }
@@ -281,6 +298,20 @@ pub fn advance(input: &[u8], area: &mut [u8], progress: &mut [u8], out: &mut [u8
 pub fn print(input: &[u8], area: &mut [u8], out: &mut [u8]) -> Answer {
     answer(unsafe {
         wisavulome_print(input.as_ptr(), input.len(), area.as_mut_ptr(), area.len(), out.as_mut_ptr(), out.len())
+    })
+}
+
+pub fn windows(log: &[u8], stations: u32, windows: &[u32], out: &mut [u32]) -> Answer {
+    answer(unsafe {
+        wisavulome_windows(
+            log.as_ptr(),
+            log.len(),
+            stations,
+            windows.as_ptr(),
+            windows.len(),
+            out.as_mut_ptr(),
+            out.len(),
+        )
     })
 }
 

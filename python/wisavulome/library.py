@@ -38,6 +38,9 @@ MAX_DRAWS = 16  # D
 MAX_OFFERS = 64
 MAX_PLAN = 16384  # octets of a run input
 LAST_CLOCK = 16777216
+ENTRY_OCTETS = 6  # of a log: time (4), station, event
+MAX_WINDOWS = 64  # of one call
+WINDOW_NUMBERS = 3  # station, first time, time past the last
 MAX_POSITION = 255
 MAX_LENGTH = 1500  # the largest length/type value that is a length
 MIN_TYPE = 1536  # a value from this on is a type
@@ -122,12 +125,13 @@ REFUSALS = {
     14: "the station holds no readable frame",
     15: "the lent output is too short",
     16: f"the plan is over {MAX_PLAN} octets, is short, has octets left over, "
-    f"over {MAX_OFFERS} offers, or offer times that fall",
+    f"over {MAX_OFFERS} offers, or offer times that fall; over {MAX_WINDOWS} windows",
     20: "a window's second time is below its first",
     21: "the times of the log's entries fall",
 }
 
-# The functions: for each its arguments in order. A slice and a buffer are two C arguments, pointer and length.
+# The functions: for each its arguments in order. A slice, a buffer and an array of numbers are two C arguments, pointer
+# and length.
 CALLS = {
     "read_sheet": ("slice", "buffer"),
     "fits": ("slice",),
@@ -148,6 +152,7 @@ CALLS = {
     "begin": ("slice", "buffer", "buffer", "buffer"),
     "advance": ("slice", "buffer", "buffer", "buffer"),
     "print": ("slice", "buffer", "buffer"),
+    "windows": ("slice", "u32", "numbers", "numbers"),
     "crc32": ("slice",),
 }
 
@@ -211,6 +216,7 @@ def load():
 def declare(loaded, name, kinds):
     """The function of that name with its C types; None where the library has none."""
     types = {"u16": [ctypes.c_uint16], "u32": [ctypes.c_uint32], "u64": [ctypes.c_uint64]}
+    types["numbers"] = [ctypes.POINTER(ctypes.c_uint32), ctypes.c_size_t]
     slices = [ctypes.c_char_p, ctypes.c_size_t]
     try:
         function = loaded["wisavulome_" + name]
@@ -226,6 +232,9 @@ def as_arguments(kinds, values):
     for kind, value in zip(kinds, values):
         if kind in ("slice", "buffer"):
             yield ctypes.cast(value, ctypes.c_char_p) if kind == "buffer" else bytes(value)
+            yield len(value)
+        elif kind == "numbers":
+            yield value
             yield len(value)
         else:
             yield value
@@ -312,6 +321,11 @@ class StationState:
     attempts: int
     emitted: bool
     hears: int
+
+
+def entry_of(time, station, event):
+    """The octets of a log's entry; events are numbered from 1 on, as EVENTS has them."""
+    return struct.pack(">IBB", time, station, event)
 
 
 def layout_of(octets, used):
@@ -441,6 +455,13 @@ class Library:
     def offer(self, area, station, destination, value, data):
         """Offers a frame to a station."""
         self.call("offer", area, station, int.from_bytes(destination, "big"), value, data)
+
+    def windows(self, log, stations, windows):
+        """How many events of each word every window holds; log is octets, a window three numbers."""
+        given = (ctypes.c_uint32 * (WINDOW_NUMBERS * len(windows)))(*(number for window in windows for number in window))
+        out = (ctypes.c_uint32 * (len(EVENTS) * len(windows)))()
+        self.call("windows", log, stations, given, out)
+        return [tuple(out[at : at + len(EVENTS)]) for at in range(0, len(out), len(EVENTS))]
 
     def step(self, area):
         """One bit time: the events, each a station, a word and its number."""

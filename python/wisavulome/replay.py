@@ -15,12 +15,13 @@ a second one, all zero at first and just as long as refusal 1 asks for.
     read STATION ROOM                       length and octets of the frame
     counters STATION                        the counters, parted by commas
     clock                                   the clock
-    second CALL                             the same on the second area; not sheet, build, open
+    windows N ENTRIES WINDOWS               for each window its counts, parted by commas, in TALLY's order
+    second CALL                             the same on the second area; not sheet, build, open, windows
 
 Numbers are decimal. Octets are two hexadecimal digits each, `-` for none, or COUNT*HH; DEST and SOURCE are six. DRAWS
 are numbers parted by commas, or `-`. LAYOUT: slot, gap1, gap2, jam, attempt limit, backoff limit, late-end, E, then
 POSITION/ADDRESS/OWNER of each station, parted by commas; what the library does not have is 0. TALLY: WORD=COUNT of
-each event word. A new call is a function here and a line of the table at the end.
+each event word. ENTRIES are time:station:word, WINDOWS station:first:past, parted by commas, or `-`. A new call is a function here and a line of the table at the end.
 """
 
 import ctypes
@@ -29,7 +30,7 @@ import struct
 from dataclasses import dataclass
 from typing import Callable
 
-from .library import COUNTERS, EVENTS, RECEIVE, STATUSES, Refused, buffer_of
+from .library import COUNTERS, EVENTS, RECEIVE, STATUSES, Refused, buffer_of, entry_of
 
 MOST = 2**32 - 1
 ADDRESS_OCTETS = 6
@@ -93,6 +94,28 @@ def draws(word):
     """Draws parted by commas, or `-`; two octets each."""
     values = [] if word == "-" else [double(each) for each in word.split(",")]
     return struct.pack(f">{len(values)}H", *values)
+
+
+def triples(word):
+    """Words of three parts each, parted by commas, or `-`."""
+    found = [] if word == "-" else [each.split(":") for each in word.split(",")]
+    if any(len(each) != 3 for each in found):
+        raise Malformed(word)
+    return found
+
+
+def entries(word):
+    """The entries of a log, as octets. No layout has 255 stations: a station past an octet is the largest of one."""
+    numbers = {event_word(name): at for at, name in enumerate(EVENTS, 1)}
+    found = triples(word)
+    if not all(each[2] in numbers for each in found):
+        raise Malformed(word)
+    return b"".join(entry_of(number(time), min(number(at), 255), numbers[name]) for time, at, name in found)
+
+
+def spans(word):
+    """Windows: station, first time, time past the last."""
+    return [tuple(map(number, each)) for each in triples(word)]
 
 
 # ---- parts of an answer
@@ -211,6 +234,13 @@ def clock(session, at):
     return str(session.library.clock(session.areas[at]))
 
 
+def windows(session, _at, stations, log, given):
+    """Many windows over one log."""
+    if stations > 255:
+        raise Malformed(stations)
+    return " ".join(",".join(map(str, counts)) for counts in session.library.windows(log, stations, given))
+
+
 # ---- the table
 
 
@@ -236,6 +266,7 @@ CALLS = {
     "read": Call(read, (number, size), True),
     "counters": Call(counters, (number,), True),
     "clock": Call(clock, (), True),
+    "windows": Call(windows, (number, entries, spans)),
 }
 
 

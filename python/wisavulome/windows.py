@@ -4,36 +4,36 @@ An entry is six octets: time (4, high octet first), station, event (from 1 on, i
 """
 
 import re
-import struct
+from dataclasses import dataclass
 
 from .failure import GOOD, Failure
-from .library import EVENTS
+from .library import EVENTS, MAX_WINDOWS, entry_of
 from .output import printable, write_whole
 from .source import open_file, read_file, shown
+from .table import as_csv, as_table
 
-HELP = """Reads the text that the run program prints into the entries of a log. The lines
-'stations', 'end' and those of refused offers are left out; a line that is none of these and no
-event is an error with its number. WINDOWS has a line for each window: station, first time, time
-past the last; '#' begins a comment.
+HELP = f"""Reads the text that the run program prints into the entries of a log, and prints for each
+window how many events of every word it holds. WINDOWS has a line for each window: station, first
+time, time past the last; '#' begins a comment. A window holds what its station reported from the
+first time on and before the time past the last. More than {MAX_WINDOWS} windows are looked up {MAX_WINDOWS} at a time.
 
-How many of every event word each window holds is the library's to answer; this library has no
-function for it yet, so the status is 2 unless --entries is given, which writes the entries, six
-octets each.
+Lines of refused offers and 'end' are left out of the log. A line that is no event and none of the
+run program's others is an error with its number. N, the number of stations, is that of the lines
+'stations' (the largest), or what --stations says.
 
-Exit status: 0 good, 2 refused, the library cannot do it, or the call is wrong, 3 the output could
-not be written."""
+Exit status: 0 good, 2 refused or the call is wrong, 3 the output could not be written."""
 
 PART = 1 << 20  # octets that are read at a time
 MOST_TIME, MOST_STATION = 2**32 - 1, 255
 WORDS = "|".join(EVENTS).encode()
-# An event, with its time, station and word; or another line of the run program, with none.
+# An event, with its time, station and word; the line `stations`, with N; or another line of the run program.
 ENTRY = re.compile(
     rb"^(?:([0-9]{1,99}) ([0-9]{1,99}) (%s) [0-9]+"
-    rb"|stations [0-9]+ fit (?:yes|no)|end [0-9]+|[0-9]+ [0-9]+ refused [0-9]+)\r?\n" % WORDS,
+    rb"|stations ([0-9]{1,3}) fit (?:yes|no)|end [0-9]+|[0-9]+ [0-9]+ refused [0-9]+)\r?\n" % WORDS,
     re.M,
 )
-ENTRY_FORM = struct.Struct(">IBB")
 NUMBERS = {word.encode(): number for number, word in enumerate(EVENTS, 1)}
+HEADER = ["station", "first", "past", *EVENTS]
 
 
 def add_parser(subparsers):
@@ -41,20 +41,40 @@ def add_parser(subparsers):
     parser = subparsers.add("windows", "the run program's text as a log, and windows over it", HELP)
     parser.add_argument("log", metavar="LOG", help="what the run program printed")
     parser.add_argument("windows", metavar="WINDOWS", nargs="?", help="the windows, one on a line")
+    parser.add_argument("--stations", metavar="N", type=int, help="the number of stations (default: what LOG says)")
+    parser.add_argument("--csv", action="store_true", help="print CSV")
     parser.add_argument("--entries", metavar="FILE", help="write the entries of the log as octets")
 
 
-def run(_library, arguments, output):
+@dataclass(frozen=True)
+class Log:
+    """The entries of a log as octets, and the number of stations, None where no line says it."""
+
+    entries: bytes
+    stations: int
+
+
+def run(library, arguments, output):
     """The subcommand; answers the exit status."""
     if arguments.windows is None and arguments.entries is None:
         raise Failure("windows needs WINDOWS, or --entries")
-    entries = read_log(shown(arguments.log), chunks_of(arguments.log))
-    if arguments.windows is not None:
-        read_windows(shown(arguments.windows), read_file(arguments.windows).decode("utf-8-sig", "replace"))
+    log = read_log(shown(arguments.log), chunks_of(arguments.log))
     if arguments.entries is not None:
-        write_whole(arguments.entries, bytes(entries), output)
-        return GOOD
-    raise Failure("this library has no function for windows over a log yet; '--entries FILE' writes the log's entries")
+        write_whole(arguments.entries, log.entries, output)
+    if arguments.windows is not None:
+        given = read_windows(shown(arguments.windows), read_file(arguments.windows).decode("utf-8-sig", "replace"))
+        stations = log.stations if arguments.stations is None else arguments.stations
+        if stations is None or not 0 <= stations <= MOST_TIME:
+            raise Failure("the number of stations: LOG has no line 'stations', or --stations is none")
+        output.write((as_csv if arguments.csv else as_table)(HEADER, looked_up(library, log.entries, stations, given)))
+    return GOOD
+
+
+def looked_up(library, entries, stations, windows):
+    """For each window its three numbers and how many events of every word it holds."""
+    parts = [windows[at : at + MAX_WINDOWS] for at in range(0, len(windows), MAX_WINDOWS)] or [[]]
+    counts = [each for part in parts for each in library.windows(entries, stations, part)]
+    return [[*window, *held] for window, held in zip(windows, counts)]
 
 
 def chunks_of(path):
@@ -78,26 +98,29 @@ def read_part(path, opened):
 
 
 def read_log(name, chunks):
-    """The entries of the run program's text, one after the other."""
+    """The run program's text as a log."""
     entries = bytearray()
+    most = None
     number = 1
     for chunk in chunks:
         found = ENTRY.findall(chunk)
         lines = chunk.count(b"\n")
         if len(found) != lines:
             refuse_line(name, number, chunk)
-        for time, station, word in found:
+        for time, station, word, stations in found:
             if word:
                 entries += entry(name, number, int(time), int(station), word)
+            elif stations:
+                most = max(most or 0, int(stations))
         number += lines
-    return entries
+    return Log(bytes(entries), most)
 
 
 def entry(name, number, time, station, word):
     """The six octets of an event."""
     if time > MOST_TIME or station > MOST_STATION:
         raise Failure(f"{name}: from line {number} on: time {time} or station {station} is too large for an entry")
-    return ENTRY_FORM.pack(time, station, NUMBERS[word])
+    return entry_of(time, station, NUMBERS[word])
 
 
 def refuse_line(name, first, chunk):

@@ -2,13 +2,14 @@
 //! check sequence beside a table-driven one.
 //!
 //! Each row gives all of them the same calls, in rounds taken in turn, and demands equal answers; the figures are medians of processor time.
-//! Arguments: none for all tables; `calls`, `programs`, `check` or `n11` for one; `print` to be the run program on the fast engine.
+//! Arguments: none for all tables; `calls`, `programs`, `check`, `n11` or `windows` for one; `print` to be the run program on the fast engine.
 
 mod cpu;
 mod engines;
 mod n11;
 mod plans;
 mod rows;
+mod windows;
 
 use std::env;
 use std::hint::black_box;
@@ -211,8 +212,13 @@ fn print() {
 }
 
 fn main() {
-    let tables: [(&str, fn()); 4] =
-        [("calls", calls_table), ("programs", programs_table), ("check", check_table), ("n11", n11::table)];
+    let tables: [(&str, fn()); 5] = [
+        ("calls", calls_table),
+        ("programs", programs_table),
+        ("check", check_table),
+        ("n11", n11::table),
+        ("windows", windows::table),
+    ];
     match env::args().nth(1).as_deref() {
         None => tables[..3].iter().for_each(|(_, table)| {
             table();
@@ -221,7 +227,7 @@ fn main() {
         Some(plans::PRINT) => print(),
         Some(name) => match tables.iter().find(|(known, _)| *known == name) {
             Some((_, table)) => table(),
-            None => panic!("not one of calls, programs, check, n11: {name}"),
+            None => panic!("not one of calls, programs, check, n11, windows: {name}"),
         },
     }
 }

@@ -66,7 +66,7 @@ module _ (s x : List ℕ) (A : Answer) (g : Progress) (n v r : ℕ) (p : n ≡ n
   hand-given h w =
       let z : eqb (numberOf A) 0 ≡ true = ap (λ (k : ℕ). eqb k 0) (sym p) ∙ eq-eqb n 0 h in rw (code-is, w, z)
 
--- ---- a piece is told by a reply: a number up to 16, and octets that 32 bits hold
+-- ---- a piece is told by a reply: a refusal's number, and octets that 32 bits hold
 
 abbrev pub Small : Answer → Type 0
 Small A = (numberOf A ≤ maxRefusal) × (valueOf A ≤ 2048)

@@ -9,6 +9,7 @@ ghost use Rattle.frame_crc.specs.Crc.{crcOf};
 ghost use Rattle.c_calls.specs.Calls.{given, left, sheetGiven, fitsGiven, buildGiven, statusGiven, clientGiven};
 ghost use Rattle.c_calls.specs.Calls.{startGiven, offerGiven, stepLeft, runLeft, frameGiven, countersGiven};
 ghost use Rattle.c_checks.specs.CheckCalls.{receptionGiven, areaGiven, layoutGiven, planGiven};
+ghost use Rattle.c_log.specs.LogCalls.{windowsGiven};
 ghost use Rattle.c_text.specs.TextCalls.{lent, begunLent, advancedLent, printLeft};
 
 // Reads a sheet: the octets used. Refusals 3 to 8, 15.
@@ -213,6 +214,20 @@ pub extern "C" fn wisavulome_print(input: &[u8], area: &mut [u8], out: &mut [u8]
         ≡ printLeft (now (input .entry)) (now (area .entry)) (now (out .entry)) ⌝ }
 {
     c_text::print(input, area, out)
+}
+
+// Many windows over one log: 0, and the counts of each window. Refusals 5, 10, 16, 20, 21, 15.
+#[no_mangle]
+pub extern "C" fn wisavulome_windows(
+    log: &[u8],
+    stations: u32,
+    windows: &[u32],
+    out: &mut [u32],
+) -> u32
+    ensures { λ r. ⌜ given r (now (out .exit))
+        ≡ windowsGiven (now (log .entry)) stations (now (windows .entry)) (now (out .entry)) ⌝ }
+{
+    c_log::windows(log, stations, windows, out)
 }
 
 // The CRC-32 of the octets.

@@ -3,10 +3,10 @@
 //
 // The input is one octet, the number of cases, and for each case: N, how many entries (40 at most), how many windows
 // (68 at most), how many windows the output has room for (64 at most), one octet each; then the entries: time (4
-// octets, high first), station, event (1 to 9), and the windows: station, first time (4), time past the last (4). Where
+// octets, high first), station, event (1 to 10), and the windows: station, first time (4), time past the last (4). Where
 // there are fewer than 40 entries, the log is filled up at its end with entries at time 4294967295 of station 0, which
 // no window holds. Two lines are printed for each, of the lookup in entries and in octets: `ok` and for each window its
-// nine counts, parted by commas, or `refused` and the number.
+// ten counts, parted by commas, or `refused` and the number.
 
 use libc::STDIN_FILENO;
 use libc::STDOUT_FILENO;
@@ -74,10 +74,10 @@ fn print_number(x: u32) {
 
 // The counts of the first windows.
 fn print_counts(out: &[u32], windows: usize) {
-    for c in 0..576usize {
-        if c / 9 < windows {
+    for c in 0..640usize {
+        if c / station_tally::WORDS < windows {
             if c < out.len() {
-                if c % 9 == 0 {
+                if c % station_tally::WORDS == 0 {
                     io::write_all(STDOUT_FILENO, b" ");
                 } else {
                     io::write_all(STDOUT_FILENO, b",");
@@ -140,18 +140,25 @@ fn run_case(s: &[u8], at: usize) -> usize
     let room = octet(s, at + 3) as usize;
     let log = read_log(s, at + 4, entries);
     let windows = read_windows(s, at + 4 + 6 * entries);
-    let mut out = [0u32; 576];
+    let mut out = [0u32; 640];
     let end = least(3 * count, 204);
-    look_and_print(log, n, &windows[0..end], &mut out, 9 * room, count);
+    look_and_print(
+        log,
+        n,
+        &windows[0..end],
+        &mut out,
+        station_tally::WORDS * room,
+        count,
+    );
     let stop = least(at + 4 + 6 * entries, s.len());
     let begin = least(at + 4, stop);
-    let mut other = [0u32; 576];
+    let mut other = [0u32; 640];
     look_in_octets(
         &s[begin..stop],
         n,
         &windows[0..end],
         &mut other,
-        9 * room,
+        station_tally::WORDS * room,
         count,
     );
     at + 4 + 6 * entries + 9 * count

@@ -13,8 +13,9 @@ use Rattle.octets.specs.Base.{pick, some, accepted, doneAnswer, outcome}
 use Rattle.octets.specs.BaseLaws.{some-more, some-hit, by-test}
 use Rattle.octets.specs.Store.{stored-more}
 use Rattle.octets.specs.declared.Done.the-variants.{Refused, Made}
-use Rattle.log_entry.specs.Log.{windowCount, stationOf, firstOf, pastOf, astrayWindow, reversedWindow, refusalIn}
-use Rattle.log_entry.specs.Log.{answered}
+use Rattle.station_tally.specs.Words.{wordCount}
+use Rattle.log_entry.specs.Log.{maxWindows, cellCount, windowCount, stationOf, firstOf, pastOf, astrayWindow}
+use Rattle.log_entry.specs.Log.{reversedWindow, refusalIn, answered}
 use Rattle.log_entry.specs.declared.State.{State}
 use Rattle.log_closing.specs.Close.{closedOf}
 
@@ -37,39 +38,40 @@ module _ (ws : List ℕ) (m w : ℕ) where
 
 -- ---- the refusals, in their order
 
-short-is : (room m : ℕ) → ltb (room / 9) m ≡ ltb room (9 * m)
+short-is : (room m : ℕ) → ltb (room / wordCount) m ≡ ltb room (wordCount * m)
 short-is room m =
-    by-test (ltb room (9 * m))
-    (λ e. let h = ltb-true room (9 * m) e in lt-ltb (room / 9) m (omega arith) ∙ sym e)
-    (λ e. let h = ltb-false room (9 * m) e in le-ltb (room / 9) m (omega arith) ∙ sym e)
+    by-test (ltb room (wordCount * m))
+    (λ e. let h = ltb-true room (wordCount * m) e in lt-ltb (room / wordCount) m (omega arith) ∙ sym e)
+    (λ e. let h = ltb-false room (wordCount * m) e in le-ltb (room / wordCount) m (omega arith) ∙ sym e)
 
 pub refusal-is : (ws : List ℕ) (n : ℕ) (strays fall a b c : Bool) (room r₁ r₂ r₃ r₄ r₅ : ℕ) → r₁ ≡ pick b 10 r₂
     → b ≡ (a || strays) → a ≡ some (astrayWindow n ws) (windowCount ws)
-    → r₂ ≡ pick (ltb 64 (windowCount ws)) 16 r₃ → r₃ ≡ pick c 20 r₄ → c ≡ some (reversedWindow ws) (windowCount ws)
-    → r₄ ≡ pick fall 21 r₅
-    → r₅ ≡ pick (ltb (room / 9) (windowCount ws)) 15 0 → r₁ ≡ refusalIn ws n strays fall room
+    → r₂ ≡ pick (ltb maxWindows (windowCount ws)) 16 r₃ → r₃ ≡ pick c 20 r₄
+    → c ≡ some (reversedWindow ws) (windowCount ws) → r₄ ≡ pick fall 21 r₅
+    → r₅ ≡ pick (ltb (room / wordCount) (windowCount ws)) 15 0 → r₁ ≡ refusalIn ws n strays fall room
 unfolding refusalIn
 refusal-is ws n strays fall a b c room r₁ r₂ r₃ r₄ r₅ e₁ q p e₂ e₃ g e₄ e₅ =
     rw (e₁, e₂, e₃, e₄, e₅, q, p, g, short-is room (windowCount ws))
 
 -- where there is no refusal there are at most 64 windows, and the output has room
 pub room-for : (ws : List ℕ) (n : ℕ) (strays fall : Bool) (room x : ℕ) → x ≡ refusalIn ws n strays fall room → x ≡ 0
-    → (9 * windowCount ws ≤ 576) × (9 * windowCount ws ≤ room)
+    → (wordCount * windowCount ws ≤ cellCount) × (wordCount * windowCount ws ≤ room)
 unfolding refusalIn
 room-for ws n strays fall room x p z =
-    go (some (astrayWindow n ws) (windowCount ws) || strays) (ltb 64 (windowCount ws))
-    (some (reversedWindow ws) (windowCount ws)) fall (ltb room (9 * windowCount ws)) refl refl (sym p ∙ z)
+    go (some (astrayWindow n ws) (windowCount ws) || strays) (ltb maxWindows (windowCount ws))
+    (some (reversedWindow ws) (windowCount ws)) fall (ltb room (wordCount * windowCount ws)) refl refl (sym p ∙ z)
   where
-    go : (s m r f o : Bool) → m ≡ ltb 64 (windowCount ws) → o ≡ ltb room (9 * windowCount ws)
+    go : (s m r f o : Bool) → m ≡ ltb maxWindows (windowCount ws) → o ≡ ltb room (wordCount * windowCount ws)
         → _≡_ {A = ℕ} (pick s 10 (pick m 16 (pick r 20 (pick f 21 (pick o 15 0))))) 0
-        → (9 * windowCount ws ≤ 576) × (9 * windowCount ws ≤ room)
+        → (wordCount * windowCount ws ≤ cellCount) × (wordCount * windowCount ws ≤ room)
     go true m r f o p q h = absurd (omega arith)
     go false true r f o p q h = absurd (omega arith)
     go false false true f o p q h = absurd (omega arith)
     go false false false true o p q h = absurd (omega arith)
     go false false false false true p q h = absurd (omega arith)
     go false false false false false p q h =
-        let few = ltb-false 64 (windowCount ws) (sym p) in (omega arith, ltb-false room (9 * windowCount ws) (sym q))
+        let few = ltb-false maxWindows (windowCount ws) (sym p)
+        in (omega arith, ltb-false room (wordCount * windowCount ws) (sym q))
 
 -- ---- the output
 
@@ -87,9 +89,9 @@ module _ (ws : List ℕ) (s : State) (out : List ℕ) (x : ℕ)
   unfolding closedOf answered
   closed-refused h = rw (sym p, ne-eqb x 0 h)
 
-  pub closed-made : (new : List ℕ) → x ≡ 0 → new ≡ sets out 0 (take (windowCount ws * 9) (s .counts))
+  pub closed-made : (new : List ℕ) → x ≡ 0 → new ≡ sets out 0 (take (windowCount ws * wordCount) (s .counts))
       → outcome (doneAnswer Made) new ≡ closedOf ws s out
   unfolding closedOf answered
   closed-made new z r =
-      let e : windowCount ws * 9 ≡ 9 * windowCount ws = omega arith in rw (sym p, z, sym e)
+      let e : windowCount ws * wordCount ≡ wordCount * windowCount ws = omega arith in rw (sym p, z, sym e)
       (ap (outcome (accepted [])) r)

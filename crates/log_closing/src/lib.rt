@@ -7,7 +7,7 @@ ghost use Prim.Native.Nat.{_≤_};
 ghost use lib.ListN.{length, take};
 ghost use lib.Seq.{sets};
 ghost use Rattle.octets.specs.Base.{pick, some, doneAnswer, outcome};
-ghost use Rattle.log_entry.specs.Log.{windowCount, astrayWindow, reversedWindow, refusalIn};
+ghost use Rattle.log_entry.specs.Log.{cellCount, windowCount, astrayWindow, reversedWindow, refusalIn};
 ghost use Rattle.log_closing.specs.Close.{closedOf};
 
 // Whether some window's station is n or more.
@@ -51,7 +51,7 @@ fn refusal(windows: &[u32], n: u32, astray: bool, falls: bool, room: usize) -> u
     let strays = octets::either(any_astray(windows, n), astray);
     let many = 64 < m;
     let reversed = any_reversed(windows);
-    let short = room / 9 < m;
+    let short = room / station_tally::WORDS < m;
     let rest = number(reversed, 20, number(falls, 21, number(short, 15, 0)));
     number(strays, 10, number(many, 16, rest))
 }
@@ -69,8 +69,8 @@ fn put(out: &mut [u32], src: &[u32])
 }
 
 // Stores the first n counts at the front of the output.
-fn put_first(out: &mut [u32], counts: [u32; 576], n: usize)
-    requires { ⌜ (n ≤ 576) × (n ≤ length (now out)) ⌝ }
+fn put_first(out: &mut [u32], counts: [u32; 640], n: usize)
+    requires { ⌜ (n ≤ cellCount) × (n ≤ length (now out)) ⌝ }
     ensures { λ _. ⌜ now (out .exit) ≡ sets (now (out .entry)) 0 (take n counts) ⌝ }
 {
     put(out, &counts[0..n]);
@@ -85,6 +85,6 @@ pub fn closed(s: State, windows: &[u32], out: &mut [u32]) -> Done
         return Done::Refused(x);
     }
     let counts = s.counts;
-    put_first(out, counts, windows.len() / 3 * 9);
+    put_first(out, counts, windows.len() / 3 * station_tally::WORDS);
     Done::Made
 }

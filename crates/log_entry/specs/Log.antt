@@ -1,6 +1,6 @@
 -- Many windows over one log (document 02, N14). A log is a list of entries; windows are a list of numbers, three to a
 -- window: station, first time, time past the last. Assumes nothing.
-use Prim.Native.Nat.{ℕ, suc, _+_, _*_, _/_, _%_, min}
+use Prim.Native.Nat.{ℕ, suc, _+_, _-_, _*_, _/_, _%_, min}
 use mathlib.Core.Bool.{Bool, false, _&&_, _||_}
 use mathlib.Core.List.{List, [], _∷_}
 use lib.Dec.{ltb, leb, eqb}
@@ -10,22 +10,33 @@ use Rattle.octets.specs.Base.{pick, some, refused, accepted, Outcome, outcome}
 use Rattle.octets.specs.Table.{tabulated}
 use Rattle.log_entry.specs.declared.Entry.{Entry}
 use Rattle.log_entry.specs.declared.Event.{Event}
-use Rattle.log_entry.specs.declared.Event.the-variants.{Collision, Late, Sent, GivenUp, GotOk, GotTooLong}
-use Rattle.log_entry.specs.declared.Event.the-variants.{GotAlignment, GotCheck, GotLength}
+use Rattle.log_entry.specs.declared.Event.the-variants.{Collision, Late, Sent, GivenUp, LateEnd, GotOk}
+use Rattle.log_entry.specs.declared.Event.the-variants.{GotTooLong, GotAlignment, GotCheck, GotLength}
+use Rattle.station_tally.specs.Words.{transmitWord, receiveWord, wordCount}
+use Rattle.station_receive.specs.declared.ReceiveEvent.the-variants as got
+use Rattle.station_transmit.specs.declared.TransmitEvent.the-variants as sent
 
--- the place of an event's word among those that are counted, as station_tally/Tally has them
+-- the place of an event's word among those that are counted, from 0 on: station_tally/Words numbers them from 1 on
 abbrev pub wordOf : Event → ℕ
-wordOf (Collision k) = 0
-wordOf (Late k) = 1
-wordOf (Sent n) = 2
-wordOf (GivenUp n) = 3
-wordOf (GotOk n) = 4
-wordOf (GotTooLong n) = 5
-wordOf (GotAlignment n) = 6
-wordOf (GotCheck n) = 7
-wordOf (GotLength n) = 8
+wordOf (Collision k) = transmitWord (sent.Collision k) - 1
+wordOf (Late k) = transmitWord (sent.Late k false) - 1
+wordOf (Sent n) = transmitWord (sent.Sent n) - 1
+wordOf (GivenUp n) = transmitWord (sent.GivenUp n) - 1
+wordOf (LateEnd n) = transmitWord (sent.LateEnded n) - 1
+wordOf (GotOk n) = receiveWord (got.GotOk n) - 1
+wordOf (GotTooLong n) = receiveWord (got.GotTooLong n) - 1
+wordOf (GotAlignment n) = receiveWord (got.GotAlignment n) - 1
+wordOf (GotCheck n) = receiveWord (got.GotCheck n) - 1
+wordOf (GotLength n) = receiveWord (got.GotLength n) - 1
 
 -- ---- windows: "(station, first time, time past the last)"
+
+-- the most windows of a lookup, and the counts of so many
+abbrev pub maxWindows : ℕ
+maxWindows = 64
+
+abbrev pub cellCount : ℕ
+cellCount = maxWindows * wordCount
 
 abbrev pub windowCount : List ℕ → ℕ
 windowCount ws = length ws / 3
@@ -55,9 +66,9 @@ count p (e ∷ es) = pick (p e) (suc (count p es)) (count p es)
 unfoldable pub alone : List ℕ → ℕ → ℕ → List Entry → ℕ
 alone ws w j es = min (count (λ e. holds ws w (e .time) (e .station) && eqb (wordOf (e .event)) j) es) 4294967295
 
--- nine counts for each window, in the order of the windows: "each answer is that of the window looked up alone"
+-- a count for each window and word, in the order of the windows: "each answer is that of the window looked up alone"
 unfoldable pub answers : List ℕ → List Entry → List ℕ
-answers ws es = tabulated (λ c. alone ws (c / 9) (c % 9) es) 0 (9 * windowCount ws)
+answers ws es = tabulated (λ c. alone ws (c / wordCount) (c % wordCount) es) 0 (wordCount * windowCount ws)
 
 -- ---- refusals
 
@@ -79,15 +90,15 @@ falls t [] = false
 falls t (e ∷ es) = ltb (e .time) t || falls (e .time) es
 
 -- the number of the refusal, 0 where there is none: "10 .. comes before them all", then 16, 20, 21; 15 last, for an
--- output with room for fewer than nine counts a window. `strays` and `fall` say whether an entry's station is N or
+-- output with room for fewer than ten counts a window. `strays` and `fall` say whether an entry's station is N or
 -- more, and whether the times fall
 unfoldable pub refusalIn : (ws : List ℕ) (n : ℕ) (strays fall : Bool) (room : ℕ) → ℕ
 refusalIn ws n strays fall room =
     pick (some (astrayWindow n ws) (windowCount ws) || strays) 10
-    (pick (ltb 64 (windowCount ws)) 16
+    (pick (ltb maxWindows (windowCount ws)) 16
     (pick (some (reversedWindow ws) (windowCount ws)) 20
     (pick fall 21
-    (pick (ltb room (9 * windowCount ws)) 15 0))))
+    (pick (ltb room (wordCount * windowCount ws)) 15 0))))
 
 -- a refusal leaves the output as it was; else the counts stand at its front, and what is past them stays
 unfoldable pub answered : (x : ℕ) (counts out : List ℕ) → Outcome

@@ -8,7 +8,8 @@ use lib.ListN.{length, take, drop}
 use borrow.Author.Tests.{ltb-false}
 use Rattle.octets.specs.Base.{some}
 use Rattle.octets.specs.BaseLaws.{by-test}
-use Rattle.log_entry.specs.Log.{windowCount, astrayWindow, astray, falls, refusalIn, answered}
+use Rattle.station_tally.specs.Words.{wordCount}
+use Rattle.log_entry.specs.Log.{maxWindows, windowCount, astrayWindow, astray, falls, refusalIn, answered}
 use Rattle.log_entry.specs.declared.Entry.{Entry}
 use Rattle.log_entry.specs.declared.State.{State}
 use Rattle.log_windows.specs.Grow.{openedOf, over}
@@ -17,8 +18,8 @@ use Rattle.log_closing.specs.Close.{closedOf}
 use Rattle.log_lookup.specs.Lookup.{lookedUp}
 
 -- with more than 64 windows the counts do not matter
-many : (ws : List ℕ) (n : ℕ) (strays fall : Bool) (room : ℕ) (c d out : List ℕ) → ltb 64 (windowCount ws) ≡ true
-    → answered (refusalIn ws n strays fall room) c out ≡ answered (refusalIn ws n strays fall room) d out
+many : (ws : List ℕ) (n : ℕ) (strays fall : Bool) (room : ℕ) (c d out : List ℕ)
+    → ltb maxWindows (windowCount ws) ≡ true → answered (refusalIn ws n strays fall room) c out ≡ answered (refusalIn ws n strays fall room) d out
 unfolding refusalIn answered
 many ws n strays fall room c d out h =
     by-test (some (astrayWindow n ws) (windowCount ws) || strays) (λ e. rw e) (λ e. rw (e, h))
@@ -30,11 +31,11 @@ unfolding closedOf lookedUp openedOf
 whole n ws es out =
     (λ i. answered (refusalIn ws (over-stations ws (openedOf n) es i) (over-astray ws (openedOf n) es i)
     (over-falls ws (openedOf n) es i) (length out))
-    (take (9 * windowCount ws) (over ws (openedOf n) es .counts)) out)
-    ∙ by-test (ltb 64 (windowCount ws))
+    (take (wordCount * windowCount ws) (over ws (openedOf n) es .counts)) out)
+    ∙ by-test (ltb maxWindows (windowCount ws))
     (many ws n (astray n es) (falls 0 es) (length out) _ _ out)
     (λ e. ap (λ c. answered (refusalIn ws n (astray n es) (falls 0 es) (length out)) c out)
-    (fresh-is n ws es (ltb-false 64 (windowCount ws) e)))
+    (fresh-is n ws es (ltb-false maxWindows (windowCount ws) e)))
 
 pub looked : (ws : List ℕ) (s : State) (es : List Entry) (n k : ℕ) (out : List ℕ) → length es ≤ k
     → over ws s (drop k es) ≡ over ws (openedOf n) es → closedOf ws s out ≡ lookedUp n ws es out

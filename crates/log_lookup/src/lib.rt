@@ -6,7 +6,7 @@ ghost use mathlib.Core.Path.{_≡_};
 ghost use Rattle.octets.specs.Base.{doneAnswer, outcome};
 ghost use Rattle.log_lookup.specs.Lookup.{lookedUp};
 
-// Looks up the windows in the log of n stations, and writes nine counts for each to the front of the output: how many
+// Looks up the windows in the log of n stations, and writes ten counts for each to the front of the output: how many
 // events of each word the window holds. Refused: 10 (a window's or an entry's station is n or more), 16 (more than 64
 // windows), 20 (a window's second time is below its first), 21 (the times of the entries fall), 15 (the output has room
 // for fewer counts); then the output is as it was.

@@ -12,10 +12,11 @@ use Rattle.octets.specs.Number.{get}
 use Rattle.octets.specs.Table.{tabulated}
 use Rattle.octets.specs.declared.Done.{Done}
 use Rattle.octets.specs.declared.Done.the-variants.{Refused}
+use Rattle.station_tally.specs.Words.{wordCount}
 use Rattle.log_entry.specs.declared.Entry.{Entry}
 use Rattle.log_entry.specs.declared.Event.{Event}
-use Rattle.log_entry.specs.declared.Event.the-variants.{Collision, Late, Sent, GivenUp, GotOk, GotTooLong, GotAlignment}
-use Rattle.log_entry.specs.declared.Event.the-variants.{GotCheck, GotLength}
+use Rattle.log_entry.specs.declared.Event.the-variants.{Collision, Late, Sent, GivenUp, LateEnd, GotOk, GotTooLong}
+use Rattle.log_entry.specs.declared.Event.the-variants.{GotAlignment, GotCheck, GotLength}
 use Rattle.log_entry.specs.declared.State.{State}
 use Rattle.log_windows.specs.Grow.{openedOf, enteredOf, over}
 use Rattle.log_closing.specs.Close.{closedOf}
@@ -42,26 +43,30 @@ module _ (c : ℕ) where
   unfolding eventOf
   event-4 p = rw p
 
-  pub event-5 : c ≡ 5 → GotOk 0 ≡ eventOf c
+  pub event-5 : c ≡ 5 → LateEnd 0 ≡ eventOf c
   unfolding eventOf
   event-5 p = rw p
 
-  pub event-6 : c ≡ 6 → GotTooLong 0 ≡ eventOf c
+  pub event-6 : c ≡ 6 → GotOk 0 ≡ eventOf c
   unfolding eventOf
   event-6 p = rw p
 
-  pub event-7 : c ≡ 7 → GotAlignment 0 ≡ eventOf c
+  pub event-7 : c ≡ 7 → GotTooLong 0 ≡ eventOf c
   unfolding eventOf
   event-7 p = rw p
 
-  pub event-8 : c ≡ 8 → GotCheck 0 ≡ eventOf c
+  pub event-8 : c ≡ 8 → GotAlignment 0 ≡ eventOf c
   unfolding eventOf
   event-8 p = rw p
 
-  pub event-9 : (c ≡ 1 → ⊥) → (c ≡ 2 → ⊥) → (c ≡ 3 → ⊥) → (c ≡ 4 → ⊥) → (c ≡ 5 → ⊥) → (c ≡ 6 → ⊥) → (c ≡ 7 → ⊥)
-      → (c ≡ 8 → ⊥) → GotLength 0 ≡ eventOf c
+  pub event-9 : c ≡ 9 → GotCheck 0 ≡ eventOf c
   unfolding eventOf
-  event-9 a₁ a₂ a₃ a₄ a₅ a₆ a₇ a₈ =
+  event-9 p = rw p
+
+  pub event-10 : (c ≡ 1 → ⊥) → (c ≡ 2 → ⊥) → (c ≡ 3 → ⊥) → (c ≡ 4 → ⊥) → (c ≡ 5 → ⊥) → (c ≡ 6 → ⊥) → (c ≡ 7 → ⊥)
+      → (c ≡ 8 → ⊥) → (c ≡ 9 → ⊥) → GotLength 0 ≡ eventOf c
+  unfolding eventOf
+  event-10 a₁ a₂ a₃ a₄ a₅ a₆ a₇ a₈ a₉ =
       rw (
         ne-eqb c 1 a₁,
         ne-eqb c 2 a₂,
@@ -71,16 +76,17 @@ module _ (c : ℕ) where
         ne-eqb c 6 a₆,
         ne-eqb c 7 a₇,
         ne-eqb c 8 a₈,
+        ne-eqb c 9 a₉,
       )
 
 -- ---- the search
 
-module _ (l : List ℕ) (m k : ℕ) (c : ℕ) (t : Bool) (p : c ≡ getD l (6 * k + 5) 0) (q : t ≡ outside c 1 9) where
+module _ (l : List ℕ) (m k : ℕ) (c : ℕ) (t : Bool) (p : c ≡ getD l (6 * k + 5) 0) (q : t ≡ outside c 1 wordCount) where
   pub unknown-more : t ≡ false → some (unknownAt l) k ≡ false → some (unknownAt l) (k + 1) ≡ false
-  unknown-more e s = some-more (unknownAt l) k t (q ∙ ap (λ x. outside x 1 9) p) e s
+  unknown-more e s = some-more (unknownAt l) k t (q ∙ ap (λ x. outside x 1 wordCount) p) e s
 
   pub unknown-hit : k < m → t ≡ true → true ≡ some (unknownAt l) m
-  unknown-hit b e = some-hit (unknownAt l) m k t (q ∙ ap (λ x. outside x 1 9) p) e b
+  unknown-hit b e = some-hit (unknownAt l) m k t (q ∙ ap (λ x. outside x 1 wordCount) p) e b
 
 -- ---- one entry more
 

@@ -1,5 +1,5 @@
-// A lookup in a log that is lent as octets, six to an entry: time (4, high octet first), station, event (1 to 9, as
-// document 01 names them). Octets after the last whole entry are not looked at.
+// A lookup in a log that is lent as octets, six to an entry: time (4, high octet first), station, event (1 to
+// 10, as `station_tally/Words` numbers the words). Octets after the last whole entry are not looked at.
 
 use log_entry::Event;
 use log_entry::State;
@@ -28,15 +28,18 @@ pub fn event_of(c: u32) -> Event
         return Event::GivenUp(0);
     }
     if c == 5 {
-        return Event::GotOk(0);
+        return Event::LateEnd(0);
     }
     if c == 6 {
-        return Event::GotTooLong(0);
+        return Event::GotOk(0);
     }
     if c == 7 {
-        return Event::GotAlignment(0);
+        return Event::GotTooLong(0);
     }
     if c == 8 {
+        return Event::GotAlignment(0);
+    }
+    if c == 9 {
         return Event::GotCheck(0);
     }
     Event::GotLength(0)
@@ -48,7 +51,7 @@ fn any_unknown(log: &[u8]) -> bool
 {
     let m = log.len() / 6;
     for k in 0..m {
-        if octets::out_of(octets::wide(log[6 * k + 5]), 1, 9) {
+        if octets::out_of(octets::wide(log[6 * k + 5]), 1, 10) {
             return true;
         }
     }

@@ -7,7 +7,8 @@ use lib.Dec.{ltb, leb}
 use lib.ListN.{getD, set, replicate}
 use Rattle.octets.specs.Base.{pick}
 use Rattle.octets.specs.Turns.{turns}
-use Rattle.log_entry.specs.Log.{wordOf, windowCount, holds}
+use Rattle.station_tally.specs.Words.{wordCount}
+use Rattle.log_entry.specs.Log.{wordOf, maxWindows, cellCount, windowCount, holds}
 use Rattle.log_entry.specs.declared.Entry.{Entry}
 use Rattle.log_entry.specs.declared.State.{State}
 
@@ -17,17 +18,17 @@ capped c = min (c + 1) 4294967295
 
 -- the counts l after what station i reported at time t with the word j was added to window w
 unfoldable pub added : List ℕ → ℕ → ℕ → ℕ → ℕ → List ℕ → List ℕ
-added ws t i j w l = pick (holds ws w t i) (set l (9 * w + j) (capped (getD l (9 * w + j) 0))) l
+added ws t i j w l = pick (holds ws w t i) (set l (wordCount * w + j) (capped (getD l (wordCount * w + j) 0))) l
 
 -- the windows that have a place among the counts
 unfoldable pub used : List ℕ → ℕ
-used ws = min 64 (windowCount ws)
+used ws = min maxWindows (windowCount ws)
 
 unfoldable pub addedAll : List ℕ → ℕ → ℕ → ℕ → List ℕ → List ℕ
 addedAll ws t i j l = turns (λ w x. added ws t i j w x) (used ws) l
 
 unfoldable pub openedOf : ℕ → State
-openedOf n = record { stations = n; astray = false; falls = false; last = 0; counts = replicate 576 0 }
+openedOf n = record { stations = n; astray = false; falls = false; last = 0; counts = replicate cellCount 0 }
 
 unfoldable pub enteredOf : List ℕ → State → Entry → State
 enteredOf ws s e =

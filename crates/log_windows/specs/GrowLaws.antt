@@ -8,7 +8,8 @@ use lib.Dec.{ltb, leb}
 use lib.ListN.{getD, set}
 use borrow.Author.Tests.{le-leb, lt-leb, eq-eqb, ne-eqb}
 use Rattle.octets.specs.Turns.{turns, turns-end}
-use Rattle.log_entry.specs.Log.{wordOf, windowCount, stationOf, firstOf, pastOf, holds}
+use Rattle.station_tally.specs.Words.{wordCount}
+use Rattle.log_entry.specs.Log.{wordOf, maxWindows, windowCount, stationOf, firstOf, pastOf, holds}
 use Rattle.log_entry.specs.declared.Event.{Event}
 use Rattle.log_entry.specs.declared.State.{State}
 use Rattle.log_windows.specs.Grow.{capped, added, used, addedAll, enteredOf}
@@ -35,8 +36,8 @@ module _ (ws : List ℕ) (w t i : ℕ) where
   in-past h g = rw (eq-eqb (stationOf ws w) i h, le-leb (firstOf ws w) t g)
 
 module _ (ws l : List ℕ) (t i j w : ℕ) (b : Bool) where
-  pub add-in : (one : ℕ) → b ≡ holds ws w t i → b ≡ true → one ≡ capped (getD l (9 * w + j) 0)
-      → set l (9 * w + j) one ≡ added ws t i j w l
+  pub add-in : (one : ℕ) → b ≡ holds ws w t i → b ≡ true → one ≡ capped (getD l (wordCount * w + j) 0)
+      → set l (wordCount * w + j) one ≡ added ws t i j w l
   unfolding added
   add-in one p q e = rw (sym p, q, e)
 
@@ -44,11 +45,11 @@ module _ (ws l : List ℕ) (t i j w : ℕ) (b : Bool) where
   unfolding added
   add-out p q = rw (sym p, q)
 
-pub used-some : (ws : List ℕ) → 64 < windowCount ws → 64 ≡ used ws
+pub used-some : (ws : List ℕ) → maxWindows < windowCount ws → maxWindows ≡ used ws
 unfolding used
 used-some ws h = omega arith
 
-pub used-all : (ws : List ℕ) → windowCount ws ≤ 64 → windowCount ws ≡ used ws
+pub used-all : (ws : List ℕ) → windowCount ws ≤ maxWindows → windowCount ws ≡ used ws
 unfolding used
 used-all ws h = omega arith
 

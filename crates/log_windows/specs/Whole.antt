@@ -13,20 +13,23 @@ use lib.Seq.{ext-getD, getD-take, length-take-le}
 use borrow.Author.Tests.{lt-ltb}
 use Rattle.octets.specs.Base.{pick}
 use Rattle.octets.specs.Table.{tabulated, entry}
-use Rattle.log_entry.specs.Log.{wordOf, windowCount, holds, count, alone, answers, astray, falls}
+use Rattle.station_tally.specs.Words.{wordCount}
+use Rattle.log_entry.specs.Log.{wordOf, maxWindows, cellCount, windowCount, holds, count, alone, answers}
+use Rattle.log_entry.specs.Log.{astray, falls}
 use Rattle.log_entry.specs.declared.Entry.{Entry}
 use Rattle.log_entry.specs.declared.Event.{Event}
-use Rattle.log_entry.specs.declared.Event.the-variants.{Collision, Late, Sent, GivenUp, GotOk, GotTooLong, GotAlignment}
-use Rattle.log_entry.specs.declared.Event.the-variants.{GotCheck, GotLength}
+use Rattle.log_entry.specs.declared.Event.the-variants.{Collision, Late, Sent, GivenUp, LateEnd, GotOk, GotTooLong}
+use Rattle.log_entry.specs.declared.Event.the-variants.{GotAlignment, GotCheck, GotLength}
 use Rattle.log_entry.specs.declared.State.{State}
 use Rattle.log_windows.specs.Grow.{capped, openedOf, enteredOf, over}
 use Rattle.log_windows.specs.Cells.{hit, grown, all-length, all-cell}
 
-word-small : (v : Event) → wordOf v < 9
+word-small : (v : Event) → wordOf v < wordCount
 word-small (Collision x) = omega arith
 word-small (Late x) = omega arith
 word-small (Sent x) = omega arith
 word-small (GivenUp x) = omega arith
+word-small (LateEnd x) = omega arith
 word-small (GotOk x) = omega arith
 word-small (GotTooLong x) = omega arith
 word-small (GotAlignment x) = omega arith
@@ -113,7 +116,7 @@ unfolding raised
 raised-more true k x = refl
 raised-more false k x = refl
 
-over-cell : (ws : List ℕ) (s : State) (es : List Entry) (c : ℕ) → c < 576 → length (s .counts) ≡ 576
+over-cell : (ws : List ℕ) (s : State) (es : List Entry) (c : ℕ) → c < cellCount → length (s .counts) ≡ cellCount
     → getD (over ws s es .counts) c 0 ≡ raised (count (hits ws c) es) (getD (s .counts) c 0)
 unfolding over enteredOf count raised
 over-cell ws s [] c b h = refl
@@ -124,46 +127,47 @@ over-cell ws s (e ∷ es) c b h =
     ∙ raised-more (hits ws c e) (count (hits ws c) es) (getD (s .counts) c 0)
 
 -- a count is that of its window looked up alone
-cell-alone : (ws : List ℕ) (es : List Entry) (c : ℕ) → c / 9 < windowCount ws
-    → min (count (hits ws c) es) 4294967295 ≡ alone ws (c / 9) (c % 9) es
+cell-alone : (ws : List ℕ) (es : List Entry) (c : ℕ) → c / wordCount < windowCount ws
+    → min (count (hits ws c) es) 4294967295 ≡ alone ws (c / wordCount) (c % wordCount) es
 unfolding alone
 cell-alone ws es c h =
-    ap (λ y. min (count (λ x. y && (holds ws (c / 9) (x .time) (x .station) && eqb (wordOf (x .event)) (c % 9))) es)
-    4294967295) (lt-ltb (c / 9) (windowCount ws) h)
+    ap (λ y. min (count (λ x. y && (holds ws (c / wordCount) (x .time) (x .station)
+    && eqb (wordOf (x .event)) (c % wordCount))) es) 4294967295) (lt-ltb (c / wordCount) (windowCount ws) h)
 
 -- ---- the counts after the whole log
 
 abbrev fresh : ℕ → List ℕ → List Entry → List ℕ
 fresh n ws es = over ws (openedOf n) es .counts
 
-fresh-cell : (n : ℕ) (ws : List ℕ) (es : List Entry) (c : ℕ) → c < 576 → c / 9 < windowCount ws
-    → getD (fresh n ws es) c 0 ≡ alone ws (c / 9) (c % 9) es
+fresh-cell : (n : ℕ) (ws : List ℕ) (es : List Entry) (c : ℕ) → c < cellCount → c / wordCount < windowCount ws
+    → getD (fresh n ws es) c 0 ≡ alone ws (c / wordCount) (c % wordCount) es
 unfolding openedOf
 fresh-cell n ws es c b h =
-    over-cell ws (openedOf n) es c b (length-replicate {A = ℕ} 576 0)
-    ∙ ap (raised (count (hits ws c) es)) (getD-replicate {A = ℕ} 576 c 0 0 b)
+    over-cell ws (openedOf n) es c b (length-replicate {A = ℕ} cellCount 0)
+    ∙ ap (raised (count (hits ws c) es)) (getD-replicate {A = ℕ} cellCount c 0 0 b)
     ∙ raised-is (count (hits ws c) es) 0 (omega arith)
     ∙ ap (λ x. min x 4294967295) (zero-add (count (hits ws c) es))
     ∙ cell-alone ws es c h
 
-fresh-length : (n : ℕ) (ws : List ℕ) (es : List Entry) → length (fresh n ws es) ≡ 576
+fresh-length : (n : ℕ) (ws : List ℕ) (es : List Entry) → length (fresh n ws es) ≡ cellCount
 unfolding openedOf
-fresh-length n ws es = over-length ws (openedOf n) es ∙ length-replicate {A = ℕ} 576 0
+fresh-length n ws es = over-length ws (openedOf n) es ∙ length-replicate {A = ℕ} cellCount 0
 
 length-tabulated : (f : ℕ → ℕ) (i n : ℕ) → length (tabulated f i n) ≡ n
 length-tabulated f i zero = refl
 length-tabulated f i (suc n) = ap suc (length-tabulated f (suc i) n)
 
 -- "each answer is that of the window looked up alone"
-pub fresh-is : (n : ℕ) (ws : List ℕ) (es : List Entry) → windowCount ws ≤ 64
-    → take (9 * windowCount ws) (fresh n ws es) ≡ answers ws es
+pub fresh-is : (n : ℕ) (ws : List ℕ) (es : List Entry) → windowCount ws ≤ maxWindows
+    → take (wordCount * windowCount ws) (fresh n ws es) ≡ answers ws es
 unfolding answers
 fresh-is n ws es h =
-    ext-getD 0 (take (9 * windowCount ws) (fresh n ws es)) _ (long ∙ sym (length-tabulated _ 0 (9 * windowCount ws)))
-    (λ c b. let g : c < 9 * windowCount ws = omega (arith, b, long) in
-    getD-take (9 * windowCount ws) (fresh n ws es) c 0 g
+    ext-getD 0 (take (wordCount * windowCount ws) (fresh n ws es)) _
+    (long ∙ sym (length-tabulated _ 0 (wordCount * windowCount ws)))
+    (λ c b. let g : c < wordCount * windowCount ws = omega (arith, b, long) in
+    getD-take (wordCount * windowCount ws) (fresh n ws es) c 0 g
     ∙ fresh-cell n ws es c (omega arith) (omega arith)
-    ∙ sym (entry (λ d. alone ws (d / 9) (d % 9) es) 0 (9 * windowCount ws) c g))
+    ∙ sym (entry (λ d. alone ws (d / wordCount) (d % wordCount) es) 0 (wordCount * windowCount ws) c g))
   where
-    long : length (take (9 * windowCount ws) (fresh n ws es)) ≡ 9 * windowCount ws
-    long = length-take-le (9 * windowCount ws) (fresh n ws es) (omega (arith, fresh-length n ws es))
+    long : length (take (wordCount * windowCount ws) (fresh n ws es)) ≡ wordCount * windowCount ws
+    long = length-take-le (wordCount * windowCount ws) (fresh n ws es) (omega (arith, fresh-length n ws es))

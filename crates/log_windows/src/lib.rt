@@ -5,7 +5,8 @@ use log_entry::State;
 ghost use mathlib.Core.Path.{_≡_};
 ghost use Prim.Native.Nat.{_<_, _≤_, _+_, _*_};
 ghost use lib.ListN.{length};
-ghost use Rattle.log_entry.specs.Log.{holds};
+ghost use Rattle.station_tally.specs.Words.{wordCount};
+ghost use Rattle.log_entry.specs.Log.{maxWindows, holds};
 ghost use Rattle.log_windows.specs.Grow.{capped, added, addedAll, used, openedOf, enteredOf};
 
 // One more, and the top where it would pass it.
@@ -17,7 +18,7 @@ fn cap(c: u32) -> u32
 
 // Whether window w holds what the station reported at the time.
 fn inside(windows: &[u32], w: usize, time: u32, station: u32) -> bool
-    requires { ⌜ (w < 64) × (3 * w + 3 ≤ length (now windows)) ⌝ }
+    requires { ⌜ (w < maxWindows) × (3 * w + 3 ≤ length (now windows)) ⌝ }
     ensures { λ r. ⌜ r ≡ holds (now (windows .entry)) w time station ⌝ }
 {
     if windows[3 * w] != station {
@@ -30,20 +31,20 @@ fn inside(windows: &[u32], w: usize, time: u32, station: u32) -> bool
 }
 
 // An event is added to the counts of window w, where that holds it.
-fn add(counts: &mut [u32; 576], windows: &[u32], time: u32, station: u32, word: usize, w: usize)
-    requires { ⌜ (w < 64) × (3 * w + 3 ≤ length (now windows)) × (word < 9) ⌝ }
+fn add(counts: &mut [u32; 640], windows: &[u32], time: u32, station: u32, word: usize, w: usize)
+    requires { ⌜ (w < maxWindows) × (3 * w + 3 ≤ length (now windows)) × (word < wordCount) ⌝ }
     ensures { λ _. ⌜ now (counts .exit) ≡ added (now (windows .entry)) time station word w (now (counts .entry)) ⌝ }
 {
     if inside(windows, w, time, station) {
-        let one = cap(counts[9 * w + word]);
-        counts[9 * w + word] = one;
+        let one = cap(counts[station_tally::WORDS * w + word]);
+        counts[station_tally::WORDS * w + word] = one;
     }
 }
 
 // How many windows have a place in the table.
 fn placed(windows: &[u32]) -> usize
     ensures value { λ r. ⌜ r ≡ used (now (windows .entry)) ⌝ }
-    ensures small { λ r. ⌜ (r ≤ 64) × (3 * r ≤ length (now (windows .entry))) ⌝ }
+    ensures small { λ r. ⌜ (r ≤ maxWindows) × (3 * r ≤ length (now (windows .entry))) ⌝ }
 {
     let m = windows.len() / 3;
     if 64 < m {
@@ -53,8 +54,8 @@ fn placed(windows: &[u32]) -> usize
 }
 
 // An event is added to every window that holds it.
-fn add_all(counts: &mut [u32; 576], windows: &[u32], time: u32, station: u32, word: usize)
-    requires { ⌜ word < 9 ⌝ }
+fn add_all(counts: &mut [u32; 640], windows: &[u32], time: u32, station: u32, word: usize)
+    requires { ⌜ word < wordCount ⌝ }
     ensures { λ _. ⌜ now (counts .exit) ≡ addedAll (now (windows .entry)) time station word (now (counts .entry)) ⌝ }
 {
     let m = placed(windows);
@@ -72,7 +73,7 @@ pub fn opened(n: u32) -> State
         astray: false,
         falls: false,
         last: 0,
-        counts: [0u32; 576],
+        counts: [0u32; 640],
     }
 }
 

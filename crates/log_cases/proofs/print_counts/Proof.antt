@@ -5,10 +5,10 @@ use Rattle.log_cases.proofs.print_counts.Statement.{statement}
 use Rattle.log_cases.proofs.print_counts.Tie as tie
 
 abbrev Inv-loop : tie.InvT-loop
-Inv-loop out windows c₀ t4 t5 c = c ≤ 576
+Inv-loop out windows c₀ t4 t5 c = c ≤ 640
 
 abbrev μ-loop : tie.MeasureT-loop
-μ-loop out windows c₀ t4 t5 c = 576 - c
+μ-loop out windows c₀ t4 t5 c = 640 - c
 
 loop-holds : tie.Need-loop-holds Inv-loop μ-loop
 loop-holds c = omega arith

@@ -1,6 +1,6 @@
 -- `log_octets::event_of` meets its contract. Assumes nothing.
 use Rattle.log_octets.specs.OctetsLaws.{event-1, event-2, event-3, event-4, event-5, event-6, event-7, event-8}
-use Rattle.log_octets.specs.OctetsLaws.{event-9}
+use Rattle.log_octets.specs.OctetsLaws.{event-9, event-10}
 use Rattle.log_octets.proofs.event_of.Statement.{statement}
 use Rattle.log_octets.proofs.event_of.Tie as tie
 
@@ -31,6 +31,9 @@ returns-8 c = search event-8
 returns-9 : tie.Need-returns-9
 returns-9 c = search event-9
 
+returns-10 : tie.Need-returns-10
+returns-10 c = search event-10
+
 pub event-of-spec : {M : Type 1} → statement M
 event-of-spec =
     tie.close
@@ -43,4 +46,5 @@ event-of-spec =
     returns-6
     returns-7
     returns-8
-    returns-9)
+    returns-9
+    returns-10)

@@ -1,0 +1,3 @@
+pub mod LogCalls
+pub mod LogCallLaws
+pub mod LogCallTheorems
