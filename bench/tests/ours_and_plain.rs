@@ -567,7 +567,8 @@ fn made_up_log(rng: &mut Rng, stations: u32) -> Vec<u8> {
         log.push(if astray { rng.pick(&[stations, 255]) } else { rng.range(0, stations - 1) } as u8);
         log.push(if unknown { rng.pick(&[0, 11, 255]) } else { rng.range(1, 10) } as u8);
     }
-    log.extend(rng.octets(if rng.one_in(4) { 5 } else { 0 }));
+    let rest = if rng.one_in(4) { 5 } else { 0 };
+    log.extend(rng.octets(rest));
     log
 }
 
