@@ -458,7 +458,8 @@ class Library:
 
     def windows(self, log, stations, windows):
         """How many events of each word every window holds; log is octets, a window three numbers."""
-        given = (ctypes.c_uint32 * (WINDOW_NUMBERS * len(windows)))(*(number for window in windows for number in window))
+        numbers = [number for window in windows for number in window]
+        given = (ctypes.c_uint32 * len(numbers))(*numbers)
         out = (ctypes.c_uint32 * (len(EVENTS) * len(windows)))()
         self.call("windows", log, stations, given, out)
         return [tuple(out[at : at + len(EVENTS)]) for at in range(0, len(out), len(EVENTS))]

@@ -21,7 +21,8 @@ a second one, all zero at first and just as long as refusal 1 asks for.
 Numbers are decimal. Octets are two hexadecimal digits each, `-` for none, or COUNT*HH; DEST and SOURCE are six. DRAWS
 are numbers parted by commas, or `-`. LAYOUT: slot, gap1, gap2, jam, attempt limit, backoff limit, late-end, E, then
 POSITION/ADDRESS/OWNER of each station, parted by commas; what the library does not have is 0. TALLY: WORD=COUNT of
-each event word. ENTRIES are time:station:word, WINDOWS station:first:past, parted by commas, or `-`. A new call is a function here and a line of the table at the end.
+each event word. ENTRIES are time:station:word, WINDOWS station:first:past, parted by commas, or `-`. A new call is a
+function here and a line of the table at the end.
 """
 
 import ctypes

@@ -68,6 +68,7 @@ class Replay(CommandTest):
             "jump 5", "second", "second sheet 00", "second second clock", "run", "run 1 2", "run x", "run -1", "step 1",
             "sheet 0", "sheet 0g", "build 02 020000000001 0 - 64", "offer 0 020000000002 65536 -", "area 99999999",
             f"fresh {SHEET} 1 0,65536", f"fresh {SHEET} 1 0,", "open 3* 0", "open *00 0",
+            "windows 2 1:0:crash -", "windows 2 1:0 -", "windows 2 - 0:1", "windows 256 - -", "second windows 2 - -",
         ]:  # fmt: skip
             self.assertEqual(self.answers(line), ["malformed"], line)
 

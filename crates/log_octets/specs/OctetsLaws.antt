@@ -103,11 +103,9 @@ entered-at ws l s r k t i c v p q g h e =
 abbrev pub leftOf : List ℕ → State → List ℕ → ℕ → ℕ → State
 leftOf ws s l m k = over ws s (tabulated (entryAt l) k (m - k))
 
-pub left-first : (ws l : List ℕ) (n : ℕ) (s : State) → s ≡ openedOf n
-    → leftOf ws s l (length l / 6) 0 ≡ over ws (openedOf n) (entriesOf l)
-left-first ws l n s p =
-    let e : length l / 6 - 0 ≡ length l / 6 = omega arith in rw p
-    (ap (λ j. over ws (openedOf n) (tabulated (entryAt l) 0 j)) e)
+pub left-first : (ws l : List ℕ) (s : State) → leftOf ws s l (length l / 6) 0 ≡ over ws s (entriesOf l)
+left-first ws l s =
+    let e : length l / 6 - 0 ≡ length l / 6 = omega arith in ap (λ j. over ws s (tabulated (entryAt l) 0 j)) e
 
 pub left-more : (ws l : List ℕ) (s r x : State) (m k : ℕ) → k < m → r ≡ enteredOf ws s (entryAt l k)
     → leftOf ws s l m k ≡ x → leftOf ws r l m (k + 1) ≡ x
@@ -120,9 +118,10 @@ left-more ws l s r x m k h e p =
     ∙ sym (ap (λ j. over ws s (tabulated (entryAt l) k j)) a)
     ∙ p
 
-left-end : (ws l : List ℕ) (s : State) (m k : ℕ) → m ≤ k → leftOf ws s l m k ≡ s
+pub left-end : (ws l : List ℕ) (s x : State) (m k : ℕ) → m ≤ k → leftOf ws s l m k ≡ x → s ≡ x
 unfolding over
-left-end ws l s m k h = let a : m - k ≡ 0 = omega arith in ap (λ j. over ws s (tabulated (entryAt l) k j)) a
+left-end ws l s x m k h p =
+    let a : m - k ≡ 0 = omega arith in sym (ap (λ j. over ws s (tabulated (entryAt l) k j)) a) ∙ p
 
 -- ---- the answers
 
@@ -139,12 +138,11 @@ all-dropped : (es : List Entry) → drop (length es) es ≡ []
 all-dropped [] = refl
 all-dropped (e ∷ es) = all-dropped es
 
-pub octets-made : (n : ℕ) (ws l out new : List ℕ) (s : State) (k m : ℕ) (b : Bool) (r : Done)
-    → outcome (doneAnswer r) new ≡ closedOf ws s out → b ≡ some (unknownAt l) (length l / 6) → b ≡ false → m ≤ k
-    → leftOf ws s l m k ≡ over ws (openedOf n) (entriesOf l)
-    → outcome (doneAnswer r) new ≡ octetsLookedUp n ws l out
+pub octets-made : (n : ℕ) (ws l out new : List ℕ) (o s : State) (b : Bool) (r : Done)
+    → outcome (doneAnswer r) new ≡ closedOf ws s out → b ≡ some (unknownAt l) (length l / 6) → b ≡ false
+    → o ≡ openedOf n → s ≡ over ws o (entriesOf l) → outcome (doneAnswer r) new ≡ octetsLookedUp n ws l out
 unfolding octetsLookedUp over
-octets-made n ws l out new s k m b r e p f h g =
+octets-made n ws l out new o s b r e p f g h =
     rw (sym p, f)
     (e ∙ looked ws s (entriesOf l) n (length (entriesOf l)) out (omega arith)
-    (ap (over ws s) (all-dropped (entriesOf l)) ∙ sym (left-end ws l s m k h) ∙ g))
+    (ap (over ws s) (all-dropped (entriesOf l)) ∙ h ∙ ap (λ (x : State). over ws x (entriesOf l)) g))

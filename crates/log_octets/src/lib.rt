@@ -8,8 +8,8 @@ ghost use mathlib.Core.Path.{_≡_};
 ghost use Prim.Native.Nat.{_+_, _*_, _≤_, _/_};
 ghost use lib.ListN.{length};
 ghost use Rattle.octets.specs.Base.{some, doneAnswer, outcome};
-ghost use Rattle.log_windows.specs.Grow.{enteredOf};
-ghost use Rattle.log_octets.specs.Octets.{eventOf, entryAt, unknownAt, octetsLookedUp};
+ghost use Rattle.log_windows.specs.Grow.{enteredOf, over};
+ghost use Rattle.log_octets.specs.Octets.{eventOf, entryAt, unknownAt, entriesOf, octetsLookedUp};
 
 // The event of a number; where it stands for none, the last.
 pub fn event_of(c: u32) -> Event
@@ -46,7 +46,7 @@ pub fn event_of(c: u32) -> Event
 }
 
 // Whether some entry's event stands for nothing.
-fn any_unknown(log: &[u8]) -> bool
+pub fn any_unknown(log: &[u8]) -> bool
     ensures { λ r. ⌜ r ≡ some (unknownAt (now (log .entry))) (length (now (log .entry)) / 6) ⌝ }
 {
     let m = log.len() / 6;
@@ -69,6 +69,18 @@ fn entered_at(s: State, windows: &[u32], log: &[u8], k: usize) -> State
     log_windows::entered(s, windows, time, station, event)
 }
 
+// The state after all entries of the log more.
+pub fn entered_all(s: State, windows: &[u32], log: &[u8]) -> State
+    ensures { λ r. ⌜ r ≡ over (now (windows .entry)) s (entriesOf (now (log .entry))) ⌝ }
+{
+    let m = log.len() / 6;
+    let mut t = s;
+    for k in 0..m {
+        t = entered_at(t, windows, log, k);
+    }
+    t
+}
+
 // Looks up the windows in the log of n stations, as `log_lookup::look_up` does, with one refusal before all others: 5,
 // where an entry's event stands for nothing.
 pub fn look_up_octets(log: &[u8], n: u32, windows: &[u32], out: &mut [u32]) -> Done
@@ -78,10 +90,6 @@ pub fn look_up_octets(log: &[u8], n: u32, windows: &[u32], out: &mut [u32]) -> D
     if any_unknown(log) {
         return Done::Refused(5);
     }
-    let m = log.len() / 6;
-    let mut s = log_windows::opened(n);
-    for k in 0..m {
-        s = entered_at(s, windows, log, k);
-    }
+    let s = entered_all(log_windows::opened(n), windows, log);
     log_closing::closed(s, windows, out)
 }
