@@ -5,8 +5,8 @@
 // (68 at most), how many windows the output has room for (64 at most), one octet each; then the entries: time (4
 // octets, high first), station, event (1 to 10), and the windows: station, first time (4), time past the last (4). Where
 // there are fewer than 40 entries, the log is filled up at its end with entries at time 4294967295 of station 0, which
-// no window holds. Two lines are printed for each, of the lookup in entries and in octets: `ok` and for each window its
-// ten counts, parted by commas, or `refused` and the number.
+// no window holds. A line is printed for each: `ok` and for each window its ten counts, parted by commas, or `refused`
+// and the number.
 
 use libc::STDIN_FILENO;
 use libc::STDOUT_FILENO;
@@ -122,13 +122,6 @@ fn look_and_print(
     print_answer(answer, out, count);
 }
 
-// The same lookup in the octets of the log.
-fn look_in_octets(log: &[u8], n: u32, windows: &[u32], out: &mut [u32], last: usize, count: usize) {
-    let end = least(last, out.len());
-    let answer = log_octets::look_up_octets(log, n, windows, &mut out[0..end]);
-    print_answer(answer, out, count);
-}
-
 // One case at `at`: the place of the next.
 fn run_case(s: &[u8], at: usize) -> usize
     requires { ⌜ at < 1700000 ⌝ }
@@ -147,17 +140,6 @@ fn run_case(s: &[u8], at: usize) -> usize
         n,
         &windows[0..end],
         &mut out,
-        station_tally::WORDS * room,
-        count,
-    );
-    let stop = least(at + 4 + 6 * entries, s.len());
-    let begin = least(at + 4, stop);
-    let mut other = [0u32; 640];
-    look_in_octets(
-        &s[begin..stop],
-        n,
-        &windows[0..end],
-        &mut other,
         station_tally::WORDS * room,
         count,
     );

@@ -7,7 +7,8 @@ use Rattle.log_count.proofs.look_up.Statement.{statement}
 use Rattle.log_count.proofs.look_up.Tie as tie
 
 abbrev Inv-loop : tie.InvT-loop
-Inv-loop n windows out₀ part₀ unknown₀ s₀ k₀ out part unknown s k = (k ≤ 4096) × (length part ≡ 24576) × (length out ≡ length out₀)
+Inv-loop n windows out₀ part₀ unknown₀ s₀ k₀ out part unknown s k =
+    (k ≤ 4096) × (length part ≡ 24576) × (length out ≡ length out₀)
 
 abbrev μ-loop : tie.MeasureT-loop
 μ-loop n windows out₀ part₀ unknown₀ s₀ k₀ out part unknown s k = 4096 - k
