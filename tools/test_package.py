@@ -149,7 +149,8 @@ class Logs(unittest.TestCase):
 
     def test_stations(self):
         """N is that of the lines that say it, the largest."""
-        for lines, stations in [("", None), ("stations 2 fit yes\n", 2), ("stations 3 fit no\nstations 2 fit yes\n", 3)]:
+        yes, no = "stations 2 fit yes\n", "stations 3 fit no\n"
+        for lines, stations in [("", None), (yes, 2), (no + yes, 3)]:
             self.assertEqual(windows.read_log("log", [lines.encode()]).stations, stations)
 
     def test_every_word(self):

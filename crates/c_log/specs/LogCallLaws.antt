@@ -11,8 +11,8 @@ use Rattle.octets.specs.Base.{some, doneAnswer, numberOf, Outcome, outcome}
 use Rattle.octets.specs.BaseLaws.{by-test, by-eq}
 use Rattle.octets.specs.declared.Done.{Done}
 use Rattle.station_tally.specs.Words.{wordCount}
-use Rattle.log_entry.specs.Log.{maxWindows, windowCount, astrayWindow, reversedWindow, refusalIn, answered, astray, falls}
-use Rattle.log_entry.specs.Log.{answers}
+use Rattle.log_entry.specs.Log.{maxWindows, windowCount, astrayWindow, reversedWindow, refusalIn, answered, astray}
+use Rattle.log_entry.specs.Log.{falls, answers}
 use Rattle.log_lookup.specs.Lookup.{lookedUp}
 use Rattle.log_octets.specs.Octets.{unknownAt, entriesOf, octetsLookedUp}
 use Rattle.c_words.specs.Answers.{replied, maxRefusal}

@@ -3,10 +3,10 @@
 //
 // The input is one octet, the number of cases, and for each case: N, how many entries (40 at most), how many windows
 // (68 at most), how many windows the output has room for (64 at most), one octet each; then the entries: time (4
-// octets, high first), station, event (1 to 10), and the windows: station, first time (4), time past the last (4). Where
-// there are fewer than 40 entries, the log is filled up at its end with entries at time 4294967295 of station 0, which
-// no window holds. A line is printed for each: `ok` and for each window its ten counts, parted by commas, or `refused`
-// and the number.
+// octets, high first), station, event (1 to 10), and the windows: station, first time (4), time past the last (4).
+// Where there are fewer than 40 entries, the log is filled up at its end with entries at time 4294967295 of station 0,
+// which no window holds. A line is printed for each: `ok` and for each window its ten counts, parted by commas, or
+// `refused` and the number.
 
 use libc::STDIN_FILENO;
 use libc::STDOUT_FILENO;

@@ -19,7 +19,8 @@ use Rattle.log_lookup.specs.Lookup.{lookedUp}
 
 -- with more than 64 windows the counts do not matter
 many : (ws : List ℕ) (n : ℕ) (strays fall : Bool) (room : ℕ) (c d out : List ℕ)
-    → ltb maxWindows (windowCount ws) ≡ true → answered (refusalIn ws n strays fall room) c out ≡ answered (refusalIn ws n strays fall room) d out
+    → ltb maxWindows (windowCount ws) ≡ true
+    → answered (refusalIn ws n strays fall room) c out ≡ answered (refusalIn ws n strays fall room) d out
 unfolding refusalIn answered
 many ws n strays fall room c d out h =
     by-test (some (astrayWindow n ws) (windowCount ws) || strays) (λ e. rw e) (λ e. rw (e, h))

@@ -79,7 +79,8 @@ pub fn opened(n: u32) -> State
 
 // The state after one entry more.
 pub fn entered(s: State, windows: &[u32], time: u32, station: u32, event: Event) -> State
-    ensures { λ r. ⌜ r ≡ enteredOf (now (windows .entry)) s (record { time = time; station = station; event = event }) ⌝ }
+    ensures { λ r. ⌜ r
+        ≡ enteredOf (now (windows .entry)) s (record { time = time; station = station; event = event }) ⌝ }
 {
     let mut counts = s.counts;
     add_all(
