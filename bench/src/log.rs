@@ -41,13 +41,14 @@ impl Window {
 }
 
 fn refusal(log: &[u8], stations: u32, windows: &[Window], room: usize) -> Option<Refusal> {
-    let times: Vec<u32> = entries(log).map(|entry| entry.time).collect();
+    let mut last = 0;
+    let mut falls = |entry: Entry| entry.time < std::mem::replace(&mut last, entry.time);
     let checks = [
         (5, entries(log).any(|entry| !(1..=WORDS).contains(&entry.event))),
         (10, windows.iter().any(|window| window.station >= stations) || entries(log).any(|e| e.station >= stations)),
         (16, windows.len() > MAX_WINDOWS),
         (20, windows.iter().any(|window| window.past < window.first)),
-        (21, times.windows(2).any(|two| two[1] < two[0])),
+        (21, entries(log).any(&mut falls)),
         (15, room < WORDS * windows.len()),
     ];
     checks.into_iter().find(|&(_, stands)| stands).map(|(number, _)| number)

@@ -12,6 +12,8 @@ use Rattle.log_entry.specs.declared.Entry.{Entry}
 use Rattle.log_entry.specs.declared.Event.{Event}
 use Rattle.log_entry.specs.declared.Event.the-variants.{Collision, Late, Sent, GivenUp, LateEnd, GotOk, GotTooLong}
 use Rattle.log_entry.specs.declared.Event.the-variants.{GotAlignment, GotCheck, GotLength}
+use Rattle.log_entry.specs.Log.{wordOf}
+use Rattle.log_windows.specs.Grow.{addedAll}
 use Rattle.log_lookup.specs.Lookup.{lookedUp}
 
 -- the event of a number, as station_tally/Words numbers the words
@@ -30,6 +32,10 @@ eventOf c =
 -- entry k, and whether its event stands for nothing
 unfoldable pub entryAt : List ℕ → ℕ → Entry
 entryAt l k = record { time = get 4 l (6 * k); station = getD l (6 * k + 4) 0; event = eventOf (getD l (6 * k + 5) 0) }
+
+-- the counts c after entry k
+abbrev pub addedAt : (ws l : List ℕ) (k : ℕ) (c : List ℕ) → List ℕ
+addedAt ws l k c = addedAll ws (entryAt l k .time) (entryAt l k .station) (wordOf (entryAt l k .event)) c
 
 abbrev pub unknownAt : List ℕ → ℕ → Bool
 unknownAt l k = outside (getD l (6 * k + 5) 0) 1 wordCount

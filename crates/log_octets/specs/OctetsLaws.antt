@@ -1,9 +1,10 @@
 -- A law for each way through the code that looks up windows in a log of octets. Assumes nothing.
 use Prim.Native.Nat.{ℕ, zero, suc, _+_, _-_, _*_, _/_, _≤_, _<_}
 use mathlib.Core.Path.{_≡_, refl, sym, _∙_, ap}
-use mathlib.Core.Bool.{Bool, true, false}
+use mathlib.Core.Bool.{Bool, true, false, _||_}
 use mathlib.Core.List.{List, [], _∷_}
 use native.Mathlib.Omega.{arith}
+use lib.Dec.{ltb, leb}
 use lib.ListN.{length, getD, drop}
 use borrow.Author.Tests.{ne-eqb}
 use Rattle.octets.specs.Base.{some, outside, doneAnswer, outcome}
@@ -18,11 +19,12 @@ use Rattle.log_entry.specs.declared.Event.{Event}
 use Rattle.log_entry.specs.declared.Event.the-variants.{Collision, Late, Sent, GivenUp, LateEnd, GotOk, GotTooLong}
 use Rattle.log_entry.specs.declared.Event.the-variants.{GotAlignment, GotCheck, GotLength}
 use Rattle.log_entry.specs.declared.State.{State}
-use Rattle.log_windows.specs.Grow.{openedOf, enteredOf, over}
+use Rattle.log_entry.specs.Log.{wordOf}
+use Rattle.log_windows.specs.Grow.{addedAll, openedOf, enteredOf, over}
 use Rattle.log_closing.specs.Close.{closedOf}
 use Rattle.log_lookup.specs.Lookup.{lookedUp}
 use Rattle.log_lookup.specs.Looked.{looked}
-use Rattle.log_octets.specs.Octets.{eventOf, entryAt, unknownAt, entriesOf, octetsLookedUp}
+use Rattle.log_octets.specs.Octets.{eventOf, entryAt, addedAt, unknownAt, entriesOf, octetsLookedUp}
 
 -- ---- the event of a number
 
@@ -90,13 +92,22 @@ module _ (l : List ℕ) (m k : ℕ) (c : ℕ) (t : Bool) (p : c ≡ getD l (6 * 
 
 -- ---- one entry more
 
-pub entered-at : (ws l : List ℕ) (s r : State) (k t i c : ℕ) (v : Event) → t ≡ get 4 l (6 * k)
-    → i ≡ getD l (6 * k + 4) 0
-    → c ≡ getD l (6 * k + 5) 0 → v ≡ eventOf c → r ≡ enteredOf ws s (record { time = t; station = i; event = v })
-    → r ≡ enteredOf ws s (entryAt l k)
+pub add-at : (ws l c d : List ℕ) (k t i x w : ℕ) (v : Event) → t ≡ get 4 l (6 * k) → i ≡ getD l (6 * k + 4) 0
+    → x ≡ getD l (6 * k + 5) 0 → v ≡ eventOf x → w ≡ wordOf v → d ≡ addedAll ws t i w c → d ≡ addedAt ws l k c
 unfolding entryAt
-entered-at ws l s r k t i c v p q g h e =
-    e ∙ (λ j. enteredOf ws s (record { time = p j; station = q j; event = (h ∙ ap eventOf g) j }))
+add-at ws l c d k t i x w v p q g h u e =
+    e ∙ (λ j. addedAll ws (p j) (q j) ((u ∙ ap wordOf (h ∙ ap eventOf g)) j) c)
+
+-- the state of these numbers
+abbrev pub stateOf : (n last : ℕ) (strays fall : Bool) (c : List ℕ) → State
+stateOf n last a f c = record { stations = n; astray = a; falls = f; last = last; counts = c }
+
+entered-at : (ws l c d : List ℕ) (k n last t i : ℕ) (a f b g : Bool) → t ≡ get 4 l (6 * k) → i ≡ getD l (6 * k + 4) 0
+    → b ≡ (a || leb n i) → g ≡ (f || ltb t last) → d ≡ addedAt ws l k c
+    → stateOf n t b g d ≡ enteredOf ws (stateOf n last a f c) (entryAt l k)
+unfolding enteredOf entryAt
+entered-at ws l c d k n last t i a f b g p q r u e =
+    λ j. stateOf n (p j) ((r ∙ ap (λ (y : ℕ). a || leb n y) q) j) ((u ∙ ap (λ (y : ℕ). f || ltb y last) p) j) (e j)
 
 -- ---- the loop: what is left to do gives what all of it gives
 
@@ -107,7 +118,7 @@ pub left-first : (ws l : List ℕ) (s : State) → leftOf ws s l (length l / 6) 
 left-first ws l s =
     let e : length l / 6 - 0 ≡ length l / 6 = omega arith in ap (λ j. over ws s (tabulated (entryAt l) 0 j)) e
 
-pub left-more : (ws l : List ℕ) (s r x : State) (m k : ℕ) → k < m → r ≡ enteredOf ws s (entryAt l k)
+left-more : (ws l : List ℕ) (s r x : State) (m k : ℕ) → k < m → r ≡ enteredOf ws s (entryAt l k)
     → leftOf ws s l m k ≡ x → leftOf ws r l m (k + 1) ≡ x
 unfolding over
 left-more ws l s r x m k h e p =
@@ -118,9 +129,16 @@ left-more ws l s r x m k h e p =
     ∙ sym (ap (λ j. over ws s (tabulated (entryAt l) k j)) a)
     ∙ p
 
-pub left-end : (ws l : List ℕ) (s x : State) (m k : ℕ) → m ≤ k → leftOf ws s l m k ≡ x → s ≡ x
+pub left-entered : (ws l c d : List ℕ) (m k n last t i : ℕ) (a f b g : Bool) (x : State) → k < m
+    → t ≡ get 4 l (6 * k) → i ≡ getD l (6 * k + 4) 0 → b ≡ (a || leb n i) → g ≡ (f || ltb t last)
+    → d ≡ addedAt ws l k c → leftOf ws (stateOf n last a f c) l m k ≡ x
+    → leftOf ws (stateOf n t b g d) l m (k + 1) ≡ x
+left-entered ws l c d m k n last t i a f b g x h p q r u e =
+    left-more ws l (stateOf n last a f c) (stateOf n t b g d) x m k h (entered-at ws l c d k n last t i a f b g p q r u e)
+
+pub left-end : (ws l : List ℕ) (s x : State) (m k : ℕ) → leftOf ws s l m k ≡ x → m ≤ k → s ≡ x
 unfolding over
-left-end ws l s x m k h p =
+left-end ws l s x m k p h =
     let a : m - k ≡ 0 = omega arith in sym (ap (λ j. over ws s (tabulated (entryAt l) k j)) a) ∙ p
 
 -- ---- the answers

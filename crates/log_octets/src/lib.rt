@@ -8,8 +8,8 @@ ghost use mathlib.Core.Path.{_≡_};
 ghost use Prim.Native.Nat.{_+_, _*_, _≤_, _/_};
 ghost use lib.ListN.{length};
 ghost use Rattle.octets.specs.Base.{some, doneAnswer, outcome};
-ghost use Rattle.log_windows.specs.Grow.{enteredOf, over};
-ghost use Rattle.log_octets.specs.Octets.{eventOf, entryAt, unknownAt, entriesOf, octetsLookedUp};
+ghost use Rattle.log_windows.specs.Grow.{over};
+ghost use Rattle.log_octets.specs.Octets.{eventOf, addedAt, unknownAt, entriesOf, octetsLookedUp};
 
 // The event of a number; where it stands for none, the last.
 pub fn event_of(c: u32) -> Event
@@ -58,15 +58,15 @@ pub fn any_unknown(log: &[u8]) -> bool
     false
 }
 
-// The state after entry k more.
-fn entered_at(s: State, windows: &[u32], log: &[u8], k: usize) -> State
+// Entry k is added to the counts of every window that holds it.
+fn add_at(counts: &mut [u32; 640], windows: &[u32], log: &[u8], k: usize)
     requires { ⌜ 6 * k + 6 ≤ length (now log) ⌝ }
-    ensures { λ r. ⌜ r ≡ enteredOf (now (windows .entry)) s (entryAt (now (log .entry)) k) ⌝ }
+    ensures { λ _. ⌜ now (counts .exit) ≡ addedAt (now (windows .entry)) (now (log .entry)) k (now (counts .entry)) ⌝ }
 {
     let time = octets_words::get32(log, 6 * k);
     let station = octets::wide(log[6 * k + 4]);
     let event = event_of(octets::wide(log[6 * k + 5]));
-    log_windows::entered(s, windows, time, station, event)
+    log_windows::add_all(counts, windows, time, station, log_entry::word_of(event));
 }
 
 // The state after all entries of the log more.
@@ -74,11 +74,25 @@ pub fn entered_all(s: State, windows: &[u32], log: &[u8]) -> State
     ensures { λ r. ⌜ r ≡ over (now (windows .entry)) s (entriesOf (now (log .entry))) ⌝ }
 {
     let m = log.len() / 6;
-    let mut t = s;
+    let stations = s.stations;
+    let mut astray = s.astray;
+    let mut falls = s.falls;
+    let mut last = s.last;
+    let mut counts = s.counts;
     for k in 0..m {
-        t = entered_at(t, windows, log, k);
+        let time = octets_words::get32(log, 6 * k);
+        astray = octets::either(astray, stations <= octets::wide(log[6 * k + 4]));
+        falls = octets::either(falls, time < last);
+        last = time;
+        add_at(&mut counts, windows, log, k);
     }
-    t
+    State {
+        stations,
+        astray,
+        falls,
+        last,
+        counts,
+    }
 }
 
 // Looks up the windows in the log of n stations, as `log_lookup::look_up` does, with one refusal before all others: 5,

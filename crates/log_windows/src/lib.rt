@@ -54,7 +54,7 @@ fn placed(windows: &[u32]) -> usize
 }
 
 // An event is added to every window that holds it.
-fn add_all(counts: &mut [u32; 640], windows: &[u32], time: u32, station: u32, word: usize)
+pub fn add_all(counts: &mut [u32; 640], windows: &[u32], time: u32, station: u32, word: usize)
     requires { ⌜ word < wordCount ⌝ }
     ensures { λ _. ⌜ now (counts .exit) ≡ addedAll (now (windows .entry)) time station word (now (counts .entry)) ⌝ }
 {

@@ -1,8 +1,8 @@
--- `log_octets::entered_at` meets its contract. Assumes nothing.
+-- `log_octets::add_at` meets its contract. Assumes nothing.
 use borrow.Author.Needs.{needs}
-use Rattle.log_octets.specs.OctetsLaws.{entered-at}
-use Rattle.log_octets.proofs.entered_at.Statement.{statement}
-use Rattle.log_octets.proofs.entered_at.Tie as tie
+use Rattle.log_octets.specs.OctetsLaws.{add-at}
+use Rattle.log_octets.proofs.add_at.Statement.{statement}
+use Rattle.log_octets.proofs.add_at.Tie as tie
 
 mul-get32 : tie.Need-mul-get32
 mul-get32 c = search needs
@@ -37,14 +37,17 @@ wide-requires-2 c κs = search needs
 event-of-requires : tie.Need-event-of-requires
 event-of-requires c κs = search needs
 
-entered-requires : tie.Need-entered-requires
-entered-requires c κs = search needs
+word-of-requires : tie.Need-word-of-requires
+word-of-requires c κs = search needs
+
+add-all-requires : tie.Need-add-all-requires
+add-all-requires c κs = search needs
 
 returns : tie.Need-returns
-returns c = search entered-at
+returns c = search add-at
 
-pub entered-at-spec : {M : Type 1} → statement M
-entered-at-spec =
+pub add-at-spec : {M : Type 1} → statement M
+add-at-spec =
     tie.close
     (tie.spec
     mul-get32
@@ -58,5 +61,6 @@ entered-at-spec =
     shared-slice-read-wide-2
     wide-requires-2
     event-of-requires
-    entered-requires
+    word-of-requires
+    add-all-requires
     returns)
