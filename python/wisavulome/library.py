@@ -236,9 +236,6 @@ def as_arguments(kinds, values):
         elif kind == "numbers":
             yield value
             yield len(value)
-        elif kind == "numbers":
-            yield value
-            yield len(value)
         else:
             yield value
 
@@ -335,11 +332,6 @@ class StationState(NamedTuple):
         """The state that these numbers stand for."""
         deference, stretch, gap, transmitter, count, receiver, *rest = numbers
         return cls(DEFERENCE[deference], stretch, gap, TRANSMITTER[transmitter], count, RECEIVER[receiver], *rest)
-
-
-def entry_of(time, station, event):
-    """The octets of a log's entry; events are numbered from 1 on, as EVENTS has them."""
-    return struct.pack(">IBB", time, station, event)
 
 
 def entry_of(time, station, event):
