@@ -459,7 +459,7 @@ module _ (z : List ℕ) where
       (λ i x h l. row-put (getD ds i []) i d x l (omega arith) hd)
       (λ i x. length-row (getD ds i []) i d x)
 
-  fresh-front : (y : Layout) (d : ℕ) (ds : List (List ℕ)) (b : List ℕ) → areaSize ≤ length b
+  pub fresh-front : (y : Layout) (d : ℕ) (ds : List (List ℕ)) (b : List ℕ) → areaSize ≤ length b
       → y .count ≤ maxStations → d ≤ maxDraws → Formed (y .stations) (y .count)
       → fresh y d ds (b ++ z) ≡ fresh y d ds b ++ z
   unfolding fresh withPlan withFigures withDepth
@@ -483,3 +483,41 @@ module _ (z : List ℕ) where
       (taps-put (y .stations) n x₁ (omega arith) hn formed)
       ∙ ap (λ (l : List ℕ). withDraws ds n d l) (put-front 4 x₂ (from theDepth) d (omega arith))
       ∙ draws-put ds n d x₃ (omega arith) hn hd
+
+-- ---- what a call leaves passes checks 1 and 2, and is as long
+
+run-keeps : (k m : ℕ) (ws b : List ℕ) → Passing b → clockAt b + k ≤ lastClock
+    → Passing (runOf k m ws b .octets) × (length (runOf k m ws b .octets) ≡ length b)
+unfolding runOf
+run-keeps zero m ws b p h = (p, refl)
+run-keeps (suc k) m ws b p h =
+    let q = step-passing b p (omega arith) in
+    let l = step-length b (p .ready) in
+    let r = run-keeps k (m + 1) (tallied (eventsAt b) 16 ws) (stepArea b) q (omega (arith, step-clock b (p .ready))) in
+    by-test (stops (eventsAt b)) (λ e. rw e (q, l)) (λ e. rw e (r .0, r .1 ∙ l))
+
+module _ (b : List ℕ) (p : Passing b) where
+  ran-keeps : (n : ℕ) → Passing (ran b n .octets) × (length (ran b n .octets) ≡ length b)
+  unfolding ran
+  ran-keeps n =
+      rw (eq-eqb (areaRefusal b) 0 (ready-passes b p))
+      (by-test (ltb lastClock (clockAt b + n)) (λ c. rw c (p, refl))
+      (λ c. rw c (run-keeps n 0 _ b p (ltb-false lastClock (clockAt b + n) c))))
+
+  stepped-length : length (steppedOnce b .octets) ≡ length b
+  unfolding steppedOnce
+  stepped-length =
+      rw (eq-eqb (areaRefusal b) 0 (ready-passes b p))
+      (by-test (ltb lastClock (clockAt b + 1)) (λ c. rw c) (λ c. rw c (step-length b (p .ready))))
+
+  pub called-passing : (c : Call) → Fair c → Passing (called c b)
+  called-passing (offer i d v x) f = offered-passes b i d v x (f .six) p
+  called-passing step f = stepped-passes b p
+  called-passing (run n) f = ran-keeps n .0
+  called-passing (read i out) f = p
+
+  pub called-length : (c : Call) → Fair c → length (called c b) ≡ length b
+  called-length (offer i d v x) f = offered-keeps b i d v x (f .six) p .1
+  called-length step f = stepped-length
+  called-length (run n) f = ran-keeps n .1
+  called-length (read i out) f = refl

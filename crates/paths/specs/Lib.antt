@@ -1,1 +1,3 @@
 pub mod Front
+pub mod Paths
+pub mod PathTheorem
