@@ -73,11 +73,11 @@ pub passes-long : {A : Type 0} (k : ℕ) (out : List ℕ) (keep : ℕ → A) (x 
 passes-long k out keep x h = passes (short k out) 0 0 keep x (long-so k out h)
 
 -- an answer and what is beside it
-code-given : (x : Outcome) (A : Answer) (o : List ℕ) (r n v : ℕ) → r ≡ replied n v → n ≡ numberOf A → v ≡ valueOf A
+pub code-given : (x : Outcome) (A : Answer) (o : List ℕ) (r n v : ℕ) → r ≡ replied n v → n ≡ numberOf A → v ≡ valueOf A
     → outcome A o ≡ x → given r o ≡ codeGiven x
 code-given x A o r n v p q e h = rw (p, q, e) (ap codeGiven h)
 
-done-value : (d : Done) → 0 ≡ valueOf (doneAnswer d)
+pub done-value : (d : Done) → 0 ≡ valueOf (doneAnswer d)
 done-value (ways.Refused n) = refl
 done-value ways.Made = refl
 
@@ -91,7 +91,7 @@ module _ (l : List ℕ) (f : Sheet) (n : ℕ) (q : n ≡ numberOf (sheetAnswer (
   layout-same : f .layout ≡ readSheet l .layout
   layout-same = ap (λ (z : Reading). z .layout) e
 
-  pub sheet-number-low : n ≤ maxStations
+  pub sheet-number-low : n ≤ maxRefusal
   sheet-number-low = omega (arith, number-is, sheet-low l)
 
   pub sheet-count : f .layout .count ≤ maxStations
@@ -155,7 +155,7 @@ module _ (out o x d s : List ℕ) (dn sn v : ℕ) (b : Built) (e : outcome (buil
   build-same : outcome (builtAnswer b) o ≡ built out (spelled 6 dn) (spelled 6 sn) v x
   build-same = e ∙ rw (ed, es)
 
-  pub build-number-low : (n : ℕ) → n ≡ numberOf (builtAnswer b) → n ≤ maxStations
+  pub build-number-low : (n : ℕ) → n ≡ numberOf (builtAnswer b) → n ≤ maxRefusal
   build-number-low n q =
       let h : numberOf (builtAnswer b) ≡ numberOf
       (built out d s v x .answer) = ap (λ (z : Outcome). numberOf (z .answer)) e in
@@ -175,7 +175,7 @@ module _ (f : List ℕ) (x : ℕ) (s : ReceiveStatus) (n : ℕ) (q : n ≡ numbe
   status-is : numberOf (opened false f x .status) ≡ n
   status-is = ap numberOf (sym e) ∙ sym q
 
-  pub status-number-low : n ≤ maxStations
+  pub status-number-low : n ≤ maxRefusal
   status-number-low = omega (arith, status-is, open-low false f x)
 
   pub status-made : (r v : ℕ) → r ≡ replied n v → v ≡ valueOf (statusAnswer s) → r ≡ statusGiven f x
@@ -233,7 +233,7 @@ module _ (a l : List ℕ) (y : Layout) (d : ℕ) where
       (rw (← q, f, eq-eqb (length l) (2 * (y .count * d)) h))
 
 pub start-number-low : (a c : List ℕ) (y : Layout) (d : ℕ) (rows : List (List ℕ)) (t : Done) (n : ℕ)
-    → n ≡ numberOf (doneAnswer t) → outcome (doneAnswer t) c ≡ started a y d rows → n ≤ maxStations
+    → n ≡ numberOf (doneAnswer t) → outcome (doneAnswer t) c ≡ started a y d rows → n ≤ maxRefusal
 start-number-low a c y d rows t n p e =
     let h : numberOf (doneAnswer t) ≡ numberOf
     (started a y d rows .answer) = ap (λ (z : Outcome). numberOf (z .answer)) e in
@@ -257,7 +257,7 @@ start-short a s draws d r p h =
 
 module _ (a b x d : List ℕ) (i dn v : ℕ) (t : Done) (n : ℕ) (q : n ≡ numberOf (doneAnswer t))
     (e : outcome (doneAnswer t) b ≡ offered a i d v x) where
-  pub offer-number-low : n ≤ maxStations
+  pub offer-number-low : n ≤ maxRefusal
   offer-number-low =
       let h : numberOf (doneAnswer t) ≡ numberOf
       (offered a i d v x .answer) = ap (λ (z : Outcome). numberOf (z .answer)) e in
@@ -350,7 +350,7 @@ module _ (a b : List ℕ) (t : BitTime) (n : ℕ) (q : n ≡ numberOf (doneAnswe
   stepped-is : numberOf (steppedOnce a .answer) ≡ n
   stepped-is = ap (λ (z : Bit). numberOf (z .answer)) (sym e) ∙ sym q
 
-  pub step-number-low : n ≤ maxStations
+  pub step-number-low : n ≤ maxRefusal
   step-number-low = omega (arith, stepped-is, step-number a, time-low a 1)
 
   pub step-refused : (out : List ℕ) (r : ℕ) → r ≡ replied n 0 → (n ≡ 0 → ⊥) → left r b out ≡ stepLeft a out
@@ -413,7 +413,7 @@ module _ (a b : List ℕ) (k : ℕ) (t : RunAnswer) (n : ℕ) (q : n ≡ numberO
   ran-is : numberOf (ran a k .answer) ≡ n
   ran-is = ap (λ (z : Ran). numberOf (z .answer)) (sym e) ∙ sym q
 
-  pub run-number-low : n ≤ maxStations
+  pub run-number-low : n ≤ maxRefusal
   run-number-low = omega (arith, ran-is, run-number a k, time-low a k)
 
   pub run-refused : (out : List ℕ) (r : ℕ) → r ≡ replied n 0 → (n ≡ 0 → ⊥) → left r b out ≡ runLeft a k out
@@ -440,7 +440,7 @@ module _ (a b : List ℕ) (k : ℕ) (t : RunAnswer) (n : ℕ) (q : n ≡ numberO
 
 module _ (a out o : List ℕ) (i : ℕ) (A : Answer) (n : ℕ) (q : n ≡ numberOf A)
     (e : outcome A o ≡ frameRead a i out) where
-  pub frame-number-low : n ≤ maxStations
+  pub frame-number-low : n ≤ maxRefusal
   frame-number-low =
       let h : numberOf A ≡ numberOf (frameRead a i out .answer) = ap (λ (z : Outcome). numberOf (z .answer)) e in
       omega (arith, frame-low a i out)
@@ -454,7 +454,7 @@ module _ (a : List ℕ) (i : ℕ) (c : Counters) (n : ℕ) (q : n ≡ numberOf (
   counted-is : numberOf (countersRead a i .answer) ≡ n
   counted-is = ap (λ (z : Counted). numberOf (z .answer)) (sym e) ∙ sym q
 
-  pub counters-number-low : n ≤ maxStations
+  pub counters-number-low : n ≤ maxRefusal
   counters-number-low = omega (arith, counted-is, counters-low a i)
 
   pub counters-refused : (out : List ℕ) (r : ℕ) → r ≡ replied n 0 → (n ≡ 0 → ⊥) → given r out ≡ countersGiven a i out

@@ -67,10 +67,10 @@ both-answer : (r : ℕ) (a out b o : List ℕ) → r < refusalBit → BothKept a
 both-answer r a out b o p h = absurd (omega arith)
 
 -- an answer below the bit, and octets that a refusal leaves as they were
-abbrev Told : List ℕ → Outcome → Type 0
+abbrev pub Told : List ℕ → Outcome → Type 0
 Told l o = (valueOf (o .answer) < refusalBit) × ((numberOf (o .answer) ≡ 0 → ⊥) → o .octets ≡ l)
 
-coded : (l : List ℕ) (o : Outcome) → Told l o → Keeps l (codeGiven o)
+pub coded : (l : List ℕ) (o : Outcome) → Told l o → Keeps l (codeGiven o)
 unfolding replied
 coded l o t h =
     by-eq (numberOf (o .answer)) 0

@@ -205,7 +205,7 @@ offer-low a i d v x =
     (λ s. rw (p, q, r, s) (omega arith)))))
     (λ p. rw p (area-low a))
 
-pub time-low : (a : List ℕ) (n : ℕ) → timeRefusal a n ≤ maxStations
+pub time-low : (a : List ℕ) (n : ℕ) → timeRefusal a n ≤ maxRefusal
 unfolding timeRefusal
 time-low a n =
     by-test (eqb (areaRefusal a) 0)

@@ -32,13 +32,13 @@ use Rattle.c_calls.specs.Numbers.{area-low, layout-low, open-low, sheet-low}
 use Rattle.c_calls.specs.CallLaws.{refuses, passes, refuses-short, passes-long}
 use Rattle.c_checks.specs.CheckCalls.{receptionGiven, areaGiven, figuresWritten, tapWritten, layoutWritten}
 use Rattle.c_checks.specs.CheckCalls.{layoutGiven, planWords, planGiven}
-use Rattle.sheet_layout.specs.Limits.{lastClock, maxStations}
+use Rattle.sheet_layout.specs.Limits.{lastClock}
 
 -- ---- a reception
 
 module _ (f : List ℕ) (e k n : ℕ) (b : Bool) (s : ReceiveStatus) (p : statusAnswer s ≡ opened b f e .status)
     (q : n ≡ numberOf (statusAnswer s)) where
-  pub reception-low : n ≤ maxStations
+  pub reception-low : n ≤ maxRefusal
   reception-low = omega (arith, ap numberOf p, open-low b f e)
 
   pub reception-made : (r v : ℕ) → b ≡ not (eqb k 0) → v ≡ valueOf (statusAnswer s) → r ≡ replied n v
@@ -50,7 +50,7 @@ module _ (f : List ℕ) (e k n : ℕ) (b : Bool) (s : ReceiveStatus) (p : status
 
 -- ---- a work area
 
-pub area-number : (a : List ℕ) (n : ℕ) → n ≡ areaRefusal a → n ≤ maxStations
+pub area-number : (a : List ℕ) (n : ℕ) → n ≡ areaRefusal a → n ≤ maxRefusal
 area-number a n p = omega (arith, area-low a)
 
 pub area-made : (a : List ℕ) (n r : ℕ) → n ≡ areaRefusal a → r ≡ replied n 0 → r ≡ areaGiven a
@@ -77,7 +77,7 @@ pub layout-read : (l : List ℕ) (f : Figures) (n : ℕ) (ts : List Tap) → f �
 unfolding layoutWritten
 layout-read l f n ts p q r = λ i. record { figures = p i; count = r i; stations = q i }
 
-pub layout-number : (y : Layout) (n : ℕ) → n ≡ refusalOf y → n ≤ maxStations
+pub layout-number : (y : Layout) (n : ℕ) → n ≡ refusalOf y → n ≤ maxRefusal
 layout-number y n p = omega (arith, layout-low y)
 
 pub layout-short : (l : List ℕ) (r : ℕ) → length l < sheetOut → r ≡ replied 3 0 → r ≡ layoutGiven l
@@ -102,7 +102,7 @@ last-low l c =
     by-test (planWrong l c) (λ p. rw p (omega arith))
     (λ p. by-test (ltb lastClock (timesIn l c)) (λ q. rw (p, q) (omega arith)) (λ q. rw (p, q) (omega arith)))
 
-after-low : (l : List ℕ) (u n : ℕ) → afterSheet l u n ≤ maxStations
+after-low : (l : List ℕ) (u n : ℕ) → afterSheet l u n ≤ maxRefusal
 unfolding afterSheet
 after-low l u n = by-test (drawsWrong l u n) (λ p. rw p (omega arith)) (λ p. rw p (last-low l (offersPlace l u n)))
 
@@ -111,7 +111,7 @@ unfolding planRefusal
 refusal-low l =
     by-test (eqb (sheetRefusal l) 0) (λ p. rw p (after-low l (sheetSize l) (countIn l))) (λ p. rw p (sheet-low l))
 
-whole-low : (n : ℕ) (r : Planned) → numberOf (r .answer) ≡ 0 → n ≤ maxStations
+whole-low : (n : ℕ) (r : Planned) → numberOf (r .answer) ≡ 0 → n ≤ maxRefusal
     → numberOf (whole n r .answer) ≤ maxRefusal
 whole-low n r z h = by-test (eqb n 0) (λ p. rw p (omega arith)) (λ p. rw p h)
 
@@ -128,7 +128,7 @@ module _ (l : List ℕ) (p : Plan) (n : ℕ) (q : n ≡ numberOf (verdictAnswer 
   number-is : numberOf (planRead l .answer) ≡ n
   number-is = ap (λ (z : Planned). numberOf (z .answer)) (sym e) ∙ sym q
 
-  pub plan-number : n ≤ maxStations
+  pub plan-number : n ≤ maxRefusal
   plan-number = omega (arith, number-is, plan-low l)
 
   pub plan-drawn : n ≡ 0 → p .drawn < 4294967296

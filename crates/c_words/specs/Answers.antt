@@ -50,7 +50,7 @@ refusalBit = 2147483648
 
 -- the highest number of a refusal
 abbrev pub maxRefusal : ℕ
-maxRefusal = 16
+maxRefusal = 21
 
 -- refusal n, or where n is 0 the value
 unfoldable pub replied : (n value : ℕ) → ℕ
