@@ -3,6 +3,7 @@
 //! - [`layout`], [`frame`], [`crc`], [`events`]: the sheet, frames, check sequence and event words
 //! - [`plain`]: the plain engine, which keeps every emission and looks back by distance
 //! - [`area`]: the same calls on a work area of 57,344 octets, by decoding it into the plain engine
+//! - [`marks`]: request N5's marks, on octets
 //! - [`fast`]: the fast engine, with a delay ring for each station
 //! - [`program`]: the run program, over either engine
 //! - [`rng`]: the generator that cases and rows come from
@@ -14,6 +15,7 @@ pub mod events;
 pub mod fast;
 pub mod frame;
 pub mod layout;
+pub mod marks;
 #[cfg(feature = "linked")]
 pub mod ours;
 pub mod plain;

@@ -2,7 +2,7 @@
 
 A line is a call, its words parted by spaces; empty lines and lines that begin with `#` have no answer. Every call is
 answered by `ok` and what follows here, `refused n`, or `malformed` where it is no call. A session has a work area and
-a second one, all zero at first and just as long as refusal 1 asks for.
+a second one, and a store of marks, all zero at first and just as long as refusals 1 and 15 ask for.
 
     area LEN                                a new area, all zero
     sheet OCTETS                            octets used, `yes` or `no` (fits), LAYOUT
@@ -15,9 +15,12 @@ a second one, all zero at first and just as long as refusal 1 asks for.
     read STATION ROOM                       length and octets of the frame
     counters STATION                        the counters, parted by commas
     clock                                   the clock
-    second CALL                             the same on the second area; not sheet, build, open
+    store LEN                               a new store, all zero
+    mark NAME, return NAME, drop NAME
+    poke PLACE OCTET NAME                   another hand writes octet and name of place 0..3 of the store
+    second CALL                             the same on the second area; not sheet, build, open, nor the four above
 
-Numbers are decimal. Octets are two hexadecimal digits each, `-` for none, or COUNT*HH; DEST and SOURCE are six. DRAWS
+Numbers are decimal. Octets are two hexadecimal digits each, `-` for none, or COUNT*HH; DEST and SOURCE are six, NAME eight. DRAWS
 are numbers parted by commas, or `-`. LAYOUT: slot, gap1, gap2, jam, attempt limit, backoff limit, late-end, E, then
 POSITION/ADDRESS/OWNER of each station, parted by commas; what the library does not have is 0. TALLY: WORD=COUNT of
 each event word. A new call is a function here and a line of the table at the end.
@@ -29,7 +32,7 @@ import struct
 from dataclasses import dataclass
 from typing import Callable
 
-from .library import COUNTERS, EVENTS, RECEIVE, STATUSES, Refused, buffer_of
+from .library import COUNTERS, EVENTS, MAX_MARKS, NAME_OCTETS, RECEIVE, SIZES, STATUSES, Refused, buffer_of
 
 MOST = 2**32 - 1
 ADDRESS_OCTETS = 6
@@ -89,6 +92,26 @@ def address(word):
     return int.from_bytes(given, "big")
 
 
+def mark_name(word):
+    """The name of a mark, as the number that a call takes."""
+    given = octets(word)
+    if len(given) != NAME_OCTETS:
+        raise Malformed(word)
+    return int.from_bytes(given, "big")
+
+
+def below(limit):
+    """A number below a limit."""
+
+    def checked(word):
+        value = number(word)
+        if value >= limit:
+            raise Malformed(word)
+        return value
+
+    return checked
+
+
 def draws(word):
     """Draws parted by commas, or `-`; two octets each."""
     values = [] if word == "-" else [double(each) for each in word.split(",")]
@@ -139,6 +162,7 @@ class Session:
         self.library = library
         self.level = level
         self.areas = [buffer_of("area"), buffer_of("area")]
+        self.store = buffer_of("store")
 
 
 def lend(asked):
@@ -211,6 +235,33 @@ def clock(session, at):
     return str(session.library.clock(session.areas[at]))
 
 
+def new_store(session, _at, length):
+    """A new store."""
+    session.store = lend(length)
+
+
+def mark(session, at, name):
+    """Marks the area."""
+    session.library.call("mark", session.areas[at], session.store, name)
+
+
+def go_back(session, at, name):
+    """Puts a marked area back."""
+    session.library.call("return", session.areas[at], session.store, name)
+
+
+def drop(session, _at, name):
+    """Drops a mark."""
+    session.library.call("drop", session.store, name)
+
+
+def poke(session, _at, place, octet, name):
+    """Another hand writes octet and name of a place; nothing past the end of a store that is too short."""
+    at = place * (SIZES["store"] // MAX_MARKS)
+    written = (bytes([octet]) + name.to_bytes(NAME_OCTETS, "big"))[: max(0, len(session.store) - at)]
+    ctypes.memmove(ctypes.byref(session.store, at), written, len(written))
+
+
 # ---- the table
 
 
@@ -236,6 +287,11 @@ CALLS = {
     "read": Call(read, (number, size), True),
     "counters": Call(counters, (number,), True),
     "clock": Call(clock, (), True),
+    "store": Call(new_store, (size,)),
+    "mark": Call(mark, (mark_name,)),
+    "return": Call(go_back, (mark_name,)),
+    "drop": Call(drop, (mark_name,)),
+    "poke": Call(poke, (below(MAX_MARKS), below(256), mark_name)),
 }
 
 
