@@ -1,7 +1,7 @@
 -- What a caller may rely on: a reply with bit 31 is a refusal, and the store, or the area of a return, is then as it
 -- was. Assumes nothing.
-use Prim.Native.Nat.{ℕ, _<_}
-use mathlib.Core.Path.{_≡_, refl}
+use Prim.Native.Nat.{ℕ}
+use mathlib.Core.Path.{refl}
 use mathlib.Core.List.{List}
 use native.Mathlib.Omega.{arith}
 use lib.Dec.{ltb, eqb}

@@ -1,17 +1,17 @@
 -- A law for each way through the code of the marks. Assumes nothing.
-use Prim.Native.Nat.{ℕ, zero, suc, _+_, _*_, _-_, _≤_, _<_}
+use Prim.Native.Nat.{ℕ, suc, _+_, _-_, _≤_, _<_}
 use mathlib.Core.Path.{_≡_, refl, sym, _∙_, ap}
 use mathlib.Core.Bool.{Bool, true, false, _&&_, not}
-use mathlib.Core.List.{List, [], _∷_}
+use mathlib.Core.List.{List, []}
 use native.Mathlib.Omega.{arith}
 use borrow.Author.Tests.{eq-eqb, ne-eqb, lt-ltb, le-ltb}
 use lib.Dec.{eqb}
-use lib.ListN.{length, getD, set, take, drop, length-set}
+use lib.ListN.{length, getD, set, take, drop}
 use lib.Seq.{sets}
-use Rattle.octets.specs.Base.{pick, refused, accepted, outcome}
+use Rattle.octets.specs.Base.{refused, accepted, outcome}
 use Rattle.octets.specs.BaseLaws.{by-test}
 use Rattle.octets.specs.Equal.{equal}
-use Rattle.octets.specs.Store.{part, length-part}
+use Rattle.octets.specs.Store.{length-part}
 use Rattle.area.specs.Offsets.{areaSize}
 use Rattle.area_check.specs.Valid.{areaWrong, areaRefusal}
 use Rattle.marks.specs.Marks.{markCount, nameSize, storeSize, markFrom, nameFrom, copyFrom, stands, nameAt, copyAt}
@@ -39,14 +39,14 @@ named-is s name k b c r p q e = p ∙ rw (q, e)
 -- ---- the loops: no place before k passes the test
 
 module _ (t : ℕ → Bool) (k m : ℕ) where
+  first-hit : k < markCount → t k ≡ true → firstFrom t k (markCount - k) ≡ m → k ≡ m
+  unfolding firstFrom
+  first-hit h p e = let z : markCount - k ≡ suc (markCount - (k + 1)) = omega arith in rw p at (rw z at e)
+
   first-more : k < markCount → t k ≡ false → firstFrom t k (markCount - k) ≡ m
       → firstFrom t (k + 1) (markCount - (k + 1)) ≡ m
   unfolding firstFrom
   first-more h p e = let z : markCount - k ≡ suc (markCount - (k + 1)) = omega arith in rw p at (rw z at e)
-
-  first-hit : k < markCount → t k ≡ true → firstFrom t k (markCount - k) ≡ m → k ≡ m
-  unfolding firstFrom
-  first-hit h p e = let z : markCount - k ≡ suc (markCount - (k + 1)) = omega arith in rw p at (rw z at e)
 
   first-end : markCount ≤ k → firstFrom t k (markCount - k) ≡ m → k ≡ m
   unfolding firstFrom
@@ -121,13 +121,9 @@ module _ (s : List ℕ) (k : ℕ) where
       let e : (copyFrom k + areaSize) - copyFrom k ≡ areaSize = omega arith in
       ap (λ (i : ℕ). take i (drop (copyFrom k) s)) e
 
-  pub length-copy : k < markCount → storeSize ≤ length s → length (copyAt s k) ≡ areaSize
+  length-copy : k < markCount → storeSize ≤ length s → length (copyAt s k) ≡ areaSize
   unfolding copyAt
   length-copy h l = length-part s (copyFrom k) areaSize (omega arith)
-
-  pub copy-long : k < markCount → storeSize ≤ length s
-      → length (take ((copyFrom k + areaSize) - copyFrom k) (drop (copyFrom k) s)) ≡ areaSize
-  copy-long h l = ap length copy-part ∙ length-copy h l
 
   pub wrong-is : (n : ℕ) → n ≡ areaRefusal (take ((copyFrom k + areaSize) - copyFrom k) (drop (copyFrom k) s))
       → k < markCount → storeSize ≤ length s → not (eqb n 0) ≡ areaWrong (copyAt s k)

@@ -1,25 +1,24 @@
 -- A call does to the first octets of a longer area, as many as check 1 asks for, what it does to them alone, and leaves
 -- the rest. Here b is those first octets and z the rest. Assumes nothing.
 use Prim.Native.Nat.{ℕ, zero, suc, _+_, _*_, _/_, _%_, _≤_, _<_}
-use mathlib.Core.Path.{_≡_, refl, sym, _∙_, ap, ap₂}
-use mathlib.Core.Bool.{Bool, true, false}
+use mathlib.Core.Path.{_≡_, refl, _∙_, ap}
+use mathlib.Core.Bool.{Bool}
 use mathlib.Core.List.{List, [], _∷_, _++_}
 use native.Mathlib.Omega.{arith}
 use borrow.Author.Tests.{eq-eqb, le-ltb, ltb-false, leb-false, eqb-true}
 use lib.Dec.{ltb, leb, eqb}
 use lib.ListN.{length, getD, set, length-set, length-append, List·getD-append}
-use lib.Seq.{sets, length-sets, set-append-left, ext-getD}
-use Rattle.octets.specs.Base.{pick, some, outside}
+use lib.Seq.{sets, length-sets, set-append-left}
+use Rattle.octets.specs.Base.{some}
 use Rattle.octets.specs.BaseLaws.{by-test, some-same}
 use Rattle.octets.specs.Filled.{filled-same}
 use Rattle.octets.specs.Number.{spelled, put}
 use Rattle.octets.specs.NumberLaws.{length-spelled, length-put}
 use Rattle.octets.specs.Region.{Same}
-use Rattle.octets.specs.Turns.{turns, length-turns, blanked, length-blanked, blanked-same}
+use Rattle.octets.specs.Turns.{turns, length-turns, blanked, length-blanked}
 use Rattle.octets.specs.Words.{putWords}
 use Rattle.octets.specs.WordsLaws.{length-put-words}
 use Rattle.sheet_layout.specs.Limits.{lastClock, maxStations, maxDraws}
-use Rattle.sheet_layout.specs.declared.Figures.{Figures}
 use Rattle.sheet_layout.specs.declared.Tap.{Tap}
 use Rattle.sheet_layout.specs.declared.Layout.{Layout}
 use Rattle.sheet_layout.specs.Check.{refusalOf}
@@ -52,7 +51,7 @@ use Rattle.bus_start.specs.Fresh.{withPlan, fresh}
 use Rattle.bus_start.specs.FreshLaws.{Formed}
 use Rattle.bus_spec.specs.declared.Act.{Act}
 use Rattle.bus_spec.specs.Medium.{sendTo, isSilence, pushed}
-use Rattle.bus_spec.specs.BitTime.{actIn, actAt, withStored, happened, withCounted, placed, settled, stepArea, eventsOf}
+use Rattle.bus_spec.specs.BitTime.{actAt, withStored, happened, withCounted, placed, settled, stepArea, eventsOf}
 use Rattle.bus_spec.specs.BitTime.{noEvents, eventsAt}
 use Rattle.bus_spec.specs.InPlace.{Kept, length-stored, length-counted, length-placed, length-settled, act-by}
 use Rattle.bus_spec.specs.Range.{held-small}

@@ -1,20 +1,19 @@
 -- Over every list of starts, calls, marks, returns, drops and writes of another hand, refused ones among them, the
 -- promise of Paths holds. Assumes nothing.
-use Prim.Native.Nat.{ℕ, zero, suc, _+_, _*_, _≤_, _<_}
+use Prim.Native.Nat.{ℕ, _+_, _≤_, _<_}
 use mathlib.Core.Path.{_≡_, refl, sym, _∙_, ap, ap₂, subst}
-use mathlib.Core.Bool.{Bool, true, false, _&&_, true≢false}
+use mathlib.Core.Bool.{Bool, true, false, true≢false}
 use mathlib.Core.List.{List, [], _∷_, _++_}
 use native.Mathlib.Omega.{arith}
-use borrow.Author.Tests.{eq-eqb, le-ltb, ltb-false, eqb-true, eqb-false}
+use borrow.Author.Tests.{le-ltb, ltb-false, eqb-true, eqb-false}
 use lib.Dec.{ltb, eqb}
-use lib.ListN.{length, getD, set, take, drop, length-set, length-append, length-replicate, take-append-drop}
+use lib.ListN.{length, take, drop, length-append, length-replicate, take-append-drop}
 use lib.Seq.{sets, length-sets, take-at, length-take-le, ext-getD}
-use Rattle.octets.specs.Base.{pick, outside, Answer, refused, accepted, Outcome, numberOf, valuesOf}
+use Rattle.octets.specs.Base.{pick, outside, accepted, numberOf}
 use Rattle.octets.specs.BaseLaws.{by-test, by-eq, within}
 use Rattle.octets.specs.Equal.{equal}
 use Rattle.octets.specs.NumberLaws.{Octets}
-use Rattle.octets.specs.Region.{Same, part-goes-by, set-leaves, sets-leaves}
-use Rattle.octets.specs.Store.{part, part-same, take-sets}
+use Rattle.octets.specs.Store.{take-sets}
 use Rattle.octets.specs.Turns.{blanked, length-blanked, blanked-same}
 use Rattle.sheet_layout.specs.declared.Layout.{Layout}
 use Rattle.sheet_layout.specs.Check.{refusalOf}
@@ -29,12 +28,12 @@ use Rattle.bus_start.specs.Fresh.{withPlan, fresh}
 use Rattle.bus_start.specs.FreshLaws.{Formed, fresh-length}
 use Rattle.bus_start.specs.Start.{started}
 use Rattle.bus_spec.specs.Passes.{Passing, ready-passes}
-use Rattle.marks.specs.Marks.{markCount, nameSize, storeSize, markFrom, nameFrom, copyFrom, copyAt, firstFrom, named}
-use Rattle.marks.specs.Marks.{found, vacant, free, placeFor, withHead, withMark, marked, returned, dropped}
-use Rattle.marks.specs.MarkLaws.{length-copy}
-use Rattle.delivery.specs.Calls.{Call, Fair, AllFair, Moment, taken, leaves, end, begin}
+use Rattle.marks.specs.Marks.{markCount, nameSize, storeSize, copyAt}
+use Rattle.marks.specs.Marks.{found, placeFor, withMark, marked, returned, dropped}
+use Rattle.marks.specs.MarkTheorems.{found-most, place-most, mark-own, mark-other, drop-copy}
+use Rattle.delivery.specs.Calls.{Call, Fair, AllFair, Moment, leaves, end, begin}
 use Rattle.delivery.specs.Demand3.{called}
-use Rattle.delivery.specs.Passing.{by-start, started-passes}
+use Rattle.delivery.specs.Passing.{started-passes}
 use Rattle.delivery.specs.Theorem.{call-octets, demand-3}
 use Rattle.paths.specs.Front.{refusal-front, called-front, called-passing, called-length, fresh-front}
 use Rattle.paths.specs.Paths.{Path, Known, unknown, along, further, onward, blank, layoutOf, beginning, reached}
@@ -199,64 +198,7 @@ lead-start a s d ds o h g =
       size = ap length (w .octets) ∙ lf;
     })
 
--- ---- places
-
-first-most : (t : ℕ → Bool) (k n : ℕ) → firstFrom t k n ≤ k + n
-unfolding firstFrom
-first-most t k zero = omega arith
-first-most t k (suc n) =
-    by-test (t k) (λ e. rw e (omega arith)) (λ e. rw e (omega (arith, first-most t (k + 1) n)))
-
-found-most : (s name : List ℕ) → found s name ≤ markCount
-unfolding found
-found-most s name = first-most (named s name) 0 markCount
-
-place-most : (s name : List ℕ) → placeFor s name ≤ markCount
-unfolding placeFor free
-place-most s name =
-    by-test (eqb (found s name) markCount) (λ e. rw e (first-most (vacant s) 0 markCount)) (λ e. rw e (found-most s name))
-
-copy-by : (l m : List ℕ) (k : ℕ) → k < markCount → storeSize ≤ length l → storeSize ≤ length m
-    → Same (copyFrom k) areaSize l m → copyAt l k ≡ copyAt m k
-unfolding copyAt
-copy-by l m k h p q e = part-goes-by areaSize (copyFrom k) l m (omega arith) (omega arith) e
-
-module _ (s name a : List ℕ) (k : ℕ) (hk : k < markCount) (room : storeSize ≤ length s) (eight : length name ≡ nameSize)
-    (long : areaSize ≤ length a) where
-  head-length : length (withHead s k name) ≡ length s
-  unfolding withHead
-  head-length = length-set (sets s (nameFrom k) name) (markFrom k) 1 ∙ length-sets s (nameFrom k) name
-
-  cut : length (take areaSize a) ≡ areaSize
-  cut = length-take-le areaSize a long
-
-  mark-own : copyAt (withMark s k name a) k ≡ take areaSize a
-  unfolding withMark copyAt
-  mark-own =
-      subst (λ (n : ℕ). part (sets (withHead s k name) (copyFrom k) (take areaSize a)) (copyFrom k) n ≡ take areaSize a)
-      cut (part-same (take areaSize a) (withHead s k name) (copyFrom k) (omega (arith, cut, head-length)))
-
-  mark-other : (j : ℕ) → j < markCount → (j ≡ k → ⊥) → copyAt (withMark s k name a) j ≡ copyAt s j
-  unfolding withMark withHead
-  mark-other j hj ne =
-      let x₁ = sets s (nameFrom k) name in
-      let x₂ = set x₁ (markFrom k) 1 in
-      let x₃ = sets x₂ (copyFrom k) (take areaSize a) in
-      let l₁ : length x₁ ≡ length s = length-sets s (nameFrom k) name in
-      let l₂ : length x₂ ≡ length x₁ = length-set x₁ (markFrom k) 1 in
-      let l₃ : length x₃ ≡ length x₂ = length-sets x₂ (copyFrom k) (take areaSize a) in
-      copy-by x₃ x₂ j hj (omega arith) (omega arith)
-      (sets-leaves (copyFrom j) areaSize (copyFrom k) (take areaSize a) x₂ (λ p q. ne (omega (arith, cut))))
-      ∙ copy-by x₂ x₁ j hj (omega arith) (omega arith)
-      (set-leaves (copyFrom j) areaSize (markFrom k) 1 x₁ (λ p q. ne (omega arith)))
-      ∙ copy-by x₁ s j hj (omega arith) room
-      (sets-leaves (copyFrom j) areaSize (nameFrom k) name s (λ p q. ne (omega (arith, eight))))
-
-drop-copy : (s : List ℕ) (k j : ℕ) → storeSize ≤ length s → k < markCount → j < markCount
-    → copyAt (set s (markFrom k) 0) j ≡ copyAt s j
-drop-copy s k j room hk hj =
-    copy-by (set s (markFrom k) 0) s j hj (omega (arith, length-set s (markFrom k) 0)) room
-    (set-leaves (copyFrom j) areaSize (markFrom k) 0 s (λ p q. omega arith))
+-- ---- the book
 
 equal-true : (a b : List ℕ) → equal a b ≡ true → a ≡ b
 unfolding equal
@@ -268,7 +210,7 @@ equal-true (x ∷ a) (y ∷ b) p =
     (λ e. ap₂ (λ (n : ℕ) (l : List ℕ). n ∷ l) (eqb-true x y e) (equal-true a b (rw e at p)))
     (λ e. absurd (true≢false (sym (rw e at p))))
 
--- ---- the book is true
+-- every path in it is true
 
 record True (w : Session) : Type 0 where
   area : (p : Path) → w .path ≡ along p → Leads p (w .area)
