@@ -418,6 +418,15 @@ pub fn read_sheet(sheet: &[u8], out: &mut [u8]) -> Answer {
     Ok(used as u32)
 }
 
+/// The shortest sheet with the layout of this one.
+pub fn write_sheet(sheet: &[u8], out: &mut [u8]) -> Answer {
+    let (layout, _) = layout::read_sheet(sheet)?;
+    let written = layout::write_sheet(&layout)?;
+    room(out, written.len())?;
+    out[..written.len()].copy_from_slice(&written);
+    Ok(written.len() as u32)
+}
+
 /// The layout as [`read_sheet`] writes it.
 pub fn check_layout(octets: &[u8]) -> Answer {
     if octets.len() < SHEET_OUT {

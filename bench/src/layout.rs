@@ -113,6 +113,26 @@ pub fn read_sheet(octets: &[u8]) -> Result<(Layout, usize), Refusal> {
     Ok((layout, octets.len() - after.len()))
 }
 
+/// Writes the sheet of a layout (document 02, N4): "shortest, no field that equals its default". Refusals 5 to 8.
+pub fn write_sheet(layout: &Layout) -> Result<Vec<u8>, Refusal> {
+    layout.check()?;
+    let &Layout { slot, gap1, gap2, jam, attempt_limit, backoff_limit, late_end, ref places } = layout;
+    let fields = [slot, gap1, gap2, jam, attempt_limit, backoff_limit, late_end];
+    let mut sheet = vec![0];
+    for (bit, (value, size)) in fields.into_iter().zip(FIELD_OCTETS).enumerate() {
+        if value != DEFAULTS[bit] {
+            sheet[0] |= 1 << bit;
+            sheet.extend(&value.to_be_bytes()[4 - size..]);
+        }
+    }
+    sheet.push(places.len() as u8);
+    for place in places {
+        sheet.push(place.position as u8);
+        sheet.extend(place.address);
+    }
+    Ok(sheet)
+}
+
 /// Whether the layout of a sheet fits. Refusals 3 to 8.
 pub fn fits(sheet: &[u8]) -> Result<bool, Refusal> {
     read_sheet(sheet).map(|(layout, _)| layout.fits())

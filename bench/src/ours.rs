@@ -105,6 +105,10 @@ pub fn check_area(area: &[u8]) -> Answer {
     answer(unsafe { c::wisavulome_check_area(area.as_ptr(), area.len()) })
 }
 
+pub fn write_sheet(sheet: &[u8], out: &mut [u8]) -> Answer {
+    answer(unsafe { c::wisavulome_write_sheet(sheet.as_ptr(), sheet.len(), out.as_mut_ptr(), out.len()) })
+}
+
 pub fn check_layout(layout: &[u8]) -> Answer {
     answer(unsafe { c::wisavulome_check_layout(layout.as_ptr(), layout.len()) })
 }

@@ -5,8 +5,8 @@ mod common;
 use std::fmt::Debug;
 
 use common::{
-    by_station, cases, damaged, damaged_sheet, draws, made_up_area, offer, run_input, same_area, setting, sheet, Rng,
-    Setting,
+    by_station, cases, damaged, damaged_sheet, draws, made_up_area, offer, run_input, same_area, setting, sheet,
+    spelled, Rng, Setting,
 };
 use wisavulome_bench::area::{self, AREA, COUNTERS_OUT, PLAN_OUT, RUN_OUT, SHEET_OUT};
 use wisavulome_bench::events::WORDS;
@@ -79,6 +79,53 @@ fn sheets() {
         assert_eq!(ours::fits(&sheet), area::fits(&sheet), "{}", context());
     }
     tally.demand(&[0, 3, 4, 5, 6, 7, 8, 15]);
+}
+
+/// Sheets written: into too little room, just enough, and more. What is written reads back, and is no longer.
+#[test]
+fn sheets_written() {
+    let mut tally = Tally::default();
+    for case in 0..cases(20_000) {
+        let rng = &mut Rng::new(16, case);
+        let mut given = if rng.one_in(4) { damaged_sheet(rng) } else { sheet(rng) };
+        if let (Ok((mut layout, _)), true) = (layout::read_sheet(&given), rng.one_in(2)) {
+            by_default(rng, &mut layout);
+            given = spelled(&layout);
+        }
+        let read = layout::read_sheet(&given);
+        let written = read.as_ref().map_or(vec![0; 40], |(layout, _)| layout::write_sheet(layout).expect("a sheet"));
+        let out = lent(rng, written.len());
+        let context = || format!("case {case}, sheet {given:02X?}");
+        let write = |out: &mut [u8]| ours::write_sheet(&given, out);
+        tally.note(same_out(&out, &context, write, |out| area::write_sheet(&given, out)));
+        if let Ok((layout, used)) = read {
+            assert!(written.len() <= used, "{}", context());
+            assert_eq!(layout::read_sheet(&written), Ok((layout, written.len())), "{}", context());
+        }
+    }
+    tally.demand(&[0, 3, 4, 5, 6, 7, 8, 15]);
+}
+
+/// Sets some figures to their defaults.
+fn by_default(rng: &mut Rng, layout: &mut layout::Layout) {
+    if rng.one_in(2) {
+        (layout.gap1, layout.gap2) = (64, 32);
+    }
+    if rng.one_in(2) {
+        layout.slot = rng.pick(&[511, 512]);
+    }
+    if rng.one_in(2) {
+        layout.jam = 32;
+    }
+    if rng.one_in(2) {
+        layout.attempt_limit = 16;
+    }
+    if rng.one_in(2) {
+        layout.backoff_limit = 10;
+    }
+    if rng.one_in(2) {
+        layout.late_end = 0;
+    }
 }
 
 /// Layouts as a sheet's octets give them, and damaged ones.

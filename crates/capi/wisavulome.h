@@ -17,7 +17,7 @@
  * Refusals: 1 the work area is too short; 2 it holds what no call would leave; 3 the sheet is too short; 4 map bit 7 stands; 5 a field is
  * out of range, or the excess bits are over 7; 6 N is outside 2..16; 7 positions do not rise; 8 an address is a group's or repeats; 9 D or
  * the draws; 10 no such station; 11 the data or the length/type value; 12 the station still has a frame; 13 the clock would pass
- * 16,777,216; 14 no readable frame; 15 the lent output is too short; 16 the plan is over 16,384 octets, is short, has octets left over,
+ * 16,777,216; 14 no readable frame; 15 the lent output or store is too short; 16 the plan is over 16,384 octets, is short, has octets left over,
  * over 64 offers, or offer times that fall. They are checked in this order (a run input makes check 13 last). 17 no mark of that name; 18
  * four others stand; a mark checks 1, 2, 15, 18 in this order, a return 1, 15, 17, 2.
  */
@@ -46,6 +46,7 @@ extern "C" {
 #define WISAVULOME_AREA 57344
 #define WISAVULOME_STORE 229412
 #define WISAVULOME_SHEET_OUT 196
+#define WISAVULOME_WRITE_OUT 128
 #define WISAVULOME_CLIENT_OUT 8
 #define WISAVULOME_STEP_OUT 256
 #define WISAVULOME_RUN_OUT 52
@@ -93,6 +94,10 @@ uint32_t wisavulome_fits(const uint8_t *sheet, size_t sheet_len);
 /* Checks a layout, given as the octets that wisavulome_read_sheet writes. Answer: 0. Refusals 3 (under 196 octets), 5 to 8. Whether it fits
  * (the eighth word) is not looked at. */
 uint32_t wisavulome_check_layout(const uint8_t *layout, size_t layout_len);
+
+/* Writes the shortest sheet that reads as the layout of this one; octets after the sheet do not matter. Answer: its octets, at most 128.
+ * Refusals 3 to 8, 15 (under those octets). out: the sheet. Two sheets that say the same give the same octets. */
+uint32_t wisavulome_write_sheet(const uint8_t *sheet, size_t sheet_len, uint8_t *out, size_t out_len);
 
 /* Reads a run input: sheet, draws, offers, bit times. Answer: 0. Refusals 3 to 9, 13, 16, and after them 15 (under 216 octets).
  * out: the layout as wisavulome_read_sheet writes it, 196 octets; then D, the octet at which the draws begin, the number of offers, the octet

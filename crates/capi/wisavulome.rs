@@ -20,6 +20,7 @@ pub const REFUSAL: u32 = 0x8000_0000;
 pub const AREA: usize = 57344;
 pub const STORE: usize = 229412;
 pub const SHEET_OUT: usize = 196;
+pub const WRITE_OUT: usize = 128;
 pub const CLIENT_OUT: usize = 8;
 pub const STEP_OUT: usize = 256;
 pub const RUN_OUT: usize = 52;
@@ -62,6 +63,9 @@ unsafe extern "C" {
 
     // 0; refusals 3, 5 to 8. layout: 196 octets, as wisavulome_read_sheet writes them.
     pub fn wisavulome_check_layout(layout: *const u8, layout_len: usize) -> u32;
+
+    // The octets of the sheet; refusals 3 to 8, 15. out: the shortest sheet with the same layout.
+    pub fn wisavulome_write_sheet(sheet: *const u8, sheet_len: usize, out: *mut u8, out_len: usize) -> u32;
 
     // 0; refusals 3 to 9, 13, 15, 16. out: the layout's 196 octets, then 5 words.
     pub fn wisavulome_read_plan(input: *const u8, input_len: usize, out: *mut u8, out_len: usize) -> u32;
@@ -198,6 +202,10 @@ pub fn fits(sheet: &[u8]) -> Answer {
 
 pub fn check_layout(layout: &[u8]) -> Answer {
     answer(unsafe { wisavulome_check_layout(layout.as_ptr(), layout.len()) })
+}
+
+pub fn write_sheet(sheet: &[u8], out: &mut [u8]) -> Answer {
+    answer(unsafe { wisavulome_write_sheet(sheet.as_ptr(), sheet.len(), out.as_mut_ptr(), out.len()) })
 }
 
 pub fn read_plan(input: &[u8], out: &mut [u8]) -> Answer {

@@ -195,11 +195,13 @@ def refused_row(path, why, columns):
 
 
 def difference(library, arguments, output):
-    """What differs between two sheets."""
+    """What differs between two sheets. They say the same where the library writes the same shortest sheet for both."""
     if len(arguments.files) != 2:
         raise Failure("fit --difference needs two sheets")
-    one, other = (judge(library, path) for path in arguments.files)
-    rows = [row for row in compared(one, other) if row[1] != row[2]]
+    sources = [read_source(library, path) for path in arguments.files]
+    one, other = (judge_source(library, source) for source in sources)
+    same = library.write_sheet(sources[0].octets) == library.write_sheet(sources[1].octets)
+    rows = [] if same else [row for row in compared(one, other) if row[1] != row[2]]
     header = ["what", one.name, other.name]
     if arguments.csv:
         output.write(as_csv(header, rows))

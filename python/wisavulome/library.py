@@ -24,6 +24,7 @@ SIZES = {
     "area": 57344,
     "store": 229412,
     "sheet": 196,
+    "write": 128,
     "client": 8,
     "step": 256,
     "run": 52,
@@ -123,7 +124,7 @@ REFUSALS = {
     12: "the station still has a frame",
     13: f"the clock would pass {LAST_CLOCK}",
     14: "the station holds no readable frame",
-    15: "the lent output is too short",
+    15: "the lent output or store is too short",
     16: f"the plan is over {MAX_PLAN} octets, is short, has octets left over, "
     f"over {MAX_OFFERS} offers, or offer times that fall",
     17: "no mark of that name",
@@ -137,6 +138,7 @@ CALLS = {
     "read_sheet": ("slice", "buffer"),
     "fits": ("slice",),
     "check_layout": ("slice",),
+    "write_sheet": ("slice", "buffer"),
     "read_plan": ("slice", "buffer"),
     "build": ("u64", "u64", "u16", "slice", "buffer"),
     "status": ("slice", "u32"),
@@ -158,9 +160,6 @@ CALLS = {
     "print": ("slice", "buffer", "buffer"),
     "crc32": ("slice",),
 }
-
-# Calls that a later library has; what needs them says so where they are missing.
-LATER_CALLS = {"write_sheet": ("slice", "buffer")}
 
 # Where a station's state lies in a work area (crates/area/src/lib.rt, crates/area_record/src/lib.rt).
 # Only `Library.station` and `Library.clock` use it.
@@ -336,7 +335,7 @@ class Library:
     def __init__(self):
         loaded = load()
         self.functions = {}
-        for name, kinds in {**CALLS, **LATER_CALLS}.items():
+        for name, kinds in CALLS.items():
             function = declare(loaded, name, kinds)
             if function is None and name in CALLS:
                 raise LibraryMissing(f"the shared library has no function wisavulome_{name}: it is of another version")
@@ -348,7 +347,7 @@ class Library:
 
     def call(self, name, *values):
         """The answer of a call."""
-        kinds = CALLS.get(name) or LATER_CALLS[name]
+        kinds = CALLS[name]
         if not self.has(name):
             raise LibraryMissing(f"this library has no function wisavulome_{name} yet")
         answer = self.functions[name](*as_arguments(kinds, values))
@@ -392,10 +391,8 @@ class Library:
 
     def write_sheet(self, sheet):
         """The shortest sheet with the layout of this one."""
-        layout = buffer_of("sheet")
-        self.call("read_sheet", sheet, layout)
-        out = buffer_of("sheet")
-        size = self.call("write_sheet", layout.raw, out)
+        out = buffer_of("write")
+        size = self.call("write_sheet", sheet, out)
         return out.raw[:size]
 
     def read_plan(self, plan):

@@ -6,6 +6,7 @@ a second one, and a store of marks, all zero at first and just as long as refusa
 
     area LEN                                a new area, all zero
     sheet OCTETS                            octets used, `yes` or `no` (fits), LAYOUT
+    write ROOM LAYOUT                       the shortest sheet's octets
     build DEST SOURCE VALUE OCTETS ROOM     the frame's octets
     open OCTETS EXCESS                      `fragment`, `too-long`, `check`, `alignment`, `length`, or `ok` and the data
     fresh SHEET D DRAWS                     reads the sheet, then makes a fresh start
@@ -18,12 +19,12 @@ a second one, and a store of marks, all zero at first and just as long as refusa
     store LEN                               a new store, all zero
     mark NAME, return NAME, drop NAME
     poke PLACE OCTET NAME                   another hand writes octet and name of place 0..3 of the store
-    second CALL                             the same on the second area; not sheet, build, open, nor the four above
+    second CALL                             the same on the second area; not sheet, write, build, open, nor marks
 
-Numbers are decimal. Octets are two hexadecimal digits each, `-` for none, or COUNT*HH; DEST and SOURCE are six, NAME eight. DRAWS
-are numbers parted by commas, or `-`. LAYOUT: slot, gap1, gap2, jam, attempt limit, backoff limit, late-end, E, then
-POSITION/ADDRESS/OWNER of each station, parted by commas; what the library does not have is 0. TALLY: WORD=COUNT of
-each event word. A new call is a function here and a line of the table at the end.
+Numbers are decimal. Octets are two hexadecimal digits each, `-` for none, or COUNT*HH; DEST and SOURCE are six, NAME
+eight. DRAWS are numbers parted by commas, or `-`. LAYOUT: slot, gap1, gap2, jam, attempt limit, backoff limit, late-
+end, E, then POSITION/ADDRESS/OWNER of each station, parted by commas; what the library does not have is 0. TALLY:
+WORD=COUNT of each event word. A new call is a function here and a line of the table at the end.
 """
 
 import ctypes
@@ -32,7 +33,9 @@ import struct
 from dataclasses import dataclass
 from typing import Callable
 
-from .library import COUNTERS, EVENTS, MAX_MARKS, NAME_OCTETS, RECEIVE, SIZES, STATUSES, Refused, buffer_of
+from . import library
+from .library import COUNT_AT, COUNTERS, EVENTS, MAX_MARKS, MAX_STATIONS, NAME_OCTETS, RECEIVE, SIZES, STATUSES
+from .library import TAP_OCTETS, TAPS_AT, Refused, buffer_of
 
 MOST = 2**32 - 1
 ADDRESS_OCTETS = 6
@@ -181,6 +184,40 @@ def sheet(session, _at, given):
     return f"{layout.used} {'yes' if layout.fits else 'no'} {shown_layout(layout)}"
 
 
+def write(session, _at, room, *layout):
+    """Writes the sheet of a layout: as the reader gives it first, for refusals 5 to 8, then spelled out."""
+    *figures, _extension, stations = layout
+    taps = [] if stations == "-" else [tap(each) for each in stations.split(",")]
+    session.library.call("check_layout", layout_octets(figures, taps))
+    out = lend(room)
+    used = session.library.call("write_sheet", spelled_sheet(figures, taps), out)
+    return out.raw[:used].hex()
+
+
+def tap(word):
+    """A station of a layout: position and address."""
+    position, where, _owner = word.split("/")
+    return number(position), octets(where)
+
+
+def layout_octets(figures, taps):
+    """A layout as wisavulome_read_sheet writes it."""
+    raw = bytearray(SIZES["sheet"])
+    for figure, value in zip(library.FIGURES, figures):
+        struct.pack_into(">I", raw, figure.out_at, value)
+    struct.pack_into(">I", raw, COUNT_AT, len(taps))
+    for i, (position, where) in enumerate(taps[:MAX_STATIONS]):
+        struct.pack_into(">I6s", raw, TAPS_AT + TAP_OCTETS * i, position, where)
+    return bytes(raw)
+
+
+def spelled_sheet(figures, taps):
+    """The sheet of a layout with every figure spelled out."""
+    spelled = [value.to_bytes(figure.octets, "big") for figure, value in zip(library.FIGURES, figures)]
+    stations = [bytes([position]) + where for position, where in taps]
+    return bytes([2 ** len(figures) - 1]) + b"".join(spelled) + bytes([len(taps)]) + b"".join(stations)
+
+
 def build(session, _at, destination, source, value, data, room):
     """Builds a frame."""
     out = lend(room)
@@ -277,6 +314,7 @@ class Call:
 CALLS = {
     "area": Call(new_area, (size,), True),
     "sheet": Call(sheet, (octets,)),
+    "write": Call(write, (size, number, number, number, number, number, number, number, number, str)),
     "build": Call(build, (address, address, double, octets, size)),
     "open": Call(opened, (octets, number)),
     "fresh": Call(fresh, (octets, number, draws), True),

@@ -1,7 +1,7 @@
 """`wisavulome write`: the shortest sheet, and text forms both ways."""
 
 from . import text
-from .failure import GOOD, Failure
+from .failure import GOOD
 from .library import Refused
 from .output import write_whole
 from .source import is_sheet_alone, read_layout, read_source
@@ -10,8 +10,7 @@ HELP = """Writes a sheet or plan in another form. By default it writes the short
 same layout, as octets: figures that are their defaults are left out. With --as text or --as
 octets it writes the sheet or plan as it is.
 
-Exit status: 0 written, 2 refused, the library cannot do it, or the call is wrong, 3 the output
-could not be written."""
+Exit status: 0 written, 2 refused or the call is wrong, 3 the output could not be written."""
 
 
 def add_parser(subparsers):
@@ -29,11 +28,6 @@ def add_parser(subparsers):
 
 def run(library, arguments, output):
     """The subcommand; answers the exit status."""
-    if arguments.form is None and not library.has("write_sheet"):
-        raise Failure(
-            "this library cannot write the shortest sheet: it has no function wisavulome_write_sheet. "
-            "'write --as text' and 'write --as octets' write a sheet or plan as it is"
-        )
     source = read_source(library, arguments.file)
     layout = read_layout(library, source)
     if not is_sheet_alone(source, layout):

@@ -186,13 +186,16 @@ class Forms(CommandTest):
         )
 
     def test_shortest_sheet(self):
-        """The library's to write: where it has no call for it, that is said."""
-        status, out, err = call("write", self.file("s.txt", "slot 512\n" + SHEET))
-        if self.library.has("write_sheet"):
-            self.assertEqual((status, len(out)), (0, 16))
-        else:
-            self.assertEqual((status, out), (2, ""))
-            self.assertIn("it has no function wisavulome_write_sheet", err)
+        """Figures that are their defaults are left out; what follows the sheet stays."""
+        spelled = "slot 512\ngap1 64\ngap2 32\njam 32\nattempt-limit 16\nbackoff-limit 10\nlate-end 0\n" + SHEET
+        short = self.folder / "short"
+        self.assertEqual(call("write", self.file("s.txt", spelled), "-o", short)[0], 0)
+        self.assertEqual(short.read_bytes(), bytes.fromhex("0002000200000000010a020000000002"))
+        as_text = ["write", "--as", "text"]
+        self.assertEqual(call(*as_text, short)[1], call(*as_text, self.file("t", SHEET))[1])
+        plan = self.file("p.txt", "gap2 32\n" + TWO + "run 9\n")
+        self.assertEqual(call("write", plan, "-o", short)[0], 0)
+        self.assertEqual(call("run", short)[1], call("run", plan)[1])
 
 
 class Refusals(CommandTest):

@@ -106,3 +106,8 @@ class Fit(CommandTest):
         self.assertIn("jam,32 default,31 given\n", out)
         self.assertEqual(call("fit", "--difference", one, one)[:2], (0, f"{one} and {one} say the same\n"))
         self.assertEqual(call("fit", "--difference", one)[0], 2)
+
+    def test_difference_of_defaults(self):
+        """Sheets that differ only in spelled-out defaults say the same."""
+        one, other = self.file("one.txt", SHEET), self.file("other.txt", "slot 512\nlate-end 0\n" + SHEET)
+        self.assertEqual(call("fit", "--difference", one, other)[:2], (0, f"{one} and {other} say the same\n"))

@@ -5,7 +5,7 @@ import zlib
 
 from common import ROOT, STORED, CommandTest, folders, run_inputs
 
-from wisavulome.library import SIZES, buffer_of
+from wisavulome.library import SIZES, Refused, buffer_of
 from wisavulome.replay import replay, shown_counters
 
 SHEET = "0002000200000000010a020000000002"
@@ -43,6 +43,22 @@ class Stored(CommandTest):
                     numbers = shown_counters(level, self.library.counters(area, station)).replace(",", " ")
                     text += f"counters {station} {numbers}\n"
                 self.assertEqual(text, path.with_suffix(".counters").read_text())
+
+    def test_sheets(self):
+        """What the writer makes of a sheet, or `refused n`; written twice it stays."""
+        seen = 0
+        for _level, folder in folders():
+            for path in sorted(folder.glob("sheet*.in")):
+                with self.subTest(path):
+                    expected = path.with_suffix(".out").read_bytes()
+                    try:
+                        written = self.library.write_sheet(path.read_bytes())
+                        self.assertEqual(self.library.write_sheet(written), written)
+                    except Refused as refusal:
+                        written = f"refused {refusal.number}\n".encode()
+                    self.assertEqual(written, expected)
+                seen += 1
+        self.assertGreaterEqual(seen, 20)
 
     def test_calls(self):
         seen = 0

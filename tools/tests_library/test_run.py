@@ -3,12 +3,20 @@
 import csv
 import io
 import json
+import subprocess
+import sys
 
-from common import LATE_PLAN, STORED, TWO, WORKED, CommandTest, call, stored, stored_cases, taken_cases
+from common import LATE_PLAN, ROOT, STORED, TWO, WORKED, CommandTest, call, stored, stored_cases, taken_cases
 
 from wisavulome.course import follow
 from wisavulome.heard import Hearing
 from wisavulome.library import COUNTERS
+
+
+def runinput(command, given):
+    """What tools/runinput prints."""
+    words = [sys.executable, "-B", str(ROOT / "tools" / "runinput"), command]
+    return subprocess.run(words, input=given, capture_output=True, check=True).stdout
 
 
 class Run(CommandTest):
@@ -24,6 +32,16 @@ class Run(CommandTest):
                     ended = " late " in printed and self.library.read_plan(octets).layout.late_ends_run
                     self.assertEqual((status, out), (1 if ended else 0, printed))
                     self.assertEqual(self.library.print_run(octets).decode(), printed)
+
+    def test_runinput_shortest(self):
+        """The text of a plan with its shortest sheet: no figure that is its default."""
+        plan = runinput("write", (("slot 512\njam 31\nlate-end 0\n" + TWO) + "run 9\n").encode())
+        short = runinput("write", f"jam 31\n{TWO}run 9\n".encode())
+        self.assertEqual(runinput("shortest", plan), runinput("read", short))
+        with self.assertRaises(subprocess.CalledProcessError) as refused:
+            runinput("shortest", plan[:5])
+        self.assertEqual(refused.exception.returncode, 2)
+        self.assertIn(b"standard input: refused 3: ", refused.exception.stderr)
 
     def test_two_offers_in_one_step(self):
         """Events name their offer, also where one station has two offers in a step."""

@@ -19,7 +19,7 @@ pub fn cases(usual: u64) -> u64 {
 // ---- sheets
 
 /// A sheet of a layout, every field spelled out.
-fn spelled(layout: &Layout) -> Vec<u8> {
+pub fn spelled(layout: &Layout) -> Vec<u8> {
     let mut sheet = vec![0x7F];
     sheet.extend((layout.slot as u16).to_be_bytes());
     sheet.extend(

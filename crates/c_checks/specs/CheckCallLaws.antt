@@ -7,7 +7,7 @@ use native.Mathlib.Omega.{arith}
 use borrow.Author.Tests.{lt-ltb, le-ltb}
 use lib.Dec.{ltb, eqb}
 use lib.ListN.{length}
-use Rattle.octets.specs.Base.{numberOf}
+use Rattle.octets.specs.Base.{Outcome, outcome, numberOf}
 use Rattle.octets.specs.BaseLaws.{by-test}
 use Rattle.octets.specs.Number.{get}
 use Rattle.octets.specs.Words.{putWords}
@@ -20,7 +20,10 @@ use Rattle.sheet_layout.specs.Check.{refusalOf}
 use Rattle.frame_open.specs.declared.ReceiveStatus.{ReceiveStatus}
 use Rattle.frame_open.specs.Open.{statusAnswer, opened}
 use Rattle.area_check.specs.Valid.{areaRefusal}
-use Rattle.sheet_read.specs.Sheet.{sheetSize, countIn}
+use Rattle.sheet_read.specs.declared.Sheet.{Sheet}
+use Rattle.sheet_read.specs.Sheet.{sheetSize, countIn, Reading, readSheet, sheetReading, sheetAnswer}
+use Rattle.sheet_write.specs.declared.Written.{Written}
+use Rattle.sheet_write.specs.Write.{written, sheetWritten, writtenAnswer}
 use Rattle.plan_read.specs.declared.Plan.{Plan}
 use Rattle.plan_read.specs.Plan.{offerPlace, offersPlace, timesIn, drawsWrong, planWrong, lastRefusal, afterSheet}
 use Rattle.plan_read.specs.Plan.{sheetRefusal, planRefusal, Planned, unless as whole, planRead, planReading}
@@ -29,9 +32,9 @@ use Rattle.plan_read.specs.PlanTheorems.{reading-right}
 use Rattle.c_words.specs.Answers.{replied, valueOf, layoutPut, maxRefusal, planOut, sheetOut}
 use Rattle.c_calls.specs.Calls.{given, kept}
 use Rattle.c_calls.specs.Numbers.{area-low, layout-low, open-low, sheet-low}
-use Rattle.c_calls.specs.CallLaws.{refuses, passes, refuses-short, passes-long}
+use Rattle.c_calls.specs.CallLaws.{refuses, passes, refuses-short, passes-long, code-given}
 use Rattle.c_checks.specs.CheckCalls.{receptionGiven, areaGiven, figuresWritten, tapWritten, layoutWritten}
-use Rattle.c_checks.specs.CheckCalls.{layoutGiven, planWords, planGiven}
+use Rattle.c_checks.specs.CheckCalls.{layoutGiven, planWords, planGiven, writeGiven}
 use Rattle.sheet_layout.specs.Limits.{lastClock}
 
 -- ---- a reception
@@ -161,3 +164,40 @@ module _ (l : List ℕ) (p : Plan) (n : ℕ) (q : n ≡ numberOf (verdictAnswer 
       (w ∙ ap planWords e) in
       ap (given 0) u ∙ passes-long planOut out (kept out) _ h
       ∙ passes (numberOf (planRead l .answer)) 0 0 (kept out) _ (number-is ∙ z)
+
+-- ---- a sheet, written
+
+write-low : (y : Layout) (out : List ℕ) → numberOf (sheetWritten y out .answer) ≤ maxRefusal
+unfolding sheetWritten
+write-low y out =
+    by-test (eqb (refusalOf y) 0)
+    (λ p. by-test (ltb (length out) (length (written y))) (λ q. rw (p, q) (omega arith)) (λ q. rw (p, q) (omega arith)))
+    (λ p. rw p (layout-low y))
+
+pub written-low : (y : Layout) (out o : List ℕ) (w : Written) (k : ℕ) → k ≡ numberOf (writtenAnswer w)
+    → outcome (writtenAnswer w) o ≡ sheetWritten y out → k ≤ maxRefusal
+written-low y out o w k p e =
+    let h : numberOf (writtenAnswer w) ≡ numberOf (sheetWritten y out .answer) =
+    ap (λ (x : Outcome). numberOf (x .answer)) e in
+    omega (arith, write-low y out, h)
+
+module _ (l : List ℕ) (f : Sheet) (n : ℕ) (q : n ≡ numberOf (sheetAnswer (f .read)))
+    (e : sheetReading f ≡ readSheet l) where
+  read-is : numberOf (readSheet l .answer) ≡ n
+  read-is = ap (λ (z : Reading). numberOf (z .answer)) (sym e) ∙ sym q
+
+  pub read-low : n ≤ maxRefusal
+  read-low = omega (arith, read-is, sheet-low l)
+
+  pub write-refused : (out : List ℕ) (r : ℕ) → r ≡ replied n 0 → (n ≡ 0 → ⊥) → given r out ≡ writeGiven l out
+  unfolding writeGiven
+  write-refused out r t h = refuses (numberOf (readSheet l .answer)) n r (kept out) _ t read-is h
+
+  pub write-made : (out o : List ℕ) (w : Written) (r k v : ℕ) → r ≡ replied k v → v ≡ valueOf (writtenAnswer w)
+      → k ≡ numberOf (writtenAnswer w)
+      → outcome (writtenAnswer w) o ≡ sheetWritten (f .layout) out → n ≡ 0 → given r o ≡ writeGiven l out
+  unfolding writeGiven
+  write-made out o w r k v t a b c z =
+      code-given (sheetWritten (readSheet l .layout) out) (writtenAnswer w) o r k v t b a
+      (c ∙ ap (λ (x : Reading). sheetWritten (x .layout) out) e)
+      ∙ passes (numberOf (readSheet l .answer)) 0 0 (kept out) _ (read-is ∙ z)

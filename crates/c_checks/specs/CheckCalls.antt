@@ -1,5 +1,5 @@
 -- The C interface: the calls that only look. A reception's status, checks 1 and 2 of a work area, checks 5 to 8 of a
--- layout, and a run input as it is read. The laws are in CheckCallLaws. Assumes nothing.
+-- layout, a run input as it is read, and the shortest sheet. The laws are in CheckCallLaws. Assumes nothing.
 use Prim.Native.Nat.{ℕ, _+_, _*_}
 use mathlib.Core.Bool.{not}
 use mathlib.Core.List.{List, [], _∷_}
@@ -16,9 +16,11 @@ use Rattle.sheet_layout.specs.Layout.{placesOf}
 use Rattle.sheet_layout.specs.Check.{refusalOf}
 use Rattle.frame_open.specs.Open.{opened}
 use Rattle.area_check.specs.Valid.{areaRefusal}
+use Rattle.sheet_read.specs.Sheet.{readSheet}
+use Rattle.sheet_write.specs.Write.{sheetWritten}
 use Rattle.plan_read.specs.Plan.{Planned, planRead}
 use Rattle.c_words.specs.Answers.{replied, layoutPut, planOut, sheetOut}
-use Rattle.c_calls.specs.Calls.{codeOf, Given, given, unless, kept, short}
+use Rattle.c_calls.specs.Calls.{codeOf, codeGiven, Given, given, unless, kept, short}
 
 -- ---- a reception
 
@@ -71,3 +73,10 @@ planGiven l out =
     unless (numberOf (planRead l .answer)) (kept out)
     (unless (short planOut out) (kept out)
     (given 0 (putWords 5 (layoutPut (planRead l .layout) out) sheetOut (planWords (planRead l)))))
+
+-- ---- a sheet, written
+
+-- the shortest sheet of the layout that a sheet gives, and its octets; refusals 3 to 8, 15
+unfoldable pub writeGiven : (sheet out : List ℕ) → Given
+writeGiven l out =
+    unless (numberOf (readSheet l .answer)) (kept out) (codeGiven (sheetWritten (readSheet l .layout) out))

@@ -1,11 +1,12 @@
-// The calls of the C interface that only look: a reception's status, the checks of a work area and of a layout, and a
-// run input as it is read. Replies are as in `c_calls`.
+// The calls of the C interface that only look: a reception's status, the checks of a work area and of a layout, a
+// run input as it is read, and the shortest sheet. Replies are as in `c_calls`.
 
 use plan_read::Plan;
 use plan_read::Verdict;
 use sheet_layout::Figures;
 use sheet_layout::Layout;
 use sheet_layout::Tap;
+use sheet_write::Written;
 ghost use mathlib.Core.Path.{_≡_};
 ghost use Prim.Native.Nat.{_<_, _≤_};
 ghost use lib.ListN.{length};
@@ -14,9 +15,10 @@ ghost use Rattle.sheet_layout.specs.Layout.{placesOf};
 ghost use Rattle.plan_read.specs.Plan.{verdictAnswer, planReading};
 ghost use Rattle.c_calls.specs.Calls.{given};
 ghost use Rattle.c_checks.specs.CheckCalls.{receptionGiven, areaGiven, figuresWritten, tapWritten, layoutWritten};
-ghost use Rattle.c_checks.specs.CheckCalls.{layoutGiven, planWords, planGiven};
+ghost use Rattle.c_checks.specs.CheckCalls.{layoutGiven, planWords, planGiven, writeGiven};
 ghost use Rattle.sheet_layout.specs.Limits.{maxStations};
-ghost use Rattle.c_words.specs.Answers.{sheetOut};
+ghost use Rattle.c_words.specs.Answers.{sheetOut, valueOf};
+ghost use Rattle.sheet_write.specs.Write.{writtenAnswer};
 
 // The status of a reception: 0 to 5. Refusal 5.
 pub fn reception_status(frame: &[u8], excess: u32, spoiled: u32) -> u32
@@ -152,4 +154,39 @@ pub fn read_plan(input: &[u8], out: &mut [u8]) -> u32
     c_tables::write_layout(out, y);
     octets_words::store_words(out, c_words::SHEET_OUT, &words);
     0
+}
+
+// The number of the writer's refusal, 0 where there is none.
+fn written_number(w: Written) -> u32
+    ensures { λ r. ⌜ r ≡ numberOf (writtenAnswer w) ⌝ }
+{
+    match w {
+        Written::Refused(n) => n,
+        Written::Octets(_) => 0,
+    }
+}
+
+// The octets written, 0 where there is a refusal.
+fn written_size(w: Written) -> u32
+    ensures { λ r. ⌜ r ≡ valueOf (writtenAnswer w) ⌝ }
+{
+    match w {
+        Written::Refused(_) => 0,
+        Written::Octets(n) => n,
+    }
+}
+
+// Writes the shortest sheet that reads as a sheet does: its octets. Refusals 3 to 8, 15.
+pub fn write_sheet(sheet: &[u8], out: &mut [u8]) -> u32
+    ensures { λ r. ⌜ given r (now (out .exit)) ≡ writeGiven (now (sheet .entry)) (now (out .entry)) ⌝ }
+{
+    let front = sheet_read::read_sheet(sheet);
+    let read = front.read;
+    let number = c_words::numbers::sheet_number(read);
+    if number != 0 {
+        return c_words::numbers::reply(number, 0);
+    }
+    let y = front.layout;
+    let w = sheet_write::write_sheet(y, out);
+    c_words::numbers::reply(written_number(w), written_size(w))
 }

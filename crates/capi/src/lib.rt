@@ -8,7 +8,7 @@ ghost use Prim.Native.Nat.{_<_};
 ghost use Rattle.frame_crc.specs.Crc.{crcOf};
 ghost use Rattle.c_calls.specs.Calls.{given, left, sheetGiven, fitsGiven, buildGiven, statusGiven, clientGiven};
 ghost use Rattle.c_calls.specs.Calls.{startGiven, offerGiven, stepLeft, runLeft, frameGiven, countersGiven};
-ghost use Rattle.c_checks.specs.CheckCalls.{receptionGiven, areaGiven, layoutGiven, planGiven};
+ghost use Rattle.c_checks.specs.CheckCalls.{receptionGiven, areaGiven, layoutGiven, planGiven, writeGiven};
 ghost use Rattle.c_marks.specs.MarkCalls.{markGiven, returnGiven, dropGiven};
 ghost use Rattle.c_text.specs.TextCalls.{lent, begunLent, advancedLent, printLeft};
 
@@ -42,6 +42,14 @@ pub extern "C" fn wisavulome_read_plan(input: &[u8], out: &mut [u8]) -> u32
     ensures { λ r. ⌜ given r (now (out .exit)) ≡ planGiven (now (input .entry)) (now (out .entry)) ⌝ }
 {
     c_checks::read_plan(input, out)
+}
+
+// Writes the shortest sheet that reads as this one: its octets. Refusals 3 to 8, 15.
+#[no_mangle]
+pub extern "C" fn wisavulome_write_sheet(sheet: &[u8], out: &mut [u8]) -> u32
+    ensures { λ r. ⌜ given r (now (out .exit)) ≡ writeGiven (now (sheet .entry)) (now (out .entry)) ⌝ }
+{
+    c_checks::write_sheet(sheet, out)
 }
 
 // Builds a frame: its octets. Refusals 11, 15.
