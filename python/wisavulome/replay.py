@@ -22,8 +22,8 @@ a second one, and a store of marks, all zero at first and just as long as refusa
     second CALL                             the same on the second area; not sheet, write, build, open, nor marks
 
 Numbers are decimal. Octets are two hexadecimal digits each, `-` for none, or COUNT*HH; DEST and SOURCE are six, NAME
-eight. DRAWS are numbers parted by commas, or `-`. LAYOUT: slot, gap1, gap2, jam, attempt limit, backoff limit, late-
-end, E, then POSITION/ADDRESS/OWNER of each station, parted by commas; what the library does not have is 0. TALLY:
+eight. DRAWS are numbers parted by commas, or `-`. LAYOUT: slot, gap1, gap2, jam, attempt limit, backoff limit,
+late-end, E, then POSITION/ADDRESS/OWNER of each station, parted by commas; what the library does not have is 0. TALLY:
 WORD=COUNT of each event word. A new call is a function here and a line of the table at the end.
 """
 
