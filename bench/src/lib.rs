@@ -1,4 +1,4 @@
-//! Independent engines of document 01's model (CSMA/CD on one pair) with request N1, to compare Wisavulome's answers and speed with.
+//! Independent engines of document 01's model (CSMA/CD on one pair) with requests N1 and N5, to compare Wisavulome's answers and speed with.
 //!
 //! - [`layout`], [`frame`], [`crc`], [`events`]: the sheet, frames, check sequence and event words
 //! - [`plain`]: the plain engine, which keeps every emission and looks back by distance

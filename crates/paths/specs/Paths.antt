@@ -58,7 +58,7 @@ reached p = end (p .calls) (begin (beginning p)) .area
 
 -- ---- acts on one work area and one store
 
--- start: sheet, D, draws. hand: another hand has written, and the store holds s now
+-- start: sheet, D, draws. back: a return. lose: a drop. hand: another hand has written, and the store holds s now
 pub data Act : Type 0 where
   start : (s : List ℕ) (d : ℕ) (draws : List (List ℕ)) → Act
   call : Call → Act
