@@ -1,8 +1,9 @@
-//! Independent engines of document 01's model (CSMA/CD on one pair) with request N1, to compare Wisavulome's answers and speed with.
+//! Independent engines of document 01's model (CSMA/CD on one pair) with requests N1 and N5, to compare Wisavulome's answers and speed with.
 //!
 //! - [`layout`], [`frame`], [`crc`], [`events`]: the sheet, frames, check sequence and event words
 //! - [`plain`]: the plain engine, which keeps every emission and looks back by distance
 //! - [`area`]: the same calls on a work area of 57,344 octets, by decoding it into the plain engine
+//! - [`marks`]: request N5's marks, on octets
 //! - [`fast`]: the fast engine, with a delay ring for each station
 //! - [`program`]: the run program, over either engine
 //! - [`log`]: many windows over one log (request N14)
@@ -16,6 +17,7 @@ pub mod fast;
 pub mod frame;
 pub mod layout;
 pub mod log;
+pub mod marks;
 #[cfg(feature = "linked")]
 pub mod ours;
 pub mod plain;

@@ -93,6 +93,18 @@ pub fn station(area: &[u8], station: u32, out: &mut [u8]) -> Answer {
     answer(unsafe { c::wisavulome_station(area.as_ptr(), area.len(), station, out.as_mut_ptr(), out.len()) })
 }
 
+pub fn mark(area: &[u8], store: &mut [u8], name: u64) -> Answer {
+    answer(unsafe { c::wisavulome_mark(area.as_ptr(), area.len(), store.as_mut_ptr(), store.len(), name) })
+}
+
+pub fn go_back(area: &mut [u8], store: &[u8], name: u64) -> Answer {
+    answer(unsafe { c::wisavulome_return(area.as_mut_ptr(), area.len(), store.as_ptr(), store.len(), name) })
+}
+
+pub fn drop_mark(store: &mut [u8], name: u64) -> Answer {
+    answer(unsafe { c::wisavulome_drop(store.as_mut_ptr(), store.len(), name) })
+}
+
 pub fn reception_status(frame: &[u8], excess: u32, spoiled: u32) -> Answer {
     answer(unsafe { c::wisavulome_reception_status(frame.as_ptr(), frame.len(), excess, spoiled) })
 }

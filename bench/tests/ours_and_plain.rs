@@ -10,6 +10,7 @@ use common::{
 };
 use wisavulome_bench::area::{self, AREA, COUNTERS_OUT, PLAN_OUT, RUN_OUT, SHEET_OUT, STATION_OUT};
 use wisavulome_bench::events::WORDS;
+use wisavulome_bench::marks::{self, MARK, MARKS, STORE};
 use wisavulome_bench::plain::World;
 use wisavulome_bench::{crc, frame, layout, log, ours, program};
 
@@ -439,6 +440,114 @@ fn lists_of_calls() {
     }
     tally.demand(&[0, 10, 11, 12, 13, 14, 15]);
     assert!(words[..6].iter().all(|&count| count > 0), "an event never came: {words:?}");
+}
+
+/// An area and a store: ours, and the plain engine's.
+struct Marked {
+    area: Vec<u8>,
+    store: Vec<u8>,
+}
+
+/// The octets of a slice that a call is lent: all of them, or one too few.
+fn short(rng: &mut Rng, enough: usize, len: usize) -> usize {
+    if rng.one_in(25) {
+        enough - 1
+    } else {
+        len
+    }
+}
+
+/// Writes of another hand into both stores: octet and name of a place, or any octet.
+fn poke(rng: &mut Rng, ours: &mut Marked, plain: &mut Marked, name: u64) {
+    let at = MARK * rng.below(MARKS as u64) as usize;
+    let octet = rng.pick(&[0, 1, 1, 1, 2, 255]);
+    let (any, value) = (rng.below(STORE as u64) as usize, rng.next() as u8);
+    let whole = rng.one_in(2);
+    for store in [&mut ours.store, &mut plain.store] {
+        if whole {
+            store[at] = octet;
+            store[at + 1..at + 9].copy_from_slice(&name.to_be_bytes());
+        } else {
+            store[any] = value;
+        }
+    }
+}
+
+/// A mark, a return or a drop.
+fn mark_call(rng: &mut Rng, ours: &mut Marked, plain: &mut Marked, name: u64) -> [Result<u32, u32>; 2] {
+    let (area, store) = (short(rng, AREA, ours.area.len()), short(rng, STORE, ours.store.len()));
+    match rng.below(5) {
+        0 | 1 => [
+            ours::mark(&ours.area[..area], &mut ours.store[..store], name),
+            marks::mark(&plain.area[..area], &mut plain.store[..store], name),
+        ],
+        2 | 3 => [
+            ours::go_back(&mut ours.area[..area], &ours.store[..store], name),
+            marks::go_back(&mut plain.area[..area], &plain.store[..store], name),
+        ],
+        _ => [ours::drop_mark(&mut ours.store[..store], name), marks::drop_mark(&mut plain.store[..store], name)],
+    }
+}
+
+/// An offer or a run on both areas.
+fn model_call(rng: &mut Rng, ours: &mut Marked, plain: &mut Marked, layout: &layout::Layout) -> [Result<u32, u32>; 2] {
+    if rng.one_in(2) {
+        let offer = offer(rng, layout, true);
+        return [
+            ours::offer(&mut ours.area, offer.station, offer.destination, offer.value, &offer.data),
+            area::offer(&mut plain.area, offer.station, offer.destination, offer.value, &offer.data),
+        ];
+    }
+    let bit_times = if rng.one_in(2) { rng.range(0, 40) } else { rng.range(0, 900) };
+    let (mut ours_out, mut plain_out) = ([0; RUN_OUT], [0; RUN_OUT]);
+    let answers =
+        [ours::run(&mut ours.area, bit_times, &mut ours_out), area::run(&mut plain.area, bit_times, &mut plain_out)];
+    assert_eq!(ours_out, plain_out, "a run of {bit_times}");
+    answers
+}
+
+/// Lists of calls with marks, returns and drops, and with writes of another hand into the store.
+#[test]
+fn lists_with_marks() {
+    let mut tally = Tally::default();
+    for case in 0..cases(250) {
+        let rng = &mut Rng::new(18, case);
+        let Setting { sheet, layout, depth, draws } = setting(rng);
+        let longer = rng.pick(&[0, 0, 1, 40]);
+        let mut ours = Marked { area: rng.octets(AREA + longer), store: rng.octets(STORE + longer) };
+        for place in 0..MARKS {
+            // What the store brings along: often no mark.
+            ours.store[MARK * place] = rng.pick(&[0, 0, 1, 2]);
+        }
+        let mut plain = Marked { area: ours.area.clone(), store: ours.store.clone() };
+        for turn in 0..rng.range(10, 80) {
+            let name = rng.pick(&[0, 1, 2, 3, 1 << 56, u64::MAX]);
+            let answers = match rng.below(12) {
+                0 => [
+                    ours::start(&mut ours.area, &sheet, depth, &draws),
+                    area::start(&mut plain.area, &sheet, depth, &draws),
+                ],
+                1 => {
+                    poke(rng, &mut ours, &mut plain, name);
+                    continue;
+                }
+                2 if rng.one_in(6) => {
+                    let made_up = made_up_area(rng);
+                    ours.area[..AREA].copy_from_slice(&made_up[..AREA]);
+                    plain.area[..AREA].copy_from_slice(&made_up[..AREA]);
+                    continue;
+                }
+                2..=5 => model_call(rng, &mut ours, &mut plain, &layout),
+                _ => mark_call(rng, &mut ours, &mut plain, name),
+            };
+            let context = || format!("case {case}, turn {turn}");
+            assert_eq!(answers[0], answers[1], "{}: ours, plain", context());
+            tally.note(answers[0]);
+            same_area(&ours.area, &plain.area, &context);
+            assert!(ours.store == plain.store, "{}: the stores differ", context());
+        }
+    }
+    tally.demand(&[0, 1, 2, 10, 11, 12, 15, 17, 18]);
 }
 
 /// Most stations offer at about the same time, again and again, with runs of a few bit times to a few packets in between.

@@ -17,9 +17,10 @@
  * Refusals: 1 the work area is too short; 2 it holds what no call would leave; 3 the sheet is too short; 4 map bit 7 stands; 5 a field is
  * out of range, or the excess bits are over 7; 6 N is outside 2..16; 7 positions do not rise; 8 an address is a group's or repeats; 9 D or
  * the draws; 10 no such station; 11 the data or the length/type value; 12 the station still has a frame; 13 the clock would pass
- * 16,777,216; 14 no readable frame; 15 the lent output is too short; 16 the plan is over 16,384 octets, is short, has octets left over,
- * over 64 offers, or offer times that fall; over 64 windows. They are checked in this order (a run input makes check 13 last). Of windows over
- * a log: 20 a window's second time is below its first; 21 the times of the entries fall.
+ * 16,777,216; 14 no readable frame; 15 the lent output or store is too short; 16 the plan is over 16,384 octets, is short, has octets left
+ * over, over 64 offers, or offer times that fall; over 64 windows. They are checked in this order (a run input makes check 13 last). 17 no
+ * mark of that name; 18 four others stand; a mark checks 1, 2, 15, 18 in this order, a return 1, 15, 17, 2. Of windows over a log: 20 a
+ * window's second time is below its first; 21 the times of the entries fall.
  */
 #ifndef WISAVULOME_H
 #define WISAVULOME_H
@@ -42,8 +43,9 @@ extern "C" {
 /* set in a reply that is a refusal; the other bits are its number */
 #define WISAVULOME_REFUSAL 0x80000000u
 
-/* the octets of a work area, and of what the calls write into `out` */
+/* the octets of a work area, of a store of four marks, and of what the calls write into `out` */
 #define WISAVULOME_AREA 57344
+#define WISAVULOME_STORE 229412
 #define WISAVULOME_SHEET_OUT 196
 #define WISAVULOME_WRITE_OUT 128
 #define WISAVULOME_CLIENT_OUT 8
@@ -203,6 +205,16 @@ uint32_t wisavulome_counters(const uint8_t *area, size_t area_len, uint32_t stat
  * octets of the frame that it holds; its attempts; the place of the next draw; 1 where the frame was deferred; 1 where the station emitted in
  * the last step; what it hears in the next step; the clock. A number that a state does not use is 0. */
 uint32_t wisavulome_station(const uint8_t *area, size_t area_len, uint32_t station, uint8_t *out, size_t out_len);
+
+/* Marks in a store, of at least 229412 octets, all 0 at first: four places of 57353 octets, each an octet that is 1 where the mark stands, the
+ * name and the work area. A name is a number of 64 bits, its eight octets high octet first; where it stands twice the first counts. Of a longer
+ * area, or store, the octets past those counted here are neither read nor written.
+ * mark: the area under a name, over the mark of that name that stands, or else at the first place whose octet is not 1. Answer: 0. Refusals 1, 2,
+ * 15 (the store), 18. return: the area marked under a name put back. Answer: 0. Refusals 1 (the length of the area alone), 15 (the store), 17, 2
+ * (the area that is marked). drop: that octet becomes 0, and nothing else. Answer: 0. Refusals 15 (the store), 17. */
+uint32_t wisavulome_mark(const uint8_t *area, size_t area_len, uint8_t *store, size_t store_len, uint64_t name);
+uint32_t wisavulome_return(uint8_t *area, size_t area_len, const uint8_t *store, size_t store_len, uint64_t name);
+uint32_t wisavulome_drop(uint8_t *store, size_t store_len, uint64_t name);
 
 /* What is printed for a run input, piece by piece: wisavulome_begin makes a fresh start and hands out the first piece, wisavulome_advance each
  * piece after it, until the fourth word of progress is not 0. Answer: the octets of the piece, 0 to 2048. Refusals of begin: 1, 15 (out under

@@ -16,8 +16,9 @@ pub const AREA_FORMAT: u32 = 2;
 // Set in a reply that is a refusal; the other bits are its number.
 pub const REFUSAL: u32 = 0x8000_0000;
 
-// The octets of a work area, of what the calls write into `out`, and of where a run stands.
+// The octets of a work area, of a store of four marks, of what the calls write into `out`, and of where a run stands.
 pub const AREA: usize = 57344;
+pub const STORE: usize = 229412;
 pub const SHEET_OUT: usize = 196;
 pub const WRITE_OUT: usize = 128;
 pub const CLIENT_OUT: usize = 8;
@@ -172,6 +173,15 @@ unsafe extern "C" {
     // 0; refusals 1, 2, 10, 15. out: the sixteen numbers of its state.
     pub fn wisavulome_station(area: *const u8, area_len: usize, station: u32, out: *mut u8, out_len: usize) -> u32;
 
+    // 0; refusals 1, 2, 15, 18. store: the area under that name.
+    pub fn wisavulome_mark(area: *const u8, area_len: usize, store: *mut u8, store_len: usize, name: u64) -> u32;
+
+    // 0; refusals 1, 15, 17, 2. area: the one that is marked under that name.
+    pub fn wisavulome_return(area: *mut u8, area_len: usize, store: *const u8, store_len: usize, name: u64) -> u32;
+
+    // 0; refusals 15, 17. store: the octet of that mark is 0.
+    pub fn wisavulome_drop(store: *mut u8, store_len: usize, name: u64) -> u32;
+
     // The octets of the first piece; refusals 1, 15. progress: 4 words, written; out: the piece.
     pub fn wisavulome_begin(
         input: *const u8,
@@ -315,6 +325,18 @@ pub fn counters(area: &[u8], station: u32, out: &mut [u8]) -> Answer {
 
 pub fn station(area: &[u8], station: u32, out: &mut [u8]) -> Answer {
     answer(unsafe { wisavulome_station(area.as_ptr(), area.len(), station, out.as_mut_ptr(), out.len()) })
+}
+
+pub fn mark(area: &[u8], store: &mut [u8], name: u64) -> Answer {
+    answer(unsafe { wisavulome_mark(area.as_ptr(), area.len(), store.as_mut_ptr(), store.len(), name) })
+}
+
+pub fn r#return(area: &mut [u8], store: &[u8], name: u64) -> Answer {
+    answer(unsafe { wisavulome_return(area.as_mut_ptr(), area.len(), store.as_ptr(), store.len(), name) })
+}
+
+pub fn drop(store: &mut [u8], name: u64) -> Answer {
+    answer(unsafe { wisavulome_drop(store.as_mut_ptr(), store.len(), name) })
 }
 
 pub fn begin(input: &[u8], area: &mut [u8], progress: &mut [u8], out: &mut [u8]) -> Answer {

@@ -23,6 +23,7 @@ WORD = 4  # octets of a number in an output
 # The octets that each call asks of what is lent to it.
 SIZES = {
     "area": 57344,
+    "store": 229412,
     "sheet": 196,
     "write": 128,
     "client": 8,
@@ -36,6 +37,8 @@ SIZES = {
     "progress": 16,
 }
 
+MAX_MARKS = 4  # of a store
+NAME_OCTETS = 8  # of a mark, after the octet that says whether it stands
 MAX_STATIONS = 16
 MAX_DRAWS = 16  # D
 MAX_OFFERS = 64
@@ -127,9 +130,11 @@ REFUSALS = {
     12: "the station still has a frame",
     13: f"the clock would pass {LAST_CLOCK}",
     14: "the station holds no readable frame",
-    15: "the lent output is too short",
+    15: "the lent output or store is too short",
     16: f"the plan is over {MAX_PLAN} octets, is short, has octets left over, "
     f"over {MAX_OFFERS} offers, or offer times that fall; over {MAX_WINDOWS} windows",
+    17: "no mark of that name",
+    18: "a new name while four others stand",
     20: "a window's second time is below its first",
     21: "the times of the log's entries fall",
 }
@@ -156,6 +161,9 @@ CALLS = {
     "read_frame": ("buffer", "u32", "buffer"),
     "counters": ("buffer", "u32", "buffer"),
     "station": ("buffer", "u32", "buffer"),
+    "mark": ("buffer", "buffer", "u64"),
+    "return": ("buffer", "buffer", "u64"),
+    "drop": ("buffer", "u64"),
     "begin": ("slice", "buffer", "buffer", "buffer"),
     "advance": ("slice", "buffer", "buffer", "buffer"),
     "print": ("slice", "buffer", "buffer"),

@@ -2,7 +2,7 @@
 
 A line is a call, its words parted by spaces; empty lines and lines that begin with `#` have no answer. Every call is
 answered by `ok` and what follows here, `refused n`, or `malformed` where it is no call. A session has a work area and
-a second one, all zero at first and just as long as refusal 1 asks for.
+a second one, and a store of marks, all zero at first and just as long as refusals 1 and 15 ask for.
 
     area LEN                                a new area, all zero
     sheet OCTETS                            octets used, `yes` or `no` (fits), LAYOUT
@@ -17,13 +17,17 @@ a second one, all zero at first and just as long as refusal 1 asks for.
     counters STATION                        the counters, parted by commas
     clock                                   the clock
     windows N ENTRIES WINDOWS               for each window its counts, parted by commas, in TALLY's order
-    second CALL                             the same on the second area; not sheet, write, build, open, windows
+    store LEN                               a new store, all zero
+    mark NAME, return NAME, drop NAME
+    poke PLACE OCTET NAME                   another hand writes octet and name of place 0..3 of the store
+    second CALL                             the same on the second area: area, fresh, offer, step, run, skip, read,
+                                            counters, clock
 
-Numbers are decimal. Octets are two hexadecimal digits each, `-` for none, or COUNT*HH; DEST and SOURCE are six. DRAWS
-are numbers parted by commas, or `-`. LAYOUT: slot, gap1, gap2, jam, attempt limit, backoff limit, late-end, E, then
-POSITION/ADDRESS/OWNER of each station, parted by commas; what the library does not have is 0. TALLY: WORD=COUNT of
-each event word. ENTRIES are time:station:word, WINDOWS station:first:past, parted by commas, or `-`. A new call is a
-function here and a line of the table at the end.
+Numbers are decimal. Octets are two hexadecimal digits each, `-` for none, or COUNT*HH; DEST and SOURCE are six, NAME
+eight. DRAWS are numbers parted by commas, or `-`. LAYOUT: slot, gap1, gap2, jam, attempt limit, backoff limit,
+late-end, E, then POSITION/ADDRESS/OWNER of each station, parted by commas; what the library does not have is 0. TALLY:
+WORD=COUNT of each event word. ENTRIES are time:station:word, WINDOWS station:first:past, parted by commas, or `-`. A
+new call is a function here and a line of the table at the end.
 """
 
 import ctypes
@@ -33,8 +37,8 @@ from dataclasses import dataclass
 from typing import Callable
 
 from . import library
-from .library import COUNT_AT, COUNTERS, EVENTS, MAX_STATIONS, RECEIVE, SIZES, STATUSES, TAP_OCTETS, TAPS_AT
-from .library import Refused, buffer_of, entry_of
+from .library import COUNT_AT, COUNTERS, EVENTS, MAX_MARKS, MAX_STATIONS, NAME_OCTETS, RECEIVE, SIZES, STATUSES
+from .library import TAP_OCTETS, TAPS_AT, Refused, buffer_of, entry_of
 
 MOST = 2**32 - 1
 ADDRESS_OCTETS = 6
@@ -92,6 +96,26 @@ def address(word):
     if len(given) != ADDRESS_OCTETS:
         raise Malformed(word)
     return int.from_bytes(given, "big")
+
+
+def mark_name(word):
+    """The name of a mark, as the number that a call takes."""
+    given = octets(word)
+    if len(given) != NAME_OCTETS:
+        raise Malformed(word)
+    return int.from_bytes(given, "big")
+
+
+def below(limit):
+    """A number below a limit."""
+
+    def checked(word):
+        value = number(word)
+        if value >= limit:
+            raise Malformed(word)
+        return value
+
+    return checked
 
 
 def draws(word):
@@ -166,6 +190,7 @@ class Session:
         self.library = library
         self.level = level
         self.areas = [buffer_of("area"), buffer_of("area")]
+        self.store = buffer_of("store")
 
 
 def lend(asked):
@@ -279,6 +304,33 @@ def windows(session, _at, stations, log, given):
     return " ".join(",".join(map(str, counts)) for counts in session.library.windows(log, stations, given))
 
 
+def new_store(session, _at, length):
+    """A new store."""
+    session.store = lend(length)
+
+
+def mark(session, at, name):
+    """Marks the area."""
+    session.library.call("mark", session.areas[at], session.store, name)
+
+
+def go_back(session, at, name):
+    """Puts a marked area back."""
+    session.library.call("return", session.areas[at], session.store, name)
+
+
+def drop(session, _at, name):
+    """Drops a mark."""
+    session.library.call("drop", session.store, name)
+
+
+def poke(session, _at, place, octet, name):
+    """Another hand writes octet and name of a place; nothing past the end of a store that is too short."""
+    at = place * (SIZES["store"] // MAX_MARKS)
+    written = (bytes([octet]) + name.to_bytes(NAME_OCTETS, "big"))[: max(0, len(session.store) - at)]
+    ctypes.memmove(ctypes.byref(session.store, at), written, len(written))
+
+
 # ---- the table
 
 
@@ -306,6 +358,11 @@ CALLS = {
     "counters": Call(counters, (number,), True),
     "clock": Call(clock, (), True),
     "windows": Call(windows, (number, entries, spans)),
+    "store": Call(new_store, (size,)),
+    "mark": Call(mark, (mark_name,)),
+    "return": Call(go_back, (mark_name,)),
+    "drop": Call(drop, (mark_name,)),
+    "poke": Call(poke, (below(MAX_MARKS), below(256), mark_name)),
 }
 
 

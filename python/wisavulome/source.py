@@ -16,6 +16,7 @@ from .refusals import InputRefused
 MOST = 1 << 24  # octets of a file that are read
 CONTROL = re.compile(rb"[\x00-\x08\x0b\x0e-\x1f\x7f]")  # octets that no text has
 LETTER = re.compile(rb"[A-Za-z]")  # every line of a text begins with a word
+LEAST_TEXT = len("D 1")  # octets; a word and a number
 DRAWING = re.compile(rb"<svg[\s>]")
 CARRIED = re.compile(rb"<(?:[a-z]+:)?octets[^>]*>([0-9a-fA-F\s]*)</")
 
@@ -67,13 +68,14 @@ def read_file(path):
 def read_source(library, path, given=None):
     """The sheet or plan in a file, whatever its form.
 
-    A plan always has an octet that no text has, and a text has a letter. A sheet that could be a text is tried as both.
+    A plan always has an octet that no text has; a text has a letter and is no shorter than a word and a number. A sheet
+    that could be a text is tried as both.
     """
     given = read_file(path) if given is None else given
     name = shown(path)
     if DRAWING.search(given[:4096]):
         return Source(name, carried(name, given), "drawing")
-    if CONTROL.search(given) or not LETTER.search(given):
+    if CONTROL.search(given) or not LETTER.search(given) or len(given) < LEAST_TEXT:
         return Source(name, given, "octets")
     try:
         return Source(name, from_text(given), "text")

@@ -205,3 +205,58 @@ class Replay(CommandTest):
         gone = subprocess.run([*tool, str(self.folder / "gone")], capture_output=True, text=True, check=False)
         self.assertEqual((gone.returncode, gone.stdout), (2, ""))
         self.assertIn("cannot be read", gone.stderr)
+
+
+class Marks(CommandTest):
+    """Marks, returns and drops (request N5)."""
+
+    ONE, TWO, THREE, FOUR, FIVE = (f"{number:016x}" for number in range(1, 6))
+    BEFORE = (f"fresh {SHEET} 1 0,1", "offer 0 020000000002 3 616263", "run 100")
+    LOOK = ("counters 0", "counters 1", "clock")
+
+    def answers(self, *lines):
+        return list(replay(self.library, "\n".join(lines) + "\n"))
+
+    def test_three_timings(self):
+        """Three timings from one mark: each comes out as if it were the only one."""
+        timings = [(f"run {wait}", "offer 1 020000000001 3 646566", "run 3000", *self.LOOK) for wait in (0, 300, 700)]
+        alone = [self.answers(*self.BEFORE, *timing)[3:] for timing in timings]
+        self.assertNotEqual(alone[0], alone[1])
+        marked = [*self.BEFORE, f"mark {self.ONE}"]
+        for timing in timings:
+            marked += [*timing, f"return {self.ONE}"]
+        after = self.answers(*marked, "clock")[4:]
+        self.assertEqual(after.pop(), "ok 100")
+        self.assertEqual(after, [line for answers in alone for line in (*answers, "ok")])
+
+    def test_return_after_drop(self):
+        lines = [f"mark {self.ONE}", f"drop {self.ONE}", f"return {self.ONE}", f"drop {self.ONE}"]
+        self.assertEqual(self.answers(*self.BEFORE, *lines)[3:], ["ok", "ok", "refused 17", "refused 17"])
+
+    def test_fifth_name(self):
+        """A fifth name is refused; one that stands is replaced; a place that is dropped takes the next name."""
+        names = [f"mark {name}" for name in (self.ONE, self.TWO, self.THREE, self.FOUR, self.FIVE, self.THREE)]
+        lines = [*names, f"drop {self.TWO}", f"mark {self.FIVE}", f"return {self.TWO}", f"return {self.FIVE}"]
+        made = self.answers(*self.BEFORE, *lines)[3:]
+        self.assertEqual(made, ["ok"] * 4 + ["refused 18", "ok", "ok", "ok", "refused 17", "ok"])
+
+    def test_another_hand(self):
+        """An octet that is 2 is no mark, and its place is free; an octet of 1 over what was never marked is."""
+        lines = [
+            f"mark {self.ONE}", f"poke 0 2 {self.ONE}", f"return {self.ONE}", "run 5", f"mark {self.TWO}",
+            f"poke 0 1 {self.ONE}", f"return {self.TWO}", f"return {self.ONE}", "clock",
+            f"poke 3 1 {self.THREE}", f"return {self.THREE}", "clock",
+        ]  # fmt: skip
+        made = self.answers(*self.BEFORE, *lines)[3:]
+        self.assertEqual(made[2], "refused 17")
+        self.assertEqual(made[6:], ["refused 17", "ok", "ok 105", "ok", "refused 2", "ok 105"])
+
+    def test_checks_in_order(self):
+        """mark: 1, 2, 15, 18; return: 1, 15, 17, 2; drop: 15, 17."""
+        mark, back, drop = (f"{word} {self.FIVE}" for word in ("mark", "return", "drop"))
+        calls = [mark, back, drop]
+        self.assertEqual(self.answers("area 9", "store 9", *calls)[2:], ["refused 1", "refused 1", "refused 15"])
+        self.assertEqual(self.answers("store 229411", *calls)[1:], ["refused 2", "refused 15", "refused 15"])
+        self.assertEqual(self.answers(*self.BEFORE, "store 229411", mark)[4:], ["refused 15"])
+        self.assertEqual(self.answers(*calls), ["refused 2", "refused 17", "refused 17"])
+        self.assertEqual(self.answers(f"poke 0 1 {self.FIVE}", back, drop, back), ["ok", "refused 2", "ok", "refused 17"])

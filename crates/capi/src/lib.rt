@@ -11,6 +11,7 @@ ghost use Rattle.c_calls.specs.Calls.{startGiven, offerGiven, stepLeft, runLeft
 ghost use Rattle.c_checks.specs.CheckCalls.{receptionGiven, areaGiven, layoutGiven, planGiven, writeGiven};
 ghost use Rattle.c_log.specs.LogCalls.{windowsGiven};
 ghost use Rattle.c_views.specs.Views.{stationGiven, marginGiven};
+ghost use Rattle.c_marks.specs.MarkCalls.{markGiven, returnGiven, dropGiven};
 ghost use Rattle.c_text.specs.TextCalls.{lent, begunLent, advancedLent, printLeft};
 
 // Reads a sheet: the octets used. Refusals 3 to 8, 15.
@@ -203,6 +204,30 @@ pub extern "C" fn wisavulome_station(area: &[u8], station: u32, out: &mut [u8]) 
     ensures { λ r. ⌜ given r (now (out .exit)) ≡ stationGiven (now (area .entry)) station (now (out .entry)) ⌝ }
 {
     c_views::station(area, station, out)
+}
+
+// Marks a work area under a name, in a store: 0. Refusals 1, 2, 15, 18.
+#[no_mangle]
+pub extern "C" fn wisavulome_mark(area: &[u8], store: &mut [u8], name: u64) -> u32
+    ensures { λ r. ⌜ given r (now (store .exit)) ≡ markGiven (now (area .entry)) (now (store .entry)) name ⌝ }
+{
+    c_marks::mark(area, store, name)
+}
+
+// Puts back the work area that is marked under a name: 0. Refusals 1, 15, 17, 2.
+#[no_mangle]
+pub extern "C" fn wisavulome_return(area: &mut [u8], store: &[u8], name: u64) -> u32
+    ensures { λ r. ⌜ given r (now (area .exit)) ≡ returnGiven (now (area .entry)) (now (store .entry)) name ⌝ }
+{
+    c_marks::go_back(area, store, name)
+}
+
+// Drops the mark of a name: 0. Refusals 15, 17.
+#[no_mangle]
+pub extern "C" fn wisavulome_drop(store: &mut [u8], name: u64) -> u32
+    ensures { λ r. ⌜ given r (now (store .exit)) ≡ dropGiven (now (store .entry)) name ⌝ }
+{
+    c_marks::drop_mark(store, name)
 }
 
 // The first piece of what is printed for a run input: its octets, and where the run stands. Refusals 1, 15.

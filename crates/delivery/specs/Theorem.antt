@@ -512,7 +512,7 @@ offer-octets m i d v x ok =
     (λ h. rw (eq-eqb (areaRefusal (m .area)) 0 ok, c, e, h))
     (λ h. rw (eq-eqb (areaRefusal (m .area)) 0 ok, c, e, h))))
 
-call-octets : (c : Call) (m : Moment) → areaRefusal (m .area) ≡ 0 → leaves c m .area ≡ called c (m .area)
+pub call-octets : (c : Call) (m : Moment) → areaRefusal (m .area) ≡ 0 → leaves c m .area ≡ called c (m .area)
 unfolding leaves
 call-octets (offer i d v x) m ok = offer-octets m i d v x ok
 call-octets step m ok = step-octets m ok

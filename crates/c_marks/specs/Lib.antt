@@ -1,0 +1,3 @@
+pub mod MarkCalls
+pub mod MarkCallLaws
+pub mod MarkCallTheorems

@@ -1,0 +1,4 @@
+pub mod Front
+pub mod Paths
+pub mod PathTheorem
+pub mod Returns
