@@ -55,5 +55,5 @@ check-install: $(SHARED)
 	$(PYTHON) -B -m unittest discover -s tools/tests_install -p 'test_*.py'
 
 check-command: $(SHARED)
-	$(PYTHON) -B -m unittest discover -s tools/tests_library -p 'test_*.py'
+	WISAVULOME_LEVELS=all $(PYTHON) -B -m unittest discover -s tools/tests_library -p 'test_*.py'
 	tools/check-formats --installed

@@ -27,7 +27,7 @@ class Gate(unittest.TestCase):
         with tempfile.TemporaryDirectory() as folder:
             root = Path(folder)
             programs = [f"bin/{name}" for name in ("rt", "cargo", "python3", "make")]
-            scripts = [f"tools/{name}" for name in ("check-index", "check-interface")]
+            scripts = [f"tools/{name}" for name in ("check-index", "check-interface", "check-formats")]
             for name in [".ci/run", *programs, *scripts]:
                 (root / name).parent.mkdir(parents=True, exist_ok=True)
                 (root / name).write_text(STAND_IN)
@@ -49,6 +49,7 @@ class Gate(unittest.TestCase):
     def test_failures(self):
         parts = ["rt fmt", "cargo fmt", "python3", "check-index", "rt ci", "rt staticlib", "cargo test", "make --silent library"]
         parts += ["check-interface", "python3 -B -m unittest discover -s tools/tests_library", "make --silent check-install"]
+        parts += ["python3 -B -m unittest discover -s tools/tests_library -p test_d", "check-formats --installed"]
         for part in parts:
             with self.subTest(part):
                 status, lines, left = self.run_gate(fails=part)

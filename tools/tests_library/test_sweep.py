@@ -19,6 +19,11 @@ PLAN = (
 )
 
 
+def heed_interrupts():
+    """What runs in the background of a script is born with interrupts ignored; not so the one under test."""
+    signal.signal(signal.SIGINT, signal.SIG_DFL)
+
+
 class Sweep(CommandTest):
     def setUp(self):
         super().setUp()
@@ -111,7 +116,9 @@ class Sweep(CommandTest):
         """A real interrupt: it ends by the signal, with no traceback, and goes on afterwards."""
         rows = self.folder / "rows.csv"
         words = [str(TOOL), "sweep", str(self.plan), "--sets", "4000", "--rows", str(rows)]
-        with subprocess.Popen(words, stdout=subprocess.PIPE, stderr=subprocess.PIPE, start_new_session=True) as running:
+        with subprocess.Popen(
+            words, stdout=subprocess.PIPE, stderr=subprocess.PIPE, start_new_session=True, preexec_fn=heed_interrupts
+        ) as running:
             until = time.time() + 30
             while time.time() < until and not (rows.exists() and rows.stat().st_size > 5000):
                 time.sleep(0.01)
