@@ -51,7 +51,8 @@ fn time_refusal(area: &[u8], n: u32) -> u32
 
 // What n bit times answer where the output is too short: their own refusal first, then 15.
 pub fn refuse_short(area: &[u8], n: u32) -> u32
-    ensures { λ r. ⌜ r ≡ replied (pick (eqb (timeRefusal (now (area .entry)) n) 0) 15 (timeRefusal (now (area .entry)) n)) 0 ⌝ }
+    ensures { λ r. ⌜ r ≡ replied
+        (pick (eqb (timeRefusal (now (area .entry)) n) 0) 15 (timeRefusal (now (area .entry)) n)) 0 ⌝ }
 {
     let number = time_refusal(area, n);
     if number != 0 {

@@ -89,7 +89,8 @@ fn hand_over(h: Handed, progress: &mut [u8]) -> u32
     requires { ⌜ (16 ≤ length (now progress)) × (numberOf (pieceAnswer (h .piece)) ≤ maxRefusal)
         × (valueOf (pieceAnswer (h .piece)) < 4294967296) ⌝ }
     ensures { λ r. ⌜ given r (now (progress .exit))
-        ≡ given (codeOf (pieceAnswer (h .piece))) (progressPut (pieceAnswer (h .piece)) (h .progress) (now (progress .entry))) ⌝ }
+        ≡ given (codeOf (pieceAnswer (h .piece)))
+        (progressPut (pieceAnswer (h .piece)) (h .progress) (now (progress .entry))) ⌝ }
 {
     let piece = h.piece;
     let number = piece_number(piece);
@@ -126,7 +127,8 @@ pub fn begin(input: &[u8], area: &mut [u8], progress: &mut [u8], out: &mut [u8])
 
 // What `advance` replies where the place is too short: the area's own refusal first, then 15.
 fn refuse_place(area: &[u8]) -> u32
-    ensures { λ r. ⌜ r ≡ replied (pick (eqb (areaRefusal (now (area .entry))) 0) 15 (areaRefusal (now (area .entry)))) 0 ⌝ }
+    ensures { λ r. ⌜ r ≡ replied
+        (pick (eqb (areaRefusal (now (area .entry))) 0) 15 (areaRefusal (now (area .entry)))) 0 ⌝ }
 {
     let number = area_check::refusal(area);
     if number != 0 {

@@ -17,8 +17,8 @@ use Rattle.sheet_layout.specs.Layout.{positionAt, fitsWell}
 use Rattle.sheet_layout.specs.Fit.{fitOf}
 use Rattle.sheet_layout.specs.Check.{refusalOf}
 use Rattle.sheet_layout.specs.CheckLaws.{sound}
-use Rattle.sheet_read.specs.Sheet.{mapOf, stands, layoutIn, sheetSize, unread, readSheet}
-use Rattle.sheet_read.specs.SheetTheorems.{read-formed}
+use Rattle.sheet_read.specs.Sheet.{readSheet}
+use Rattle.sheet_read.specs.SheetTheorems.{read-passes, read-formed}
 use Rattle.sheet_fit.specs.Margin.{movedOut, outwardOf, marginOf}
 use Rattle.sheet_fit.specs.MarginLaws.{margin-made, margin-no}
 use Rattle.sheet_fit.specs.MarginTheorems.{margin-exact, margin-none}
@@ -42,29 +42,11 @@ past-end (x ∷ ts) zero t h = absurd (omega arith)
 past-end (x ∷ ts) (suc i) t h = past-end ts i t (omega arith)
 
 module _ (l : List ℕ) (n : ℕ) (read : readSheet l .answer ≡ accepted (n ∷ [])) where
-  read-passes : refusalOf (readSheet l .layout) ≡ 0
-  unfolding readSheet
-  read-passes = go (ltb (length l) (sheetSize l)) (stands (mapOf l) 7) (eqb (refusalOf (layoutIn l)) 0) refl read
-    where
-      go : (s t u : Bool) → eqb (refusalOf (layoutIn l)) 0 ≡ u
-          → pick s (unread 3) (pick t (unread 4) (pick u (record {
-            answer = accepted (sheetSize l ∷ []);
-            layout = layoutIn l;
-          }) (unread (refusalOf (layoutIn l))))) .answer ≡ accepted (n ∷ [])
-          → refusalOf (pick s (unread 3) (pick t (unread 4) (pick u (record {
-            answer = accepted (sheetSize l ∷ []);
-            layout = layoutIn l;
-          }) (unread (refusalOf (layoutIn l))))) .layout) ≡ 0
-      go true t u q h = refused-none 3 (n ∷ []) h
-      go false true u q h = refused-none 4 (n ∷ []) h
-      go false false true q h = eqb-true (refusalOf (layoutIn l)) 0 q
-      go false false false q h = refused-none (refusalOf (layoutIn l)) (n ∷ []) h
-
   -- every station has a place: its address is six octets
   read-room : readSheet l .layout .count ≤ length (readSheet l .layout .stations)
   read-room =
       let y = readSheet l .layout in
-      let w = sound y read-passes in
+      let w = sound y (read-passes l n read) in
       by-test (ltb (length (y .stations)) (y .count))
       (λ p. absurd (let h = read-formed l n read (y .count - 1) (omega (arith, w .count)) in
       let e = past-end (y .stations) (y .count - 1) (record { position = 0; address = [] })
@@ -83,17 +65,17 @@ module _ (l : List ℕ) (n : ℕ) (read : readSheet l .answer ≡ accepted (n �
 
   fits-so : fitsWell (readSheet l .layout) ≡ true
       → marginOf (readSheet l .layout) ≡ accepted (outwardOf (readSheet l .layout) ∷ [])
-  fits-so h = sym (margin-made (readSheet l .layout) 0 true _ (sym read-passes) refl (sym h) refl refl)
+  fits-so h = sym (margin-made (readSheet l .layout) 0 true _ (sym (read-passes l n read)) refl (sym h) refl refl)
 
   not-so : fitsWell (readSheet l .layout) ≡ false → marginOf (readSheet l .layout) ≡ accepted []
-  not-so h = sym (margin-no (readSheet l .layout) 0 false (sym read-passes) refl (sym h) refl)
+  not-so h = sym (margin-no (readSheet l .layout) 0 false (sym (read-passes l n read)) refl (sym h) refl)
 
   -- the last of two or more taps is not at 0
   outward-low : outwardOf (readSheet l .layout) < 255
   unfolding outwardOf
   outward-low =
       let y = readSheet l .layout in
-      let w = sound y read-passes in
+      let w = sound y (read-passes l n read) in
       let e : suc (y .count - 2) ≡ y .count - 1 = omega (arith, w .count) in
       omega (arith, w .rising (y .count - 2) (omega (arith, w .count)), ap (positionAt y) e)
 

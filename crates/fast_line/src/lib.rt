@@ -252,7 +252,8 @@ pub fn push_codes(
     requires { ⌜ (j < maxStations) × (areaSize ≤ length (now area)) × (t + steps + d < 4294967296) × (d ≤ ring)
         × (at + ring ≤ length (now codes)) ⌝ }
     ensures { λ r. ⌜ now (area .exit)
-        ≡ codesPut j (t + (steps - d + d)) (now (codes .entry)) (at + (ring - min d steps)) (min d steps) (now (area .entry)) ⌝ }
+        ≡ codesPut j (t + (steps - d + d)) (now (codes .entry)) (at + (ring - min d steps)) (min d steps)
+        (now (area .entry)) ⌝ }
 {
     let m = bus_quick::capped(d, steps);
     let u = t + (steps - m + d);

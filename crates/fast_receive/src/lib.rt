@@ -101,7 +101,8 @@ fn collect_eight(
     requires { ⌜ (j < maxStations) × (areaSize ≤ length (now area)) × (u + m < 4294967296) × (bits + m < 4294967296)
         × AllHeard (lineFrom (now area) j u) m ⌝ }
     ensures heard { λ t. ⌜ taken (t .receiver) (now (area .exit))
-        ≡ heardAll j e (lineFrom (now (area .entry)) j u) (t .steps) (taken (Collecting bits spoiled own) (now (area .entry))) ⌝ }
+        ≡ heardAll j e (lineFrom (now (area .entry)) j u) (t .steps)
+        (taken (Collecting bits spoiled own) (now (area .entry))) ⌝ }
     ensures range { λ t. ⌜ (t .steps ≤ m) × (rowIn (t .receiver) < rowLimit)
         × (bitsIn (t .receiver) ≤ bits + t .steps) ⌝ }
 {
@@ -395,7 +396,8 @@ fn collect_octets(
 ) -> Part
     requires { ⌜ (j < maxStations) × (areaSize ≤ length (now area)) × (a + m < 4294967296) × (bits + m < 4294967296) ⌝ }
     ensures heard { λ t. ⌜ taken (t .receiver) (now (area .exit))
-        ≡ heardAll j e (bitsFrom (now (frame .entry)) a) (t .steps) (taken (Collecting bits spoiled own) (now (area .entry))) ⌝ }
+        ≡ heardAll j e (bitsFrom (now (frame .entry)) a) (t .steps)
+        (taken (Collecting bits spoiled own) (now (area .entry))) ⌝ }
     ensures range { λ t. ⌜ (t .steps ≤ m) × (rowIn (t .receiver) < rowLimit)
         × (bitsIn (t .receiver) ≤ bits + t .steps) ⌝ }
 {

@@ -53,7 +53,8 @@ fn move_run(
     requires { ⌜ (j < maxStations) × (areaSize ≤ length (now area)) × (s < m) × (t + m ≤ lastClock)
         × (bit + m < 4294967296) × (f .gap1 + f .gap2 < 65536) × Moving f depth j (t + s) (now area) ⌝ }
     ensures moved { λ r. ⌜ now (area .exit)
-        ≡ byItself f depth j (heardFrom (now (area .entry)) j t near (now (frame .entry)) bit s) r (now (area .entry)) ⌝ }
+        ≡ byItself f depth j (heardFrom (now (area .entry)) j t near (now (frame .entry)) bit s) r
+        (now (area .entry)) ⌝ }
     ensures bound { λ r. ⌜ (0 < r) × (s + r ≤ m) ⌝ }
 {
     let most = m - s;
@@ -77,7 +78,8 @@ fn move_runs(
     m: u32,
 )
     requires { ⌜ (j < maxStations) × (areaSize ≤ length (now area)) × (t + m ≤ lastClock) × (bit + m < 4294967296)
-        × (f .gap1 + f .gap2 < 65536) × Moving f depth j t (now area) ⌝ }
+        × (f .gap1 + f .gap2 < 65536)
+        × Moving f depth j t (now area) ⌝ }
     ensures { λ r. ⌜ now (area .exit)
         ≡ byItself f depth j (heardBy (now (area .entry)) j t near (now (frame .entry)) bit) m (now (area .entry)) ⌝ }
 {
@@ -100,9 +102,12 @@ fn hold_frame(area: &[u8], i: usize, n: usize) -> [u8; area::FRAME_ROOM]
 // Station j moves on over m steps from clock t on.
 fn move_station(area: &mut [u8], f: Figures, depth: u32, j: usize, t: u32, w: Sight, m: u32)
     requires { ⌜ (j < maxStations) × (areaSize ≤ length (now area)) × (t + m ≤ lastClock) × (w .bit + m < 4294967296)
-        × (w .from < maxStations) × (w .octets ≤ frameRoom) × (f .gap1 + f .gap2 < 65536) × Moving f depth j t (now area) ⌝ }
+        × (w .from < maxStations) × (w .octets ≤ frameRoom) × (f .gap1 + f .gap2 < 65536)
+        × Moving f depth j t (now area) ⌝ }
     ensures { λ r. ⌜ now (area .exit)
-        ≡ byItself f depth j (heardBy (now (area .entry)) j t (w .near) (frameAt (now (area .entry)) (w .from) (w .octets)) (w .bit)) m (now (area .entry)) ⌝ }
+        ≡ byItself f depth j
+        (heardBy (now (area .entry)) j t (w .near) (frameAt (now (area .entry)) (w .from) (w .octets)) (w .bit)) m
+        (now (area .entry)) ⌝ }
 {
     let near = w.near;
     let octets = w.octets as usize;

@@ -134,7 +134,8 @@ pub left-entered : (ws l c d : List ℕ) (m k n last t i : ℕ) (a f b g : Bool)
     → d ≡ addedAt ws l k c → leftOf ws (stateOf n last a f c) l m k ≡ x
     → leftOf ws (stateOf n t b g d) l m (k + 1) ≡ x
 left-entered ws l c d m k n last t i a f b g x h p q r u e =
-    left-more ws l (stateOf n last a f c) (stateOf n t b g d) x m k h (entered-at ws l c d k n last t i a f b g p q r u e)
+    left-more ws l (stateOf n last a f c) (stateOf n t b g d) x m k h
+    (entered-at ws l c d k n last t i a f b g p q r u e)
 
 pub left-end : (ws l : List ℕ) (s x : State) (m k : ℕ) → leftOf ws s l m k ≡ x → m ≤ k → s ≡ x
 unfolding over

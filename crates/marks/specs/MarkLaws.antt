@@ -14,8 +14,9 @@ use Rattle.octets.specs.Equal.{equal}
 use Rattle.octets.specs.Store.{length-part}
 use Rattle.area.specs.Offsets.{areaSize}
 use Rattle.area_check.specs.Valid.{areaWrong, areaRefusal}
-use Rattle.marks.specs.Marks.{markCount, nameSize, storeSize, markFrom, nameFrom, copyFrom, stands, nameAt, copyAt}
-use Rattle.marks.specs.Marks.{firstFrom, named, found, vacant, free, placeFor, withHead, withMark, marked, returned, dropped}
+use Rattle.marks.specs.Marks.{markCount, nameSize, storeSize, markFrom, nameFrom, copyFrom, stands, nameAt}
+use Rattle.marks.specs.Marks.{copyAt, firstFrom, named, found, vacant, free, placeFor, withHead, withMark}
+use Rattle.marks.specs.Marks.{marked, returned, dropped}
 
 -- ---- a place
 

@@ -15,7 +15,8 @@ use Rattle.octets.specs.EqualLaws.{equal-refl}
 use Rattle.octets.specs.Region.{Same, same-trans, part-goes-by, set-leaves, sets-leaves}
 use Rattle.octets.specs.Store.{part, Apart, part-same, octet-other}
 use Rattle.area.specs.Offsets.{areaSize}
-use Rattle.marks.specs.Marks.{markCount, nameSize, storeSize, markFrom, nameFrom, copyFrom, stands, nameAt, copyAt}
+use Rattle.marks.specs.Marks.{markCount, nameSize, storeSize, markFrom, nameFrom, copyFrom, stands, nameAt}
+use Rattle.marks.specs.Marks.{copyAt}
 use Rattle.marks.specs.Marks.{firstFrom, named, found, vacant, free, placeFor, withHead, withMark}
 
 first-most : (t : ℕ → Bool) (k n : ℕ) → firstFrom t k n ≤ k + n
@@ -31,7 +32,8 @@ found-most s name = first-most (named s name) 0 markCount
 pub place-most : (s name : List ℕ) → placeFor s name ≤ markCount
 unfolding placeFor free
 place-most s name =
-    by-test (eqb (found s name) markCount) (λ e. rw e (first-most (vacant s) 0 markCount)) (λ e. rw e (found-most s name))
+    by-test (eqb (found s name) markCount) (λ e. rw e (first-most (vacant s) 0 markCount))
+    (λ e. rw e (found-most s name))
 
 copy-by : (l m : List ℕ) (k : ℕ) → k < markCount → storeSize ≤ length l → storeSize ≤ length m
     → Same (copyFrom k) areaSize l m → copyAt l k ≡ copyAt m k

@@ -123,7 +123,8 @@ fn is_wrong(store: &[u8], k: usize) -> bool
 
 // Marks a work area under a name. Refusals 1, 2, 15, 18.
 pub fn mark(area: &[u8], store: &mut [u8], name: [u8; 8]) -> Done
-    ensures { λ r. ⌜ outcome (doneAnswer r) (now (store .exit)) ≡ marked (now (area .entry)) (now (store .entry)) name ⌝ }
+    ensures { λ r. ⌜ outcome (doneAnswer r) (now (store .exit))
+        ≡ marked (now (area .entry)) (now (store .entry)) name ⌝ }
 {
     let number = area_check::refusal(area);
     if number != 0 {

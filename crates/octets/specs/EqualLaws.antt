@@ -1,7 +1,7 @@
 -- The test of `equal` and the equation, and the loop of `same`. Assumes nothing.
 use Prim.Native.Nat.{ℕ, zero, suc, _+_, _≤_, _<_}
 use mathlib.Core.Path.{_≡_, refl, sym, _∙_, ap, ap₂}
-use mathlib.Core.Bool.{Bool, true, false}
+use mathlib.Core.Bool.{Bool, true, false, true≢false}
 use mathlib.Core.List.{List, [], _∷_}
 use native.Mathlib.Numerals.{add-one}
 use native.Mathlib.Omega.{arith}
@@ -10,6 +10,7 @@ use lib.Dec.{eqb}
 use lib.ListN.{length, getD, drop, drop-of-length-le}
 use lib.Seq.{drop-cons}
 use Rattle.octets.specs.Base.{pick}
+use Rattle.octets.specs.BaseLaws.{by-test}
 use Rattle.octets.specs.Equal.{equal}
 
 pub equal-refl : (a : List ℕ) → equal a a ≡ true
@@ -27,6 +28,17 @@ equal-lengths (x ∷ a) (y ∷ b) h = go (eqb x y) (equal-lengths a b (λ e. h (
     go : (t : Bool) → false ≡ equal a b → false ≡ pick t (equal a b) false
     go true p = p
     go false p = refl
+
+-- what passes the test is equal
+pub equal-true : (a b : List ℕ) → equal a b ≡ true → a ≡ b
+unfolding equal
+equal-true [] [] p = refl
+equal-true [] (y ∷ b) p = absurd (true≢false (sym p))
+equal-true (x ∷ a) [] p = absurd (true≢false (sym p))
+equal-true (x ∷ a) (y ∷ b) p =
+    by-test (eqb x y)
+    (λ e. ap₂ (λ (n : ℕ) (l : List ℕ). n ∷ l) (eqb-true x y e) (equal-true a b (rw e at p)))
+    (λ e. absurd (true≢false (sym (rw e at p))))
 
 -- ---- the loop: the octets from i on are the same exactly if all are
 

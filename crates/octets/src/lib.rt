@@ -1,5 +1,5 @@
-// What every crate stands on: octets as numbers, tests put together, powers of two, and the definitions of octets, numbers and words
-// (specs).
+// What every crate stands on: octets as numbers, tests put together, powers of two, and the definitions of octets,
+// numbers and words (specs).
 
 ghost use mathlib.Core.Path.{_≡_};
 ghost use mathlib.Core.Bool.{_||_, _&&_};

@@ -340,7 +340,8 @@ module _ (z : List ℕ) where
 
   -- ---- an offer
 
-  held-put : (b : List ℕ) (i n : ℕ) → areaSize ≤ length b → i < maxStations → withHeld (b ++ z) i n ≡ withHeld b i n ++ z
+  held-put : (b : List ℕ) (i n : ℕ) → areaSize ≤ length b → i < maxStations
+      → withHeld (b ++ z) i n ≡ withHeld b i n ++ z
   unfolding withHeld
   held-put b i n big hi =
       rw (station-front b big i hi) (station-put b big i hi (offeredStation (stationAt b i) n))

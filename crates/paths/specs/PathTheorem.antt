@@ -12,6 +12,7 @@ use lib.Seq.{sets, length-sets, take-at, length-take-le, ext-getD}
 use Rattle.octets.specs.Base.{pick, outside, accepted, numberOf}
 use Rattle.octets.specs.BaseLaws.{by-test, by-eq, within}
 use Rattle.octets.specs.Equal.{equal}
+use Rattle.octets.specs.EqualLaws.{equal-true}
 use Rattle.octets.specs.NumberLaws.{Octets}
 use Rattle.octets.specs.Store.{take-sets}
 use Rattle.octets.specs.Turns.{blanked, length-blanked, blanked-same}
@@ -200,16 +201,6 @@ lead-start a s d ds o h g =
 
 -- ---- the book
 
-equal-true : (a b : List ℕ) → equal a b ≡ true → a ≡ b
-unfolding equal
-equal-true [] [] p = refl
-equal-true [] (y ∷ b) p = absurd (true≢false (sym p))
-equal-true (x ∷ a) [] p = absurd (true≢false (sym p))
-equal-true (x ∷ a) (y ∷ b) p =
-    by-test (eqb x y)
-    (λ e. ap₂ (λ (n : ℕ) (l : List ℕ). n ∷ l) (eqb-true x y e) (equal-true a b (rw e at p)))
-    (λ e. absurd (true≢false (sym (rw e at p))))
-
 -- every path in it is true
 
 record True (w : Session) : Type 0 where
@@ -356,7 +347,8 @@ promised w t =
       octets = λ p e. t .area p e .front .here;
       passes = λ p e. lead-passes p (w .area) (t .area p e);
       demand = λ p e. let r = t .area p e .front in
-          demand-3 (p .sheet) (r .octets) (r .used) (r .sheet) blank (p .depth) (p .draws) (r .begun) (p .calls) (r .fair);
+          demand-3 (p .sheet) (r .octets) (r .used) (r .sheet) blank (p .depth) (p .draws) (r .begun) (p .calls)
+          (r .fair);
       marks = λ k p hk e. t .places k p hk e .here;
       returns = λ k p hk e. ready-passes (copyAt (w .store) k) (t .places k p hk e .passing);
     }

@@ -61,7 +61,8 @@ eventLine t i w v = pick (eqb w 0) [] (line t i (wordText w) v)
 -- "transmit comes before receive"
 unfoldable pub stationLines : (t i : ℕ) → Events → List ℕ
 stationLines t i e =
-    eventLine t i (transmitWord (e .sent)) (transmitValue (e .sent)) ++ eventLine t i (receiveWord (e .got)) (receiveValue (e .got))
+    eventLine t i (transmitWord (e .sent)) (transmitValue (e .sent))
+    ++ eventLine t i (receiveWord (e .got)) (receiveValue (e .got))
 
 -- "In a step, stations rise": the lines of the first n stations in step t
 unfoldable pub stepLines : (t : ℕ) → List Events → (n : ℕ) → List ℕ

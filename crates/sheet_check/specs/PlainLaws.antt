@@ -15,7 +15,7 @@ use lib.Seq.{getD-set-same, getD-set-other, ext-getD}
 use Rattle.octets.specs.Base.{pick, some, outside}
 use Rattle.octets.specs.BaseLaws.{by-test, by-eq, within, some-same, some-more, some-hit}
 use Rattle.octets.specs.Equal.{equal}
-use Rattle.octets.specs.EqualLaws.{equal-refl}
+use Rattle.octets.specs.EqualLaws.{equal-refl, equal-true}
 use Rattle.octets.specs.Number.{get}
 use Rattle.octets.specs.NumberLaws.{Octets}
 use Rattle.sheet_layout.specs.declared.Tap.{Tap}
@@ -48,16 +48,6 @@ same-octets (suc (suc w)) a b o p e k h =
         → getD a k 0 ≡ getD b k 0
     go (yes j) ih last = ih j
     go (no j) ih last = let z : k ≡ suc w = omega arith in rw z last
-
-equal-true : (a b : List ℕ) → equal a b ≡ true → a ≡ b
-unfolding equal
-equal-true [] [] p = refl
-equal-true [] (y ∷ b) p = absurd (true≢false (sym p))
-equal-true (x ∷ a) [] p = absurd (true≢false (sym p))
-equal-true (x ∷ a) (y ∷ b) p =
-    by-test (eqb x y)
-    (λ e. ap₂ (λ (n : ℕ) (l : List ℕ). n ∷ l) (eqb-true x y e) (equal-true a b (rw e at p)))
-    (λ e. absurd (true≢false (sym (rw e at p))))
 
 -- so two addresses are the same exactly where their numbers are
 same-number : (a b : List ℕ) → Octets a → Octets b → length a ≡ 6 → length b ≡ 6

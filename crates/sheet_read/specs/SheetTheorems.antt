@@ -61,6 +61,62 @@ read-sound l n =
         }
     go false false false p q h = refused-none (refusalOf (layoutIn l)) (n ∷ []) h
 
+-- its layout passes
+pub read-passes : (l : List ℕ) (n : ℕ) → readSheet l .answer ≡ accepted (n ∷ []) → refusalOf (readSheet l .layout) ≡ 0
+unfolding readSheet
+read-passes l n =
+    go (ltb (length l) (sheetSize l)) (stands (mapOf l) 7) (eqb (refusalOf (layoutIn l)) 0) refl
+  where
+    go : (s t u : Bool) → eqb (refusalOf (layoutIn l)) 0 ≡ u
+        → pick s (unread 3) (pick t (unread 4) (pick u (record {
+          answer = accepted (sheetSize l ∷ []);
+          layout = layoutIn l;
+        }) (unread (refusalOf (layoutIn l))))) .answer ≡ accepted (n ∷ [])
+        → refusalOf (pick s (unread 3) (pick t (unread 4) (pick u (record {
+          answer = accepted (sheetSize l ∷ []);
+          layout = layoutIn l;
+        }) (unread (refusalOf (layoutIn l))))) .layout) ≡ 0
+    go true t u q h = refused-none 3 (n ∷ []) h
+    go false true u q h = refused-none 4 (n ∷ []) h
+    go false false true q h = eqb-true (refusalOf (layoutIn l)) 0 q
+    go false false false q h = refused-none (refusalOf (layoutIn l)) (n ∷ []) h
+
+-- with a refusal the layout has no station, else the answer is the octets used
+pub refused-empty : (l : List ℕ) (n : ℕ) → readSheet l .answer ≡ refused n → readSheet l .layout .count ≡ 0
+unfolding readSheet
+refused-empty l n = go (ltb (length l) (sheetSize l)) (stands (mapOf l) 7) (eqb (refusalOf (layoutIn l)) 0)
+  where
+    go : (s t u : Bool) → pick s (unread 3) (pick t (unread 4) (pick u (record {
+      answer = accepted (sheetSize l ∷ []);
+      layout = layoutIn l;
+    }) (unread (refusalOf (layoutIn l))))) .answer ≡ refused n
+        → pick s (unread 3) (pick t (unread 4) (pick u (record {
+          answer = accepted (sheetSize l ∷ []);
+          layout = layoutIn l;
+        }) (unread (refusalOf (layoutIn l))))) .layout .count ≡ 0
+    go true t u h = refl
+    go false true u h = refl
+    go false false true h = refused-none n (sheetSize l ∷ []) (sym h)
+    go false false false h = refl
+
+pub accepted-size : (l vs : List ℕ) → readSheet l .answer ≡ accepted vs
+    → readSheet l .answer ≡ accepted (sheetSize l ∷ [])
+unfolding readSheet
+accepted-size l vs = go (ltb (length l) (sheetSize l)) (stands (mapOf l) 7) (eqb (refusalOf (layoutIn l)) 0)
+  where
+    go : (s t u : Bool) → pick s (unread 3) (pick t (unread 4) (pick u (record {
+      answer = accepted (sheetSize l ∷ []);
+      layout = layoutIn l;
+    }) (unread (refusalOf (layoutIn l))))) .answer ≡ accepted vs
+        → pick s (unread 3) (pick t (unread 4) (pick u (record {
+          answer = accepted (sheetSize l ∷ []);
+          layout = layoutIn l;
+        }) (unread (refusalOf (layoutIn l))))) .answer ≡ accepted (sheetSize l ∷ [])
+    go true t u h = refused-none 3 vs h
+    go false true u h = refused-none 4 vs h
+    go false false true h = refl
+    go false false false h = refused-none (refusalOf (layoutIn l)) vs h
+
 -- ---- its stations
 
 station-is : (l : List ℕ) (i : ℕ) → i < countIn l → i < maxStations

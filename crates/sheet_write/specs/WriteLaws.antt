@@ -266,7 +266,8 @@ taps-length y t i e p q = sym (taps-size y t i (7 * i) 7 e (sym p) q refl) ∙ o
 
 pub taps-more : (y : Layout) (t : Tap) (i at : ℕ) (l x z : List ℕ)
     → t ≡ getD (y .stations) i (record { position = 0; address = [] }) → length (tapsOctets y i) ≡ 7 * i
-    → x ≡ sets l at (tapsOctets y i) → z ≡ sets x (at + 7 * i) (spelled 1 (t .position) ++ t .address) → z ≡ sets l at (tapsOctets y (i + 1))
+    → x ≡ sets l at (tapsOctets y i) → z ≡ sets x (at + 7 * i) (spelled 1 (t .position) ++ t .address)
+    → z ≡ sets l at (tapsOctets y (i + 1))
 unfolding joined tapAt tapOctets
 taps-more y t i at l x z e p q r =
     r ∙ rw (q, e, add-one i) (sets-append (tapsOctets y i) (tapOctets (getD (y .stations) i (record {

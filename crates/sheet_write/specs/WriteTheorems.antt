@@ -27,7 +27,8 @@ use Rattle.sheet_layout.specs.CheckLaws.{Figured, Sound, sound, refusal-same}
 use Rattle.sheet_read.specs.Sheet.{mapOf, stands, fieldCount, row, width, fieldAt, field, figuresIn, countPlace}
 use Rattle.sheet_read.specs.Sheet.{countIn, tapIn, tapsFrom, layoutIn, sheetSize, Reading, unread, readSheet}
 use Rattle.sheet_read.specs.SheetLaws.{width-most}
-use Rattle.sheet_read.specs.SheetTheorems.{read-sound, read-formed, sheet-front}
+use Rattle.sheet_read.specs.SheetTheorems.{read-sound, read-passes, read-formed, refused-empty, accepted-size}
+use Rattle.sheet_read.specs.SheetTheorems.{sheet-front}
 use Rattle.sheet_write.specs.Write.{joined, valuesOf, isAbsent, mapFrom, fieldOctets, fieldsOctets, headOctets}
 use Rattle.sheet_write.specs.Write.{tapOctets, tapsOctets, written}
 use Rattle.sheet_write.specs.WriteLaws.{bit-low, map-small, fields-at, tap-size, head-length, written-length}
@@ -351,7 +352,8 @@ module _ (y : Layout) where
             count = count-back j;
             stations =
                 (ap (placesOf (tapsFrom (written y) (countPlace (written y) + 1))) few
-                ∙ filled-same blankTap (tapsFrom (written y) (countPlace (written y) + 1)) (tapAt y) (y .count) tap-back)
+                ∙ filled-same blankTap (tapsFrom (written y) (countPlace (written y) + 1)) (tapAt y) (y .count)
+                tap-back)
                 j;
           }
 
@@ -432,60 +434,6 @@ six-of : (y : Layout) (i : ℕ) → length (getD (y .stations) i (record { posit
     → length (addressAt y i) ≡ 6
 unfolding tapAt
 six-of y i p = p
-
-read-passes : (l : List ℕ) (n : ℕ) → readSheet l .answer ≡ accepted (n ∷ []) → refusalOf (readSheet l .layout) ≡ 0
-unfolding readSheet
-read-passes l n =
-    go (ltb (length l) (sheetSize l)) (stands (mapOf l) 7) (eqb (refusalOf (layoutIn l)) 0) refl
-  where
-    go : (s t u : Bool) → eqb (refusalOf (layoutIn l)) 0 ≡ u
-        → pick s (unread 3) (pick t (unread 4) (pick u (record {
-          answer = accepted (sheetSize l ∷ []);
-          layout = layoutIn l;
-        }) (unread (refusalOf (layoutIn l))))) .answer ≡ accepted (n ∷ [])
-        → refusalOf (pick s (unread 3) (pick t (unread 4) (pick u (record {
-          answer = accepted (sheetSize l ∷ []);
-          layout = layoutIn l;
-        }) (unread (refusalOf (layoutIn l))))) .layout) ≡ 0
-    go true t u q h = refused-none 3 (n ∷ []) h
-    go false true u q h = refused-none 4 (n ∷ []) h
-    go false false true q h = eqb-true (refusalOf (layoutIn l)) 0 q
-    go false false false q h = refused-none (refusalOf (layoutIn l)) (n ∷ []) h
-
--- with a refusal the layout has no station, else the answer is the octets used
-refused-empty : (l : List ℕ) (n : ℕ) → readSheet l .answer ≡ refused n → readSheet l .layout .count ≡ 0
-unfolding readSheet
-refused-empty l n = go (ltb (length l) (sheetSize l)) (stands (mapOf l) 7) (eqb (refusalOf (layoutIn l)) 0)
-  where
-    go : (s t u : Bool) → pick s (unread 3) (pick t (unread 4) (pick u (record {
-      answer = accepted (sheetSize l ∷ []);
-      layout = layoutIn l;
-    }) (unread (refusalOf (layoutIn l))))) .answer ≡ refused n
-        → pick s (unread 3) (pick t (unread 4) (pick u (record {
-          answer = accepted (sheetSize l ∷ []);
-          layout = layoutIn l;
-        }) (unread (refusalOf (layoutIn l))))) .layout .count ≡ 0
-    go true t u h = refl
-    go false true u h = refl
-    go false false true h = refused-none n (sheetSize l ∷ []) (sym h)
-    go false false false h = refl
-
-accepted-size : (l vs : List ℕ) → readSheet l .answer ≡ accepted vs → readSheet l .answer ≡ accepted (sheetSize l ∷ [])
-unfolding readSheet
-accepted-size l vs = go (ltb (length l) (sheetSize l)) (stands (mapOf l) 7) (eqb (refusalOf (layoutIn l)) 0)
-  where
-    go : (s t u : Bool) → pick s (unread 3) (pick t (unread 4) (pick u (record {
-      answer = accepted (sheetSize l ∷ []);
-      layout = layoutIn l;
-    }) (unread (refusalOf (layoutIn l))))) .answer ≡ accepted vs
-        → pick s (unread 3) (pick t (unread 4) (pick u (record {
-          answer = accepted (sheetSize l ∷ []);
-          layout = layoutIn l;
-        }) (unread (refusalOf (layoutIn l))))) .answer ≡ accepted (sheetSize l ∷ [])
-    go true t u h = refused-none 3 vs h
-    go false true u h = refused-none 4 vs h
-    go false false true h = refl
-    go false false false h = refused-none (refusalOf (layoutIn l)) vs h
 
 figures-in : (l : List ℕ) → layoutIn l .figures ≡ figuresIn l
 unfolding layoutIn

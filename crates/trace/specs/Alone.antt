@@ -30,7 +30,8 @@ pub record Passes (P : Net) (inp : ℕ → List (Offer P)) (i a e : ℕ) (F : Li
   pub after : sees P inp j (suc (e + P .d i j)) ≡ Nothing
   pub listens : (s : ℕ) → a + P .d i j ≤ s → s ≤ e + P .d i j → sig P inp j s ≡ Silence
 
-module _ (P : Net) (inp : ℕ → List (Offer P)) (span : ℕ) (L : Sound P span) (g : gapOf (P .fig) ≤ 64 + P .fig .jam) (fits : 2 * span ≤ shortestPacket (P .fig)) where
+module _ (P : Net) (inp : ℕ → List (Offer P)) (span : ℕ) (L : Sound P span)
+    (g : gapOf (P .fig) ≤ 64 + P .fig .jam) (fits : 2 * span ≤ shortestPacket (P .fig)) where
   module _ (i a e : ℕ) (hi : i < P .n) (w : Whole P inp i a e) where
     clear : Clear (P .n) span (P .d) (emits P inp) i a e
     clear =
