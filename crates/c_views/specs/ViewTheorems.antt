@@ -17,6 +17,7 @@ use Rattle.sheet_layout.specs.Layout.{positionAt, fitsWell}
 use Rattle.sheet_layout.specs.Fit.{fitOf}
 use Rattle.sheet_layout.specs.Check.{refusalOf}
 use Rattle.sheet_layout.specs.CheckLaws.{sound}
+use Rattle.sheet_layout.specs.Limits.{maxPosition}
 use Rattle.sheet_read.specs.Sheet.{readSheet}
 use Rattle.sheet_read.specs.SheetTheorems.{read-passes, read-formed}
 use Rattle.sheet_fit.specs.Margin.{movedOut, outwardOf, marginOf}
@@ -71,7 +72,7 @@ module _ (l : List ℕ) (n : ℕ) (read : readSheet l .answer ≡ accepted (n �
   not-so h = sym (margin-no (readSheet l .layout) 0 false (sym (read-passes l n read)) refl (sym h) refl)
 
   -- the last of two or more taps is not at 0
-  outward-low : outwardOf (readSheet l .layout) < 255
+  outward-low : outwardOf (readSheet l .layout) < maxPosition
   unfolding outwardOf
   outward-low =
       let y = readSheet l .layout in
@@ -79,7 +80,7 @@ module _ (l : List ℕ) (n : ℕ) (read : readSheet l .answer ≡ accepted (n �
       let e : suc (y .count - 2) ≡ y .count - 1 = omega (arith, w .count) in
       omega (arith, w .rising (y .count - 2) (omega (arith, w .count)), ap (positionAt y) e)
 
-  pub margin-within : (marginGiven l < 255) ⊎ (marginGiven l ≡ noMargin)
+  pub margin-within : (marginGiven l < maxPosition) ⊎ (marginGiven l ≡ noMargin)
   margin-within =
       by-test (fitsWell (readSheet l .layout))
       (λ h. inl (let e = given-some _ (fits-so h) in omega (arith, e, outward-low)))
