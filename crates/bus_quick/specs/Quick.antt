@@ -25,19 +25,19 @@ use Rattle.station_symbols.specs.declared.Emission.the-variants.{Rest, PacketBi
 use Rattle.station_symbols.specs.Packet.{hearsAny, symbolOf, packetBit}
 use Rattle.station_state.specs.declared.Deference.{Deference}
 use Rattle.station_state.specs.declared.Deference.the-variants.{Quiet, Busy, Gap}
-use Rattle.station_defer.specs.Defer.{defer, quietRule, busyRule, gapRule, goesBack}
+use Rattle.station_spec.specs.Defer.{defer, quietRule, busyRule, gapRule, goesBack}
 use Rattle.station_state.specs.declared.Transmitter.{Transmitter}
 use Rattle.station_state.specs.declared.Transmitter.the-variants.{NoFrame, Waiting, BackingOff, Sending, Heading}
 use Rattle.station_state.specs.declared.Transmitter.the-variants.{Jamming}
-use Rattle.station_transmit.specs.declared.TransmitEvent.the-variants.{NoTransmit}
-use Rattle.station_transmit.specs.Transmit.{waits, transmit, waitBit, backoffBit, sendBit, octetsHeld}
+use Rattle.station_spec.specs.declared.TransmitEvent.the-variants.{NoTransmit}
+use Rattle.station_spec.specs.Transmit.{waits, transmit, waitBit, backoffBit, sendBit, octetsHeld}
 use Rattle.station_state.specs.declared.Receiver.{Receiver}
 use Rattle.station_state.specs.declared.Receiver.the-variants.{Listening, Readable, Seeking, Collecting}
-use Rattle.station_receive.specs.declared.ReceiveEvent.the-variants.{NoReceive}
-use Rattle.station_receive.specs.declared.Stored.{Stored}
-use Rattle.station_receive.specs.declared.Stored.the-variants.{NoStore, Store}
-use Rattle.station_receive.specs.Receive.{nextRow, hearing, receive, ended, hear, seek, seekBit, collect, collectBit}
-use Rattle.station_receive.specs.Receive.{storedBit, rowLimit}
+use Rattle.station_spec.specs.declared.ReceiveEvent.the-variants.{NoReceive}
+use Rattle.station_spec.specs.declared.Stored.{Stored}
+use Rattle.station_spec.specs.declared.Stored.the-variants.{NoStore, Store}
+use Rattle.station_spec.specs.Receive.{nextRow, hearing, receive, ended, hear, seek, seekBit, collect, collectBit}
+use Rattle.station_spec.specs.Receive.{storedBit, rowLimit}
 use Rattle.station_state.specs.declared.Station.{Station}
 use Rattle.station_spec.specs.declared.Stepped.{Stepped}
 use Rattle.station_spec.specs.Step.{stepped, nextStation, triesAfter, drawAfter, deferredAfter}

@@ -7,7 +7,7 @@ ghost use mathlib.Core.Path.{_≡_};
 ghost use mathlib.Core.Bool.{true};
 ghost use Prim.Native.Nat.{_+_, _<_, _≤_};
 ghost use lib.ListN.{length, getD};
-ghost use Rattle.station_receive.specs.Receive.{nextRow, storedBit};
+ghost use Rattle.station_spec.specs.Receive.{nextRow, storedBit};
 ghost use Rattle.area.specs.Area.{recordAt, symbolAt};
 ghost use Rattle.bus_spec.specs.BitTime.{withStored};
 ghost use Rattle.bus_spec.specs.Ready.{Able};

@@ -13,14 +13,14 @@ use Rattle.octets.specs.WordsLaws.{Small, length-words}
 use Rattle.station_symbols.specs.declared.Heard.{Heard}
 use Rattle.station_symbols.specs.declared.Heard.the-variants.{Nothing}
 use Rattle.station_symbols.specs.declared.Symbol.{Symbol}
-use Rattle.station_receive.specs.declared.ReceiveEvent.{ReceiveEvent}
-use Rattle.station_receive.specs.declared.ReceiveEvent.the-variants.{NoReceive, GotOk, GotTooLong, GotAlignment}
-use Rattle.station_receive.specs.declared.ReceiveEvent.the-variants.{GotCheck, GotLength}
-use Rattle.station_receive.specs.declared.Stored.{Stored}
-use Rattle.station_receive.specs.declared.Stored.the-variants.{NoStore, Store}
-use Rattle.station_transmit.specs.declared.TransmitEvent.{TransmitEvent}
-use Rattle.station_transmit.specs.declared.TransmitEvent.the-variants.{NoTransmit, Collision, Late, Sent, GivenUp}
-use Rattle.station_transmit.specs.declared.TransmitEvent.the-variants.{LateEnded}
+use Rattle.station_spec.specs.declared.ReceiveEvent.{ReceiveEvent}
+use Rattle.station_spec.specs.declared.ReceiveEvent.the-variants.{NoReceive, GotOk, GotTooLong, GotAlignment}
+use Rattle.station_spec.specs.declared.ReceiveEvent.the-variants.{GotCheck, GotLength}
+use Rattle.station_spec.specs.declared.Stored.{Stored}
+use Rattle.station_spec.specs.declared.Stored.the-variants.{NoStore, Store}
+use Rattle.station_spec.specs.declared.TransmitEvent.{TransmitEvent}
+use Rattle.station_spec.specs.declared.TransmitEvent.the-variants.{NoTransmit, Collision, Late, Sent, GivenUp}
+use Rattle.station_spec.specs.declared.TransmitEvent.the-variants.{LateEnded}
 use Rattle.station_spec.specs.declared.Stepped.{Stepped}
 use Rattle.station_spec.specs.Count.{added, addedIf, countSent, countTransmit, countReceive, counted}
 use Rattle.area_record.specs.Codec.{encoded}

@@ -22,19 +22,19 @@ use Rattle.station_symbols.specs.declared.Heard.the-variants.{Nothing, Clean, S
 use Rattle.station_symbols.specs.Packet.{hearsAny, isEmission}
 use Rattle.station_state.specs.declared.Deference.{Deference}
 use Rattle.station_state.specs.declared.Deference.the-variants.{Quiet, Busy, Gap}
-use Rattle.station_defer.specs.Defer.{defer, quietRule, busyRule, gapRule, gapOver, goesBack}
+use Rattle.station_spec.specs.Defer.{defer, quietRule, busyRule, gapRule, gapOver, goesBack}
 use Rattle.station_state.specs.declared.Transmitter.{Transmitter}
 use Rattle.station_state.specs.declared.Transmitter.the-variants.{NoFrame, Waiting, BackingOff, Sending, Heading}
 use Rattle.station_state.specs.declared.Transmitter.the-variants.{Jamming}
-use Rattle.station_transmit.specs.Transmit.{closesFrame, waits, octetsHeld, packetLength, afterBit, collision, sendBit}
-use Rattle.station_transmit.specs.Transmit.{headBit}
-use Rattle.station_transmit.specs.Transmit.{backoffRange, backOff, lastJam, jamBit, backoffBit, waitBit, transmit}
+use Rattle.station_spec.specs.Transmit.{closesFrame, waits, octetsHeld, packetLength, afterBit, collision, sendBit}
+use Rattle.station_spec.specs.Transmit.{headBit}
+use Rattle.station_spec.specs.Transmit.{backoffRange, backOff, lastJam, jamBit, backoffBit, waitBit, transmit}
 use Rattle.station_state.specs.State.{numberIn}
 use Rattle.station_state.specs.declared.Receiver.{Receiver}
 use Rattle.station_state.specs.declared.Receiver.the-variants.{Listening, Readable, Seeking, Collecting}
-use Rattle.station_receive.specs.declared.Received.{Received}
-use Rattle.station_receive.specs.Receive.{nextRow, seekBit, collectBit, seek, collect, hear, addressed, openAnswer}
-use Rattle.station_receive.specs.Receive.{readableAfter, opening, decide, ended, receive, rowIn, bitsIn, rowLimit}
+use Rattle.station_spec.specs.declared.Received.{Received}
+use Rattle.station_spec.specs.Receive.{nextRow, seekBit, collectBit, seek, collect, hear, addressed, openAnswer}
+use Rattle.station_spec.specs.Receive.{readableAfter, opening, decide, ended, receive, rowIn, bitsIn, rowLimit}
 use Rattle.station_state.specs.declared.Station.{Station}
 use Rattle.station_spec.specs.Step.{Roomy, triesAfter, drawAfter, deferring, sending, nextStation, stepped}
 use Rattle.station_spec.specs.StepLaws.{tries-more, tries-same}

@@ -19,10 +19,10 @@ use Rattle.station_symbols.specs.declared.Heard.{Heard}
 use Rattle.station_symbols.specs.declared.Heard.the-variants.{Nothing, Clean, Spoiled}
 use Rattle.station_state.specs.declared.Receiver.{Receiver}
 use Rattle.station_state.specs.declared.Receiver.the-variants.{Listening, Readable, Seeking, Collecting}
-use Rattle.station_receive.specs.declared.Stored.{Stored}
-use Rattle.station_receive.specs.Receive.{storedBit, seek, seekBit, collect, collectBit, hear, addressed, opening}
-use Rattle.station_receive.specs.Receive.{decide, ended, receive}
-use Rattle.station_transmit.specs.Transmit.{octetsHeld}
+use Rattle.station_spec.specs.declared.Stored.{Stored}
+use Rattle.station_spec.specs.Receive.{storedBit, seek, seekBit, collect, collectBit, hear, addressed, opening}
+use Rattle.station_spec.specs.Receive.{decide, ended, receive}
+use Rattle.station_spec.specs.Transmit.{octetsHeld}
 use Rattle.station_state.specs.declared.Station.{Station}
 use Rattle.station_spec.specs.declared.Stepped.{Stepped}
 use Rattle.station_spec.specs.Step.{Roomy, stepped}

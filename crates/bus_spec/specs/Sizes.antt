@@ -23,9 +23,9 @@ use Rattle.station_state.specs.declared.Transmitter.the-variants.{Jamming}
 use Rattle.station_state.specs.declared.Receiver.{Receiver}
 use Rattle.station_state.specs.declared.Receiver.the-variants.{Listening, Readable, Seeking, Collecting}
 use Rattle.station_state.specs.declared.Station.{Station}
-use Rattle.station_transmit.specs.Transmit.{octetsHeld, transmit, waitBit, backoffBit, sendBit, headBit, jamBit}
-use Rattle.station_receive.specs.Receive.{nextRow, seekBit, seek, collectBit, collect, hear, addressed, openAnswer}
-use Rattle.station_receive.specs.Receive.{readableAfter, opening, decide, ended, receive, delimiterRow}
+use Rattle.station_spec.specs.Transmit.{octetsHeld, transmit, waitBit, backoffBit, sendBit, headBit, jamBit}
+use Rattle.station_spec.specs.Receive.{nextRow, seekBit, seek, collectBit, collect, hear, addressed, openAnswer}
+use Rattle.station_spec.specs.Receive.{readableAfter, opening, decide, ended, receive, delimiterRow}
 use Rattle.station_symbols.specs.Packet.{hearsAny}
 use Rattle.station_spec.specs.Step.{triesAfter, deferring, nextStation, stepped}
 use Rattle.station_spec.specs.Count.{octetsIn}

@@ -4,10 +4,10 @@ pub mod course;
 pub mod medium;
 pub mod ready;
 
-use station_receive::ReceiveEvent;
+use station_spec::ReceiveEvent;
 use station_spec::Stepped;
+use station_spec::TransmitEvent;
 use station_symbols::Symbol;
-use station_transmit::TransmitEvent;
 
 // A station's events in a step: at most one transmit and one receive event.
 pub struct Events {

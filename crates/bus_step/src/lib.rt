@@ -2,8 +2,8 @@
 
 use bus_spec::Events;
 use octets::Done;
-use station_receive::ReceiveEvent;
-use station_transmit::TransmitEvent;
+use station_spec::ReceiveEvent;
+use station_spec::TransmitEvent;
 ghost use mathlib.Core.Path.{_≡_};
 ghost use lib.ListN.{replicate};
 ghost use Rattle.octets.specs.Base.{refused, doneAnswer};

@@ -2,8 +2,8 @@
 
 use bus_spec::Events;
 use sheet_layout::Figures;
-use station_receive::ReceiveEvent;
-use station_transmit::TransmitEvent;
+use station_spec::ReceiveEvent;
+use station_spec::TransmitEvent;
 ghost use mathlib.Core.Path.{_≡_};
 ghost use Prim.Native.Nat.{_+_, _<_, _≤_};
 ghost use lib.ListN.{length};

@@ -12,12 +12,12 @@ use Rattle.octets.specs.Turns.{turns}
 use Rattle.sheet_layout.specs.declared.Layout.{Layout}
 use Rattle.sheet_layout.specs.declared.Tap.{Tap}
 use Rattle.sheet_layout.specs.Fit.{fitOf}
-use Rattle.station_receive.specs.declared.ReceiveEvent.{ReceiveEvent}
-use Rattle.station_receive.specs.declared.ReceiveEvent.the-variants.{NoReceive, GotOk, GotTooLong, GotAlignment}
-use Rattle.station_receive.specs.declared.ReceiveEvent.the-variants.{GotCheck, GotLength}
-use Rattle.station_transmit.specs.declared.TransmitEvent.{TransmitEvent}
-use Rattle.station_transmit.specs.declared.TransmitEvent.the-variants.{NoTransmit, Collision, Late, Sent, GivenUp}
-use Rattle.station_transmit.specs.declared.TransmitEvent.the-variants.{LateEnded}
+use Rattle.station_spec.specs.declared.ReceiveEvent.{ReceiveEvent}
+use Rattle.station_spec.specs.declared.ReceiveEvent.the-variants.{NoReceive, GotOk, GotTooLong, GotAlignment}
+use Rattle.station_spec.specs.declared.ReceiveEvent.the-variants.{GotCheck, GotLength}
+use Rattle.station_spec.specs.declared.TransmitEvent.{TransmitEvent}
+use Rattle.station_spec.specs.declared.TransmitEvent.the-variants.{NoTransmit, Collision, Late, Sent, GivenUp}
+use Rattle.station_spec.specs.declared.TransmitEvent.the-variants.{LateEnded}
 use Rattle.bus_start.specs.Fresh.{tapIn}
 use Rattle.bus_spec.specs.declared.Events.{Events}
 use Rattle.bus_spec.specs.BitTime.{eventAt}

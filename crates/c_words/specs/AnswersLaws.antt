@@ -27,7 +27,7 @@ use Rattle.frame_open.specs.Open.{statusAnswer}
 use Rattle.bus_start.specs.Fresh.{tapIn}
 use Rattle.bus_spec.specs.declared.Events.{Events}
 use Rattle.bus_spec.specs.BitTime.{eventAt}
-use Rattle.station_receive.specs.declared.ReceiveEvent.{ReceiveEvent}
+use Rattle.station_spec.specs.declared.ReceiveEvent.{ReceiveEvent}
 use Rattle.station_state.specs.State.{counterCount}
 use Rattle.station_tally.specs.Words.{transmitWord, transmitValue, receiveWord, receiveValue, lastTransmit}
 use Rattle.c_words.specs.Answers.{replied, valueOf, layoutWords, tapPut, tapsPut, layoutPut, clientWords, gotCode}

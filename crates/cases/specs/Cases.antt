@@ -19,8 +19,8 @@ use Rattle.sheet_layout.specs.Layout.{tapAt, gapOf, spanOf, fitsWell}
 use Rattle.sheet_layout.specs.Check.{gap1Out, figuresOut, addressWrong, refusalOf}
 use Rattle.sheet_layout.specs.Fit.{fitOf}
 use Rattle.sheet_read.specs.Sheet.{fieldAt, field, figuresIn, tapIn, layoutIn}
-use Rattle.station_transmit.specs.Transmit.{afterBit, collision, backoffRange}
-use Rattle.station_receive.specs.Receive.{addressed, openAnswer, gotEvent, readableAfter, opening, decide}
+use Rattle.station_spec.specs.Transmit.{afterBit, collision, backoffRange}
+use Rattle.station_spec.specs.Receive.{addressed, openAnswer, gotEvent, readableAfter, opening, decide}
 use Rattle.station_tally.specs.Words.{transmitWord, transmitValue, receiveWord, receiveValue, numbersOf}
 
 -- a sheet of two stations so far apart, behind a map and its fields

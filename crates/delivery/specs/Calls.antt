@@ -13,9 +13,9 @@ use Rattle.octets.specs.NumberLaws.{Octets}
 use Rattle.frame_build.specs.Build.{frameOf}
 use Rattle.station_symbols.specs.declared.Heard.{Heard}
 use Rattle.station_symbols.specs.declared.Heard.the-variants.{Nothing}
-use Rattle.station_receive.specs.declared.ReceiveEvent.{ReceiveEvent}
-use Rattle.station_transmit.specs.declared.TransmitEvent.{TransmitEvent}
-use Rattle.station_transmit.specs.declared.TransmitEvent.the-variants.{Sent, GivenUp, LateEnded}
+use Rattle.station_spec.specs.declared.ReceiveEvent.{ReceiveEvent}
+use Rattle.station_spec.specs.declared.TransmitEvent.{TransmitEvent}
+use Rattle.station_spec.specs.declared.TransmitEvent.the-variants.{Sent, GivenUp, LateEnded}
 use Rattle.area.specs.Area.{clockAt, addressAt, arrivalAt}
 use Rattle.bus_spec.specs.BitTime.{actAt, eventsAt, stepArea, eventAt}
 use Rattle.bus_offer.specs.Offer.{offered}

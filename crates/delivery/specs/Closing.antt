@@ -16,8 +16,8 @@ use Rattle.sheet_layout.specs.Limits.{lastClock}
 use Rattle.station_state.specs.declared.Transmitter.{Transmitter}
 use Rattle.station_state.specs.declared.Transmitter.the-variants.{NoFrame, Waiting, BackingOff, Sending, Heading}
 use Rattle.station_state.specs.declared.Transmitter.the-variants.{Jamming}
-use Rattle.station_transmit.specs.Transmit.{closesFrame, packetLength, collision, sendBit, headBit, lastJam, jamBit}
-use Rattle.station_transmit.specs.Transmit.{backoffBit, waitBit, transmit}
+use Rattle.station_spec.specs.Transmit.{closesFrame, packetLength, collision, sendBit, headBit, lastJam, jamBit}
+use Rattle.station_spec.specs.Transmit.{backoffBit, waitBit, transmit}
 use Rattle.station_tally.specs.Words.{endsRun, wordCount}
 use Rattle.station_spec.specs.Step.{stepped, nextStation}
 use Rattle.area.specs.Area.{clockAt, figuresAt, countAt, stationAt}

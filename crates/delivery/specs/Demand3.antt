@@ -11,9 +11,9 @@ use Rattle.octets.specs.Base.{pick, refused, accepted, Outcome, outcome}
 use Rattle.octets.specs.Bits.{digit}
 use Rattle.sheet_layout.specs.declared.Layout.{Layout}
 use Rattle.sheet_layout.specs.Layout.{positionAt, addressAt}
-use Rattle.station_transmit.specs.declared.TransmitEvent.the-variants.{Late, Sent, LateEnded}
-use Rattle.station_receive.specs.declared.ReceiveEvent.the-variants.{GotOk}
-use Rattle.station_receive.specs.Receive.{addressed}
+use Rattle.station_spec.specs.declared.TransmitEvent.the-variants.{Late, Sent, LateEnded}
+use Rattle.station_spec.specs.declared.ReceiveEvent.the-variants.{GotOk}
+use Rattle.station_spec.specs.Receive.{addressed}
 use Rattle.station_spec.specs.Count as counter
 use Rattle.area.specs.Area.{distance, clockAt, stationAt, countersAt}
 use Rattle.area_check.specs.Valid.{areaRefusal}

@@ -18,7 +18,7 @@ use Rattle.station_symbols.specs.Packet.{symbolOf, hearsAny}
 use Rattle.station_state.specs.declared.Transmitter.{Transmitter}
 use Rattle.station_state.specs.declared.Transmitter.the-variants.{NoFrame, Waiting, BackingOff, Sending, Heading}
 use Rattle.station_state.specs.declared.Transmitter.the-variants.{Jamming}
-use Rattle.station_transmit.specs.Transmit.{octetsHeld, transmit}
+use Rattle.station_spec.specs.Transmit.{octetsHeld, transmit}
 use Rattle.station_state.specs.declared.Station.{Station}
 use Rattle.station_spec.specs.declared.Stepped.{Stepped}
 use Rattle.station_spec.specs.Step.{triesAfter, deferring, stepped, nextStation}

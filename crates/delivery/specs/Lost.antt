@@ -14,9 +14,9 @@ use Rattle.sheet_layout.specs.Layout.{addressAt}
 use Rattle.sheet_layout.specs.Fit.{fitOf}
 use Rattle.sheet_read.specs.Sheet.{readSheet}
 use Rattle.bus_start.specs.Start.{started}
-use Rattle.station_transmit.specs.declared.TransmitEvent.the-variants.{Sent}
-use Rattle.station_receive.specs.declared.ReceiveEvent.the-variants.{GotOk}
-use Rattle.station_receive.specs.Receive.{addressed}
+use Rattle.station_spec.specs.declared.TransmitEvent.the-variants.{Sent}
+use Rattle.station_spec.specs.declared.ReceiveEvent.the-variants.{GotOk}
+use Rattle.station_spec.specs.Receive.{addressed}
 use Rattle.delivery.specs.Calls.{Call, AllFair, Moment, log, end, begin, momentAt, sentAt, gotAt}
 use Rattle.delivery.specs.Demand3.{apart, Sender, Demand3}
 use Rattle.delivery.specs.Theorem.{demand-3}

@@ -47,7 +47,7 @@ use Rattle.bus_spec.specs.After.{added-words}
 use Rattle.bus_spec.specs.Sizes.{Sized, value-front}
 use Rattle.frame_open.specs.Open.{valueOf}
 use Rattle.frame_open.specs.RoundTrip.{stored-within}
-use Rattle.station_transmit.specs.Transmit.{octetsHeld}
+use Rattle.station_spec.specs.Transmit.{octetsHeld}
 use Rattle.station_spec.specs.Count.{octetsIn}
 use Rattle.bus_spec.specs.Passes.{Passing, tap-in, layout-figures, layout-spread, record-right, ready-passes}
 use Rattle.bus_spec.specs.Stays.{layout-by, spread-by, step-passing}

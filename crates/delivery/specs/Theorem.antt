@@ -22,13 +22,13 @@ use Rattle.sheet_layout.specs.Fit.{fitOf}
 use Rattle.sheet_layout.specs.Check.{refusalOf}
 use Rattle.sheet_layout.specs.CheckLaws.{sound}
 use Rattle.station_symbols.specs.declared.Heard.the-variants.{Nothing}
-use Rattle.station_transmit.specs.declared.TransmitEvent.{TransmitEvent}
-use Rattle.station_transmit.specs.declared.TransmitEvent.the-variants.{NoTransmit, Collision, Late, Sent, GivenUp}
-use Rattle.station_transmit.specs.declared.TransmitEvent.the-variants.{LateEnded}
+use Rattle.station_spec.specs.declared.TransmitEvent.{TransmitEvent}
+use Rattle.station_spec.specs.declared.TransmitEvent.the-variants.{NoTransmit, Collision, Late, Sent, GivenUp}
+use Rattle.station_spec.specs.declared.TransmitEvent.the-variants.{LateEnded}
 use Rattle.station_state.specs.declared.Receiver.{Receiver}
 use Rattle.station_state.specs.declared.Receiver.the-variants.{Listening, Readable, Seeking, Collecting}
-use Rattle.station_receive.specs.declared.ReceiveEvent.the-variants.{GotOk}
-use Rattle.station_receive.specs.Receive.{addressed}
+use Rattle.station_spec.specs.declared.ReceiveEvent.the-variants.{GotOk}
+use Rattle.station_spec.specs.Receive.{addressed}
 use Rattle.station_state.specs.declared.Station.{Station}
 use Rattle.station_spec.specs.declared.Stepped.{Stepped}
 use Rattle.area.specs.Area.{clockAt, figuresAt, countAt, addressAt, stationAt, bufferAt, arrivalAt}
@@ -71,7 +71,7 @@ use Rattle.delivery.specs.Traced.{run-fits, clock-is, traced-step, trace
 use Rattle.delivery.specs.Demand3.{called, counted, apart, Sender, offerSent, readAs, ReadFrom, Demand3For}
 use Rattle.sheet_layout.specs.Limits.{lastClock, maxDraws}
 use Rattle.area.specs.Offsets.{areaSize}
-use Rattle.station_transmit.specs.Transmit.{shortestPacket}
+use Rattle.station_spec.specs.Transmit.{shortestPacket}
 use Rattle.station_tally.specs.Words.{endsRun, wordCount}
 
 -- ---- from a step made to the step of the execution

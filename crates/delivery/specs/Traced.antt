@@ -18,7 +18,7 @@ use Rattle.octets.specs.NumberLaws.{Octets}
 use Rattle.frame_build.specs.Limits.{refusesData, maxFrame, bufferOctets}
 use Rattle.frame_build.specs.Build.{frameOf}
 use Rattle.station_symbols.specs.declared.Heard.{Heard}
-use Rattle.station_transmit.specs.declared.TransmitEvent.{TransmitEvent}
+use Rattle.station_spec.specs.declared.TransmitEvent.{TransmitEvent}
 use Rattle.station_state.specs.declared.Transmitter.{Transmitter}
 use Rattle.station_state.specs.declared.Station.{Station}
 use Rattle.station_spec.specs.declared.Stepped.{Stepped}

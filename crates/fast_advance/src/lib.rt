@@ -4,8 +4,8 @@ pub mod until;
 
 use bus_spec::Events;
 use bus_spec::course::Stretch;
-use station_receive::ReceiveEvent;
-use station_transmit::TransmitEvent;
+use station_spec::ReceiveEvent;
+use station_spec::TransmitEvent;
 ghost use mathlib.Core.Path.{_≡_};
 ghost use Prim.Native.Nat.{_<_, _≤_};
 ghost use lib.ListN.{length, replicate};

@@ -12,7 +12,7 @@ use Rattle.station_state.specs.declared.Transmitter.the-variants.{Jamming}
 use Rattle.station_state.specs.declared.Receiver.{Receiver}
 use Rattle.station_state.specs.declared.Receiver.the-variants.{Listening, Readable, Seeking, Collecting}
 use Rattle.station_state.specs.declared.Station.{Station}
-use Rattle.station_receive.specs.Receive.{bitsIn}
+use Rattle.station_spec.specs.Receive.{bitsIn}
 use Rattle.fast_silence.specs.Rested.{restedDeference, restedTransmitter}
 use Rattle.fast_silence.specs.Bound.{framesRest, idle}
 use Rattle.fast_station.specs.Forms.{heardDeference, heardRest, emitsFor}

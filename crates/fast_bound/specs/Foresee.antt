@@ -22,11 +22,11 @@ use Rattle.station_state.specs.declared.Transmitter.the-variants.{Jamming}
 use Rattle.station_state.specs.declared.Receiver.{Receiver}
 use Rattle.station_state.specs.declared.Receiver.the-variants.{Listening, Readable, Seeking, Collecting}
 use Rattle.station_state.specs.declared.Station.{Station}
-use Rattle.station_transmit.specs.Transmit.{octetsHeld}
-use Rattle.station_receive.specs.declared.Stored.{Stored}
-use Rattle.station_receive.specs.declared.Stored.the-variants.{NoStore}
-use Rattle.station_receive.specs.declared.ReceiveEvent.the-variants.{NoReceive}
-use Rattle.station_receive.specs.Receive.{bitsIn, rowIn, hearing, deciding, receive, ended, rowLimit}
+use Rattle.station_spec.specs.Transmit.{octetsHeld}
+use Rattle.station_spec.specs.declared.Stored.{Stored}
+use Rattle.station_spec.specs.declared.Stored.the-variants.{NoStore}
+use Rattle.station_spec.specs.declared.ReceiveEvent.the-variants.{NoReceive}
+use Rattle.station_spec.specs.Receive.{bitsIn, rowIn, hearing, deciding, receive, ended, rowLimit}
 use Rattle.area_record.specs.Codec.{receiverNumber}
 use Rattle.area.specs.Area.{clockAt, depthAt, figuresAt, countAt, stationAt, frameAt, bufferAt, withStation}
 use Rattle.area.specs.Places.{buffer}

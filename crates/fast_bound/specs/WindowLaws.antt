@@ -20,7 +20,7 @@ use Rattle.station_state.specs.declared.Transmitter.the-variants.{NoFrame, Wait
 use Rattle.station_state.specs.declared.Transmitter.the-variants.{Jamming}
 use Rattle.station_state.specs.declared.Receiver.{Receiver}
 use Rattle.station_state.specs.declared.Station.{Station}
-use Rattle.station_receive.specs.Receive.{bitsIn}
+use Rattle.station_spec.specs.Receive.{bitsIn}
 use Rattle.area.specs.Area.{clockAt, depthAt, figuresAt, countAt, addressAt, recordAt, stationAt, bufferAt, arrivalAt}
 use Rattle.bus_spec.specs.Range.{FrameIn}
 use Rattle.bus_spec.specs.Ready.{Readiness, Ready}

@@ -12,7 +12,7 @@ ghost use mathlib.Core.Path.{_≡_};
 ghost use mathlib.Core.Bool.{true, false};
 ghost use Prim.Native.Nat.{_+_, _<_, _≤_};
 ghost use lib.ListN.{length};
-ghost use Rattle.station_receive.specs.Receive.{bitsIn};
+ghost use Rattle.station_spec.specs.Receive.{bitsIn};
 ghost use Rattle.area.specs.Area.{figuresAt};
 ghost use Rattle.fast_plan.specs.Calm.{AllCalm};
 ghost use Rattle.fast_heard.specs.Hearing.{planOf, emitsAt};

@@ -18,7 +18,7 @@ use Rattle.station_symbols.specs.Packet.{packetBit, symbolOf}
 use Rattle.station_state.specs.declared.Transmitter.{Transmitter}
 use Rattle.station_state.specs.declared.Transmitter.the-variants.{NoFrame, Waiting, BackingOff, Sending, Heading}
 use Rattle.station_state.specs.declared.Transmitter.the-variants.{Jamming}
-use Rattle.station_transmit.specs.Transmit.{octetsHeld}
+use Rattle.station_spec.specs.Transmit.{octetsHeld}
 use Rattle.area.specs.Area.{spaceAt, stationAt, frameAt, arrivalAt, alone, met}
 use Rattle.fast_plan.specs.Plan.{Plan}
 use Rattle.fast_line.specs.declared.LineRun.{LineRun}

@@ -18,7 +18,7 @@ use Rattle.station_symbols.specs.Packet.{packetBit, symbolOf}
 use Rattle.station_state.specs.declared.Transmitter.{Transmitter}
 use Rattle.station_state.specs.declared.Transmitter.the-variants.{NoFrame, Waiting, BackingOff, Sending, Heading}
 use Rattle.station_state.specs.declared.Transmitter.the-variants.{Jamming}
-use Rattle.station_transmit.specs.Transmit.{octetsHeld}
+use Rattle.station_spec.specs.Transmit.{octetsHeld}
 use Rattle.area_record.specs.Codec.{transmitterOf, decoded}
 use Rattle.area.specs.Places.{Part, clock, layout, frame, place, Keeps}
 use Rattle.area.specs.Area.{clockAt, figuresAt, countAt, positionAt, distance, spaceAt, recordAt, stationAt, frameAt}

@@ -14,7 +14,7 @@ use Rattle.station_symbols.specs.Packet.{packetBit}
 use Rattle.station_state.specs.declared.Transmitter.{Transmitter}
 use Rattle.station_state.specs.declared.Receiver.{Receiver}
 use Rattle.station_state.specs.declared.Station.{Station}
-use Rattle.station_receive.specs.Receive.{bitsIn}
+use Rattle.station_spec.specs.Receive.{bitsIn}
 use Rattle.area.specs.Area.{addressAt, bufferAt, stationAt, arrivalAt}
 use Rattle.bus_spec.specs.Ready.{Able}
 use Rattle.fast_plan.specs.Own.{ownTurn, byItself, by-itself-more, by-itself-none}

@@ -10,9 +10,9 @@ use Rattle.sheet_layout.specs.declared.Figures.{Figures}
 use Rattle.station_symbols.specs.declared.Heard.{Heard}
 use Rattle.station_symbols.specs.declared.Emission.{Emission}
 use Rattle.station_symbols.specs.Packet.{symbolOf}
-use Rattle.station_receive.specs.declared.Stored.{Stored}
-use Rattle.station_receive.specs.declared.Stored.the-variants.{NoStore, Store}
-use Rattle.station_transmit.specs.Transmit.{octetsHeld}
+use Rattle.station_spec.specs.declared.Stored.{Stored}
+use Rattle.station_spec.specs.declared.Stored.the-variants.{NoStore, Store}
+use Rattle.station_spec.specs.Transmit.{octetsHeld}
 use Rattle.station_state.specs.declared.Station.{Station}
 use Rattle.station_spec.specs.declared.Stepped.{Stepped}
 use Rattle.station_spec.specs.Step.{stepped}

@@ -13,8 +13,8 @@ use Rattle.station_symbols.specs.declared.Heard.{Heard}
 use Rattle.station_symbols.specs.declared.Heard.the-variants.{Nothing}
 use Rattle.station_symbols.specs.declared.Symbol.{Symbol}
 use Rattle.station_symbols.specs.declared.Symbol.the-variants.{Silence}
-use Rattle.station_receive.specs.declared.Stored.{Stored}
-use Rattle.station_receive.specs.declared.Stored.the-variants.{NoStore, Store}
+use Rattle.station_spec.specs.declared.Stored.{Stored}
+use Rattle.station_spec.specs.declared.Stored.the-variants.{NoStore, Store}
 use Rattle.station_spec.specs.declared.Stepped.{Stepped}
 use Rattle.area.specs.Places.{Part, clock, depth, layout, draws, counters, station, frame, buffer, place, Off, Keeps}
 use Rattle.area.specs.Area.{clockAt, withClock, depthAt, figuresAt, countAt, spaceAt, stationAt, arrivalAt, met}

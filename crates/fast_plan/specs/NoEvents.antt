@@ -15,8 +15,8 @@ use Rattle.station_symbols.specs.declared.Symbol.the-variants.{Silence}
 use Rattle.station_symbols.specs.declared.Emission.{Emission}
 use Rattle.station_symbols.specs.declared.Emission.the-variants.{Rest}
 use Rattle.station_symbols.specs.Packet.{symbolOf}
-use Rattle.station_receive.specs.declared.Stored.{Stored}
-use Rattle.station_transmit.specs.Transmit.{octetsHeld}
+use Rattle.station_spec.specs.declared.Stored.{Stored}
+use Rattle.station_spec.specs.Transmit.{octetsHeld}
 use Rattle.station_tally.specs.Tally.{counted}
 use Rattle.station_state.specs.declared.Station.{Station}
 use Rattle.station_spec.specs.declared.Stepped.{Stepped}

@@ -17,9 +17,9 @@ use Rattle.station_symbols.specs.declared.Heard.the-variants.{Clean}
 use Rattle.station_symbols.specs.Packet.{hearsAny, packetBit}
 use Rattle.station_state.specs.declared.Receiver.{Receiver}
 use Rattle.station_state.specs.declared.Receiver.the-variants.{Listening, Readable, Seeking, Collecting}
-use Rattle.station_receive.specs.declared.Received.{Received}
-use Rattle.station_receive.specs.Receive.{rowIn, bitsIn, storedBit, seek, seekBit, collect, collectBit, hear, receive}
-use Rattle.station_receive.specs.Receive.{rowLimit}
+use Rattle.station_spec.specs.declared.Received.{Received}
+use Rattle.station_spec.specs.Receive.{rowIn, bitsIn, storedBit, seek, seekBit, collect, collectBit, hear, receive}
+use Rattle.station_spec.specs.Receive.{rowLimit}
 use Rattle.area.specs.Places.{place}
 use Rattle.area.specs.Area.{bufferAt, heardOf, symbolAt, arrivalAt, withOctet}
 use Rattle.area.specs.AreaLaws.{symbol-by}

@@ -15,8 +15,8 @@ use Rattle.station_symbols.specs.declared.Heard.the-variants.{Clean}
 use Rattle.station_symbols.specs.Packet.{frameBit, packetBit}
 use Rattle.station_symbols.specs.PacketLaws.{frame-bit, bit-of-frame}
 use Rattle.station_state.specs.declared.Receiver.the-variants.{Collecting}
-use Rattle.station_receive.specs.declared.Stored.{Stored}
-use Rattle.station_receive.specs.Receive.{storedBit, receive, hear, collect, collectBit}
+use Rattle.station_spec.specs.declared.Stored.{Stored}
+use Rattle.station_spec.specs.Receive.{storedBit, receive, hear, collect, collectBit}
 use Rattle.area.specs.Area.{octetWith, withBit, withOctet}
 use Rattle.bus_spec.specs.BitTime.{withStored}
 use Rattle.fast_plan.specs.Goes.{storedAll}

@@ -19,11 +19,11 @@ use Rattle.station_symbols.specs.declared.Heard.the-variants.{Nothing, Clean, S
 use Rattle.station_symbols.specs.Packet.{hearsAny}
 use Rattle.station_state.specs.declared.Receiver.{Receiver}
 use Rattle.station_state.specs.declared.Receiver.the-variants.{Listening, Readable, Seeking, Collecting}
-use Rattle.station_receive.specs.declared.ReceiveEvent.the-variants.{NoReceive}
-use Rattle.station_receive.specs.declared.Stored.{Stored}
-use Rattle.station_receive.specs.declared.Stored.the-variants.{NoStore, Store}
-use Rattle.station_receive.specs.Receive.{rowIn, bitsIn, nextRow, storedBit, seek, seekBit, collect, collectBit, hear}
-use Rattle.station_receive.specs.Receive.{addressed, deciding, decide, ended, receive, rowLimit}
+use Rattle.station_spec.specs.declared.ReceiveEvent.the-variants.{NoReceive}
+use Rattle.station_spec.specs.declared.Stored.{Stored}
+use Rattle.station_spec.specs.declared.Stored.the-variants.{NoStore, Store}
+use Rattle.station_spec.specs.Receive.{rowIn, bitsIn, nextRow, storedBit, seek, seekBit, collect, collectBit, hear}
+use Rattle.station_spec.specs.Receive.{addressed, deciding, decide, ended, receive, rowLimit}
 use Rattle.area.specs.Area.{bufferAt, withBit, addressAt}
 use Rattle.bus_spec.specs.BitTime.{withStored}
 use Rattle.fast_plan.specs.Goes.{storedAll, length-all}

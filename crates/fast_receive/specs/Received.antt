@@ -14,9 +14,9 @@ use Rattle.station_symbols.specs.declared.Heard.the-variants.{Clean, Spoiled}
 use Rattle.station_symbols.specs.Packet.{hearsAny, packetBit}
 use Rattle.station_state.specs.declared.Receiver.{Receiver}
 use Rattle.station_state.specs.declared.Receiver.the-variants.{Listening, Readable, Seeking, Collecting}
-use Rattle.station_receive.specs.declared.Received.{Received}
-use Rattle.station_receive.specs.declared.Stored.{Stored}
-use Rattle.station_receive.specs.Receive.{addressed, receive}
+use Rattle.station_spec.specs.declared.Received.{Received}
+use Rattle.station_spec.specs.declared.Stored.{Stored}
+use Rattle.station_spec.specs.Receive.{addressed, receive}
 use Rattle.area.specs.Area.{arrivalAt, withOctet}
 use Rattle.bus_spec.specs.BitTime.{withStored}
 use Rattle.frame_build.specs.Limits.{shortestFrame}

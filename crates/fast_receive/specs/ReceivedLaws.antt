@@ -16,9 +16,9 @@ use Rattle.station_symbols.specs.declared.Heard.the-variants.{Nothing, Clean, S
 use Rattle.station_symbols.specs.Packet.{hearsAny}
 use Rattle.station_state.specs.declared.Receiver.{Receiver}
 use Rattle.station_state.specs.declared.Receiver.the-variants.{Listening, Readable, Seeking, Collecting}
-use Rattle.station_receive.specs.declared.Received.{Received}
-use Rattle.station_receive.specs.Receive.{rowIn, bitsIn, nextRow, hearing, seekBit, seek, collect, collectBit, hear}
-use Rattle.station_receive.specs.Receive.{receive, rowLimit}
+use Rattle.station_spec.specs.declared.Received.{Received}
+use Rattle.station_spec.specs.Receive.{rowIn, bitsIn, nextRow, hearing, seekBit, seek, collect, collectBit, hear}
+use Rattle.station_spec.specs.Receive.{receive, rowLimit}
 use Rattle.area_record.specs.Codec.{receiverNumber}
 use Rattle.area.specs.Places.{Part, buffer, Off, Keeps}
 use Rattle.area.specs.AreaLaws.{keeps-refl, keeps-trans}

@@ -16,7 +16,7 @@ use Rattle.station_symbols.specs.Packet.{hearsAny, packetBit}
 use Rattle.station_symbols.specs.PacketLaws.{bit-alternates}
 use Rattle.station_state.specs.declared.Receiver.{Receiver}
 use Rattle.station_state.specs.declared.Receiver.the-variants.{Seeking, Collecting}
-use Rattle.station_receive.specs.Receive.{rowIn, bitsIn, nextRow, storedBit, seek, seekBit, hear, receive, rowLimit}
+use Rattle.station_spec.specs.Receive.{rowIn, bitsIn, nextRow, storedBit, seek, seekBit, hear, receive, rowLimit}
 use Rattle.area.specs.Places.{place}
 use Rattle.area.specs.Area.{heardOf, symbolAt, arrivalAt, withOctet}
 use Rattle.area.specs.AreaLaws.{symbol-by}

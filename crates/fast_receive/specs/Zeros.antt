@@ -16,8 +16,8 @@ use Rattle.octets.specs.BaseLaws.{by-test, by-eq}
 use Rattle.octets.specs.Turns.{turns, length-turns}
 use Rattle.station_symbols.specs.declared.Heard.the-variants.{Spoiled}
 use Rattle.station_state.specs.declared.Receiver.the-variants.{Listening, Readable, Seeking, Collecting}
-use Rattle.station_receive.specs.declared.Stored.{Stored}
-use Rattle.station_receive.specs.Receive.{storedBit, receive, hear, seek, collect, collectBit}
+use Rattle.station_spec.specs.declared.Stored.{Stored}
+use Rattle.station_spec.specs.Receive.{storedBit, receive, hear, seek, collect, collectBit}
 use Rattle.area.specs.Area.{octetWith, withBit, withOctet}
 use Rattle.bus_spec.specs.BitTime.{withStored}
 use Rattle.fast_plan.specs.Goes.{storedAll}

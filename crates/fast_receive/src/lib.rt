@@ -5,7 +5,7 @@ use station_state::Receiver;
 ghost use mathlib.Core.Path.{_≡_};
 ghost use Prim.Native.Nat.{_+_, _-_, _*_, _/_, _%_, _<_, _≤_};
 ghost use lib.ListN.{length};
-ghost use Rattle.station_receive.specs.Receive.{rowIn, bitsIn, hear, addressed, rowLimit};
+ghost use Rattle.station_spec.specs.Receive.{rowIn, bitsIn, hear, addressed, rowLimit};
 ghost use Rattle.area.specs.Area.{addressAt, bufferAt, symbolAt};
 ghost use Rattle.station_state.specs.declared.Receiver.the-variants.{Seeking, Collecting};
 ghost use Rattle.fast_receive.specs.Received.{taken, stepTaken, heardAll, spoils, lineFrom, bitsFrom, AllHeard};

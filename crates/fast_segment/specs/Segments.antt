@@ -21,11 +21,11 @@ use Rattle.station_state.specs.declared.Deference.the-variants.{Busy}
 use Rattle.station_state.specs.declared.Transmitter.the-variants.{Sending}
 use Rattle.station_state.specs.declared.Receiver.{Receiver}
 use Rattle.station_state.specs.declared.Station.{Station}
-use Rattle.station_transmit.specs.Transmit.{octetsHeld, packetLength}
-use Rattle.station_receive.specs.declared.Stored.{Stored}
-use Rattle.station_receive.specs.declared.Stored.the-variants.{NoStore}
-use Rattle.station_receive.specs.declared.ReceiveEvent.the-variants.{NoReceive}
-use Rattle.station_receive.specs.Receive.{hearing, deciding, receive, ended}
+use Rattle.station_spec.specs.Transmit.{octetsHeld, packetLength}
+use Rattle.station_spec.specs.declared.Stored.{Stored}
+use Rattle.station_spec.specs.declared.Stored.the-variants.{NoStore}
+use Rattle.station_spec.specs.declared.ReceiveEvent.the-variants.{NoReceive}
+use Rattle.station_spec.specs.Receive.{hearing, deciding, receive, ended}
 use Rattle.station_spec.specs.declared.Stepped.{Stepped}
 use Rattle.station_spec.specs.Step.{stepped}
 use Rattle.area_record.specs.Codec.{receiverNumber}

@@ -23,11 +23,11 @@ use Rattle.station_state.specs.declared.Receiver.{Receiver}
 use Rattle.station_state.specs.declared.Receiver.the-variants.{Listening, Readable, Seeking, Collecting}
 use Rattle.station_state.specs.declared.Station.{Station}
 use Rattle.station_state.specs.State.{numberIn}
-use Rattle.station_defer.specs.Defer.{to, defer, quietRule, busyRule, gapRule, gapOver, goesBack}
-use Rattle.station_transmit.specs.Transmit.{waits, resting, transmit, waitBit, backoffBit}
-use Rattle.station_receive.specs.declared.Stored.the-variants.{NoStore}
-use Rattle.station_receive.specs.Receive.{deciding, receive, ended}
-use Rattle.station_receive.specs.declared.ReceiveEvent.the-variants.{NoReceive}
+use Rattle.station_spec.specs.Defer.{to, defer, quietRule, busyRule, gapRule, gapOver, goesBack}
+use Rattle.station_spec.specs.Transmit.{waits, resting, transmit, waitBit, backoffBit}
+use Rattle.station_spec.specs.declared.Stored.the-variants.{NoStore}
+use Rattle.station_spec.specs.Receive.{deciding, receive, ended}
+use Rattle.station_spec.specs.declared.ReceiveEvent.the-variants.{NoReceive}
 use Rattle.station_spec.specs.Step.{triesAfter, drawAfter, deferredAfter, stepped, nextStation}
 use Rattle.area_record.specs.Codec.{deferenceCount}
 use Rattle.area_record.specs.CodecLaws.{Fit}

@@ -16,7 +16,7 @@ use Rattle.station_state.specs.declared.Receiver.{Receiver}
 use Rattle.station_state.specs.declared.Receiver.the-variants.{Listening, Readable, Seeking, Collecting}
 use Rattle.station_state.specs.declared.Station.{Station}
 use Rattle.station_state.specs.State.{numberIn}
-use Rattle.station_defer.specs.Defer.{goesBack}
+use Rattle.station_spec.specs.Defer.{goesBack}
 use Rattle.fast_silence.specs.Rested.{restedTransmitter, hasWaited, rested}
 use Rattle.fast_station.specs.Forms.{made, deferredBy, heardGap, heardDeference, heardFor, heardRest, hearOn}
 use Rattle.fast_station.specs.Forms.{restOn, emitsOn, emitsFor, emitOn}

@@ -25,14 +25,14 @@ use Rattle.station_state.specs.declared.Receiver.{Receiver}
 use Rattle.station_state.specs.declared.Receiver.the-variants.{Listening, Readable, Seeking, Collecting}
 use Rattle.station_state.specs.declared.Station.{Station}
 use Rattle.station_state.specs.State.{numberIn}
-use Rattle.station_defer.specs.Defer.{to, defer, quietRule, busyRule, gapRule, gapOver, goesBack}
-use Rattle.station_transmit.specs.declared.TransmitEvent.the-variants.{NoTransmit}
-use Rattle.station_transmit.specs.Transmit.{waits, emitting, transmit, sendBit, afterBit, headBit, jamBit, packetLength}
-use Rattle.station_transmit.specs.Transmit.{octetsHeld}
-use Rattle.station_receive.specs.declared.ReceiveEvent.the-variants.{NoReceive}
-use Rattle.station_receive.specs.declared.Stored.{Stored}
-use Rattle.station_receive.specs.declared.Stored.the-variants.{NoStore}
-use Rattle.station_receive.specs.Receive.{hearing, deciding, receive, ended}
+use Rattle.station_spec.specs.Defer.{to, defer, quietRule, busyRule, gapRule, gapOver, goesBack}
+use Rattle.station_spec.specs.declared.TransmitEvent.the-variants.{NoTransmit}
+use Rattle.station_spec.specs.Transmit.{waits, emitting, transmit, sendBit, afterBit, headBit, jamBit, packetLength}
+use Rattle.station_spec.specs.Transmit.{octetsHeld}
+use Rattle.station_spec.specs.declared.ReceiveEvent.the-variants.{NoReceive}
+use Rattle.station_spec.specs.declared.Stored.{Stored}
+use Rattle.station_spec.specs.declared.Stored.the-variants.{NoStore}
+use Rattle.station_spec.specs.Receive.{hearing, deciding, receive, ended}
 use Rattle.station_spec.specs.Step.{triesAfter, drawAfter, deferredAfter, stepped, nextStation}
 use Rattle.area_record.specs.Codec.{deferenceCount, receiverNumber}
 use Rattle.area_record.specs.CodecLaws.{Fit}

@@ -16,8 +16,8 @@ use Rattle.station_state.specs.declared.Transmitter.the-variants.{NoFrame, Wait
 use Rattle.station_state.specs.declared.Transmitter.the-variants.{Jamming}
 use Rattle.station_state.specs.declared.Receiver.{Receiver}
 use Rattle.station_state.specs.declared.Station.{Station}
-use Rattle.station_defer.specs.Defer.{goesBack}
-use Rattle.station_transmit.specs.Transmit.{packetLength}
+use Rattle.station_spec.specs.Defer.{goesBack}
+use Rattle.station_spec.specs.Transmit.{packetLength}
 use Rattle.fast_silence.specs.Rested.{restedDeference, restedTransmitter, hasWaited}
 use Rattle.fast_receive.specs.Received.{calmed}
 

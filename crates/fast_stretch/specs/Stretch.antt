@@ -9,8 +9,8 @@ use Rattle.station_symbols.specs.declared.Heard.{Heard}
 use Rattle.station_state.specs.declared.Receiver.{Receiver}
 use Rattle.station_state.specs.declared.Station.{Station}
 use Rattle.station_state.specs.State.{numberIn}
-use Rattle.station_receive.specs.declared.Stored.the-variants.{NoStore}
-use Rattle.station_receive.specs.Receive.{rowIn, bitsIn, rowLimit}
+use Rattle.station_spec.specs.declared.Stored.the-variants.{NoStore}
+use Rattle.station_spec.specs.Receive.{rowIn, bitsIn, rowLimit}
 use Rattle.area.specs.Area.{stationAt}
 use Rattle.fast_plan.specs.Goes.{wentTo}
 use Rattle.fast_station.specs.Forms.{hearOn, restOn, emitOn}

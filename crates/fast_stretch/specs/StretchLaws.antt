@@ -16,8 +16,8 @@ use Rattle.station_state.specs.declared.Receiver.{Receiver}
 use Rattle.station_state.specs.declared.Receiver.the-variants.{Listening, Readable, Seeking, Collecting}
 use Rattle.station_state.specs.declared.Station.{Station}
 use Rattle.station_state.specs.State.{numberIn}
-use Rattle.station_receive.specs.declared.Stored.the-variants.{NoStore}
-use Rattle.station_receive.specs.Receive.{rowIn, bitsIn, rowLimit}
+use Rattle.station_spec.specs.declared.Stored.the-variants.{NoStore}
+use Rattle.station_spec.specs.Receive.{rowIn, bitsIn, rowLimit}
 use Rattle.area.specs.Area.{stationAt, withStation}
 use Rattle.bus_spec.specs.Range.{Fine, NumberIn, FrameIn, ReceiverIn}
 use Rattle.fast_plan.specs.Goes.{storedAll, wentTo, station-all}

@@ -25,8 +25,8 @@ use Rattle.station_state.specs.declared.Transmitter.{Transmitter}
 use Rattle.station_state.specs.declared.Transmitter.the-variants.{NoFrame, Waiting, BackingOff, Sending, Heading}
 use Rattle.station_state.specs.declared.Transmitter.the-variants.{Jamming}
 use Rattle.station_state.specs.declared.Station.{Station}
-use Rattle.station_receive.specs.Receive.{receive}
-use Rattle.station_transmit.specs.Transmit.{octetsHeld}
+use Rattle.station_spec.specs.Receive.{receive}
+use Rattle.station_spec.specs.Transmit.{octetsHeld}
 use Rattle.station_spec.specs.Step.{stepped, nextStation}
 use Rattle.area_record.specs.Codec.{decoded}
 use Rattle.area.specs.Places.{Part, layout, station, frame, place, Keeps}

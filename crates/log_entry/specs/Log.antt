@@ -13,8 +13,8 @@ use Rattle.log_entry.specs.declared.Event.{Event}
 use Rattle.log_entry.specs.declared.Event.the-variants.{Collision, Late, Sent, GivenUp, LateEnd, GotOk}
 use Rattle.log_entry.specs.declared.Event.the-variants.{GotTooLong, GotAlignment, GotCheck, GotLength}
 use Rattle.station_tally.specs.Words.{transmitWord, receiveWord, wordCount}
-use Rattle.station_receive.specs.declared.ReceiveEvent.the-variants as got
-use Rattle.station_transmit.specs.declared.TransmitEvent.the-variants as sent
+use Rattle.station_spec.specs.declared.ReceiveEvent.the-variants as got
+use Rattle.station_spec.specs.declared.TransmitEvent.the-variants as sent
 
 -- the place of an event's word among those that are counted, from 0 on: station_tally/Words numbers them from 1 on
 abbrev pub wordOf : Event → ℕ

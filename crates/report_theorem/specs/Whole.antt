@@ -14,12 +14,12 @@ use Rattle.octets.specs.Store.{length-part, take-sets}
 use Rattle.octets.specs.Turns.{blanked, length-blanked, blanked-same}
 use Rattle.sheet_layout.specs.Layout.{fitsWell}
 use Rattle.octets.specs.BaseLaws.{by-test, by-eq, neither, none-below, below-none}
-use Rattle.station_receive.specs.declared.ReceiveEvent.{ReceiveEvent}
-use Rattle.station_receive.specs.declared.ReceiveEvent.the-variants.{NoReceive, GotOk, GotTooLong, GotAlignment}
-use Rattle.station_receive.specs.declared.ReceiveEvent.the-variants.{GotCheck, GotLength}
-use Rattle.station_transmit.specs.declared.TransmitEvent.{TransmitEvent}
-use Rattle.station_transmit.specs.declared.TransmitEvent.the-variants.{NoTransmit, Collision, Late, Sent, GivenUp}
-use Rattle.station_transmit.specs.declared.TransmitEvent.the-variants.{LateEnded}
+use Rattle.station_spec.specs.declared.ReceiveEvent.{ReceiveEvent}
+use Rattle.station_spec.specs.declared.ReceiveEvent.the-variants.{NoReceive, GotOk, GotTooLong, GotAlignment}
+use Rattle.station_spec.specs.declared.ReceiveEvent.the-variants.{GotCheck, GotLength}
+use Rattle.station_spec.specs.declared.TransmitEvent.{TransmitEvent}
+use Rattle.station_spec.specs.declared.TransmitEvent.the-variants.{NoTransmit, Collision, Late, Sent, GivenUp}
+use Rattle.station_spec.specs.declared.TransmitEvent.the-variants.{LateEnded}
 use Rattle.area.specs.Area.{clockAt}
 use Rattle.bus_start.specs.Fresh.{withPlan, fresh}
 use Rattle.bus_start.specs.FreshLaws.{fresh-length, fresh-clock}

@@ -1,9 +1,9 @@
 // A station's counters, in the order in which document 01 lists them, and after them those of the requests.
 
-use station_receive::ReceiveEvent;
+use station_spec::ReceiveEvent;
 use station_spec::Stepped;
+use station_spec::TransmitEvent;
 use station_state::Receiver;
-use station_transmit::TransmitEvent;
 ghost use mathlib.Core.Path.{_≡_};
 ghost use Prim.Native.Nat.{_-_, _<_};
 ghost use Rattle.station_spec.specs.Count.{added, addedIf, countSent, countTransmit, countReceive, octetsIn, counted};

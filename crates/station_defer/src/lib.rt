@@ -1,16 +1,11 @@
 // Deference: when a station may start.
 
 use sheet_layout::Figures;
+use station_spec::Deferred;
 use station_state::Deference;
 ghost use mathlib.Core.Path.{_≡_};
 ghost use Prim.Native.Nat.{_+_, _<_};
-ghost use Rattle.station_defer.specs.Defer.{quietRule, busyRule, gapRule, goesBack, defer};
-
-// What a step's deference leads to: the next phase, and whether a waiting frame starts in the step.
-pub struct Deferred {
-    pub phase: Deference,
-    pub start: bool,
-}
+ghost use Rattle.station_spec.specs.Defer.{quietRule, busyRule, gapRule, goesBack, defer};
 
 fn quiet_rule(hears: bool, emitted: bool, waits: bool) -> Deferred
     ensures { λ r. ⌜ r ≡ quietRule hears emitted waits ⌝ }

@@ -1,19 +1,19 @@
 // The end of a reception, what is reported of it, and the receiver's step.
 
 use frame_open::ReceiveStatus;
-use station_receive::ReceiveEvent;
-use station_receive::Received;
-use station_receive::Stored;
+use station_spec::ReceiveEvent;
+use station_spec::Received;
+use station_spec::Stored;
 use station_state::Receiver;
 use station_symbols::Heard;
 ghost use mathlib.Core.Path.{_≡_};
 ghost use Prim.Native.Nat.{_<_, _≤_};
 ghost use lib.ListN.{length};
 ghost use Rattle.frame_open.specs.Open.{statusAnswer};
-ghost use Rattle.station_receive.specs.declared.ReceiveEvent.the-variants.{NoReceive};
-ghost use Rattle.station_receive.specs.ReceiveLaws.{gotError};
-ghost use Rattle.station_receive.specs.Receive.{rowIn, bitsIn, hear, addressed, openAnswer, opening, deciding, decide};
-ghost use Rattle.station_receive.specs.Receive.{ended, receive, rowLimit};
+ghost use Rattle.station_spec.specs.declared.ReceiveEvent.the-variants.{NoReceive};
+ghost use Rattle.station_spec.specs.ReceiveLaws.{gotError};
+ghost use Rattle.station_spec.specs.Receive.{rowIn, bitsIn, hear, addressed, openAnswer, opening, deciding, decide};
+ghost use Rattle.station_spec.specs.Receive.{ended, receive, rowLimit};
 ghost use Rattle.frame_build.specs.Limits.{bufferOctets};
 
 // Whether the destination that stands in the buffer is the station's own address or broadcast.

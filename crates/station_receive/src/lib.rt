@@ -1,36 +1,15 @@
 // The receiver: a reception, its delimiter, the bits collected, and what comes of them.
 
+use station_spec::ReceiveEvent;
+use station_spec::Received;
+use station_spec::Stored;
 use station_state::Receiver;
 ghost use mathlib.Core.Path.{_≡_};
 ghost use Prim.Native.Nat.{_+_, _*_, _<_};
 ghost use Rattle.octets.specs.Bits.{digit};
-ghost use Rattle.station_receive.specs.declared.ReceiveEvent.the-variants.{NoReceive};
-ghost use Rattle.station_receive.specs.Receive.{rowIn, bitsIn, nextRow, seekBit, seek, storedBit, collect, hear};
-ghost use Rattle.station_receive.specs.Receive.{rowLimit};
-
-// What a receiver reports in a step, at most one: a frame got: with receiveOK the octets of client data, else the whole
-// octets collected.
-pub enum ReceiveEvent {
-    NoReceive,
-    GotOk(u32),
-    GotTooLong(u32),
-    GotAlignment(u32),
-    GotCheck(u32),
-    GotLength(u32),
-}
-
-// The collected bit that a step stores: its number, counted from 0, and its value.
-pub enum Stored {
-    NoStore,
-    Store { bit: u32, one: bool },
-}
-
-// What a step of the receiver leads to.
-pub struct Received {
-    pub receiver: Receiver,
-    pub event: ReceiveEvent,
-    pub stored: Stored,
-}
+ghost use Rattle.station_spec.specs.declared.ReceiveEvent.the-variants.{NoReceive};
+ghost use Rattle.station_spec.specs.Receive.{rowIn, bitsIn, nextRow, seekBit, seek, storedBit, collect, hear};
+ghost use Rattle.station_spec.specs.Receive.{rowLimit};
 
 fn digit_of(b: bool) -> u32
     ensures value { λ r. ⌜ r ≡ digit b ⌝ }

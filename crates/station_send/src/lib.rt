@@ -1,13 +1,13 @@
 // A bit of an attempt, its collision, and the transmitter's step.
 
 use sheet_layout::Figures;
+use station_spec::TransmitEvent;
+use station_spec::Transmitted;
 use station_state::Transmitter;
 use station_symbols::Emission;
-use station_transmit::TransmitEvent;
-use station_transmit::Transmitted;
 ghost use mathlib.Core.Path.{_≡_};
 ghost use Prim.Native.Nat.{_+_, _*_, _<_};
-ghost use Rattle.station_transmit.specs.Transmit.{afterBit, collision, sendBit, headBit, resting, backoffBit, transmit};
+ghost use Rattle.station_spec.specs.Transmit.{afterBit, collision, sendBit, headBit, resting, backoffBit, transmit};
 ghost use Rattle.station_state.specs.State.{numberIn};
 
 // How a collided attempt goes on after packet bit k, whose frame ends or not.

@@ -9,12 +9,12 @@ use lib.ListN.{getD, set}
 use Rattle.station_state.specs.declared.Receiver.{Receiver}
 use Rattle.station_state.specs.declared.Receiver.the-variants.{Readable}
 use Rattle.station_spec.specs.declared.Stepped.{Stepped}
-use Rattle.station_transmit.specs.declared.TransmitEvent.{TransmitEvent}
-use Rattle.station_transmit.specs.declared.TransmitEvent.the-variants.{NoTransmit, Collision, Late, Sent, GivenUp}
-use Rattle.station_transmit.specs.declared.TransmitEvent.the-variants.{LateEnded}
-use Rattle.station_receive.specs.declared.ReceiveEvent.{ReceiveEvent}
-use Rattle.station_receive.specs.declared.ReceiveEvent.the-variants.{NoReceive, GotOk, GotTooLong, GotAlignment}
-use Rattle.station_receive.specs.declared.ReceiveEvent.the-variants.{GotCheck, GotLength}
+use Rattle.station_spec.specs.declared.TransmitEvent.{TransmitEvent}
+use Rattle.station_spec.specs.declared.TransmitEvent.the-variants.{NoTransmit, Collision, Late, Sent, GivenUp}
+use Rattle.station_spec.specs.declared.TransmitEvent.the-variants.{LateEnded}
+use Rattle.station_spec.specs.declared.ReceiveEvent.{ReceiveEvent}
+use Rattle.station_spec.specs.declared.ReceiveEvent.the-variants.{NoReceive, GotOk, GotTooLong, GotAlignment}
+use Rattle.station_spec.specs.declared.ReceiveEvent.the-variants.{GotCheck, GotLength}
 use Rattle.station_spec.specs.Count.{added, addedIf, countSent, countTransmit, countReceive, octetsIn, counted}
 
 pub added-more : (cs : List ℕ) (k n : ℕ) → n ≤ 4294967295 → getD cs k 0 ≤ 4294967295 - n

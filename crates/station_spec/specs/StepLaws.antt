@@ -8,16 +8,16 @@ use borrow.Author.Tests.{eq-eqb, ne-eqb}
 use Rattle.sheet_layout.specs.declared.Figures.{Figures}
 use Rattle.station_symbols.specs.declared.Heard.{Heard}
 use Rattle.station_symbols.specs.declared.Emission.{Emission}
-use Rattle.station_defer.specs.declared.Deferred.{Deferred}
-use Rattle.station_transmit.specs.declared.Transmitted.{Transmitted}
-use Rattle.station_receive.specs.declared.Received.{Received}
+use Rattle.station_spec.specs.declared.Deferred.{Deferred}
+use Rattle.station_spec.specs.declared.Transmitted.{Transmitted}
+use Rattle.station_spec.specs.declared.Received.{Received}
 use Rattle.station_state.specs.declared.Station.{Station}
 use Rattle.station_spec.specs.declared.Stepped.{Stepped}
 use Rattle.station_symbols.specs.Packet.{hearsAny, isEmission}
-use Rattle.station_defer.specs.Defer.{defer}
-use Rattle.station_transmit.specs.Transmit.{waits, octetsHeld, transmit}
-use Rattle.station_transmit.specs.TransmitLaws.{held-transmits}
-use Rattle.station_receive.specs.Receive.{receive}
+use Rattle.station_spec.specs.Defer.{defer}
+use Rattle.station_spec.specs.Transmit.{waits, octetsHeld, transmit}
+use Rattle.station_spec.specs.TransmitLaws.{held-transmits}
+use Rattle.station_spec.specs.Receive.{receive}
 use Rattle.station_spec.specs.Step.{triesAfter, drawAfter, deferredAfter, deferring, sending, receiving}
 use Rattle.station_spec.specs.Step.{nextStation, stepped}
 

@@ -1,16 +1,16 @@
 // The bit time of one station by value. Nothing here knows of a work area or of another station.
 
 use sheet_layout::Figures;
-use station_defer::Deferred;
-use station_receive::ReceiveEvent;
-use station_receive::Received;
-use station_receive::Stored;
+use station_spec::Deferred;
+use station_spec::ReceiveEvent;
+use station_spec::Received;
 use station_spec::Stepped;
+use station_spec::Stored;
+use station_spec::TransmitEvent;
+use station_spec::Transmitted;
 use station_state::Station;
 use station_symbols::Emission;
 use station_symbols::Heard;
-use station_transmit::TransmitEvent;
-use station_transmit::Transmitted;
 ghost use mathlib.Core.Path.{_≡_};
 ghost use Prim.Native.Nat.{_+_, _<_};
 ghost use lib.ListN.{length};

@@ -5,8 +5,8 @@ use mathlib.Core.List.{List}
 use lib.Dec.{eqb}
 use lib.ListN.{getD, set}
 use Rattle.octets.specs.Base.{pick}
-use Rattle.station_receive.specs.declared.ReceiveEvent.{ReceiveEvent}
-use Rattle.station_transmit.specs.declared.TransmitEvent.{TransmitEvent}
+use Rattle.station_spec.specs.declared.ReceiveEvent.{ReceiveEvent}
+use Rattle.station_spec.specs.declared.TransmitEvent.{TransmitEvent}
 use Rattle.station_tally.specs.Words.{transmitWord, receiveWord}
 
 -- one more of the word at place k

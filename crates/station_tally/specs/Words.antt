@@ -5,12 +5,12 @@ use mathlib.Core.Bool.{Bool, true, false, not}
 use mathlib.Core.List.{List, [], _∷_}
 use lib.Dec.{eqb}
 use Rattle.octets.specs.Base.{pick}
-use Rattle.station_receive.specs.declared.ReceiveEvent.{ReceiveEvent}
-use Rattle.station_receive.specs.declared.ReceiveEvent.the-variants.{NoReceive, GotOk, GotTooLong, GotAlignment}
-use Rattle.station_receive.specs.declared.ReceiveEvent.the-variants.{GotCheck, GotLength}
-use Rattle.station_transmit.specs.declared.TransmitEvent.{TransmitEvent}
-use Rattle.station_transmit.specs.declared.TransmitEvent.the-variants.{NoTransmit, Collision, Late, Sent, GivenUp}
-use Rattle.station_transmit.specs.declared.TransmitEvent.the-variants.{LateEnded}
+use Rattle.station_spec.specs.declared.ReceiveEvent.{ReceiveEvent}
+use Rattle.station_spec.specs.declared.ReceiveEvent.the-variants.{NoReceive, GotOk, GotTooLong, GotAlignment}
+use Rattle.station_spec.specs.declared.ReceiveEvent.the-variants.{GotCheck, GotLength}
+use Rattle.station_spec.specs.declared.TransmitEvent.{TransmitEvent}
+use Rattle.station_spec.specs.declared.TransmitEvent.the-variants.{NoTransmit, Collision, Late, Sent, GivenUp}
+use Rattle.station_spec.specs.declared.TransmitEvent.the-variants.{LateEnded}
 
 -- "`collision` or `late` with the bit, `sent` or `given-up` with attempts"; N1: "prints `late-end` with the attempts"
 abbrev pub transmitWord : TransmitEvent → ℕ

@@ -1,8 +1,8 @@
 // The events by their words (collision, late, sent, given-up, late-end, got ok, got too-long, got alignment, got check,
 // got length) and how many of each came.
 
-use station_receive::ReceiveEvent;
-use station_transmit::TransmitEvent;
+use station_spec::ReceiveEvent;
+use station_spec::TransmitEvent;
 ghost use mathlib.Core.Bool.{not};
 ghost use mathlib.Core.Path.{_≡_};
 ghost use Prim.Native.Nat.{_<_, _≤_};

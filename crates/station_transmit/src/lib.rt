@@ -1,31 +1,13 @@
 // The transmitter: start, packet bits, collision, header, jam, backoff.
 
 use sheet_layout::Figures;
+use station_spec::TransmitEvent;
+use station_spec::Transmitted;
 use station_state::Transmitter;
 use station_symbols::Emission;
 ghost use mathlib.Core.Path.{_≡_};
 ghost use Prim.Native.Nat.{_*_, _<_, _≤_, min};
-ghost use Rattle.station_transmit.specs.Transmit.{waits, octetsHeld, jamBit, lastJam, backOff, backoffRange};
-
-// What a transmitter reports in a step, at most one: a collision with its bit, or a late one, which closes the frame or
-// not; sent, given up or ended
-// after a late collision with the frame's attempts.
-pub enum TransmitEvent {
-    NoTransmit,
-    Collision(u32),
-    Late { bit: u32, closes: bool },
-    Sent(u32),
-    GivenUp(u32),
-    LateEnded(u32),
-}
-
-// What a step of the transmitter leads to: the next phase, the emission, the event, and whether a draw was used.
-pub struct Transmitted {
-    pub phase: Transmitter,
-    pub emission: Emission,
-    pub event: TransmitEvent,
-    pub drew: bool,
-}
+ghost use Rattle.station_spec.specs.Transmit.{waits, octetsHeld, jamBit, lastJam, backOff, backoffRange};
 
 pub fn is_waiting(t: Transmitter) -> bool
     ensures { λ r. ⌜ r ≡ waits t ⌝ }

@@ -11,7 +11,7 @@ use Rattle.sheet_layout.specs.Layout.{gapOf}
 use Rattle.station_symbols.specs.declared.Heard.the-variants.{Nothing, Clean}
 use Rattle.station_symbols.specs.declared.Symbol.the-variants.{Silence, Bit}
 use Rattle.station_symbols.specs.Packet.{packetBit}
-use Rattle.station_transmit.specs.Transmit.{packetLength, shortestPacket}
+use Rattle.station_spec.specs.Transmit.{packetLength, shortestPacket}
 use Rattle.trace.specs.Basic.{either}
 use Rattle.trace.specs.Trace.{Clear, alone, apart, listens, silent-before, silent-after}
 use Rattle.bus_meeting.specs.Net.{Net}

@@ -13,12 +13,12 @@ use Rattle.octets.specs.Base.{pick}
 use Rattle.octets.specs.BaseLaws.{by-test, by-eq}
 use Rattle.sheet_layout.specs.declared.Figures.{Figures}
 use Rattle.station_symbols.specs.Packet.{hearsAny}
-use Rattle.station_transmit.specs.declared.TransmitEvent.the-variants.{GivenUp, LateEnded}
+use Rattle.station_spec.specs.declared.TransmitEvent.the-variants.{GivenUp, LateEnded}
 use Rattle.station_state.specs.declared.Transmitter.{Transmitter}
 use Rattle.station_state.specs.declared.Transmitter.the-variants.{NoFrame, Waiting, BackingOff, Sending, Heading}
 use Rattle.station_state.specs.declared.Transmitter.the-variants.{Jamming}
-use Rattle.station_transmit.specs.Transmit.{packetLength, collision, sendBit, headBit, lastJam, jamBit, backoffBit}
-use Rattle.station_transmit.specs.Transmit.{waitBit, transmit}
+use Rattle.station_spec.specs.Transmit.{packetLength, collision, sendBit, headBit, lastJam, jamBit, backoffBit}
+use Rattle.station_spec.specs.Transmit.{waitBit, transmit}
 use Rattle.station_state.specs.declared.Station.{Station}
 use Rattle.station_spec.specs.Step.{triesAfter}
 use Rattle.bus_spec.specs.Range.{AttemptsIn}

@@ -15,11 +15,11 @@ use Rattle.station_state.specs.declared.Transmitter.the-variants.{NoFrame, Wait
 use Rattle.station_state.specs.declared.Transmitter.the-variants.{Jamming}
 use Rattle.station_state.specs.declared.Station.{Station}
 use Rattle.station_symbols.specs.Packet.{hearsAny}
-use Rattle.station_transmit.specs.declared.TransmitEvent.{TransmitEvent}
-use Rattle.station_transmit.specs.declared.TransmitEvent.the-variants.{NoTransmit, Collision, Late, Sent, GivenUp}
-use Rattle.station_transmit.specs.declared.TransmitEvent.the-variants.{LateEnded}
-use Rattle.station_transmit.specs.Transmit.{closesFrame, packetLength, afterBit, collision, sendBit, headBit, backOff}
-use Rattle.station_transmit.specs.Transmit.{backoffRange, lastJam, jamBit, backoffBit, waitBit, transmit}
+use Rattle.station_spec.specs.declared.TransmitEvent.{TransmitEvent}
+use Rattle.station_spec.specs.declared.TransmitEvent.the-variants.{NoTransmit, Collision, Late, Sent, GivenUp}
+use Rattle.station_spec.specs.declared.TransmitEvent.the-variants.{LateEnded}
+use Rattle.station_spec.specs.Transmit.{closesFrame, packetLength, afterBit, collision, sendBit, headBit, backOff}
+use Rattle.station_spec.specs.Transmit.{backoffRange, lastJam, jamBit, backoffBit, waitBit, transmit}
 use Rattle.station_spec.specs.Step.{triesAfter}
 use Rattle.bus_offer.specs.Offer.{offeredStation}
 use Rattle.bus_meeting.specs.Net.{Net}

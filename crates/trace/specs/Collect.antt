@@ -14,7 +14,7 @@ use Rattle.octets.specs.BitsLaws.{octet-bit}
 use Rattle.octets.specs.BaseLaws.{by-eq}
 use Rattle.octets.specs.NumberLaws.{Octets}
 use Rattle.station_symbols.specs.Packet.{frameBit}
-use Rattle.station_receive.specs.declared.Stored.the-variants.{Store}
+use Rattle.station_spec.specs.declared.Stored.the-variants.{Store}
 use Rattle.area.specs.Area.{octetWith}
 use Rattle.bus_spec.specs.After.{storedIn}
 

@@ -17,11 +17,11 @@ use Rattle.frame_open.specs.Open.{receiveOK, Opening, checkWrong, checkError, o
 use Rattle.frame_build.specs.Limits.{maxFrame, bufferOctets, shortestFrame}
 use Rattle.station_symbols.specs.declared.Heard.{Heard}
 use Rattle.station_symbols.specs.declared.Heard.the-variants.{Nothing, Clean, Spoiled}
-use Rattle.station_receive.specs.declared.ReceiveEvent.the-variants.{NoReceive, GotOk}
+use Rattle.station_spec.specs.declared.ReceiveEvent.the-variants.{NoReceive, GotOk}
 use Rattle.station_state.specs.declared.Receiver.{Receiver}
 use Rattle.station_state.specs.declared.Receiver.the-variants.{Listening, Readable, Seeking, Collecting}
-use Rattle.station_receive.specs.Receive.{seekBit, seek, collectBit, collect, hear, addressed, openAnswer, gotEvent}
-use Rattle.station_receive.specs.Receive.{readableAfter, deciding, opening, decide, ended, receive, nextRow}
+use Rattle.station_spec.specs.Receive.{seekBit, seek, collectBit, collect, hear, addressed, openAnswer, gotEvent}
+use Rattle.station_spec.specs.Receive.{readableAfter, deciding, opening, decide, ended, receive, nextRow}
 use Rattle.trace.specs.Basic.{clash}
 use Rattle.trace.specs.Listen.{Idle, ended-idle}
 

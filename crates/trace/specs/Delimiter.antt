@@ -17,7 +17,7 @@ use Rattle.octets.specs.Bits.{lowBits, digit, lowFirst, bitsOf}
 use Rattle.octets.specs.BitsLaws.{bits-number}
 use Rattle.octets.specs.Table.{entry}
 use Rattle.station_symbols.specs.Packet.{preamble, delimiter, packetBits}
-use Rattle.station_receive.specs.Receive.{noRow, nextRow, delimiterRow, rowLimit}
+use Rattle.station_spec.specs.Receive.{noRow, nextRow, delimiterRow, rowLimit}
 use Rattle.trace.specs.Basic.{by-le}
 
 -- the row after these clean symbols, in the order in which they came

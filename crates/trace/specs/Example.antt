@@ -13,7 +13,7 @@ use Rattle.bus_meeting.specs.Net.{Net}
 use Rattle.trace.specs.World.{Offer}
 use Rattle.trace.specs.Run.{Sound}
 use Rattle.trace.specs.Frames.{octets-replicate}
-use Rattle.station_transmit.specs.Transmit.{shortestPacket}
+use Rattle.station_spec.specs.Transmit.{shortestPacket}
 
 abbrev pub figures : Figures
 figures = record { slot = 512; gap1 = 64; gap2 = 32; jam = 32; limit = 16; backoff = 10; ends = 0 }

@@ -17,7 +17,7 @@ use Rattle.frame_crc.specs.Division.{sequence-is}
 use Rattle.frame_build.specs.Build.{header, padded, covered, frameOf}
 use Rattle.frame_open.specs.Open.{destinationOf, sourceOf, receiveOK, Opening, opened}
 use Rattle.frame_open.specs.RoundTrip.{handedBack, received, opens-frame}
-use Rattle.station_receive.specs.Receive.{addressed}
+use Rattle.station_spec.specs.Receive.{addressed}
 use Rattle.trace.specs.Basic.{by-le}
 use Rattle.bus_meeting.specs.Net.{Net}
 use Rattle.trace.specs.World.{Offer, frameFor}

@@ -15,12 +15,12 @@ use Rattle.station_symbols.specs.declared.Heard.the-variants.{Nothing}
 use Rattle.station_symbols.specs.declared.Symbol.the-variants.{Bit, Jam}
 use Rattle.station_symbols.specs.declared.Emission.the-variants.{PacketBit, JamBit}
 use Rattle.station_symbols.specs.Packet.{packetBit, symbolOf}
-use Rattle.station_transmit.specs.declared.TransmitEvent.the-variants.{Sent}
+use Rattle.station_spec.specs.declared.TransmitEvent.the-variants.{Sent}
 use Rattle.station_state.specs.declared.Transmitter.{Transmitter}
 use Rattle.station_state.specs.declared.Transmitter.the-variants.{NoFrame, Waiting, BackingOff, Sending, Heading}
 use Rattle.station_state.specs.declared.Transmitter.the-variants.{Jamming}
-use Rattle.station_transmit.specs.Transmit.{packetLength, afterBit, collision, sendBit, headBit, backoffRange, backOff}
-use Rattle.station_transmit.specs.Transmit.{closesFrame, lastJam, jamBit, backoffBit, waitBit, transmit}
+use Rattle.station_spec.specs.Transmit.{packetLength, afterBit, collision, sendBit, headBit, backoffRange, backOff}
+use Rattle.station_spec.specs.Transmit.{closesFrame, lastJam, jamBit, backoffBit, waitBit, transmit}
 use Rattle.bus_spec.specs.Range.{NumberIn}
 use Rattle.bus_offer.specs.Offer.{holds}
 use Rattle.trace.specs.Basic.{clash}

@@ -15,11 +15,11 @@ use Rattle.sheet_layout.specs.Layout.{gapOf}
 use Rattle.station_symbols.specs.declared.Heard.the-variants.{Nothing}
 use Rattle.station_symbols.specs.Packet.{hearsAny, isEmission}
 use Rattle.station_state.specs.declared.Deference.{Deference}
-use Rattle.station_defer.specs.Defer.{defer}
+use Rattle.station_spec.specs.Defer.{defer}
 use Rattle.station_state.specs.declared.Transmitter.{Transmitter}
 use Rattle.station_state.specs.declared.Transmitter.the-variants.{NoFrame, Waiting, BackingOff, Sending, Heading}
 use Rattle.station_state.specs.declared.Transmitter.the-variants.{Jamming}
-use Rattle.station_transmit.specs.Transmit.{waits, headBit, backoffBit, waitBit, transmit}
+use Rattle.station_spec.specs.Transmit.{waits, headBit, backoffBit, waitBit, transmit}
 use Rattle.station_state.specs.declared.Station.{Station}
 use Rattle.station_spec.specs.Step.{triesAfter}
 use Rattle.bus_spec.specs.Range.{FrameIn, no-start}

@@ -11,13 +11,13 @@ use Rattle.octets.specs.BaseLaws.{by-test}
 use Rattle.sheet_layout.specs.declared.Figures.{Figures}
 use Rattle.sheet_layout.specs.Layout.{gapOf}
 use Rattle.station_symbols.specs.Packet.{hearsAny, isEmission}
-use Rattle.station_transmit.specs.declared.TransmitEvent.{TransmitEvent}
-use Rattle.station_transmit.specs.declared.TransmitEvent.the-variants.{NoTransmit, Collision, Late}
+use Rattle.station_spec.specs.declared.TransmitEvent.{TransmitEvent}
+use Rattle.station_spec.specs.declared.TransmitEvent.the-variants.{NoTransmit, Collision, Late}
 use Rattle.station_state.specs.declared.Transmitter.{Transmitter}
 use Rattle.station_state.specs.declared.Transmitter.the-variants.{NoFrame, Waiting, BackingOff, Sending, Heading}
 use Rattle.station_state.specs.declared.Transmitter.the-variants.{Jamming}
-use Rattle.station_transmit.specs.Transmit.{packetLength, collision, sendBit, headBit, lastJam, jamBit, backoffBit}
-use Rattle.station_transmit.specs.Transmit.{waitBit, transmit}
+use Rattle.station_spec.specs.Transmit.{packetLength, collision, sendBit, headBit, lastJam, jamBit, backoffBit}
+use Rattle.station_spec.specs.Transmit.{waitBit, transmit}
 use Rattle.station_spec.specs.Step.{triesAfter}
 use Rattle.trace.specs.Basic.{either, clash}
 use Rattle.trace.specs.Trace.{no-late}

@@ -13,10 +13,10 @@ use Rattle.station_symbols.specs.declared.Heard.the-variants.{Nothing, Clean}
 use Rattle.station_symbols.specs.Packet.{isEmission}
 use Rattle.station_state.specs.declared.Receiver.{Receiver}
 use Rattle.station_state.specs.declared.Receiver.the-variants.{Listening, Readable, Seeking, Collecting}
-use Rattle.station_receive.specs.declared.Received.{Received}
-use Rattle.station_receive.specs.declared.Stored.{Stored}
-use Rattle.station_receive.specs.declared.Stored.the-variants.{NoStore, Store}
-use Rattle.station_receive.specs.Receive.{hear, addressed, openAnswer, readableAfter, opening, decide, ended, receive}
+use Rattle.station_spec.specs.declared.Received.{Received}
+use Rattle.station_spec.specs.declared.Stored.{Stored}
+use Rattle.station_spec.specs.declared.Stored.the-variants.{NoStore, Store}
+use Rattle.station_spec.specs.Receive.{hear, addressed, openAnswer, readableAfter, opening, decide, ended, receive}
 use Rattle.station_state.specs.declared.Station.{Station}
 use Rattle.bus_offer.specs.Offer.{offeredStation}
 use Rattle.trace.specs.Basic.{either}

@@ -13,8 +13,8 @@ use Rattle.octets.specs.BaseLaws.{by-eq}
 use Rattle.sheet_layout.specs.Layout.{gapOf}
 use Rattle.station_state.specs.declared.Deference.{Deference}
 use Rattle.station_state.specs.declared.Deference.the-variants.{Quiet, Busy, Gap}
-use Rattle.station_defer.specs.declared.Deferred.{Deferred}
-use Rattle.station_defer.specs.Defer.{defer, to, quietRule, busyRule, goesBack, gapOver, gapRule}
+use Rattle.station_spec.specs.declared.Deferred.{Deferred}
+use Rattle.station_spec.specs.Defer.{defer, to, quietRule, busyRule, goesBack, gapOver, gapRule}
 use Rattle.trace.specs.Basic.{either, clash, and-left}
 use Rattle.trace.specs.Trace as trace
 use Rattle.trace.specs.Trace.{Emitted, Free}

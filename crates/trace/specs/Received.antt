@@ -14,11 +14,11 @@ use Rattle.sheet_layout.specs.Layout.{gapOf}
 use Rattle.station_symbols.specs.declared.Heard.the-variants.{Nothing, Clean}
 use Rattle.station_symbols.specs.declared.Symbol.the-variants.{Bit}
 use Rattle.station_symbols.specs.Packet.{packetBit}
-use Rattle.station_transmit.specs.declared.TransmitEvent.the-variants.{Sent}
-use Rattle.station_receive.specs.declared.ReceiveEvent.the-variants.{NoReceive, GotOk}
+use Rattle.station_spec.specs.declared.TransmitEvent.the-variants.{Sent}
+use Rattle.station_spec.specs.declared.ReceiveEvent.the-variants.{NoReceive, GotOk}
 use Rattle.station_state.specs.declared.Receiver.the-variants.{Listening, Readable, Collecting}
-use Rattle.station_receive.specs.declared.Received.{Received}
-use Rattle.station_receive.specs.Receive.{addressed, deciding, decide, ended}
+use Rattle.station_spec.specs.declared.Received.{Received}
+use Rattle.station_spec.specs.Receive.{addressed, deciding, decide, ended}
 use Rattle.trace.specs.Basic.{clash}
 use Rattle.bus_meeting.specs.Net.{Net}
 use Rattle.trace.specs.World.{Offer, freshStation, fresh, before}
@@ -34,7 +34,7 @@ use Rattle.trace.specs.Frames.{clientIn, made-client, whole-status}
 use Rattle.trace.specs.Listen.{receptionAt, receiver-ready, got-is, receiver-next, reception-nothing}
 use Rattle.trace.specs.Reception.{Complete, whole-complete}
 use Rattle.trace.specs.Decide.{decide-for, decide-else, ended-collecting, no-ok, Ok, receive-ok, last-clean}
-use Rattle.station_transmit.specs.Transmit.{shortestPacket}
+use Rattle.station_spec.specs.Transmit.{shortestPacket}
 
 -- Where a frame that station j has whole in step u came from.
 pub record Came (P : Net) (inp : ℕ → List (Offer P)) (j u : ℕ) : Type 0 where

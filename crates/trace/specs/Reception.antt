@@ -15,9 +15,9 @@ use Rattle.station_symbols.specs.Packet.{preamble, delimiter, packetBits, frame
 use Rattle.station_symbols.specs.PacketLaws.{bit-of-frame}
 use Rattle.station_state.specs.declared.Receiver.{Receiver}
 use Rattle.station_state.specs.declared.Receiver.the-variants.{Listening, Readable, Seeking, Collecting}
-use Rattle.station_receive.specs.declared.Received.{Received}
-use Rattle.station_receive.specs.declared.Stored.the-variants.{Store}
-use Rattle.station_receive.specs.Receive.{nextRow, storedBit, hearing, seekBit, seek, collectBit, collect, hear}
+use Rattle.station_spec.specs.declared.Received.{Received}
+use Rattle.station_spec.specs.declared.Stored.the-variants.{Store}
+use Rattle.station_spec.specs.Receive.{nextRow, storedBit, hearing, seekBit, seek, collectBit, collect, hear}
 use Rattle.bus_spec.specs.After.{storedIn}
 use Rattle.bus_meeting.specs.Net.{Net}
 use Rattle.trace.specs.World.{Offer}
@@ -30,7 +30,7 @@ use Rattle.trace.specs.Frames.{whole-octets}
 use Rattle.trace.specs.Listen.{receptionAt, receiver-next, buffer-next, buffer-length, reception-nothing}
 use Rattle.trace.specs.Listen.{reception-clean, Idle, ended-idle}
 use Rattle.frame_build.specs.Limits.{bufferBits}
-use Rattle.station_transmit.specs.Transmit.{shortestPacket}
+use Rattle.station_spec.specs.Transmit.{shortestPacket}
 
 -- ---- a reception of clean symbols
 

@@ -20,12 +20,12 @@ use Rattle.station_symbols.specs.declared.Symbol.the-variants.{Silence, Bit, Ja
 use Rattle.station_symbols.specs.declared.Emission.{Emission}
 use Rattle.station_symbols.specs.declared.Emission.the-variants.{Rest, PacketBit, JamBit}
 use Rattle.station_symbols.specs.Packet.{symbolOf, isEmission}
-use Rattle.station_defer.specs.declared.Deferred.{Deferred}
+use Rattle.station_spec.specs.declared.Deferred.{Deferred}
 use Rattle.station_state.specs.declared.Transmitter.{Transmitter}
 use Rattle.station_state.specs.declared.Transmitter.the-variants.{NoFrame, Waiting, BackingOff, Sending, Heading}
 use Rattle.station_state.specs.declared.Transmitter.the-variants.{Jamming}
-use Rattle.station_transmit.specs.declared.Transmitted.{Transmitted}
-use Rattle.station_receive.specs.declared.Received.{Received}
+use Rattle.station_spec.specs.declared.Transmitted.{Transmitted}
+use Rattle.station_spec.specs.declared.Received.{Received}
 use Rattle.station_state.specs.declared.Station.{Station}
 use Rattle.station_spec.specs.declared.Stepped.{Stepped}
 use Rattle.station_spec.specs.Step.{stepped, nextStation, triesAfter, deferring, sending, receiving}

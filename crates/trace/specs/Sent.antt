@@ -13,15 +13,15 @@ use Rattle.sheet_layout.specs.declared.Figures.{Figures}
 use Rattle.station_symbols.specs.declared.Symbol.the-variants.{Silence, Bit, Jam}
 use Rattle.station_symbols.specs.declared.Emission.the-variants.{PacketBit}
 use Rattle.station_symbols.specs.Packet.{packetBit, symbolOf, hearsAny, isEmission}
-use Rattle.station_transmit.specs.declared.TransmitEvent.{TransmitEvent}
-use Rattle.station_transmit.specs.declared.TransmitEvent.the-variants.{NoTransmit, Collision, Late, Sent, GivenUp}
-use Rattle.station_transmit.specs.declared.TransmitEvent.the-variants.{LateEnded}
+use Rattle.station_spec.specs.declared.TransmitEvent.{TransmitEvent}
+use Rattle.station_spec.specs.declared.TransmitEvent.the-variants.{NoTransmit, Collision, Late, Sent, GivenUp}
+use Rattle.station_spec.specs.declared.TransmitEvent.the-variants.{LateEnded}
 use Rattle.station_state.specs.declared.Transmitter.{Transmitter}
 use Rattle.station_state.specs.declared.Transmitter.the-variants.{NoFrame, Waiting, BackingOff, Sending, Heading}
 use Rattle.station_state.specs.declared.Transmitter.the-variants.{Jamming}
-use Rattle.station_transmit.specs.Transmit.{closesFrame, packetLength, collision, sendBit, headBit, lastJam, jamBit}
-use Rattle.station_transmit.specs.Transmit.{backoffBit}
-use Rattle.station_transmit.specs.Transmit.{waitBit, transmit}
+use Rattle.station_spec.specs.Transmit.{closesFrame, packetLength, collision, sendBit, headBit, lastJam, jamBit}
+use Rattle.station_spec.specs.Transmit.{backoffBit}
+use Rattle.station_spec.specs.Transmit.{waitBit, transmit}
 use Rattle.station_state.specs.declared.Station.{Station}
 use Rattle.station_spec.specs.Step.{triesAfter}
 use Rattle.bus_offer.specs.Offer.{holds, offeredStation}

@@ -2,7 +2,7 @@
 use Prim.Native.Nat.{_≤_, _<_, _-_, _+_}
 use mathlib.Core.Path.{_≡_, refl}
 use lib.ListN.{length}
-use Rattle.station_receive.specs.Receive.{rowIn, bitsIn, rowLimit}
+use Rattle.station_spec.specs.Receive.{rowIn, bitsIn, rowLimit}
 use borrow.Author.Needs.{needs}
 use native.Mathlib.Omega.{arith}
 use Rattle.fast_receive.specs.Received.{taken, heardAll, bitsFrom}

@@ -1,7 +1,7 @@
 use Rattle.fast_receive.specs.Strides.{line-on, line-left}
 use Rattle.fast_receive.specs.CodeLaws.{all-none, all-end}
 use Rattle.fast_receive.specs.Received.{taken, heardAll, lineFrom}
-use Rattle.station_receive.specs.Receive.{rowIn, bitsIn, rowLimit}
+use Rattle.station_spec.specs.Receive.{rowIn, bitsIn, rowLimit}
 use lib.ListN.{length}
 use mathlib.Core.Path.{_≡_, refl}
 use Prim.Native.Nat.{_≤_, _<_, _-_, _+_}

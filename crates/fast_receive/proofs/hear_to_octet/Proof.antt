@@ -1,6 +1,6 @@
 use Rattle.fast_receive.specs.CodeLaws.{all-none, join}
 use Rattle.fast_receive.specs.Received.{taken, heardAll, bitsFrom}
-use Rattle.station_receive.specs.Receive.{rowIn, bitsIn, rowLimit}
+use Rattle.station_spec.specs.Receive.{rowIn, bitsIn, rowLimit}
 use lib.ListN.{length}
 use mathlib.Core.Path.{_≡_, refl}
 use Prim.Native.Nat.{_≤_, _<_, _-_, _+_}

@@ -1,5 +1,5 @@
 -- `station_defer::busy_rule` meets its contract. Assumes nothing.
-use Rattle.station_defer.specs.DeferLaws.{busy-stays, busy-ends}
+use Rattle.station_spec.specs.DeferLaws.{busy-stays, busy-ends}
 use borrow.Author.Needs.{needs}
 use Rattle.station_defer.proofs.busy_rule.Statement.{statement}
 use Rattle.station_defer.proofs.busy_rule.Tie as tie

@@ -1,5 +1,5 @@
 -- `station_defer::defer` meets its contract. Assumes nothing.
-use Rattle.station_defer.specs.DeferLaws.{defer-quiet, defer-busy, defer-gap}
+use Rattle.station_spec.specs.DeferLaws.{defer-quiet, defer-busy, defer-gap}
 use borrow.Author.Needs.{needs}
 use Rattle.station_defer.proofs.defer.Statement.{statement}
 use Rattle.station_defer.proofs.defer.Tie as tie

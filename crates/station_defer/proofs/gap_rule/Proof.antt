@@ -1,5 +1,5 @@
 -- `station_defer::gap_rule` meets its contract. Assumes nothing.
-use Rattle.station_defer.specs.DeferLaws.{gap-starts, gap-quiet, gap-back, gap-on}
+use Rattle.station_spec.specs.DeferLaws.{gap-starts, gap-quiet, gap-back, gap-on}
 use borrow.Author.Needs.{needs}
 use Rattle.station_defer.proofs.gap_rule.Statement.{statement}
 use Rattle.station_defer.proofs.gap_rule.Tie as tie

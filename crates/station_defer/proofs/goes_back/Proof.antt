@@ -1,5 +1,5 @@
 -- `station_defer::goes_back` meets its contract. Assumes nothing.
-use Rattle.station_defer.specs.DeferLaws.{back-is}
+use Rattle.station_spec.specs.DeferLaws.{back-is}
 use borrow.Author.Needs.{needs}
 use Rattle.station_defer.proofs.goes_back.Statement.{statement}
 use Rattle.station_defer.proofs.goes_back.Tie as tie

@@ -1,5 +1,5 @@
 -- `station_defer::quiet_rule` meets its contract. Assumes nothing.
-use Rattle.station_defer.specs.DeferLaws.{quiet-busy, quiet-ends}
+use Rattle.station_spec.specs.DeferLaws.{quiet-busy, quiet-ends}
 use borrow.Author.Needs.{needs}
 use Rattle.station_defer.proofs.quiet_rule.Statement.{statement}
 use Rattle.station_defer.proofs.quiet_rule.Tie as tie

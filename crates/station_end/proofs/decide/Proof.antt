@@ -1,5 +1,5 @@
 -- `station_end::decide` meets its contract. Assumes nothing.
-use Rattle.station_receive.specs.ReceiveLaws.{decide-few, decide-own, decide-opens, decide-other}
+use Rattle.station_spec.specs.ReceiveLaws.{decide-few, decide-own, decide-opens, decide-other}
 use borrow.Author.Needs.{needs}
 use Rattle.station_end.proofs.decide.Statement.{statement}
 use Rattle.station_end.proofs.decide.Tie as tie

@@ -1,5 +1,5 @@
 -- `station_end::end` meets its contract. Assumes nothing.
-use Rattle.station_receive.specs.ReceiveLaws.{end-listening, end-readable, end-seeking, end-collecting}
+use Rattle.station_spec.specs.ReceiveLaws.{end-listening, end-readable, end-seeking, end-collecting}
 use borrow.Author.Needs.{needs}
 use Rattle.station_end.proofs.end.Statement.{statement}
 use Rattle.station_end.proofs.end.Tie as tie

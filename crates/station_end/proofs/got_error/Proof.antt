@@ -1,5 +1,5 @@
 -- `station_end::got_error` meets its contract. Assumes nothing.
-use Rattle.station_receive.specs.ReceiveLaws.{got-long, got-check, got-alignment, got-length}
+use Rattle.station_spec.specs.ReceiveLaws.{got-long, got-check, got-alignment, got-length}
 use borrow.Author.Needs.{needs}
 use Rattle.station_end.proofs.got_error.Statement.{statement}
 use Rattle.station_end.proofs.got_error.Tie as tie

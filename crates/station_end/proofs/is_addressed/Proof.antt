@@ -1,5 +1,5 @@
 -- `station_end::is_addressed` meets its contract. Assumes nothing.
-use Rattle.station_receive.specs.ReceiveLaws.{address-is}
+use Rattle.station_spec.specs.ReceiveLaws.{address-is}
 use borrow.Author.Needs.{needs}
 use Rattle.station_end.proofs.is_addressed.Statement.{statement}
 use Rattle.station_end.proofs.is_addressed.Tie as tie

@@ -1,5 +1,5 @@
 -- `station_end::open_buffer` meets its contract. Assumes nothing.
-use Rattle.station_receive.specs.ReceiveLaws.{open-long, open-rules}
+use Rattle.station_spec.specs.ReceiveLaws.{open-long, open-rules}
 use borrow.Author.Needs.{needs}
 use Rattle.station_end.proofs.open_buffer.Statement.{statement}
 use Rattle.station_end.proofs.open_buffer.Tie as tie

@@ -11,10 +11,10 @@ use Rattle.octets.specs.Variant.{first-six}
 use Rattle.frame_open.specs.declared.ReceiveStatus.{ReceiveStatus}
 use Rattle.frame_open.specs.Open.{statusAnswer}
 use Rattle.frame_open.proofs.ReceiveStatus.{the-type}
-use Rattle.station_receive.specs.declared.ReceiveEvent.{ReceiveEvent}
+use Rattle.station_spec.specs.declared.ReceiveEvent.{ReceiveEvent}
 use Rattle.station_state.specs.declared.Receiver.the-variants.{Listening}
-use Rattle.station_receive.specs.Receive.{openAnswer, deciding, opening}
-use Rattle.station_receive.specs.ReceiveLaws.{gotError, opening-ok, opening-error, ok-small}
+use Rattle.station_spec.specs.Receive.{openAnswer, deciding, opening}
+use Rattle.station_spec.specs.ReceiveLaws.{gotError, opening-ok, opening-error, ok-small}
 use Rattle.station_end.proofs.open_reception.Statement.{statement}
 use Rattle.station_end.proofs.open_reception.Tie as tie
 

@@ -1,5 +1,5 @@
 -- `station_end::receive` meets its contract. Assumes nothing.
-use Rattle.station_receive.specs.ReceiveLaws.{receive-nothing, receive-clean, receive-spoiled}
+use Rattle.station_spec.specs.ReceiveLaws.{receive-nothing, receive-clean, receive-spoiled}
 use borrow.Author.Needs.{needs}
 use Rattle.station_end.proofs.receive.Statement.{statement}
 use Rattle.station_end.proofs.receive.Tie as tie

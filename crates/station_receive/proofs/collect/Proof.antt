@@ -1,5 +1,5 @@
 -- `station_receive::collect` meets its contract. Assumes nothing.
-use Rattle.station_receive.specs.ReceiveLaws.{collect-is}
+use Rattle.station_spec.specs.ReceiveLaws.{collect-is}
 use borrow.Author.Needs.{needs}
 use Rattle.station_receive.proofs.collect.Statement.{statement}
 use Rattle.station_receive.proofs.collect.Tie as tie

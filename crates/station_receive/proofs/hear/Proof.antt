@@ -1,6 +1,6 @@
 -- `station_receive::hear` meets its contract. Assumes nothing.
-use Rattle.station_receive.specs.ReceiveLaws.{hear-listening, hear-readable, hear-seeking, hear-collecting}
-use Rattle.station_receive.specs.ReceiveLaws.{row-of, bits-of}
+use Rattle.station_spec.specs.ReceiveLaws.{hear-listening, hear-readable, hear-seeking, hear-collecting}
+use Rattle.station_spec.specs.ReceiveLaws.{row-of, bits-of}
 use borrow.Author.Needs.{needs}
 use Rattle.station_receive.proofs.hear.Statement.{statement}
 use Rattle.station_receive.proofs.hear.Tie as tie

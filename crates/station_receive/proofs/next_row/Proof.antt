@@ -1,5 +1,5 @@
 -- `station_receive::next_row` meets its contract. Assumes nothing.
-use Rattle.station_receive.specs.ReceiveLaws.{row-short, row-long}
+use Rattle.station_spec.specs.ReceiveLaws.{row-short, row-long}
 use borrow.Author.Needs.{needs}
 use Rattle.station_receive.proofs.next_row.Statement.{statement}
 use Rattle.station_receive.proofs.next_row.Tie as tie

@@ -1,5 +1,5 @@
 -- `station_receive::seek` meets its contract. Assumes nothing.
-use Rattle.station_receive.specs.ReceiveLaws.{seek-clean, seek-spoiled}
+use Rattle.station_spec.specs.ReceiveLaws.{seek-clean, seek-spoiled}
 use borrow.Author.Needs.{needs}
 use Rattle.station_receive.proofs.seek.Statement.{statement}
 use Rattle.station_receive.proofs.seek.Tie as tie

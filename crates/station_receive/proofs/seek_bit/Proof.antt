@@ -1,5 +1,5 @@
 -- `station_receive::seek_bit` meets its contract. Assumes nothing.
-use Rattle.station_receive.specs.ReceiveLaws.{seek-found, seek-more}
+use Rattle.station_spec.specs.ReceiveLaws.{seek-found, seek-more}
 use borrow.Author.Needs.{needs}
 use Rattle.station_receive.proofs.seek_bit.Statement.{statement}
 use Rattle.station_receive.proofs.seek_bit.Tie as tie

@@ -1,5 +1,5 @@
 -- `station_receive::stored_bit` meets its contract. Assumes nothing.
-use Rattle.station_receive.specs.ReceiveLaws.{stored-kept, stored-past}
+use Rattle.station_spec.specs.ReceiveLaws.{stored-kept, stored-past}
 use Rattle.station_receive.proofs.stored_bit.Statement.{statement}
 use Rattle.station_receive.proofs.stored_bit.Tie as tie
 

@@ -1,5 +1,5 @@
 -- `station_send::after_bit` meets its contract. Assumes nothing.
-use Rattle.station_transmit.specs.TransmitLaws.{after-heading, after-jamming}
+use Rattle.station_spec.specs.TransmitLaws.{after-heading, after-jamming}
 use borrow.Author.Needs.{needs}
 use Rattle.station_send.proofs.after_bit.Statement.{statement}
 use Rattle.station_send.proofs.after_bit.Tie as tie

@@ -1,5 +1,5 @@
 -- `station_send::backoff_bit` meets its contract. Assumes nothing.
-use Rattle.station_transmit.specs.TransmitLaws.{backoff-over, backoff-more}
+use Rattle.station_spec.specs.TransmitLaws.{backoff-over, backoff-more}
 use borrow.Author.Needs.{needs}
 use Rattle.station_send.proofs.backoff_bit.Statement.{statement}
 use Rattle.station_send.proofs.backoff_bit.Tie as tie

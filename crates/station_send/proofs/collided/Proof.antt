@@ -1,5 +1,5 @@
 -- `station_send::collided` meets its contract. Assumes nothing.
-use Rattle.station_transmit.specs.TransmitLaws.{collision-late, collision-early}
+use Rattle.station_spec.specs.TransmitLaws.{collision-late, collision-early}
 use borrow.Author.Needs.{needs}
 use Rattle.station_send.proofs.collided.Statement.{statement}
 use Rattle.station_send.proofs.collided.Tie as tie

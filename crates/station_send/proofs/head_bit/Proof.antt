@@ -1,5 +1,5 @@
 -- `station_send::head_bit` meets its contract. Assumes nothing.
-use Rattle.station_transmit.specs.TransmitLaws.{head-bit}
+use Rattle.station_spec.specs.TransmitLaws.{head-bit}
 use borrow.Author.Needs.{needs}
 use Rattle.station_send.proofs.head_bit.Statement.{statement}
 use Rattle.station_send.proofs.head_bit.Tie as tie

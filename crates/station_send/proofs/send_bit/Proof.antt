@@ -1,5 +1,5 @@
 -- `station_send::send_bit` meets its contract. Assumes nothing.
-use Rattle.station_transmit.specs.TransmitLaws.{send-collides, send-last, send-on}
+use Rattle.station_spec.specs.TransmitLaws.{send-collides, send-last, send-on}
 use borrow.Author.Needs.{needs}
 use Rattle.station_send.proofs.send_bit.Statement.{statement}
 use Rattle.station_send.proofs.send_bit.Tie as tie

@@ -1,6 +1,6 @@
 -- `station_send::transmit` meets its contract. Assumes nothing.
-use Rattle.station_transmit.specs.TransmitLaws.{transmit-none, transmit-starts, transmit-waits, transmit-backs}
-use Rattle.station_transmit.specs.TransmitLaws.{transmit-sends, transmit-heads, transmit-jams, number-of}
+use Rattle.station_spec.specs.TransmitLaws.{transmit-none, transmit-starts, transmit-waits, transmit-backs}
+use Rattle.station_spec.specs.TransmitLaws.{transmit-sends, transmit-heads, transmit-jams, number-of}
 use native.Mathlib.Omega.{arith}
 use borrow.Author.Needs.{needs}
 use Rattle.station_send.proofs.transmit.Statement.{statement}

@@ -1,5 +1,5 @@
 -- `station_transmit::back_off` meets its contract. Assumes nothing.
-use Rattle.station_transmit.specs.TransmitLaws.{back-now, back-later, wait-fits}
+use Rattle.station_spec.specs.TransmitLaws.{back-now, back-later, wait-fits}
 use native.Mathlib.Omega.{arith}
 use borrow.Author.Needs.{needs}
 use Rattle.station_transmit.proofs.back_off.Statement.{statement}

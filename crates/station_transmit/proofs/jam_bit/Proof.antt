@@ -1,5 +1,5 @@
 -- `station_transmit::jam_bit` meets its contract. Assumes nothing.
-use Rattle.station_transmit.specs.TransmitLaws.{jam-ends, jam-last, jam-more}
+use Rattle.station_spec.specs.TransmitLaws.{jam-ends, jam-last, jam-more}
 use borrow.Author.Needs.{needs}
 use Rattle.station_transmit.proofs.jam_bit.Statement.{statement}
 use Rattle.station_transmit.proofs.jam_bit.Tie as tie

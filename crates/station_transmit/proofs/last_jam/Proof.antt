@@ -1,5 +1,5 @@
 -- `station_transmit::last_jam` meets its contract. Assumes nothing.
-use Rattle.station_transmit.specs.TransmitLaws.{jam-gives-up, jam-draws}
+use Rattle.station_spec.specs.TransmitLaws.{jam-gives-up, jam-draws}
 use borrow.Author.Needs.{needs}
 use Rattle.station_transmit.proofs.last_jam.Statement.{statement}
 use Rattle.station_transmit.proofs.last_jam.Tie as tie

@@ -1,5 +1,5 @@
 -- `station_transmit::range_after` meets its contract. Assumes nothing.
-use Rattle.station_transmit.specs.TransmitLaws.{range-is, range-low, range-high}
+use Rattle.station_spec.specs.TransmitLaws.{range-is, range-low, range-high}
 use borrow.Author.Needs.{needs}
 use Rattle.station_transmit.proofs.range_after.Statement.{statement}
 use Rattle.station_transmit.proofs.range_after.Tie as tie

@@ -9,7 +9,7 @@ use Rattle.sheet_layout.specs.declared.Figures.{Figures}
 use Rattle.sheet_layout.specs.Layout.{gapOf}
 use Rattle.station_state.specs.declared.Deference.{Deference}
 use Rattle.station_state.specs.declared.Deference.the-variants.{Quiet, Busy, Gap}
-use Rattle.station_defer.specs.declared.Deferred.{Deferred}
+use Rattle.station_spec.specs.declared.Deferred.{Deferred}
 
 -- "*Busy* means: hears any other, or emitted at t−1."
 abbrev pub isBusy : (hears emitted : Bool) → Bool

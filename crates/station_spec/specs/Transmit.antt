@@ -5,15 +5,15 @@ use mathlib.Core.Bool.{Bool, true, false}
 use lib.Dec.{ltb, leb, eqb}
 use Rattle.octets.specs.Base.{pick}
 use Rattle.sheet_layout.specs.declared.Figures.{Figures}
-use Rattle.station_transmit.specs.declared.TransmitEvent.{TransmitEvent}
-use Rattle.station_transmit.specs.declared.TransmitEvent.the-variants.{NoTransmit, Collision, Late, Sent, GivenUp}
-use Rattle.station_transmit.specs.declared.TransmitEvent.the-variants.{LateEnded}
+use Rattle.station_spec.specs.declared.TransmitEvent.{TransmitEvent}
+use Rattle.station_spec.specs.declared.TransmitEvent.the-variants.{NoTransmit, Collision, Late, Sent, GivenUp}
+use Rattle.station_spec.specs.declared.TransmitEvent.the-variants.{LateEnded}
 use Rattle.station_symbols.specs.declared.Emission.{Emission}
 use Rattle.station_symbols.specs.declared.Emission.the-variants.{Rest, PacketBit, JamBit}
 use Rattle.station_state.specs.declared.Transmitter.{Transmitter}
 use Rattle.station_state.specs.declared.Transmitter.the-variants.{NoFrame, Waiting, BackingOff, Sending, Heading}
 use Rattle.station_state.specs.declared.Transmitter.the-variants.{Jamming}
-use Rattle.station_transmit.specs.declared.Transmitted.{Transmitted}
+use Rattle.station_spec.specs.declared.Transmitted.{Transmitted}
 
 -- whether a frame waits; one in backoff does not
 abbrev pub waits : Transmitter → Bool

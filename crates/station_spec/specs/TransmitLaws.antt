@@ -10,19 +10,19 @@ use lib.Dec.{eqb}
 use lib.ListN.{getD}
 use borrow.Author.Tests.{lt-ltb, le-ltb, le-leb, lt-leb, eq-eqb, ne-eqb}
 use Rattle.sheet_layout.specs.declared.Figures.{Figures}
-use Rattle.station_transmit.specs.declared.TransmitEvent.{TransmitEvent}
-use Rattle.station_transmit.specs.declared.TransmitEvent.the-variants.{NoTransmit, Collision, Late, Sent, GivenUp}
-use Rattle.station_transmit.specs.declared.TransmitEvent.the-variants.{LateEnded}
+use Rattle.station_spec.specs.declared.TransmitEvent.{TransmitEvent}
+use Rattle.station_spec.specs.declared.TransmitEvent.the-variants.{NoTransmit, Collision, Late, Sent, GivenUp}
+use Rattle.station_spec.specs.declared.TransmitEvent.the-variants.{LateEnded}
 use Rattle.station_symbols.specs.declared.Emission.{Emission}
 use Rattle.station_symbols.specs.declared.Emission.the-variants.{Rest, PacketBit, JamBit}
 use Rattle.station_state.specs.declared.Transmitter.{Transmitter}
 use Rattle.station_state.specs.declared.Transmitter.the-variants.{NoFrame, Waiting, BackingOff, Sending, Heading}
 use Rattle.station_state.specs.declared.Transmitter.the-variants.{Jamming}
-use Rattle.station_transmit.specs.declared.Transmitted.{Transmitted}
+use Rattle.station_spec.specs.declared.Transmitted.{Transmitted}
 use Rattle.station_state.specs.State.{numberIn}
-use Rattle.station_transmit.specs.Transmit.{closesFrame, octetsHeld, resting, emitting, afterBit, collision}
-use Rattle.station_transmit.specs.Transmit.{sendBit, headBit}
-use Rattle.station_transmit.specs.Transmit.{backoffRange, backOff, lastJam, jamBit, backoffBit, waitBit, transmit}
+use Rattle.station_spec.specs.Transmit.{closesFrame, octetsHeld, resting, emitting, afterBit, collision}
+use Rattle.station_spec.specs.Transmit.{sendBit, headBit}
+use Rattle.station_spec.specs.Transmit.{backoffRange, backOff, lastJam, jamBit, backoffBit, waitBit, transmit}
 
 pub after-heading : (jam k : ℕ) (ends : Bool) → k < 64 → Heading (k + 1) ≡ afterBit jam k ends
 unfolding afterBit

@@ -16,19 +16,19 @@ use Rattle.frame_open.specs.declared.ReceiveStatus.the-variants.{Refused, Fragm
 use Rattle.frame_open.specs.declared.ReceiveStatus.the-variants.{AlignmentError, LengthError, ReceiveOk}
 use Rattle.frame_open.specs.Open.{destinationOf, frameTooLong, statusAnswer, receiveOK, opened}
 use Rattle.frame_open.specs.OpenLaws.{fair}
-use Rattle.station_receive.specs.declared.ReceiveEvent.{ReceiveEvent}
-use Rattle.station_receive.specs.declared.ReceiveEvent.the-variants.{NoReceive, GotOk, GotTooLong, GotAlignment}
-use Rattle.station_receive.specs.declared.ReceiveEvent.the-variants.{GotCheck, GotLength}
+use Rattle.station_spec.specs.declared.ReceiveEvent.{ReceiveEvent}
+use Rattle.station_spec.specs.declared.ReceiveEvent.the-variants.{NoReceive, GotOk, GotTooLong, GotAlignment}
+use Rattle.station_spec.specs.declared.ReceiveEvent.the-variants.{GotCheck, GotLength}
 use Rattle.station_symbols.specs.declared.Heard.{Heard}
 use Rattle.station_symbols.specs.declared.Heard.the-variants.{Nothing, Clean, Spoiled}
 use Rattle.station_state.specs.declared.Receiver.{Receiver}
 use Rattle.station_state.specs.declared.Receiver.the-variants.{Listening, Readable, Seeking, Collecting}
-use Rattle.station_receive.specs.declared.Stored.{Stored}
-use Rattle.station_receive.specs.declared.Stored.the-variants.{NoStore, Store}
-use Rattle.station_receive.specs.declared.Received.{Received}
-use Rattle.station_receive.specs.Receive.{nextRow, storedBit, hearing, seekBit, collectBit, seek, collect, hear}
-use Rattle.station_receive.specs.Receive.{addressed, openAnswer, gotEvent, readableAfter, deciding, opening}
-use Rattle.station_receive.specs.Receive.{decide, ended, receive, rowIn, bitsIn, rowLimit}
+use Rattle.station_spec.specs.declared.Stored.{Stored}
+use Rattle.station_spec.specs.declared.Stored.the-variants.{NoStore, Store}
+use Rattle.station_spec.specs.declared.Received.{Received}
+use Rattle.station_spec.specs.Receive.{nextRow, storedBit, hearing, seekBit, collectBit, seek, collect, hear}
+use Rattle.station_spec.specs.Receive.{addressed, openAnswer, gotEvent, readableAfter, deciding, opening}
+use Rattle.station_spec.specs.Receive.{decide, ended, receive, rowIn, bitsIn, rowLimit}
 use Rattle.frame_build.specs.Limits.{bufferOctets, bufferBits, shortestFrame}
 
 -- ---- seeking

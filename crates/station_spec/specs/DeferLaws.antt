@@ -8,8 +8,8 @@ use Rattle.sheet_layout.specs.declared.Figures.{Figures}
 use Rattle.sheet_layout.specs.Layout.{gapOf}
 use Rattle.station_state.specs.declared.Deference.{Deference}
 use Rattle.station_state.specs.declared.Deference.the-variants.{Quiet, Busy, Gap}
-use Rattle.station_defer.specs.declared.Deferred.{Deferred}
-use Rattle.station_defer.specs.Defer.{to, quietRule, busyRule, goesBack, gapOver, gapRule, defer}
+use Rattle.station_spec.specs.declared.Deferred.{Deferred}
+use Rattle.station_spec.specs.Defer.{to, quietRule, busyRule, goesBack, gapOver, gapRule, defer}
 
 module _ (h e w b : Bool) where
   pub quiet-busy : b ≡ (h || e) → b ≡ true → to (Busy e) ≡ quietRule h e w

@@ -1,2 +1,0 @@
-pub mod Defer
-pub mod DeferLaws

@@ -1,2 +1,0 @@
-pub mod Transmit
-pub mod TransmitLaws
