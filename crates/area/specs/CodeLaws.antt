@@ -111,14 +111,6 @@ pub word-is : (a : List ℕ) (i k x : ℕ) → x ≡ get 4 a (from (theStation i
 unfolding recordAt
 word-is a i k x p h = p ∙ sym (word-at recordWords a (from (theStation i)) k h)
 
-pub code-is : (a : List ℕ) (i k x : ℕ) → x ≡ getD a (from (theStation i) + 4 * k + 3) 0 → x < 256 → k < recordWords
-    → x ≡ getD (recordAt a i) k 0 % 256
-unfolding recordAt get
-code-is a i k x p h g =
-    let e : getD (wordsAt recordWords a (from (theStation i))) k 0 ≡ get 4 a
-    (from (theStation i) + 4 * k) = word-at recordWords a (from (theStation i)) k g in
-    rw e (omega (arith, p))
-
 pub with-word-is : (a b : List ℕ) (i k v : ℕ) → b ≡ put 4 a (from (theStation i) + 4 * k) v → b ≡ withWord a i k v
 unfolding withWord
 with-word-is a b i k v p = p

@@ -21,7 +21,7 @@ use station_state::Receiver;
 use station_state::Station;
 use station_state::Transmitter;
 ghost use mathlib.Core.Path.{_≡_};
-ghost use Prim.Native.Nat.{_+_, _*_, _%_, _<_, _≤_, min, max};
+ghost use Prim.Native.Nat.{_+_, _*_, _<_, _≤_, min, max};
 ghost use lib.ListN.{length, getD};
 ghost use Rattle.sheet_layout.specs.Layout.{placesOf};
 ghost use Rattle.area.specs.Area.{clockAt, withClock, depthAt, drawAt, figuresAt, countAt, positionAt, addressAt};
@@ -216,14 +216,6 @@ pub fn read_word(area: &[u8], i: usize, k: usize) -> u32
     ensures { λ r. ⌜ r ≡ getD (recordAt (now (area .entry)) i) k 0 ⌝ }
 {
     octets_words::get32(area, RECORDS_AT + 64 * i + 4 * k)
-}
-
-// The low octet of word k of the record of station i: all of it, where the word is a code or a flag.
-pub fn read_code(area: &[u8], i: usize, k: usize) -> u32
-    requires { ⌜ (i < maxStations) × (k < recordWords) × (areaSize ≤ length (now area)) ⌝ }
-    ensures { λ r. ⌜ r ≡ getD (recordAt (now (area .entry)) i) k 0 % 256 ⌝ }
-{
-    octets::wide(area[RECORDS_AT + 64 * i + 4 * k + 3])
 }
 
 // Writes word k of the record of station i alone.

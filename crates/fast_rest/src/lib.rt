@@ -11,7 +11,7 @@ ghost use Rattle.fast_silence.specs.Rested.{restsFor, gapTo, restedDeference, r
 ghost use Rattle.fast_silence.specs.Bound.{framesRest, idle, stationRests};
 
 // The steps in which a frame that waits does not start.
-pub fn rests_for(f: Figures, d: Deference) -> u32
+fn rests_for(f: Figures, d: Deference) -> u32
     requires { ⌜ f .gap1 + f .gap2 < 65536 ⌝ }
     ensures { λ r. ⌜ r ≡ restsFor f d ⌝ }
 {
