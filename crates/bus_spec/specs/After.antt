@@ -42,7 +42,7 @@ use Rattle.sheet_layout.specs.Limits.{maxStations}
 use Rattle.station_tally.specs.Words.{isTransmit, isReceive}
 use Rattle.station_state.specs.State.{counterCount}
 
--- ---- counters stay sixteen words
+-- ---- counters stay so many words
 
 set-small : (cs : List ℕ) (k x : ℕ) → Small cs → x < 256 ^ 4 → Small (set cs k x)
 set-small [] k x s h = s

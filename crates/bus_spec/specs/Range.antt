@@ -69,7 +69,7 @@ AttemptsIn limit (Sending k) n = (1 ≤ n) × (n ≤ limit)
 AttemptsIn limit (Heading k) n = (1 ≤ n) × (n ≤ limit)
 AttemptsIn limit (Jamming m ends) n = (1 ≤ n) × (n ≤ limit)
 
--- "frame 64..1518", while one is held
+-- "frame 64..1518", with N3 up to 1522, while one is held
 abbrev pub FrameIn : Transmitter → ℕ → Type 0
 FrameIn NoFrame z = Unit {0}
 FrameIn Waiting z = (64 ≤ z) × (z ≤ bufferOctets)

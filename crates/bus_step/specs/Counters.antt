@@ -10,7 +10,7 @@ use Rattle.area.specs.Area.{countAt, countersAt}
 use Rattle.area_check.specs.Valid.{areaRefusal}
 use Rattle.bus_step.specs.declared.Counters.{Counters}
 
--- the answer, and beside it the sixteen; all 0 with a refusal
+-- the answer, and beside it the seventeen; all 0 with a refusal
 pub record Reading : Type 0 where
   pub answer : Answer
   pub words : List ℕ

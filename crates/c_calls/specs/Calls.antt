@@ -155,7 +155,7 @@ timeRefusal a n = pick (eqb (areaRefusal a) 0) (pick (ltb lastClock (clockAt a +
 unfoldable pub frameGiven : (area : List ℕ) (i : ℕ) (out : List ℕ) → Given
 frameGiven a i out = codeGiven (frameRead a i out)
 
--- the sixteen counters of station i; refusals 1, 2, 10, 15
+-- the seventeen counters of station i; refusals 1, 2, 10, 15
 unfoldable pub countersGiven : (area : List ℕ) (i : ℕ) (out : List ℕ) → Given
 countersGiven a i out =
     unless (numberOf (countersRead a i .answer)) (kept out)

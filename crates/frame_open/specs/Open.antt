@@ -96,7 +96,7 @@ unpadded v field =
     (record { status = receiveOK (clientSize v (length field)); clientData = take (clientSize v (length field)) field })
 
 -- "Order: under 64 octets is a fragment; over 1518, frameTooLong; check wrong ..; .. lengthError; else receiveOK."
--- Before them refusal 5: "so too excess bits over 7". "Excess bits with a good check are dropped."
+-- With N3 the value decides how many are too many. Before them refusal 5: "so too excess bits over 7". "Excess bits with a good check are dropped."
 unfoldable pub opened : (spoiled : Bool) (f : List ℕ) (e : ℕ) → Opening
 opened spoiled f e =
     pick (ltb 7 e) (without (refused 5))

@@ -116,7 +116,8 @@ abbrev pub unread : ℕ → Reading
 unread n = record { answer = refused n; layout = blankLayout }
 
 -- 3: "The sheet is shorter than its map and N require (unknown map bits adding nothing; no octet for the map or N
--- counts as short)." 4: "Map bit 6 or 7 stands." Then 5 to 8 of the layout, its defaults filled in.
+-- counts as short)." 4: "Map bit 6 or 7 stands", since N1 bit 7 alone. Then 5 to 8 of the layout, its defaults filled
+-- in.
 unfoldable pub readSheet : List ℕ → Reading
 readSheet l =
     pick (ltb (length l) (sheetSize l)) (unread 3)

@@ -255,7 +255,7 @@ module _ (P : Net) (inp : ℕ → List (Offer P)) (span : ℕ) (L : Sound P span
   pub says : (t i : ℕ) → i < P .n → Says P inp i t (state P inp t i) (frameIn P inp i t)
   says t i hi = says-ready t i (says-before t i hi)
 
-  -- The record of a station that holds a frame has the frame's octets, 64 to 1518.
+  -- The record of a station that holds a frame has the frame's octets, 64 to 1522.
   pub held-octets : (t i : ℕ) → i < P .n → holds (state P inp t i .transmitter) ≡ true
       → (state P inp t i .frame ≡ length (frameIn P inp i t)) × (64 ≤ length (frameIn P inp i t))
       × (length (frameIn P inp i t) ≤ bufferOctets)

@@ -384,7 +384,7 @@ module _ (P : Net) (inp : ℕ → List (Offer P)) (j u : ℕ) where
 
 -- ---- ranges
 
--- "64..1518"
+-- "64..1518", with N3 up to 1522
 pub made-size : (P : Net) (span : ℕ) → Sound P span → (os : List (Offer P)) (i : ℕ) → i < P .n → (F : List ℕ)
     → Made P os i F → (64 ≤ length F) × (length F ≤ bufferOctets)
 unfolding frameFor
