@@ -15,12 +15,12 @@
 
 ghost use Rattle.std.specs.Prelude.{◌≡◌, ◌+◌, ◌*◌, ◌<◌, ◌≤◌, min, max, length, get_or};
 ghost use Rattle.sheet_layout.specs.Layout.{places_of};
-ghost use Rattle.area.specs.Area.{clockAt, withClock, depthAt, drawAt, figuresAt, countAt, positionAt, addressAt};
-ghost use Rattle.area.specs.Area.{tapAt, layoutAt, distance, countersAt, withCounters, recordAt, stationAt};
-ghost use Rattle.area.specs.Area.{withStation, withWord};
-ghost use Rattle.area.specs.Offsets.{areaSize};
-ghost use Rattle.sheet_layout.specs.Limits.{maxStations, maxDraws};
-ghost use Rattle.area_record.specs.Words.{recordWords};
+ghost use Rattle.area.specs.Area.{clock_at, with_clock, depth_at, draw_at, figures_at, count_at, position_at, address_at};
+ghost use Rattle.area.specs.Area.{tap_at, layout_at, distance, counters_at, with_counters, record_at, station_at};
+ghost use Rattle.area.specs.Area.{with_station, with_word};
+ghost use Rattle.area.specs.Offsets.{area_size};
+ghost use Rattle.sheet_layout.specs.Limits.{max_stations, max_draws};
+ghost use Rattle.area_record.specs.Words.{record_words};
 
 use sheet_layout::{Figures, Layout, Tap};
 use station_state::{Deference, Receiver, Station, Transmitter};
@@ -59,38 +59,38 @@ pub const RING: usize = 256;
 pub const FRAME_ROOM: usize = 1536;
 
 pub fn read_clock(area: &[u8]) -> u32
-    requires { areaSize ≤ length area.now }
-    ensures { result ≡ clockAt area.now }
+    requires { area_size ≤ length area.now }
+    ensures { result ≡ clock_at area.now }
 {
     octets_words::get32(area, 0)
 }
 
 pub fn write_clock(area: &mut [u8], t: u32)
-    requires { areaSize ≤ length area.old }
-    ensures { area.new ≡ withClock area.old t }
+    requires { area_size ≤ length area.old }
+    ensures { area.new ≡ with_clock area.old t }
 {
     octets_words::put32(area, 0, t);
 }
 
 // D.
 pub fn read_depth(area: &[u8]) -> u32
-    requires { areaSize ≤ length area.now }
-    ensures { result ≡ depthAt area.now }
+    requires { area_size ≤ length area.now }
+    ensures { result ≡ depth_at area.now }
 {
     octets_words::get32(area, 4)
 }
 
 // Draw k of station i.
 pub fn read_draw(area: &[u8], i: usize, k: usize) -> u32
-    requires { (i < maxStations) × (k < maxDraws) × (areaSize ≤ length area.now) }
-    ensures { result ≡ drawAt area.now i k }
+    requires { (i < max_stations) × (k < max_draws) × (area_size ≤ length area.now) }
+    ensures { result ≡ draw_at area.now i k }
 {
     octets_words::get16(area, DRAWS_AT + 32 * i + 2 * k)
 }
 
 pub fn read_figures(area: &[u8]) -> Figures
-    requires { areaSize ≤ length area.now }
-    ensures { result ≡ figuresAt area.now }
+    requires { area_size ≤ length area.now }
+    ensures { result ≡ figures_at area.now }
 {
     Figures {
         slot: octets_words::get32(area, 8),
@@ -105,30 +105,30 @@ pub fn read_figures(area: &[u8]) -> Figures
 
 // N.
 pub fn read_count(area: &[u8]) -> u32
-    requires { areaSize ≤ length area.now }
-    ensures { result ≡ countAt area.now }
+    requires { area_size ≤ length area.now }
+    ensures { result ≡ count_at area.now }
 {
     octets_words::get32(area, 32)
 }
 
 // Where station i is.
 pub fn read_position(area: &[u8], i: usize) -> u32
-    requires { (i < maxStations) × (areaSize ≤ length area.now) }
-    ensures { result ≡ positionAt area.now i }
+    requires { (i < max_stations) × (area_size ≤ length area.now) }
+    ensures { result ≡ position_at area.now i }
 {
     octets_words::get32(area, TAPS_AT + 16 * i)
 }
 
 pub fn read_address(area: &[u8], i: usize) -> [u8; 6]
-    requires { (i < maxStations) × (areaSize ≤ length area.now) }
-    ensures { result ≡ addressAt area.now i }
+    requires { (i < max_stations) × (area_size ≤ length area.now) }
+    ensures { result ≡ address_at area.now i }
 {
     octets_copies::six(area, ADDRESSES_AT + 16 * i)
 }
 
 fn read_tap(area: &[u8], i: usize) -> Tap
-    requires { (i < maxStations) × (areaSize ≤ length area.now) }
-    ensures { result ≡ tapAt area.now i }
+    requires { (i < max_stations) × (area_size ≤ length area.now) }
+    ensures { result ≡ tap_at area.now i }
 {
     let position = read_position(area, i);
     let address = read_address(area, i);
@@ -137,8 +137,8 @@ fn read_tap(area: &[u8], i: usize) -> Tap
 
 // The first n stations, and blank places after them.
 fn read_taps(area: &[u8], n: usize) -> [Tap; 16]
-    requires { (n ≤ maxStations) × (areaSize ≤ length area.now) }
-    ensures { result ≡ places_of (tapAt area.now) n }
+    requires { (n ≤ max_stations) × (area_size ≤ length area.now) }
+    ensures { result ≡ places_of (tap_at area.now) n }
 {
     let blank = Tap {
         position: 0,
@@ -155,8 +155,8 @@ fn read_taps(area: &[u8], n: usize) -> [Tap; 16]
 }
 
 pub fn read_layout(area: &[u8]) -> Layout
-    requires { areaSize ≤ length area.now }
-    ensures { result ≡ layoutAt area.now }
+    requires { area_size ≤ length area.now }
+    ensures { result ≡ layout_at area.now }
 {
     let figures = read_figures(area);
     let count = read_count(area);
@@ -189,8 +189,8 @@ pub fn apart(p: u32, q: u32) -> u32
 }
 
 pub fn read_counters(area: &[u8], i: usize) -> [u32; station_state::COUNTERS]
-    requires { (i < maxStations) × (areaSize ≤ length area.now) }
-    ensures { result ≡ countersAt area.now i }
+    requires { (i < max_stations) × (area_size ≤ length area.now) }
+    ensures { result ≡ counters_at area.now i }
 {
     let mut w = [0u32; station_state::COUNTERS];
     octets_words::load_words(area, COUNTERS_AT + 68 * i, &mut w);
@@ -198,24 +198,24 @@ pub fn read_counters(area: &[u8], i: usize) -> [u32; station_state::COUNTERS]
 }
 
 pub fn write_counters(area: &mut [u8], i: usize, counters: [u32; station_state::COUNTERS])
-    requires { (i < maxStations) × (areaSize ≤ length area.old) }
-    ensures { area.new ≡ withCounters area.old i counters }
+    requires { (i < max_stations) × (area_size ≤ length area.old) }
+    ensures { area.new ≡ with_counters area.old i counters }
 {
     octets_words::store_words(area, COUNTERS_AT + 68 * i, &counters);
 }
 
 // Word k of the record of station i.
 pub fn read_word(area: &[u8], i: usize, k: usize) -> u32
-    requires { (i < maxStations) × (k < recordWords) × (areaSize ≤ length area.now) }
-    ensures { result ≡ get_or (recordAt area.now i) k 0 }
+    requires { (i < max_stations) × (k < record_words) × (area_size ≤ length area.now) }
+    ensures { result ≡ get_or (record_at area.now i) k 0 }
 {
     octets_words::get32(area, RECORDS_AT + 64 * i + 4 * k)
 }
 
 // Writes word k of the record of station i alone.
 pub fn write_word(area: &mut [u8], i: usize, k: usize, v: u32)
-    requires { (i < maxStations) × (k < recordWords) × (areaSize ≤ length area.old) }
-    ensures { area.new ≡ withWord area.old i k v }
+    requires { (i < max_stations) × (k < record_words) × (area_size ≤ length area.old) }
+    ensures { area.new ≡ with_word area.old i k v }
 {
     octets_words::put32(area, RECORDS_AT + 64 * i + 4 * k, v);
 }
@@ -223,8 +223,8 @@ pub fn write_word(area: &mut [u8], i: usize, k: usize, v: u32)
 // The parts of the state of station i. A word is read next to where it is used: so it is read at once, and not octet by
 // octet.
 fn read_deference(area: &[u8], i: usize) -> Deference
-    requires { (i < maxStations) × (areaSize ≤ length area.now) }
-    ensures { result ≡ (stationAt area.now i).deference }
+    requires { (i < max_stations) × (area_size ≤ length area.now) }
+    ensures { result ≡ (station_at area.now i).deference }
 {
     let own = read_word(area, i, area_record::words::STRETCH) == 1;
     area_record::deference_of(
@@ -235,8 +235,8 @@ fn read_deference(area: &[u8], i: usize) -> Deference
 }
 
 fn read_receiver(area: &[u8], i: usize) -> Receiver
-    requires { (i < maxStations) × (areaSize ≤ length area.now) }
-    ensures { result ≡ (stationAt area.now i).receiver }
+    requires { (i < max_stations) × (area_size ≤ length area.now) }
+    ensures { result ≡ (station_at area.now i).receiver }
 {
     let spoiled = read_word(area, i, area_record::words::SPOILED) == 1;
     let own = read_word(area, i, area_record::words::RECEPTION) == 1;
@@ -249,8 +249,8 @@ fn read_receiver(area: &[u8], i: usize) -> Receiver
 }
 
 fn read_transmitter(area: &[u8], i: usize) -> Transmitter
-    requires { (i < maxStations) × (areaSize ≤ length area.now) }
-    ensures { result ≡ (stationAt area.now i).transmitter }
+    requires { (i < max_stations) × (area_size ≤ length area.now) }
+    ensures { result ≡ (station_at area.now i).transmitter }
 {
     area_record::transmitter_of(
         read_word(area, i, area_record::words::PHASE),
@@ -259,8 +259,8 @@ fn read_transmitter(area: &[u8], i: usize) -> Transmitter
 }
 
 pub fn read_station(area: &[u8], i: usize) -> Station
-    requires { (i < maxStations) × (areaSize ≤ length area.now) }
-    ensures { result ≡ stationAt area.now i }
+    requires { (i < max_stations) × (area_size ≤ length area.now) }
+    ensures { result ≡ station_at area.now i }
 {
     let deference = read_deference(area, i);
     let receiver = read_receiver(area, i);
@@ -280,8 +280,8 @@ pub fn read_station(area: &[u8], i: usize) -> Station
 }
 
 pub fn write_station(area: &mut [u8], i: usize, s: Station)
-    requires { (i < maxStations) × (areaSize ≤ length area.old) }
-    ensures { area.new ≡ withStation area.old i s }
+    requires { (i < max_stations) × (area_size ≤ length area.old) }
+    ensures { area.new ≡ with_station area.old i s }
 {
     let w = area_record::encode(s);
     octets_words::store_words(area, RECORDS_AT + 64 * i, &w);

@@ -1,14 +1,14 @@
 // The frames and the collected bits in the work area, and the symbol that a station emits.
 
 ghost use Rattle.std.specs.Prelude.{◌≡◌, ◌+◌, ◌*◌, ◌/◌, ◌%◌, ◌^◌, ◌<◌, ◌≤◌, length};
-ghost use Rattle.area.specs.Area.{withBit, withOctet, octetWith, frame_at, bufferAt, frameBuilt};
+ghost use Rattle.area.specs.Area.{with_bit, with_octet, octet_with, frame_at, buffer_at, frame_built};
 ghost use Rattle.octets.specs.Base.{outcome};
 ghost use Rattle.octets.specs.Bits.{digit};
 ghost use Rattle.station_symbols.specs.Packet.{symbol_of};
-ghost use Rattle.frame_build.specs.Build.{builtAnswer};
-ghost use Rattle.area.specs.Offsets.{areaSize, frameRoom};
-ghost use Rattle.frame_build.specs.Limits.{bufferOctets, bufferBits};
-ghost use Rattle.sheet_layout.specs.Limits.{maxStations};
+ghost use Rattle.frame_build.specs.Build.{built_answer};
+ghost use Rattle.area.specs.Offsets.{area_size, frame_room};
+ghost use Rattle.frame_build.specs.Limits.{buffer_octets, buffer_bits};
+ghost use Rattle.sheet_layout.specs.Limits.{max_stations};
 
 use frame_build::builder::Built;
 use station_symbols::{Emission, Symbol};
@@ -51,7 +51,7 @@ fn raised(one: bool, p: usize) -> u32
 // An octet with bit p stored: the bits below it stay, those above it are 0.
 fn octet_with(x: u8, p: usize, one: bool) -> u8
     requires { p < 8 }
-    ensures { result ≡ octetWith x p one }
+    ensures { result ≡ octet_with x p one }
 {
     let unit = power(p);
     let low = low_bits(octets::wide(x), p, unit);
@@ -60,8 +60,8 @@ fn octet_with(x: u8, p: usize, one: bool) -> u8
 
 // Stores collected bit k of station i.
 pub fn store_bit(area: &mut [u8], i: usize, k: usize, one: bool)
-    requires { (i < maxStations) × (k < bufferBits) × (areaSize ≤ length area.old) }
-    ensures { area.new ≡ withBit area.old i k one }
+    requires { (i < max_stations) × (k < buffer_bits) × (area_size ≤ length area.old) }
+    ensures { area.new ≡ with_bit area.old i k one }
 {
     let at = area::BUFFERS_AT + area::FRAME_ROOM * i + k / 8;
     area[at] = octet_with(area[at], k % 8, one);
@@ -69,16 +69,16 @@ pub fn store_bit(area: &mut [u8], i: usize, k: usize, one: bool)
 
 // Writes octet k of what station i collected.
 pub fn write_octet(area: &mut [u8], i: usize, k: usize, v: u8)
-    requires { (i < maxStations) × (k < bufferOctets) × (areaSize ≤ length area.old) }
-    ensures { area.new ≡ withOctet area.old i k v }
+    requires { (i < max_stations) × (k < buffer_octets) × (area_size ≤ length area.old) }
+    ensures { area.new ≡ with_octet area.old i k v }
 {
     area[area::BUFFERS_AT + area::FRAME_ROOM * i + k] = v;
 }
 
 // What station i collected.
 pub fn buffer(area: &[u8], i: usize) -> &[u8]
-    requires { (i < maxStations) × (areaSize ≤ length area.now) }
-    ensures { result.now ≡ bufferAt area.now i }
+    requires { (i < max_stations) × (area_size ≤ length area.now) }
+    ensures { result.now ≡ buffer_at area.now i }
 {
     let at = area::BUFFERS_AT + area::FRAME_ROOM * i;
     let end = at + frame_build::limits::BUFFER;
@@ -87,7 +87,7 @@ pub fn buffer(area: &[u8], i: usize) -> &[u8]
 
 // The n octets of the frame of station i.
 pub fn frame(area: &[u8], i: usize, n: usize) -> &[u8]
-    requires { (i < maxStations) × (n ≤ frameRoom) × (areaSize ≤ length area.now) }
+    requires { (i < max_stations) × (n ≤ frame_room) × (area_size ≤ length area.now) }
     ensures { result.now ≡ frame_at area.now i n }
 {
     let at = area::FRAMES_AT + area::FRAME_ROOM * i;
@@ -97,7 +97,7 @@ pub fn frame(area: &[u8], i: usize, n: usize) -> &[u8]
 
 // The symbol that an emission of station i is, whose frame has n octets.
 pub fn symbol(area: &[u8], i: usize, n: usize, e: Emission) -> Symbol
-    requires { (i < maxStations) × (n ≤ frameRoom) × (areaSize ≤ length area.now) }
+    requires { (i < max_stations) × (n ≤ frame_room) × (area_size ≤ length area.now) }
     ensures { result ≡ symbol_of (frame_at area.now i n) e }
 {
     let at = area::FRAMES_AT + area::FRAME_ROOM * i;
@@ -114,9 +114,9 @@ pub fn build_frame(
     value: u16,
     payload: &[u8],
 ) -> Built
-    requires { (i < maxStations) × (areaSize ≤ length area.old) }
-    ensures { outcome (builtAnswer result) area.new
-        ≡ frameBuilt area.old i destination value payload.now }
+    requires { (i < max_stations) × (area_size ≤ length area.old) }
+    ensures { outcome (built_answer result) area.new
+        ≡ frame_built area.old i destination value payload.now }
 {
     let source = area::read_address(area, i);
     let at = area::FRAMES_AT + area::FRAME_ROOM * i;

@@ -2,21 +2,21 @@
 
 ghost use Rattle.std.specs.Prelude.{◌≡◌, ◌+◌, ◌<◌, ◌≤◌, length, ltb};
 ghost use Rattle.octets.specs.Base.{pick, some};
-ghost use Rattle.area.specs.Area.{figuresAt, recordAt};
-ghost use Rattle.area_check.specs.Valid.{deferenceWrong, attemptsWrong, numberWrong, transmitterWrong};
-ghost use Rattle.area_check.specs.Valid.{lastPhase};
-ghost use Rattle.area_check.specs.Valid.{receiverWrong, recordWrong, symbolWrong, stationWrong, areaWrong};
-ghost use Rattle.area_check.specs.Valid.{heldWrong, readableWrong, areaRefusal};
-ghost use Rattle.frame_build.specs.Limits.{maxFrame};
+ghost use Rattle.area.specs.Area.{figures_at, record_at};
+ghost use Rattle.area_check.specs.Valid.{deference_wrong, attempts_wrong, number_wrong, transmitter_wrong};
+ghost use Rattle.area_check.specs.Valid.{last_phase};
+ghost use Rattle.area_check.specs.Valid.{receiver_wrong, record_wrong, symbol_wrong, station_wrong, area_wrong};
+ghost use Rattle.area_check.specs.Valid.{held_wrong, readable_wrong, area_refusal};
+ghost use Rattle.frame_build.specs.Limits.{max_frame};
 ghost use Rattle.frame_open.specs.Open.{value_of};
-ghost use Rattle.area.specs.Offsets.{areaSize, ring};
-ghost use Rattle.sheet_layout.specs.Limits.{maxStations};
+ghost use Rattle.area.specs.Offsets.{area_size, ring};
+ghost use Rattle.sheet_layout.specs.Limits.{max_stations};
 
 use sheet_layout::Figures;
 
 fn deference_wrong(area: &[u8], i: usize, f: Figures) -> bool
-    requires { (i < maxStations) × (areaSize ≤ length area.now) × (f.gap1 + f.gap2 < 65536) }
-    ensures { result ≡ deferenceWrong f (recordAt area.now i) }
+    requires { (i < max_stations) × (area_size ≤ length area.now) × (f.gap1 + f.gap2 < 65536) }
+    ensures { result ≡ deference_wrong f (record_at area.now i) }
 {
     let code = area::read_word(area, i, area_record::words::DEFERENCE);
     if 2 < code {
@@ -39,7 +39,7 @@ fn deference_wrong(area: &[u8], i: usize, f: Figures) -> bool
 }
 
 fn attempts_wrong(limit: u32, code: u32, n: u32) -> bool
-    ensures { result ≡ attemptsWrong limit code n }
+    ensures { result ≡ attempts_wrong limit code n }
 {
     if code == 0 {
         return limit < n;
@@ -52,7 +52,7 @@ fn attempts_wrong(limit: u32, code: u32, n: u32) -> bool
 
 fn number_wrong(f: Figures, code: u32, n: u32, frame: u32) -> bool
     requires { (f.slot < 65536) × (frame < 65536) }
-    ensures { result ≡ numberWrong f code n frame }
+    ensures { result ≡ number_wrong f code n frame }
 {
     if code == 1 {
         return false;
@@ -68,14 +68,14 @@ fn number_wrong(f: Figures, code: u32, n: u32, frame: u32) -> bool
 
 // The last code of a transmitter's phase.
 fn last_phase(f: Figures) -> u32
-    ensures { result ≡ lastPhase f }
+    ensures { result ≡ last_phase f }
 {
     if f.ends == 0 { 5 } else { 6 }
 }
 
 fn transmitter_wrong(area: &[u8], i: usize, f: Figures) -> bool
-    requires { (i < maxStations) × (areaSize ≤ length area.now) × (f.slot < 65536) }
-    ensures { result ≡ transmitterWrong f (recordAt area.now i) }
+    requires { (i < max_stations) × (area_size ≤ length area.now) × (f.slot < 65536) }
+    ensures { result ≡ transmitter_wrong f (record_at area.now i) }
 {
     let code = area::read_word(area, i, area_record::words::PHASE);
     if last_phase(f) < code {
@@ -107,8 +107,8 @@ fn transmitter_wrong(area: &[u8], i: usize, f: Figures) -> bool
 }
 
 fn receiver_wrong(area: &[u8], i: usize, clock: u32) -> bool
-    requires { (i < maxStations) × (areaSize ≤ length area.now) }
-    ensures { result ≡ receiverWrong clock (recordAt area.now i) }
+    requires { (i < max_stations) × (area_size ≤ length area.now) }
+    ensures { result ≡ receiver_wrong clock (record_at area.now i) }
 {
     let code = area::read_word(area, i, area_record::words::RECEIVER);
     if 3 < code {
@@ -143,9 +143,9 @@ fn receiver_wrong(area: &[u8], i: usize, clock: u32) -> bool
 // Whether the record of station i holds what no call would leave, on a layout with these figures, so many draws and
 // this clock. A word is read where it is looked at.
 fn record_wrong(area: &[u8], i: usize, f: Figures, depth: u32, clock: u32) -> bool
-    requires { (i < maxStations) × (areaSize ≤ length area.now) × (f.gap1 + f.gap2 < 65536)
+    requires { (i < max_stations) × (area_size ≤ length area.now) × (f.gap1 + f.gap2 < 65536)
         × (f.slot < 65536) }
-    ensures { result ≡ recordWrong f depth clock (recordAt area.now i) }
+    ensures { result ≡ record_wrong f depth clock (record_at area.now i) }
 {
     if deference_wrong(area, i, f) {
         return true;
@@ -165,15 +165,15 @@ fn record_wrong(area: &[u8], i: usize, f: Figures, depth: u32, clock: u32) -> bo
 // Whether n octets are more than the length/type value in these first octets of a frame allows.
 fn overlong(frame: &[u8], n: u32) -> bool
     requires { 14 ≤ length frame.now }
-    ensures { result ≡ ltb (maxFrame (value_of frame.now)) n }
+    ensures { result ≡ ltb (max_frame (value_of frame.now)) n }
 {
     let value = octets_words::get16(frame, 12) as usize;
     frame_build::limits::max_frame(value) < n as usize
 }
 
 fn held_wrong(area: &[u8], i: usize) -> bool
-    requires { (i < maxStations) × (areaSize ≤ length area.now) }
-    ensures { result ≡ heldWrong area.now i }
+    requires { (i < max_stations) × (area_size ≤ length area.now) }
+    ensures { result ≡ held_wrong area.now i }
 {
     if area::read_word(area, i, area_record::words::PHASE) == 0 {
         return false;
@@ -186,8 +186,8 @@ fn held_wrong(area: &[u8], i: usize) -> bool
 }
 
 fn readable_wrong(area: &[u8], i: usize) -> bool
-    requires { (i < maxStations) × (areaSize ≤ length area.now) }
-    ensures { result ≡ readableWrong area.now i }
+    requires { (i < max_stations) × (area_size ≤ length area.now) }
+    ensures { result ≡ readable_wrong area.now i }
 {
     if area::read_word(area, i, area_record::words::RECEIVER) != 1 {
         return false;
@@ -204,8 +204,8 @@ fn larger(x: u8, y: u8) -> u8
 
 // Whether a code in the delay line of station i stands for nothing: the largest one tells, found without a branch.
 fn line_wrong(area: &[u8], i: usize) -> bool
-    requires { (i < maxStations) × (areaSize ≤ length area.now) }
-    ensures { result ≡ some (symbolWrong area.now i) ring }
+    requires { (i < max_stations) × (area_size ≤ length area.now) }
+    ensures { result ≡ some (symbol_wrong area.now i) ring }
 {
     let mut top: u8 = 0;
     let mut u: usize = 0;
@@ -217,10 +217,10 @@ fn line_wrong(area: &[u8], i: usize) -> bool
 }
 
 fn station_wrong(area: &[u8], i: usize) -> bool
-    requires i_lt_max_stations { (i < maxStations) × (areaSize ≤ length area.now) }
-    requires area_bound { ((figuresAt area.now).gap1 + (figuresAt area.now).gap2 < 65536)
-        × ((figuresAt area.now).slot < 65536) }
-    ensures { result ≡ stationWrong area.now i }
+    requires i_lt_max_stations { (i < max_stations) × (area_size ≤ length area.now) }
+    requires area_bound { ((figures_at area.now).gap1 + (figures_at area.now).gap2 < 65536)
+        × ((figures_at area.now).slot < 65536) }
+    ensures { result ≡ station_wrong area.now i }
 {
     let f = area::read_figures(area);
     let depth = area::read_depth(area);
@@ -231,10 +231,10 @@ fn station_wrong(area: &[u8], i: usize) -> bool
 }
 
 fn stations_wrong(area: &[u8], n: usize) -> bool
-    requires n_le_max_stations { (n ≤ maxStations) × (areaSize ≤ length area.now) }
-    requires area_bound { ((figuresAt area.now).gap1 + (figuresAt area.now).gap2 < 65536)
-        × ((figuresAt area.now).slot < 65536) }
-    ensures { result ≡ some (stationWrong area.now) n }
+    requires n_le_max_stations { (n ≤ max_stations) × (area_size ≤ length area.now) }
+    requires area_bound { ((figures_at area.now).gap1 + (figures_at area.now).gap2 < 65536)
+        × ((figures_at area.now).slot < 65536) }
+    ensures { result ≡ some (station_wrong area.now) n }
 {
     let mut i: usize = 0;
     while i < n {
@@ -247,8 +247,8 @@ fn stations_wrong(area: &[u8], n: usize) -> bool
 }
 
 fn area_wrong(area: &[u8]) -> bool
-    requires { areaSize ≤ length area.now }
-    ensures { result ≡ areaWrong area.now }
+    requires { area_size ≤ length area.now }
+    ensures { result ≡ area_wrong area.now }
 {
     let y = area::read_layout(area);
     if sheet_check::refusal(y) != 0 {
@@ -267,7 +267,7 @@ fn area_wrong(area: &[u8]) -> bool
 
 // The number of the check, 1 or 2, that refuses a work area, or 0.
 pub fn refusal(area: &[u8]) -> u32
-    ensures { result ≡ areaRefusal area.now }
+    ensures { result ≡ area_refusal area.now }
 {
     if area.len() < area::AREA {
         return 1;

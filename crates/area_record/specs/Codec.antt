@@ -11,9 +11,9 @@ use Rattle.station_state.specs.State.{number_in}
 use Rattle.station_state.specs.declared.Receiver.{Receiver}
 use Rattle.station_state.specs.declared.Receiver.TheVariants.{Listening, Readable, Seeking, Collecting}
 use Rattle.station_state.specs.declared.Station.{Station}
-use Rattle.area_record.specs.Words.{deferenceWord, stretchWord, gapWord, phaseWord, deferredWord, emittedWord}
-use Rattle.area_record.specs.Words.{receptionWord, frameWord, attemptsWord, drawWord}
-use Rattle.area_record.specs.Words.{phaseNumberWord, receiverWord, receiverNumberWord, spoiledWord}
+use Rattle.area_record.specs.Words.{deference_word, stretch_word, gap_word, phase_word, deferred_word, emitted_word}
+use Rattle.area_record.specs.Words.{reception_word, frame_word, attempts_word, draw_word}
+use Rattle.area_record.specs.Words.{phase_number_word, receiver_word, receiver_number_word, spoiled_word}
 
 abbrev pub flag : Bool → ℕ
 flag true = 1
@@ -21,28 +21,28 @@ flag false = 0
 
 -- ---- deference
 
-unfoldable pub deferenceOf : ℕ → Bool → ℕ → Deference
-deferenceOf code own n = pick (eqb code 0) Quiet (pick (eqb code 1) (Busy own) (Gap n own))
+unfoldable pub deference_of : ℕ → Bool → ℕ → Deference
+deference_of code own n = pick (eqb code 0) Quiet (pick (eqb code 1) (Busy own) (Gap n own))
 
-abbrev pub deferenceCode : Deference → ℕ
-deferenceCode Quiet = 0
-deferenceCode (Busy own) = 1
-deferenceCode (Gap n own) = 2
+abbrev pub deference_code : Deference → ℕ
+deference_code Quiet = 0
+deference_code (Busy own) = 1
+deference_code (Gap n own) = 2
 
-abbrev pub deferenceOwn : Deference → Bool
-deferenceOwn Quiet = false
-deferenceOwn (Busy own) = own
-deferenceOwn (Gap n own) = own
+abbrev pub deference_own : Deference → Bool
+deference_own Quiet = false
+deference_own (Busy own) = own
+deference_own (Gap n own) = own
 
-abbrev pub deferenceCount : Deference → ℕ
-deferenceCount Quiet = 0
-deferenceCount (Busy own) = 0
-deferenceCount (Gap n own) = n
+abbrev pub deference_count : Deference → ℕ
+deference_count Quiet = 0
+deference_count (Busy own) = 0
+deference_count (Gap n own) = n
 
 -- ---- transmitter
 
-unfoldable pub transmitterOf : ℕ → ℕ → Transmitter
-transmitterOf code n =
+unfoldable pub transmitter_of : ℕ → ℕ → Transmitter
+transmitter_of code n =
     pick (eqb code 0) NoFrame
     (pick (eqb code 1) Waiting
     (pick (eqb code 2) (BackingOff n)
@@ -50,47 +50,47 @@ transmitterOf code n =
     (pick (eqb code 4) (Heading n)
     (Jamming n (not (eqb code 5)))))))
 
-abbrev pub transmitterCode : Transmitter → ℕ
-transmitterCode NoFrame = 0
-transmitterCode Waiting = 1
-transmitterCode (BackingOff n) = 2
-transmitterCode (Sending n) = 3
-transmitterCode (Heading n) = 4
-transmitterCode (Jamming n false) = 5
-transmitterCode (Jamming n true) = 6
+abbrev pub transmitter_code : Transmitter → ℕ
+transmitter_code NoFrame = 0
+transmitter_code Waiting = 1
+transmitter_code (BackingOff n) = 2
+transmitter_code (Sending n) = 3
+transmitter_code (Heading n) = 4
+transmitter_code (Jamming n false) = 5
+transmitter_code (Jamming n true) = 6
 
 -- ---- receiver
 
-unfoldable pub receiverOf : ℕ → ℕ → Bool → Bool → Receiver
-receiverOf code n spoiled own =
+unfoldable pub receiver_of : ℕ → ℕ → Bool → Bool → Receiver
+receiver_of code n spoiled own =
     pick (eqb code 0) Listening
     (pick (eqb code 1) (Readable n)
     (pick (eqb code 2) (Seeking n spoiled own)
     (Collecting n spoiled own)))
 
-abbrev pub receiverCode : Receiver → ℕ
-receiverCode Listening = 0
-receiverCode (Readable n) = 1
-receiverCode (Seeking row spoiled own) = 2
-receiverCode (Collecting n spoiled own) = 3
+abbrev pub receiver_code : Receiver → ℕ
+receiver_code Listening = 0
+receiver_code (Readable n) = 1
+receiver_code (Seeking row spoiled own) = 2
+receiver_code (Collecting n spoiled own) = 3
 
-abbrev pub receiverNumber : Receiver → ℕ
-receiverNumber Listening = 0
-receiverNumber (Readable n) = n
-receiverNumber (Seeking row spoiled own) = row
-receiverNumber (Collecting n spoiled own) = n
+abbrev pub receiver_number : Receiver → ℕ
+receiver_number Listening = 0
+receiver_number (Readable n) = n
+receiver_number (Seeking row spoiled own) = row
+receiver_number (Collecting n spoiled own) = n
 
-abbrev pub receiverSpoiled : Receiver → Bool
-receiverSpoiled Listening = false
-receiverSpoiled (Readable n) = false
-receiverSpoiled (Seeking row spoiled own) = spoiled
-receiverSpoiled (Collecting n spoiled own) = spoiled
+abbrev pub receiver_spoiled : Receiver → Bool
+receiver_spoiled Listening = false
+receiver_spoiled (Readable n) = false
+receiver_spoiled (Seeking row spoiled own) = spoiled
+receiver_spoiled (Collecting n spoiled own) = spoiled
 
-abbrev pub receiverOwn : Receiver → Bool
-receiverOwn Listening = false
-receiverOwn (Readable n) = false
-receiverOwn (Seeking row spoiled own) = own
-receiverOwn (Collecting n spoiled own) = own
+abbrev pub receiver_own : Receiver → Bool
+receiver_own Listening = false
+receiver_own (Readable n) = false
+receiver_own (Seeking row spoiled own) = own
+receiver_own (Collecting n spoiled own) = own
 
 -- ---- the record
 
@@ -98,29 +98,29 @@ unfoldable pub decoded : List ℕ → List ℕ → Station
 decoded w address =
     record {
       address = address;
-      deference = deferenceOf (get_or w deferenceWord 0) (eqb (get_or w stretchWord 0) 1) (get_or w gapWord 0);
-      transmitter = transmitterOf (get_or w phaseWord 0) (get_or w phaseNumberWord 0);
+      deference = deference_of (get_or w deference_word 0) (eqb (get_or w stretch_word 0) 1) (get_or w gap_word 0);
+      transmitter = transmitter_of (get_or w phase_word 0) (get_or w phase_number_word 0);
       receiver =
-          receiverOf (get_or w receiverWord 0) (get_or w receiverNumberWord 0) (eqb (get_or w spoiledWord 0) 1)
-          (eqb (get_or w receptionWord 0) 1);
-      frame = get_or w frameWord 0;
-      attempts = get_or w attemptsWord 0;
-      draw = get_or w drawWord 0;
-      deferred = eqb (get_or w deferredWord 0) 1;
-      emitted = eqb (get_or w emittedWord 0) 1;
+          receiver_of (get_or w receiver_word 0) (get_or w receiver_number_word 0) (eqb (get_or w spoiled_word 0) 1)
+          (eqb (get_or w reception_word 0) 1);
+      frame = get_or w frame_word 0;
+      attempts = get_or w attempts_word 0;
+      draw = get_or w draw_word 0;
+      deferred = eqb (get_or w deferred_word 0) 1;
+      emitted = eqb (get_or w emitted_word 0) 1;
     }
 
 unfoldable pub encoded : Station → List ℕ
 encoded s =
-    deferenceCode s.deference
-    ∷ flag (deferenceOwn s.deference)
-    ∷ deferenceCount s.deference
-    ∷ transmitterCode s.transmitter
+    deference_code s.deference
+    ∷ flag (deference_own s.deference)
+    ∷ deference_count s.deference
+    ∷ transmitter_code s.transmitter
     ∷ number_in s.transmitter
-    ∷ receiverCode s.receiver
-    ∷ receiverNumber s.receiver
-    ∷ flag (receiverSpoiled s.receiver)
-    ∷ flag (receiverOwn s.receiver)
+    ∷ receiver_code s.receiver
+    ∷ receiver_number s.receiver
+    ∷ flag (receiver_spoiled s.receiver)
+    ∷ flag (receiver_own s.receiver)
     ∷ s.frame
     ∷ s.attempts
     ∷ s.draw

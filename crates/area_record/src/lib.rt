@@ -13,9 +13,9 @@
 pub mod words;
 
 ghost use Rattle.std.specs.Prelude.{◌≡◌};
-ghost use Rattle.area_record.specs.Codec.{flag, deferenceOf, deferenceCode, deferenceOwn, deferenceCount};
-ghost use Rattle.area_record.specs.Codec.{transmitterOf, transmitterCode, receiverOf, receiverCode};
-ghost use Rattle.area_record.specs.Codec.{receiverNumber, receiverSpoiled, receiverOwn, encoded};
+ghost use Rattle.area_record.specs.Codec.{flag, deference_of, deference_code, deference_own, deference_count};
+ghost use Rattle.area_record.specs.Codec.{transmitter_of, transmitter_code, receiver_of, receiver_code};
+ghost use Rattle.area_record.specs.Codec.{receiver_number, receiver_spoiled, receiver_own, encoded};
 ghost use Rattle.station_state.specs.State.{number_in};
 
 use station_state::{Deference, Receiver, Station, Transmitter};
@@ -28,7 +28,7 @@ fn flag_of(b: bool) -> u32
 
 // The phase that a code stands for. A code over 1 reads as gap.
 pub fn deference_of(code: u32, own: bool, count: u32) -> Deference
-    ensures { result ≡ deferenceOf code own count }
+    ensures { result ≡ deference_of code own count }
 {
     if code == 0 {
         return Deference::Quiet;
@@ -40,7 +40,7 @@ pub fn deference_of(code: u32, own: bool, count: u32) -> Deference
 }
 
 fn deference_code(d: Deference) -> u32
-    ensures { result ≡ deferenceCode d }
+    ensures { result ≡ deference_code d }
 {
     match d {
         Deference::Quiet => 0,
@@ -50,7 +50,7 @@ fn deference_code(d: Deference) -> u32
 }
 
 fn deference_own(d: Deference) -> bool
-    ensures { result ≡ deferenceOwn d }
+    ensures { result ≡ deference_own d }
 {
     match d {
         Deference::Quiet => false,
@@ -60,7 +60,7 @@ fn deference_own(d: Deference) -> bool
 }
 
 fn deference_count(d: Deference) -> u32
-    ensures { result ≡ deferenceCount d }
+    ensures { result ≡ deference_count d }
 {
     match d {
         Deference::Quiet => 0,
@@ -71,7 +71,7 @@ fn deference_count(d: Deference) -> u32
 
 // The phase that a code stands for. A code over 5 reads as jamming before the frame's end.
 pub fn transmitter_of(code: u32, number: u32) -> Transmitter
-    ensures { result ≡ transmitterOf code number }
+    ensures { result ≡ transmitter_of code number }
 {
     if code == 0 {
         return Transmitter::NoFrame;
@@ -95,7 +95,7 @@ pub fn transmitter_of(code: u32, number: u32) -> Transmitter
 }
 
 fn transmitter_code(t: Transmitter) -> u32
-    ensures { result ≡ transmitterCode t }
+    ensures { result ≡ transmitter_code t }
 {
     match t {
         Transmitter::NoFrame => 0,
@@ -122,7 +122,7 @@ fn transmitter_number(t: Transmitter) -> u32
 
 // The state that a code stands for. A code over 2 reads as collecting.
 pub fn receiver_of(code: u32, number: u32, spoiled: bool, own: bool) -> Receiver
-    ensures { result ≡ receiverOf code number spoiled own }
+    ensures { result ≡ receiver_of code number spoiled own }
 {
     if code == 0 {
         return Receiver::Listening;
@@ -145,7 +145,7 @@ pub fn receiver_of(code: u32, number: u32, spoiled: bool, own: bool) -> Receiver
 }
 
 fn receiver_code(r: Receiver) -> u32
-    ensures { result ≡ receiverCode r }
+    ensures { result ≡ receiver_code r }
 {
     match r {
         Receiver::Listening => 0,
@@ -164,7 +164,7 @@ fn receiver_code(r: Receiver) -> u32
 }
 
 fn receiver_number(r: Receiver) -> u32
-    ensures { result ≡ receiverNumber r }
+    ensures { result ≡ receiver_number r }
 {
     match r {
         Receiver::Listening => 0,
@@ -183,7 +183,7 @@ fn receiver_number(r: Receiver) -> u32
 }
 
 fn receiver_spoiled(r: Receiver) -> bool
-    ensures { result ≡ receiverSpoiled r }
+    ensures { result ≡ receiver_spoiled r }
 {
     match r {
         Receiver::Listening => false,
@@ -202,7 +202,7 @@ fn receiver_spoiled(r: Receiver) -> bool
 }
 
 fn receiver_own(r: Receiver) -> bool
-    ensures { result ≡ receiverOwn r }
+    ensures { result ≡ receiver_own r }
 {
     match r {
         Receiver::Listening => false,

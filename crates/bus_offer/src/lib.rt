@@ -1,12 +1,12 @@
 // An offer of a frame to a station.
 
 ghost use Rattle.std.specs.Prelude.{◌≡◌, false, ◌<◌, ◌≤◌, length};
-ghost use Rattle.octets.specs.Base.{doneAnswer, outcome};
-ghost use Rattle.frame_build.specs.Limits.{refusesData};
-ghost use Rattle.bus_offer.specs.Offer.{holds, offeredStation, withHeld, withOffered, withOffer, offerRefusal};
+ghost use Rattle.octets.specs.Base.{done_answer, outcome};
+ghost use Rattle.frame_build.specs.Limits.{refuses_data};
+ghost use Rattle.bus_offer.specs.Offer.{holds, offered_station, with_held, with_offered, with_offer, offer_refusal};
 ghost use Rattle.bus_offer.specs.Offer.{offered};
-ghost use Rattle.area.specs.Offsets.{areaSize};
-ghost use Rattle.sheet_layout.specs.Limits.{maxStations};
+ghost use Rattle.area.specs.Offsets.{area_size};
+ghost use Rattle.sheet_layout.specs.Limits.{max_stations};
 
 use octets::Done;
 use station_state::{Station, Transmitter};
@@ -26,7 +26,7 @@ fn has_frame(t: Transmitter) -> bool
 
 // A station with a frame of n octets offered to it.
 fn with_offer(s: Station, n: u32) -> Station
-    ensures { result ≡ offeredStation s n }
+    ensures { result ≡ offered_station s n }
 {
     let address = s.address;
     let deference = s.deference;
@@ -45,8 +45,8 @@ fn with_offer(s: Station, n: u32) -> Station
 }
 
 fn hold_frame(area: &mut [u8], i: usize, n: u32)
-    requires { (i < maxStations) × (areaSize ≤ length area.old) }
-    ensures { area.new ≡ withHeld area.old i n }
+    requires { (i < max_stations) × (area_size ≤ length area.old) }
+    ensures { area.new ≡ with_held area.old i n }
 {
     let s = area::read_station(area, i);
     let next = with_offer(s, n);
@@ -54,8 +54,8 @@ fn hold_frame(area: &mut [u8], i: usize, n: u32)
 }
 
 fn count_offer(area: &mut [u8], i: usize)
-    requires { (i < maxStations) × (areaSize ≤ length area.old) }
-    ensures { area.new ≡ withOffered area.old i }
+    requires { (i < max_stations) × (area_size ≤ length area.old) }
+    ensures { area.new ≡ with_offered area.old i }
 {
     let c = area::read_counters(area, i);
     let next = station_count::add(c, station_count::OFFERED, 1);
@@ -64,9 +64,9 @@ fn count_offer(area: &mut [u8], i: usize)
 
 // The frame built at its place, held by the station, and counted.
 fn accept(area: &mut [u8], i: usize, destination: [u8; 6], value: u16, payload: &[u8])
-    requires i_lt_max_stations { (i < maxStations) × (areaSize ≤ length area.old) }
-    requires payload_value { refusesData value (length payload.now) ≡ false }
-    ensures { area.new ≡ withOffer area.old i destination value payload.now }
+    requires i_lt_max_stations { (i < max_stations) × (area_size ≤ length area.old) }
+    requires payload_value { refuses_data value (length payload.now) ≡ false }
+    ensures { area.new ≡ with_offer area.old i destination value payload.now }
 {
     area_buffers::build_frame(area, i, destination, value, payload);
     hold_frame(area, i, frame_build::builder::frame_size(payload));
@@ -75,7 +75,7 @@ fn accept(area: &mut [u8], i: usize, destination: [u8; 6], value: u16, payload: 
 
 // The refusal of an offer to station i, 1, 2, 10, 11 or 12, or 0.
 pub fn refusal(area: &[u8], i: usize, value: u16, payload: &[u8]) -> u32
-    ensures { result ≡ offerRefusal area.now i value (length payload.now) }
+    ensures { result ≡ offer_refusal area.now i value (length payload.now) }
 {
     let number = area_check::refusal(area);
     if number != 0 {
@@ -97,7 +97,7 @@ pub fn refusal(area: &[u8], i: usize, value: u16, payload: &[u8]) -> u32
 
 // Offers a frame to station i: destination, length/type value and data. Refusals 1, 2, 10, 11, 12.
 pub fn offer(area: &mut [u8], i: usize, destination: [u8; 6], value: u16, payload: &[u8]) -> Done
-    ensures { outcome (doneAnswer result) area.new
+    ensures { outcome (done_answer result) area.new
         ≡ offered area.old i destination value payload.now }
 {
     let number = refusal(area, i, value, payload);

@@ -2,25 +2,25 @@
 // words that it changes.
 
 ghost use Rattle.std.specs.Prelude.{◌≡◌, true, ◌+◌, ◌<◌, ◌≤◌, length, get_or};
-ghost use Rattle.station_spec.specs.Receive.{nextRow, storedBit};
-ghost use Rattle.area.specs.Area.{recordAt, symbol_at};
-ghost use Rattle.bus_spec.specs.BitTime.{withStored};
+ghost use Rattle.station_spec.specs.Receive.{next_row, stored_bit};
+ghost use Rattle.area.specs.Area.{record_at, symbol_at};
+ghost use Rattle.bus_spec.specs.BitTime.{with_stored};
 ghost use Rattle.bus_spec.specs.Ready.{Able};
-ghost use Rattle.bus_quick.specs.Quick.{Plain, Taken, countedDown, spoiledOn, collectedOn, rowOn, soughtOn};
-ghost use Rattle.bus_quick.specs.Quick.{receivedOn};
-ghost use Rattle.area.specs.Offsets.{areaSize};
-ghost use Rattle.sheet_layout.specs.Limits.{maxStations};
-ghost use Rattle.area_record.specs.Words.{phaseNumberWord, receiverNumberWord};
+ghost use Rattle.bus_quick.specs.Quick.{Plain, Taken, counted_down, spoiled_on, collected_on, row_on, sought_on};
+ghost use Rattle.bus_quick.specs.Quick.{received_on};
+ghost use Rattle.area.specs.Offsets.{area_size};
+ghost use Rattle.sheet_layout.specs.Limits.{max_stations};
+ghost use Rattle.area_record.specs.Words.{phase_number_word, receiver_number_word};
 
 use sheet_layout::Figures;
 use station_symbols::Heard;
 
 // A step of backoff, where c is its code.
 pub fn count_down(area: &mut [u8], i: usize, c: u32)
-    requires { (i < maxStations) × (areaSize ≤ length area.old)
-        × (c ≡ 2 → 1 ≤ get_or (recordAt area.old i) phaseNumberWord 0) }
+    requires { (i < max_stations) × (area_size ≤ length area.old)
+        × (c ≡ 2 → 1 ≤ get_or (record_at area.old i) phase_number_word 0) }
     ensures { area.new
-        ≡ countedDown i c (get_or (recordAt area.old i) 4 0) area.old }
+        ≡ counted_down i c (get_or (record_at area.old i) 4 0) area.old }
 {
     if c == 2 {
         let k = area::read_word(area, i, area_record::words::PHASE_NUMBER);
@@ -31,8 +31,8 @@ pub fn count_down(area: &mut [u8], i: usize, c: u32)
 // Collected bit k is kept where the buffer has a place for it. The cap changes nothing: by it k is read as one word,
 // though its low octet is also used alone.
 fn keep_one(area: &mut [u8], i: usize, k: u32, one: bool)
-    requires { (i < maxStations) × (areaSize ≤ length area.old) }
-    ensures { area.new ≡ withStored i (storedBit k one) area.old }
+    requires { (i < max_stations) × (area_size ≤ length area.old) }
+    ensures { area.new ≡ with_stored i (stored_bit k one) area.old }
 {
     let m = crate::capped(k as usize, area.len());
     if m < frame_build::limits::BUFFER_BITS {
@@ -42,8 +42,8 @@ fn keep_one(area: &mut [u8], i: usize, k: u32, one: bool)
 
 // A symbol with this code spoils the reception, unless it is a clean bit.
 fn spoil(area: &mut [u8], i: usize, code: u8)
-    requires { (i < maxStations) × (areaSize ≤ length area.old) }
-    ensures { area.new ≡ spoiledOn i code area.old }
+    requires { (i < max_stations) × (area_size ≤ length area.old) }
+    ensures { area.new ≡ spoiled_on i code area.old }
 {
     if code <= 2 {
         return;
@@ -53,10 +53,10 @@ fn spoil(area: &mut [u8], i: usize, code: u8)
 
 // A symbol after the bits collected so far.
 fn collect_on(area: &mut [u8], i: usize, code: u8)
-    requires { (i < maxStations) × (areaSize ≤ length area.old)
-        × (get_or (recordAt area.old i) 6 0 < 4294967295) }
+    requires { (i < max_stations) × (area_size ≤ length area.old)
+        × (get_or (record_at area.old i) 6 0 < 4294967295) }
     ensures { area.new
-        ≡ collectedOn i (get_or (recordAt area.old i) 6 0) code area.old }
+        ≡ collected_on i (get_or (record_at area.old i) 6 0) code area.old }
 {
     let k = area::read_word(area, i, area_record::words::RECEIVER_NUMBER);
     area::write_word(area, i, area_record::words::RECEIVER_NUMBER, k + 1);
@@ -66,10 +66,10 @@ fn collect_on(area: &mut [u8], i: usize, code: u8)
 
 // A clean bit after the row of them.
 fn seek_bit(area: &mut [u8], i: usize, one: bool)
-    requires { (i < maxStations) × (areaSize ≤ length area.old)
-        × (get_or (recordAt area.old i) receiverNumberWord 0 < 65536) }
+    requires { (i < max_stations) × (area_size ≤ length area.old)
+        × (get_or (record_at area.old i) receiver_number_word 0 < 65536) }
     ensures { area.new
-        ≡ rowOn i (nextRow (get_or (recordAt area.old i) 6 0) one) area.old }
+        ≡ row_on i (next_row (get_or (record_at area.old i) 6 0) one) area.old }
 {
     let next = station_receive::next_row(
         area::read_word(area, i, area_record::words::RECEIVER_NUMBER),
@@ -85,10 +85,10 @@ fn seek_bit(area: &mut [u8], i: usize, one: bool)
 
 // A symbol before the delimiter.
 fn seek_on(area: &mut [u8], i: usize, code: u8)
-    requires { (i < maxStations) × (areaSize ≤ length area.old)
-        × (get_or (recordAt area.old i) receiverNumberWord 0 < 65536) }
+    requires { (i < max_stations) × (area_size ≤ length area.old)
+        × (get_or (record_at area.old i) receiver_number_word 0 < 65536) }
     ensures { area.new
-        ≡ soughtOn i (get_or (recordAt area.old i) 6 0) code area.old }
+        ≡ sought_on i (get_or (record_at area.old i) 6 0) code area.old }
 {
     if code <= 2 {
         seek_bit(area, i, code == 2);
@@ -100,11 +100,11 @@ fn seek_on(area: &mut [u8], i: usize, code: u8)
 
 // A symbol of a reception, where r is the receiver's code.
 fn receive_on(area: &mut [u8], i: usize, r: u32, code: u8)
-    requires { (i < maxStations) × (areaSize ≤ length area.old)
-        × (get_or (recordAt area.old i) receiverNumberWord 0 < 4294967295)
-        × (r ≡ 2 → get_or (recordAt area.old i) 6 0 < 65536) }
+    requires { (i < max_stations) × (area_size ≤ length area.old)
+        × (get_or (record_at area.old i) receiver_number_word 0 < 4294967295)
+        × (r ≡ 2 → get_or (record_at area.old i) 6 0 < 65536) }
     ensures { area.new
-        ≡ receivedOn i r (get_or (recordAt area.old i) 6 0) code area.old }
+        ≡ received_on i r (get_or (record_at area.old i) 6 0) code area.old }
 {
     if r == 2 {
         seek_on(area, i, code);
@@ -123,7 +123,7 @@ fn quick_heard(
     i: usize,
     code: u8,
 ) -> bool
-    requires i_lt_max_stations { (i < maxStations) × (n ≤ maxStations) × (t < 4294967296) × (areaSize ≤ length area.old)
+    requires i_lt_max_stations { (i < max_stations) × (n ≤ max_stations) × (t < 4294967296) × (area_size ≤ length area.old)
         × Able f area.old i × Plain area.old i }
     requires code_value { (code ≡ symbol_at area.old i t) × (code ≡ 0 → ⊥) }
     ensures { Taken f depth n t i area.old area.new result }
@@ -143,7 +143,7 @@ fn quick_heard(
 
 // Takes the turn of station i where it hears a symbol, its reception goes on, and nothing happens; says whether it did.
 pub fn turn(area: &mut [u8], n: usize, depth: u32, t: usize, f: Figures, i: usize) -> bool
-    requires { (i < maxStations) × (n ≤ maxStations) × (t < 4294967296) × (areaSize ≤ length area.old)
+    requires { (i < max_stations) × (n ≤ max_stations) × (t < 4294967296) × (area_size ≤ length area.old)
         × Able f area.old i × Plain area.old i }
     ensures { Taken f depth n t i area.old area.new result }
 {

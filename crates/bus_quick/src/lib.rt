@@ -6,17 +6,17 @@ pub mod heard;
 
 ghost use Rattle.std.specs.Prelude.{◌≡◌, true, ◌<◌, ◌≤◌, min, length, get_or};
 ghost use Rattle.octets.specs.NumberLaws.{Octets};
-ghost use Rattle.area.specs.Area.{recordAt};
-ghost use Rattle.bus_quick.specs.Quick.{Plain, hearsIn, gapsIn, backsIn, calmIn};
-ghost use Rattle.area.specs.Offsets.{areaSize};
-ghost use Rattle.sheet_layout.specs.Limits.{maxStations};
-ghost use Rattle.area_record.specs.Words.{phaseWord};
+ghost use Rattle.area.specs.Area.{record_at};
+ghost use Rattle.bus_quick.specs.Quick.{Plain, hears_in, gaps_in, backs_in, calm_in};
+ghost use Rattle.area.specs.Offsets.{area_size};
+ghost use Rattle.sheet_layout.specs.Limits.{max_stations};
+ghost use Rattle.area_record.specs.Words.{phase_word};
 
 // Whether station i is busy and in a reception, with nothing of its own on the pair. Here and in the tests after it
 // two words are tested by one sum, so that each is read as one word; and it is said that the area holds octets.
 pub fn hears(area: &[u8], i: usize) -> bool
-    requires { (i < maxStations) × (areaSize ≤ length area.now) × Plain area.now i }
-    ensures value { result ≡ hearsIn (recordAt area.now i) }
+    requires { (i < max_stations) × (area_size ≤ length area.now) × Plain area.now i }
+    ensures value { result ≡ hears_in (record_at area.now i) }
     ensures octets { Octets area.now }
 {
     let r = area::read_word(area, i, area_record::words::RECEIVER);
@@ -27,8 +27,8 @@ pub fn hears(area: &[u8], i: usize) -> bool
 
 // Whether station i is in a gap, and receives nothing.
 pub fn gaps(area: &[u8], i: usize) -> bool
-    requires { (i < maxStations) × (areaSize ≤ length area.now) × Plain area.now i }
-    ensures value { result ≡ gapsIn (recordAt area.now i) }
+    requires { (i < max_stations) × (area_size ≤ length area.now) × Plain area.now i }
+    ensures value { result ≡ gaps_in (record_at area.now i) }
     ensures octets { Octets area.now }
 {
     let d = area::read_word(area, i, area_record::words::DEFERENCE);
@@ -39,8 +39,8 @@ pub fn gaps(area: &[u8], i: usize) -> bool
 
 // Whether station i is quiet and in backoff, and receives nothing.
 pub fn backs(area: &[u8], i: usize) -> bool
-    requires { (i < maxStations) × (areaSize ≤ length area.now) × Plain area.now i }
-    ensures value { result ≡ backsIn (recordAt area.now i) }
+    requires { (i < max_stations) × (area_size ≤ length area.now) × Plain area.now i }
+    ensures value { result ≡ backs_in (record_at area.now i) }
     ensures octets { Octets area.now }
 {
     let d = area::read_word(area, i, area_record::words::DEFERENCE);
@@ -52,8 +52,8 @@ pub fn backs(area: &[u8], i: usize) -> bool
 
 // Whether the transmitter of station i, with this code, goes on as it is, but for a step of backoff.
 pub fn calm(area: &[u8], i: usize, c: u32) -> bool
-    requires { (i < maxStations) × (areaSize ≤ length area.now) × (c ≡ get_or (recordAt area.now i) phaseWord 0) }
-    ensures { result ≡ calmIn (recordAt area.now i) }
+    requires { (i < max_stations) × (area_size ≤ length area.now) × (c ≡ get_or (record_at area.now i) phase_word 0) }
+    ensures { result ≡ calm_in (record_at area.now i) }
 {
     if c == 0 {
         return true;

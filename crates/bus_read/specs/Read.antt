@@ -5,31 +5,31 @@ use Rattle.std.proofs.lemmas.List.Edits.{sets}
 use Rattle.octets.specs.Base.{pick, Answer, refused, accepted, Outcome, outcome}
 use Rattle.station_state.specs.declared.Receiver.{Receiver}
 use Rattle.station_state.specs.declared.Receiver.TheVariants.{Listening, Readable, Seeking, Collecting}
-use Rattle.station_spec.specs.Count.{octetsIn}
-use Rattle.area.specs.Area.{countAt, stationAt, bufferAt}
-use Rattle.area_check.specs.Valid.{areaRefusal}
+use Rattle.station_spec.specs.Count.{octets_in}
+use Rattle.area.specs.Area.{count_at, station_at, buffer_at}
+use Rattle.area_check.specs.Valid.{area_refusal}
 use Rattle.bus_read.specs.declared.Reading.{Reading}
 use Rattle.bus_read.specs.declared.Reading.TheVariants as read
 
-abbrev pub readAnswer : Reading → Answer
-readAnswer (read.Refused n) = refused n
-readAnswer (read.Frame n) = accepted (n ∷ [])
+abbrev pub read_answer : Reading → Answer
+read_answer (read.Refused n) = refused n
+read_answer (read.Frame n) = accepted (n ∷ [])
 
 -- "That station holds no readable frame."
-abbrev pub isReadable : Receiver → Bool
-isReadable Listening = false
-isReadable (Readable n) = true
-isReadable (Seeking row spoiled own) = false
-isReadable (Collecting n spoiled own) = false
+abbrev pub is_readable : Receiver → Bool
+is_readable Listening = false
+is_readable (Readable n) = true
+is_readable (Seeking row spoiled own) = false
+is_readable (Collecting n spoiled own) = false
 
 -- the answer, and the lent output afterwards: "Octets past what is written stay."
-unfoldable pub frameRead : (a : List ℕ) (i : ℕ) (out : List ℕ) → Outcome
-frameRead a i out =
-    pick (eqb (areaRefusal a) 0)
-    (pick (leb (countAt a) i) (outcome (refused 10) out)
-    (pick (isReadable (stationAt a i).receiver)
-    (pick (ltb (length out) (octetsIn (stationAt a i).receiver)) (outcome (refused 15) out)
-    (outcome (accepted (octetsIn (stationAt a i).receiver ∷ []))
-    (sets out 0 (take (octetsIn (stationAt a i).receiver) (bufferAt a i)))))
+unfoldable pub frame_read : (a : List ℕ) (i : ℕ) (out : List ℕ) → Outcome
+frame_read a i out =
+    pick (eqb (area_refusal a) 0)
+    (pick (leb (count_at a) i) (outcome (refused 10) out)
+    (pick (is_readable (station_at a i).receiver)
+    (pick (ltb (length out) (octets_in (station_at a i).receiver)) (outcome (refused 15) out)
+    (outcome (accepted (octets_in (station_at a i).receiver ∷ []))
+    (sets out 0 (take (octets_in (station_at a i).receiver) (buffer_at a i)))))
     (outcome (refused 14) out)))
-    (outcome (refused (areaRefusal a)) out)
+    (outcome (refused (area_refusal a)) out)

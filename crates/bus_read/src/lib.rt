@@ -3,11 +3,11 @@
 ghost use Rattle.std.specs.Prelude.{◌≡◌, ◌<◌, ◌≤◌, length, take};
 ghost use Rattle.std.proofs.lemmas.List.Edits.{sets};
 ghost use Rattle.octets.specs.Base.{outcome};
-ghost use Rattle.area.specs.Area.{bufferAt};
-ghost use Rattle.bus_read.specs.Read.{readAnswer, isReadable, frameRead};
-ghost use Rattle.area.specs.Offsets.{areaSize};
-ghost use Rattle.frame_build.specs.Limits.{bufferOctets};
-ghost use Rattle.sheet_layout.specs.Limits.{maxStations};
+ghost use Rattle.area.specs.Area.{buffer_at};
+ghost use Rattle.bus_read.specs.Read.{read_answer, is_readable, frame_read};
+ghost use Rattle.area.specs.Offsets.{area_size};
+ghost use Rattle.frame_build.specs.Limits.{buffer_octets};
+ghost use Rattle.sheet_layout.specs.Limits.{max_stations};
 
 use station_state::Receiver;
 
@@ -19,7 +19,7 @@ pub enum Reading {
 }
 
 fn is_readable(r: Receiver) -> bool
-    ensures { result ≡ isReadable r }
+    ensures { result ≡ is_readable r }
 {
     match r {
         Receiver::Listening => false,
@@ -38,8 +38,8 @@ fn is_readable(r: Receiver) -> bool
 }
 
 fn copy_frame(area: &[u8], i: usize, n: usize, out: &mut [u8])
-    requires { (i < maxStations) × (areaSize ≤ length area.now) × (n ≤ bufferOctets) × (n ≤ length out.old) }
-    ensures { out.new ≡ sets out.old 0 (take n (bufferAt area.now i)) }
+    requires { (i < max_stations) × (area_size ≤ length area.now) × (n ≤ buffer_octets) × (n ≤ length out.old) }
+    ensures { out.new ≡ sets out.old 0 (take n (buffer_at area.now i)) }
 {
     let b = area_buffers::buffer(area, i);
     octets_copies::store(out, 0, &b[0..n]);
@@ -47,7 +47,7 @@ fn copy_frame(area: &[u8], i: usize, n: usize, out: &mut [u8])
 
 // Reads the frame that station i received, whole with its check sequence. Refusals 1, 2, 10, 14, 15.
 pub fn read_frame(area: &[u8], i: usize, out: &mut [u8]) -> Reading
-    ensures { outcome (readAnswer result) out.new ≡ frameRead area.now i out.old }
+    ensures { outcome (read_answer result) out.new ≡ frame_read area.now i out.old }
 {
     let number = bus_spec::ready::refusal(area);
     if number != 0 {

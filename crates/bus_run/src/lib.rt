@@ -1,21 +1,21 @@
 // Runs over many bit times, step by step: the reference for every faster run.
 
 ghost use Rattle.std.specs.Prelude.{◌≡◌, ◌+◌, ◌<◌, ◌≤◌, length};
-ghost use Rattle.bus_spec.specs.Run.{courseOf, run_of, runOutcome, ran};
+ghost use Rattle.bus_spec.specs.Run.{course_of, run_of, run_outcome, ran};
 ghost use Rattle.bus_spec.specs.RunLaws.{Runnable};
 ghost use Rattle.station_tally.specs.TallyLaws.{Bounded};
-ghost use Rattle.sheet_layout.specs.Limits.{lastClock};
-ghost use Rattle.area.specs.Offsets.{areaSize};
-ghost use Rattle.station_tally.specs.Words.{wordCount};
+ghost use Rattle.sheet_layout.specs.Limits.{last_clock};
+ghost use Rattle.area.specs.Offsets.{area_size};
+ghost use Rattle.station_tally.specs.Words.{word_count};
 
 use bus_spec::course::{Course, Ended, RunAnswer};
 use octets::Done;
 
 // At most n steps, on an area that is ready for them, counted into `words`.
 fn run_steps(area: &mut [u8], words: &mut [u32], n: u32) -> Course
-    requires runnable { Runnable n area.old × (areaSize ≤ length area.old) × (n ≤ lastClock) }
-    requires words_len { (length words.old ≡ wordCount) × Bounded words.old 0 }
-    ensures { courseOf result words.new area.new
+    requires runnable { Runnable n area.old × (area_size ≤ length area.old) × (n ≤ last_clock) }
+    requires words_len { (length words.old ≡ word_count) × Bounded words.old 0 }
+    ensures { course_of result words.new area.new
         ≡ run_of n 0 words.old area.old }
 {
     let mut ended = Ended::All;
@@ -40,7 +40,7 @@ fn run_steps(area: &mut [u8], words: &mut [u32], n: u32) -> Course
 
 // A run of n bit times. Refusals 1, 2, 13.
 pub fn run(area: &mut [u8], n: u32) -> RunAnswer
-    ensures { runOutcome result area.new ≡ ran area.old n }
+    ensures { run_outcome result area.new ≡ ran area.old n }
 {
     let number = bus_spec::ready::refusal(area);
     if number != 0 {

@@ -5,23 +5,23 @@ use Rattle.octets.specs.Base.{pick}
 use Rattle.octets.specs.Turns.{turns}
 use Rattle.station_symbols.specs.declared.Symbol.{Symbol}
 use Rattle.station_symbols.specs.declared.Symbol.TheVariants.{Silence, Bit, Jam}
-use Rattle.area.specs.Area.{spaceAt, arrivalAt, withArrival, joined, withSymbol}
+use Rattle.area.specs.Area.{space_at, arrival_at, with_arrival, joined, with_symbol}
 
 -- "What station i emits at t is heard at j≠i at t + |p(i)−p(j)|": the symbol s is on its way to station j
-unfoldable pub sendTo : (t i : ℕ) → Symbol → (j : ℕ) → List ℕ → List ℕ
-sendTo t i s j x = pick (eqb j i) x (withArrival x j (t + spaceAt x i j) (joined (arrivalAt x j (t + spaceAt x i j)) s))
+unfoldable pub send_to : (t i : ℕ) → Symbol → (j : ℕ) → List ℕ → List ℕ
+send_to t i s j x = pick (eqb j i) x (with_arrival x j (t + space_at x i j) (joined (arrival_at x j (t + space_at x i j)) s))
 
-abbrev pub isSilence : Symbol → Bool
-isSilence Silence = true
-isSilence (Bit b) = false
-isSilence Jam = false
+abbrev pub is_silence : Symbol → Bool
+is_silence Silence = true
+is_silence (Bit b) = false
+is_silence Jam = false
 
 -- and to each of n stations; silence is not put anywhere
 unfoldable pub pushed : (n t i : ℕ) → Symbol → List ℕ → List ℕ
-pushed n t i s x = pick (isSilence s) x (turns (sendTo t i s) n x)
+pushed n t i s x = pick (is_silence s) x (turns (send_to t i s) n x)
 
 -- ---- the same for the code
 
 -- a symbol on its way, by its code
-unfoldable pub codeTo : (t i c j : ℕ) → List ℕ → List ℕ
-codeTo t i c j x = pick (eqb j i) x (withSymbol x j (t + spaceAt x i j) c)
+unfoldable pub code_to : (t i c j : ℕ) → List ℕ → List ℕ
+code_to t i c j x = pick (eqb j i) x (with_symbol x j (t + space_at x i j) c)

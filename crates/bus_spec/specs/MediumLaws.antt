@@ -6,120 +6,120 @@ use Rattle.std.proofs.Math.Path.{refl, ap}
 use Rattle.std.proofs.Common.{sym, ◌∙◌, arith, eq-eqb, ne_eqb}
 use Rattle.std.proofs.lemmas.Bool.{eqb-false}
 use Rattle.octets.specs.Base.{pick}
-use Rattle.octets.specs.BaseLaws.{by-test}
-use Rattle.octets.specs.Turns.{turns, turns_more, turns-end, length-turns}
+use Rattle.octets.specs.BaseLaws.{by_test}
+use Rattle.octets.specs.Turns.{turns, turns_more, turns_end, length_turns}
 use Rattle.station_symbols.specs.declared.Symbol.{Symbol}
 use Rattle.station_symbols.specs.declared.Symbol.TheVariants.{Silence, Bit, Jam}
 use Rattle.area.specs.Places.{Part, layout, place, Off, Keeps}
-use Rattle.area.specs.Area.{positionAt, distance, spaceAt, arrivalAt, heardCode, alone, joined, withSymbol}
-use Rattle.area.specs.AreaLaws.{keeps-refl, keeps-trans, position-by, space-by, arrival-keeps, length-arrival}
-use Rattle.area.specs.CodeLaws.{space-is, joined-code}
-use Rattle.bus_spec.specs.Medium.{sendTo, isSilence, pushed, codeTo}
-use Rattle.sheet_layout.specs.Limits.{maxStations}
+use Rattle.area.specs.Area.{position_at, distance, space_at, arrival_at, heard_code, alone, joined, with_symbol}
+use Rattle.area.specs.AreaLaws.{keeps_refl, keeps_trans, position_by, space_by, arrival_keeps, length_arrival}
+use Rattle.area.specs.CodeLaws.{space_is, joined_code}
+use Rattle.bus_spec.specs.Medium.{send_to, is_silence, pushed, code_to}
+use Rattle.sheet_layout.specs.Limits.{max_stations}
 
 -- ---- lengths
 
-length-send : (t i : ℕ) (s : Symbol) (j : ℕ) (x : List ℕ) → length (sendTo t i s j x) ≡ length x
-unfolding sendTo
-length-send t i s j x = by-test (eqb j i) (λ e. rw e) (λ e. rw e (length-arrival x j _ _))
+length_send : (t i : ℕ) (s : Symbol) (j : ℕ) (x : List ℕ) → length (send_to t i s j x) ≡ length x
+unfolding send_to
+length_send t i s j x = by_test (eqb j i) (λ e. rw e) (λ e. rw e (length_arrival x j _ _))
 
-pub length-sends : (t i : ℕ) (s : Symbol) (k : ℕ) (x : List ℕ) → length (turns (sendTo t i s) k x) ≡ length x
-length-sends t i s k x = length-turns (sendTo t i s) k x (λ j y. length-send t i s j y)
+pub length_sends : (t i : ℕ) (s : Symbol) (k : ℕ) (x : List ℕ) → length (turns (send_to t i s) k x) ≡ length x
+length_sends t i s k x = length_turns (send_to t i s) k x (λ j y. length_send t i s j y)
 
-pub length-pushed : (n t i : ℕ) (s : Symbol) (x : List ℕ) → length (pushed n t i s x) ≡ length x
+pub length_pushed : (n t i : ℕ) (s : Symbol) (x : List ℕ) → length (pushed n t i s x) ≡ length x
 unfolding pushed
-length-pushed n t i s x = by-test (isSilence s) (λ e. rw e) (λ e. rw e (length-sends t i s n x))
+length_pushed n t i s x = by_test (is_silence s) (λ e. rw e) (λ e. rw e (length_sends t i s n x))
 
 -- ---- what is kept
 
-pub send-keeps : (p : Part) (t i : ℕ) (s : Symbol) (j : ℕ) (x : List ℕ)
-    → ((j ≡ i → ⊥) → Off p (place j (t + spaceAt x i j))) → Keeps p (sendTo t i s j x) x
-unfolding sendTo
-send-keeps p t i s j x o =
-    by-test (eqb j i)
-    (λ e. rw e (keeps-refl p x))
-    (λ e. rw e (arrival-keeps p x j (t + spaceAt x i j) (joined (arrivalAt x j (t + spaceAt x i j)) s)
+pub send_keeps : (p : Part) (t i : ℕ) (s : Symbol) (j : ℕ) (x : List ℕ)
+    → ((j ≡ i → ⊥) → Off p (place j (t + space_at x i j))) → Keeps p (send_to t i s j x) x
+unfolding send_to
+send_keeps p t i s j x o =
+    by_test (eqb j i)
+    (λ e. rw e (keeps_refl p x))
+    (λ e. rw e (arrival_keeps p x j (t + space_at x i j) (joined (arrival_at x j (t + space_at x i j)) s)
     (o (eqb-false j i e))))
 
-pub sends-layout : (t i : ℕ) (s : Symbol) (k : ℕ) (x : List ℕ) → Keeps layout (turns (sendTo t i s) k x) x
+pub sends_layout : (t i : ℕ) (s : Symbol) (k : ℕ) (x : List ℕ) → Keeps layout (turns (send_to t i s) k x) x
 unfolding turns
-sends-layout t i s zero x = keeps-refl layout x
-sends-layout t i s (suc k) x =
-    keeps-trans layout (sendTo t i s k (turns (sendTo t i s) k x)) (turns (sendTo t i s) k x) x
-    (send-keeps layout t i s k (turns (sendTo t i s) k x) (λ ne p q. omega arith)) (sends-layout t i s k x)
+sends_layout t i s zero x = keeps_refl layout x
+sends_layout t i s (suc k) x =
+    keeps_trans layout (send_to t i s k (turns (send_to t i s) k x)) (turns (send_to t i s) k x) x
+    (send_keeps layout t i s k (turns (send_to t i s) k x) (λ ne p q. omega arith)) (sends_layout t i s k x)
 
-pub sends-keep : (p : Part) (t i : ℕ) (s : Symbol) (k : ℕ) (x : List ℕ) → i < maxStations → k ≤ maxStations
-    → ((j : ℕ) → j < k → (j ≡ i → ⊥) → Off p (place j (t + spaceAt x i j)))
-    → Keeps p (turns (sendTo t i s) k x) x
+pub sends_keep : (p : Part) (t i : ℕ) (s : Symbol) (k : ℕ) (x : List ℕ) → i < max_stations → k ≤ max_stations
+    → ((j : ℕ) → j < k → (j ≡ i → ⊥) → Off p (place j (t + space_at x i j)))
+    → Keeps p (turns (send_to t i s) k x) x
 unfolding turns
-sends-keep p t i s zero x hi hk o = keeps-refl p x
-sends-keep p t i s (suc k) x hi hk o =
-    keeps-trans p (sendTo t i s k (turns (sendTo t i s) k x)) (turns (sendTo t i s) k x) x
-    (send-keeps p t i s k (turns (sendTo t i s) k x)
-    (λ ne. rw (space-by (turns (sendTo t i s) k x) x i k hi hk (sends-layout t i s k x)) (o k (omega arith) ne)))
-    (sends-keep p t i s k x hi (omega arith) (λ j h. o j (omega arith)))
+sends_keep p t i s zero x hi hk o = keeps_refl p x
+sends_keep p t i s (suc k) x hi hk o =
+    keeps_trans p (send_to t i s k (turns (send_to t i s) k x)) (turns (send_to t i s) k x) x
+    (send_keeps p t i s k (turns (send_to t i s) k x)
+    (λ ne. rw (space_by (turns (send_to t i s) k x) x i k hi hk (sends_layout t i s k x)) (o k (omega arith) ne)))
+    (sends_keep p t i s k x hi (omega arith) (λ j h. o j (omega arith)))
 
-pub push-keeps : (p : Part) (n t i : ℕ) (s : Symbol) (x : List ℕ) → i < maxStations → n ≤ maxStations
-    → ((j : ℕ) → j < n → (j ≡ i → ⊥) → Off p (place j (t + spaceAt x i j)))
+pub push_keeps : (p : Part) (n t i : ℕ) (s : Symbol) (x : List ℕ) → i < max_stations → n ≤ max_stations
+    → ((j : ℕ) → j < n → (j ≡ i → ⊥) → Off p (place j (t + space_at x i j)))
     → Keeps p (pushed n t i s x) x
 unfolding pushed
-push-keeps p n t i s x hi hn o =
-    by-test (isSilence s) (λ e. rw e (keeps-refl p x)) (λ e. rw e (sends-keep p t i s n x hi hn o))
+push_keeps p n t i s x hi hn o =
+    by_test (is_silence s) (λ e. rw e (keeps_refl p x)) (λ e. rw e (sends_keep p t i s n x hi hn o))
 
 -- ---- the code
 
 module _ (t i c j : ℕ) (a : List ℕ) where
-  pub send-own : j ≡ i → a ≡ codeTo t i c j a
-  unfolding codeTo
-  send-own p = rw (eq-eqb j i p)
+  pub send_own : j ≡ i → a ≡ code_to t i c j a
+  unfolding code_to
+  send_own p = rw (eq-eqb j i p)
 
   -- the distance by both positions
-  pub send-apart : (b : List ℕ) (u d p q : ℕ) → b ≡ withSymbol a j u c → u ≡ t + d → d ≡ distance p q
-      → q ≡ positionAt a j → p ≡ positionAt a i → (j ≡ i → ⊥)
-      → b ≡ codeTo t i c j a
-  unfolding codeTo
-  send-apart b u d p q eb eu ed eq ep ne =
-      let w : u ≡ t + spaceAt a i j = eu ∙ ap (λ (x : ℕ). t + x) (space-is a i j d p q ed eq ep) in
+  pub send_apart : (b : List ℕ) (u d p q : ℕ) → b ≡ with_symbol a j u c → u ≡ t + d → d ≡ distance p q
+      → q ≡ position_at a j → p ≡ position_at a i → (j ≡ i → ⊥)
+      → b ≡ code_to t i c j a
+  unfolding code_to
+  send_apart b u d p q eb eu ed eq ep ne =
+      let w : u ≡ t + space_at a i j = eu ∙ ap (λ (x : ℕ). t + x) (space_is a i j d p q ed eq ep) in
       eb ∙ rw (ne_eqb j i ne, w)
 
 -- by its code a symbol that is not silence goes the same way
-code-sends : (t i c j : ℕ) (s : Symbol) (a : List ℕ) → c ≡ heardCode (alone s) → (c ≡ 0 → ⊥)
-    → codeTo t i c j a ≡ sendTo t i s j a
-unfolding codeTo sendTo
-code-sends t i c j s a e ne = ap (pick (eqb j i) a) (joined-code a j (t + spaceAt a i j) s c e ne)
+code_sends : (t i c j : ℕ) (s : Symbol) (a : List ℕ) → c ≡ heard_code (alone s) → (c ≡ 0 → ⊥)
+    → code_to t i c j a ≡ send_to t i s j a
+unfolding code_to send_to
+code_sends t i c j s a e ne = ap (pick (eqb j i) a) (joined_code a j (t + space_at a i j) s c e ne)
 
-code-silence : (s : Symbol) → heardCode (alone s) ≡ 0 → isSilence s ≡ true
-code-silence Silence h = refl
-code-silence (Bit true) h = absurd (omega (arith, h))
-code-silence (Bit false) h = absurd (omega (arith, h))
-code-silence Jam h = absurd (omega (arith, h))
+code_silence : (s : Symbol) → heard_code (alone s) ≡ 0 → is_silence s ≡ true
+code_silence Silence h = refl
+code_silence (Bit true) h = absurd (omega (arith, h))
+code_silence (Bit false) h = absurd (omega (arith, h))
+code_silence Jam h = absurd (omega (arith, h))
 
-code-sound : (s : Symbol) → (heardCode (alone s) ≡ 0 → ⊥) → isSilence s ≡ false
-code-sound Silence h = absurd (h refl)
-code-sound (Bit b) h = refl
-code-sound Jam h = refl
+code_sound : (s : Symbol) → (heard_code (alone s) ≡ 0 → ⊥) → is_silence s ≡ false
+code_sound Silence h = absurd (h refl)
+code_sound (Bit b) h = refl
+code_sound Jam h = refl
 
-module _ (t i c : ℕ) (s : Symbol) (a : List ℕ) (e : c ≡ heardCode (alone s)) (ne : c ≡ 0 → ⊥) where
-  codes-send : (j : ℕ) → turns (codeTo t i c) j a ≡ turns (sendTo t i s) j a
+module _ (t i c : ℕ) (s : Symbol) (a : List ℕ) (e : c ≡ heard_code (alone s)) (ne : c ≡ 0 → ⊥) where
+  codes_send : (j : ℕ) → turns (code_to t i c) j a ≡ turns (send_to t i s) j a
   unfolding turns
-  codes-send zero = refl
-  codes-send (suc j) = code-sends t i c j s (turns (codeTo t i c) j a) e ne ∙ ap (sendTo t i s j) (codes-send j)
+  codes_send zero = refl
+  codes_send (suc j) = code_sends t i c j s (turns (code_to t i c) j a) e ne ∙ ap (send_to t i s j) (codes_send j)
 
   -- the sender stays where it is
-  pub push-position : (j p : ℕ) (x : List ℕ) → x ≡ turns (codeTo t i c) j a → i < maxStations → p ≡ positionAt a i
-      → p ≡ positionAt x i
-  push-position j p x r h q =
-      q ∙ sym (position-by (turns (sendTo t i s) j a) a i h (sends-layout t i s j a))
-      ∙ ap (λ (y : List ℕ). positionAt y i) (sym (r ∙ codes-send j))
+  pub push_position : (j p : ℕ) (x : List ℕ) → x ≡ turns (code_to t i c) j a → i < max_stations → p ≡ position_at a i
+      → p ≡ position_at x i
+  push_position j p x r h q =
+      q ∙ sym (position_by (turns (send_to t i s) j a) a i h (sends_layout t i s j a))
+      ∙ ap (λ (y : List ℕ). position_at y i) (sym (r ∙ codes_send j))
 
-  pub push-all : (n j : ℕ) (b : List ℕ) → j ≤ n → n ≤ j → b ≡ turns (codeTo t i c) j a → b ≡ pushed n t i s a
+  pub push_all : (n j : ℕ) (b : List ℕ) → j ≤ n → n ≤ j → b ≡ turns (code_to t i c) j a → b ≡ pushed n t i s a
   unfolding pushed
-  push-all n j b h g r = turns-end (sendTo t i s) n j a b h g (r ∙ codes-send j) ∙ rw (code-sound s (λ z. ne (e ∙ z)))
+  push_all n j b h g r = turns_end (send_to t i s) n j a b h g (r ∙ codes_send j) ∙ rw (code_sound s (λ z. ne (e ∙ z)))
 
-pub push-none : (n t i : ℕ) (s : Symbol) (a : List ℕ) (c : ℕ) → c ≡ heardCode (alone s) → c ≡ 0 → a ≡ pushed n t i s a
+pub push_none : (n t i : ℕ) (s : Symbol) (a : List ℕ) (c : ℕ) → c ≡ heard_code (alone s) → c ≡ 0 → a ≡ pushed n t i s a
 unfolding pushed
-push-none n t i s a c e z = rw (code-silence s (sym e ∙ z))
+push_none n t i s a c e z = rw (code_silence s (sym e ∙ z))
 
-pub push-more : (t i c j : ℕ) (a x b : List ℕ) → b ≡ codeTo t i c j x → x ≡ turns (codeTo t i c) j a
-    → b ≡ turns (codeTo t i c) (j + 1) a
-push-more t i c j a x b p q = turns_more (codeTo t i c) j a x b p q
+pub push_more : (t i c j : ℕ) (a x b : List ℕ) → b ≡ code_to t i c j x → x ≡ turns (code_to t i c) j a
+    → b ≡ turns (code_to t i c) (j + 1) a
+push_more t i c j a x b p q = turns_more (code_to t i c) j a x b p q

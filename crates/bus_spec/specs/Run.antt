@@ -2,34 +2,34 @@
 -- late collision. .. a run answers the steps made and how many events of each word came"; refusals 1, 2, 13). The laws
 -- are in RunLaws. Assumes nothing.
 use Rattle.std.specs.Prelude.{ℕ, zero, suc, ◌+◌, Bool, List, [], ltb, eqb, replicate}
-use Rattle.octets.specs.Base.{pick, some, Answer, refused, accepted, doneAnswer}
+use Rattle.octets.specs.Base.{pick, some, Answer, refused, accepted, done_answer}
 use Rattle.octets.specs.Turns.{turns}
-use Rattle.station_tally.specs.Tally.{sentCounted, gotCounted}
-use Rattle.area.specs.Area.{clockAt}
-use Rattle.area_check.specs.Valid.{areaRefusal}
+use Rattle.station_tally.specs.Tally.{sent_counted, got_counted}
+use Rattle.area.specs.Area.{clock_at}
+use Rattle.area_check.specs.Valid.{area_refusal}
 use Rattle.bus_spec.specs.declared.Events.{Events}
-use Rattle.bus_spec.specs.BitTime.{eventAt, eventsAt, stepArea}
+use Rattle.bus_spec.specs.BitTime.{event_at, events_at, step_area}
 use Rattle.bus_spec.specs.declared.course.Ended.{Ended}
 use Rattle.bus_spec.specs.declared.course.Ended.TheVariants as how
 use Rattle.bus_spec.specs.declared.course.Course.{Course}
 use Rattle.bus_spec.specs.declared.course.RunAnswer.{RunAnswer}
-use Rattle.sheet_layout.specs.Limits.{lastClock}
-use Rattle.station_tally.specs.Words.{endsRun, wordCount}
+use Rattle.sheet_layout.specs.Limits.{last_clock}
+use Rattle.station_tally.specs.Words.{ends_run, word_count}
 
 -- ---- counting
 
 -- those of the first n stations
 unfoldable pub tallied : List Events → ℕ → List ℕ → List ℕ
-tallied es n ws = turns (λ i x. gotCounted (sentCounted x (eventAt es i).sent) (eventAt es i).got) n ws
+tallied es n ws = turns (λ i x. got_counted (sent_counted x (event_at es i).sent) (event_at es i).got) n ws
 
 -- ---- the early end
 
-unfoldable pub lateAt : List Events → ℕ → Bool
-lateAt es i = endsRun (eventAt es i).sent
+unfoldable pub late_at : List Events → ℕ → Bool
+late_at es i = ends_run (event_at es i).sent
 
 -- a step with these events ends a run
 abbrev pub stops : List Events → Bool
-stops es = some (lateAt es) 16
+stops es = some (late_at es) 16
 
 -- the first number below n that passes the test
 unfoldable pub first : (ℕ → Bool) → ℕ → ℕ
@@ -51,29 +51,29 @@ pub record Ran : Type 0 where
 unfoldable pub run_of : ℕ → (m : ℕ) (ws : List ℕ) (a : List ℕ) → Ran
 run_of zero m ws a = record { answer = accepted []; steps = m; words = ws; ended = how.All; octets = a }
 run_of (suc k) m ws a =
-    pick (stops (eventsAt a))
+    pick (stops (events_at a))
     (record {
       answer = accepted [];
       steps = m + 1;
-      words = tallied (eventsAt a) 16 ws;
-      ended = how.Late m (first (lateAt (eventsAt a)) 16);
-      octets = stepArea a;
+      words = tallied (events_at a) 16 ws;
+      ended = how.Late m (first (late_at (events_at a)) 16);
+      octets = step_area a;
     })
-    (run_of k (m + 1) (tallied (eventsAt a) 16 ws) (stepArea a))
+    (run_of k (m + 1) (tallied (events_at a) 16 ws) (step_area a))
 
-abbrev pub courseOf : Course → (ws a : List ℕ) → Ran
-courseOf r ws a = record { answer = accepted []; steps = r.steps; words = ws; ended = r.ended; octets = a }
+abbrev pub course_of : Course → (ws a : List ℕ) → Ran
+course_of r ws a = record { answer = accepted []; steps = r.steps; words = ws; ended = r.ended; octets = a }
 
-abbrev pub runOutcome : RunAnswer → List ℕ → Ran
-runOutcome r a =
-    record { answer = doneAnswer r.done; steps = r.steps; words = r.words; ended = r.ended; octets = a }
+abbrev pub run_outcome : RunAnswer → List ℕ → Ran
+run_outcome r a =
+    record { answer = done_answer r.done; steps = r.steps; words = r.words; ended = r.ended; octets = a }
 
 abbrev pub unrun : ℕ → List ℕ → Ran
-unrun k a = record { answer = refused k; steps = 0; words = replicate wordCount 0; ended = how.All; octets = a }
+unrun k a = record { answer = refused k; steps = 0; words = replicate word_count 0; ended = how.All; octets = a }
 
 -- "13. Clock plus the bit times asked exceeds 16,777,216."
 unfoldable pub ran : List ℕ → ℕ → Ran
 ran a n =
-    pick (eqb (areaRefusal a) 0)
-    (pick (ltb lastClock (clockAt a + n)) (unrun 13 a) (run_of n 0 (replicate wordCount 0) a))
-    (unrun (areaRefusal a) a)
+    pick (eqb (area_refusal a) 0)
+    (pick (ltb last_clock (clock_at a + n)) (unrun 13 a) (run_of n 0 (replicate word_count 0) a))
+    (unrun (area_refusal a) a)

@@ -3,224 +3,224 @@
 use Rattle.std.specs.Prelude.{ℕ, suc, ◌+◌, ◌*◌, ◌≤◌, ◌<◌, min, ◌≡◌, List, length}
 use Rattle.std.proofs.Math.Path.{refl, sym, ap₂, subst}
 use Rattle.std.proofs.Common.{◌∙◌, ap, add-one, arith}
-use Rattle.octets.specs.Filled.{filled, filled-same}
+use Rattle.octets.specs.Filled.{filled, filled_same}
 use Rattle.octets.specs.Turns.{turns}
-use Rattle.octets.specs.WordsLaws.{Small, length-words}
-use Rattle.sheet_layout.specs.Layout.{blankTap}
-use Rattle.sheet_layout.specs.Check.{refusalOf}
+use Rattle.octets.specs.WordsLaws.{Small, length_words}
+use Rattle.sheet_layout.specs.Layout.{blank_tap}
+use Rattle.sheet_layout.specs.Check.{refusal_of}
 use Rattle.sheet_layout.specs.CheckLaws.{Figured}
-use Rattle.station_spec.specs.Step.{stepped, nextStation}
+use Rattle.station_spec.specs.Step.{stepped, next_station}
 use Rattle.station_spec.specs.Count.{counted}
 use Rattle.area_record.specs.Codec.{decoded, encoded}
-use Rattle.area_record.specs.CodecLaws.{Fit, decoded-encoded}
+use Rattle.area_record.specs.CodecLaws.{Fit, decoded_encoded}
 use Rattle.area.specs.Places.{Part, clock, depth, layout, draws, counters, station, frame, buffer, place, Off, Keeps}
-use Rattle.area.specs.Area.{clockAt, depthAt, figuresAt, countAt, addressAt, tapAt, layoutAt, spaceAt, countersAt}
-use Rattle.area.specs.Area.{recordAt, stationAt, frame_at, bufferAt, symbol_at, maxCode}
-use Rattle.area.specs.AreaLaws.{keeps-trans, depth-by, figures-by, count_by, position-by, address-by, space-by}
-use Rattle.area.specs.AreaLaws.{counters-by, record-by, symbol-by, frame-by, buffer-by, clock-keeps, clock-same}
-use Rattle.area.specs.AreaLaws.{length-clock}
-use Rattle.bus_spec.specs.BitTime.{outcomeIn, actIn, actAt, settled, stepArea}
-use Rattle.bus_spec.specs.Range.{Fine, fine-stepped, fine-fit}
+use Rattle.area.specs.Area.{clock_at, depth_at, figures_at, count_at, address_at, tap_at, layout_at, space_at, counters_at}
+use Rattle.area.specs.Area.{record_at, station_at, frame_at, buffer_at, symbol_at, max_code}
+use Rattle.area.specs.AreaLaws.{keeps_trans, depth_by, figures_by, count_by, position_by, address_by, space_by}
+use Rattle.area.specs.AreaLaws.{counters_by, record_by, symbol_by, frame_by, buffer_by, clock_keeps, clock_same}
+use Rattle.area.specs.AreaLaws.{length_clock}
+use Rattle.bus_spec.specs.BitTime.{outcome_in, act_in, act_at, settled, step_area}
+use Rattle.bus_spec.specs.Range.{Fine, fine_stepped, fine_fit}
 use Rattle.bus_spec.specs.InPlace.{Kept, Spread, Ahead}
 use Rattle.bus_spec.specs.Ready.{Readiness, kept}
-use Rattle.bus_spec.specs.After.{length-after, ahead, codes_all, record-all, buffer-all, storedIn, counters-all}
+use Rattle.bus_spec.specs.After.{length_after, ahead, codes_all, record_all, buffer_all, stored_in, counters_all}
 use Rattle.bus_spec.specs.After.{counted_words}
-use Rattle.bus_spec.specs.Sizes.{Sized, sized-stepped}
-use Rattle.bus_spec.specs.Passes.{Passing, record-right}
-use Rattle.frame_build.specs.Limits.{minFrame, bufferOctets}
+use Rattle.bus_spec.specs.Sizes.{Sized, sized_stepped}
+use Rattle.bus_spec.specs.Passes.{Passing, record_right}
+use Rattle.frame_build.specs.Limits.{min_frame, buffer_octets}
 use Rattle.octets.specs.Store.{length_part}
-use Rattle.sheet_layout.specs.Limits.{lastClock, maxStations}
-use Rattle.area.specs.Offsets.{areaSize, ring, from, theCounters, theBuffer}
-use Rattle.station_state.specs.State.{counterCount}
+use Rattle.sheet_layout.specs.Limits.{last_clock, max_stations}
+use Rattle.area.specs.Offsets.{area_size, ring, from, the_counters, the_buffer}
+use Rattle.station_state.specs.State.{counter_count}
 
 -- ---- the layout goes by its part
 
-pub layout-by : (l m : List ℕ) → areaSize ≤ length l → areaSize ≤ length m → Keeps layout l m → layoutAt l ≡ layoutAt m
-unfolding layoutAt
-layout-by l m p q k =
+pub layout_by : (l m : List ℕ) → area_size ≤ length l → area_size ≤ length m → Keeps layout l m → layout_at l ≡ layout_at m
+unfolding layout_at
+layout_by l m p q k =
     let n = count_by l m k in
     λ i. record {
-      figures = figures-by l m k i;
+      figures = figures_by l m k i;
       count = n i;
       stations =
-          (filled-same blankTap (tapAt l) (tapAt m) (min (countAt l) 16) (λ j h. tap-by j (omega arith))
-          ∙ ap (λ (c : ℕ). filled blankTap (tapAt m) (min c 16)) n) i;
+          (filled_same blank_tap (tap_at l) (tap_at m) (min (count_at l) 16) (λ j h. tap_by j (omega arith))
+          ∙ ap (λ (c : ℕ). filled blank_tap (tap_at m) (min c 16)) n) i;
     }
   where
-    tap-by : (j : ℕ) → j < maxStations → tapAt l j ≡ tapAt m j
-    tap-by j h = λ i. record { position = position-by l m j h k i; address = address-by l m j h p q k i }
+    tap_by : (j : ℕ) → j < max_stations → tap_at l j ≡ tap_at m j
+    tap_by j h = λ i. record { position = position_by l m j h k i; address = address_by l m j h p q k i }
 
 -- a layout kept is still spread
-pub spread-by : (n : ℕ) (l m : List ℕ) → Keeps layout l m → Spread n m → Spread n l
-spread-by n l m k sp =
+pub spread_by : (n : ℕ) (l m : List ℕ) → Keeps layout l m → Spread n m → Spread n l
+spread_by n l m k sp =
     record {
       few = sp.few;
       pos = λ i j hi hj ne. subst (λ (x : ℕ). 0 < x) (sym (space i j hi hj)) (sp.pos i j hi hj ne);
       near = λ i j hi hj. subst (λ (x : ℕ). x < ring) (sym (space i j hi hj)) (sp.near i j hi hj);
     }
   where
-    space : (i j : ℕ) → i < n → j < n → spaceAt l i j ≡ spaceAt m i j
-    space i j hi hj = let few = sp.few in space-by l m i j (omega arith) (omega arith) k
+    space : (i j : ℕ) → i < n → j < n → space_at l i j ≡ space_at m i j
+    space i j hi hj = let few = sp.few in space_by l m i j (omega arith) (omega arith) k
 
 -- ---- after a step
 
-bits : (a : List ℕ) (i : ℕ) → i < countAt a → Kept (actAt a i).outcome.stored
-unfolding actAt
-bits a i h = kept (figuresAt a) (depthAt a) (clockAt a) a i
+bits : (a : List ℕ) (i : ℕ) → i < count_at a → Kept (act_at a i).outcome.stored
+unfolding act_at
+bits a i h = kept (figures_at a) (depth_at a) (clock_at a) a i
 
 module _ (a : List ℕ) (r : Readiness a) where
   turned : List ℕ
-  turned = turns (λ i x. settled (countAt a) (clockAt a) i (actAt a i) x) (countAt a) a
+  turned = turns (λ i x. settled (count_at a) (clock_at a) i (act_at a i) x) (count_at a) a
 
-  turned-length : length turned ≡ length a
+  turned_length : length turned ≡ length a
   unfolding turned
-  turned-length = length-after (countAt a) (clockAt a) (actAt a) a r.spread (bits a) r.long (countAt a)
+  turned_length = length_after (count_at a) (clock_at a) (act_at a) a r.spread (bits a) r.long (count_at a)
 
-  long : areaSize ≤ length turned
-  long = omega (arith, turned-length, r.long)
+  long : area_size ≤ length turned
+  long = omega (arith, turned_length, r.long)
 
-  turned-ahead : Ahead (clockAt a) (countAt a) a turned
+  turned_ahead : Ahead (clock_at a) (count_at a) a turned
   unfolding turned
-  turned-ahead = ahead (countAt a) (clockAt a) (actAt a) a r.spread (bits a) r.long (countAt a) (omega arith)
+  turned_ahead = ahead (count_at a) (clock_at a) (act_at a) a r.spread (bits a) r.long (count_at a) (omega arith)
 
-  pub step-length : length (stepArea a) ≡ length a
-  unfolding stepArea turned
-  step-length = length-clock turned (clockAt a + 1) ∙ turned-length
+  pub step_length : length (step_area a) ≡ length a
+  unfolding step_area turned
+  step_length = length_clock turned (clock_at a + 1) ∙ turned_length
 
   -- what a step keeps as it was
-  after-clock : (p : Part) → Off p clock → Keeps p (stepArea a) turned
-  unfolding stepArea turned
-  after-clock p o = clock-keeps p turned (clockAt a + 1) o
+  after_clock : (p : Part) → Off p clock → Keeps p (step_area a) turned
+  unfolding step_area turned
+  after_clock p o = clock_keeps p turned (clock_at a + 1) o
 
-  pub step-layout : Keeps layout (stepArea a) a
-  step-layout = keeps-trans layout (stepArea a) turned a (after-clock layout (λ p q. omega arith)) turned-ahead.plan
+  pub step_layout : Keeps layout (step_area a) a
+  step_layout = keeps_trans layout (step_area a) turned a (after_clock layout (λ p q. omega arith)) turned_ahead.plan
 
-  pub step-depth : Keeps depth (stepArea a) a
-  step-depth = keeps-trans depth (stepArea a) turned a (after-clock depth (λ p q. omega arith)) turned-ahead.deep
+  pub step_depth : Keeps depth (step_area a) a
+  step_depth = keeps_trans depth (step_area a) turned a (after_clock depth (λ p q. omega arith)) turned_ahead.deep
 
-  pub step-draws : Keeps draws (stepArea a) a
-  step-draws = keeps-trans draws (stepArea a) turned a (after-clock draws (λ p q. omega arith)) turned-ahead.lots
+  pub step_draws : Keeps draws (step_area a) a
+  step_draws = keeps_trans draws (step_area a) turned a (after_clock draws (λ p q. omega arith)) turned_ahead.lots
 
-  pub step-frame : (i : ℕ) → i < maxStations → Keeps (frame i) (stepArea a) a
-  step-frame i h =
-      keeps-trans (frame i) (stepArea a) turned a (after-clock (frame i) (λ p q. omega arith))
-      (turned-ahead.frames i h)
+  pub step_frame : (i : ℕ) → i < max_stations → Keeps (frame i) (step_area a) a
+  step_frame i h =
+      keeps_trans (frame i) (step_area a) turned a (after_clock (frame i) (λ p q. omega arith))
+      (turned_ahead.frames i h)
 
-  pub step-clock : clockAt (stepArea a) ≡ clockAt a + 1
-  unfolding stepArea turned
-  step-clock = clock-same turned long (clockAt a + 1) (omega (arith, r.clock))
+  pub step_clock : clock_at (step_area a) ≡ clock_at a + 1
+  unfolding step_area turned
+  step_clock = clock_same turned long (clock_at a + 1) (omega (arith, r.clock))
 
   -- each station is what its act made of it
-  pub next-fine : (i : ℕ) → i < countAt a
-      → Fine (figuresAt a) (depthAt a) (suc (clockAt a)) (actAt a i).outcome.station
-  unfolding actAt actIn outcomeIn
-  next-fine i h = fine-stepped (figuresAt a) r.figures (depthAt a) (clockAt a) (stationAt a i) _ _ _ (r.fine i h)
+  pub next_fine : (i : ℕ) → i < count_at a
+      → Fine (figures_at a) (depth_at a) (suc (clock_at a)) (act_at a i).outcome.station
+  unfolding act_at act_in outcome_in
+  next_fine i h = fine_stepped (figures_at a) r.figures (depth_at a) (clock_at a) (station_at a i) _ _ _ (r.fine i h)
 
-  next-sized : (i : ℕ) → bufferOctets ≤ length (bufferAt a i)
-      → Sized (frame_at a i minFrame) (bufferAt a i) (stationAt a i)
-      → Sized (frame_at a i minFrame) (storedIn (bufferAt a i) (actAt a i).outcome.stored)
-      (actAt a i).outcome.station
-  unfolding actAt actIn outcomeIn
-  next-sized i n v =
-      sized-stepped (figuresAt a) (stationAt a i) (depthAt a) _ (frame_at a i minFrame) (bufferAt a i) _ n v
+  next_sized : (i : ℕ) → buffer_octets ≤ length (buffer_at a i)
+      → Sized (frame_at a i min_frame) (buffer_at a i) (station_at a i)
+      → Sized (frame_at a i min_frame) (stored_in (buffer_at a i) (act_at a i).outcome.stored)
+      (act_at a i).outcome.station
+  unfolding act_at act_in outcome_in
+  next_sized i n v =
+      sized_stepped (figures_at a) (station_at a i) (depth_at a) _ (frame_at a i min_frame) (buffer_at a i) _ n v
 
-  next-fit : (i : ℕ) → i < countAt a → Fit (actAt a i).outcome.station
-  next-fit i h =
-      fine-fit (figuresAt a) r.figures (depthAt a) (suc (clockAt a)) (actAt a i).outcome.station r.depth.1
-      (omega (arith, r.clock)) (next-fine i h)
+  next_fit : (i : ℕ) → i < count_at a → Fit (act_at a i).outcome.station
+  next_fit i h =
+      fine_fit (figures_at a) r.figures (depth_at a) (suc (clock_at a)) (act_at a i).outcome.station r.depth.1
+      (omega (arith, r.clock)) (next_fine i h)
 
-  next_address : (i : ℕ) → (actAt a i).outcome.station.address ≡ addressAt a i
-  unfolding actAt actIn outcomeIn stepped nextStation stationAt decoded
+  next_address : (i : ℕ) → (act_at a i).outcome.station.address ≡ address_at a i
+  unfolding act_at act_in outcome_in stepped next_station station_at decoded
   next_address i = refl
 
-  pub step-record : (i : ℕ) → i < countAt a → recordAt (stepArea a) i ≡ encoded (actAt a i).outcome.station
+  pub step_record : (i : ℕ) → i < count_at a → record_at (step_area a) i ≡ encoded (act_at a i).outcome.station
   unfolding turned
-  step-record i h =
-      record-by (stepArea a) turned i (after-clock (station i) (λ p q. omega arith))
-      ∙ record-all (countAt a) (clockAt a) (actAt a) a r.spread (bits a) r.long i h (next-fit i h)
+  step_record i h =
+      record_by (step_area a) turned i (after_clock (station i) (λ p q. omega arith))
+      ∙ record_all (count_at a) (clock_at a) (act_at a) a r.spread (bits a) r.long i h (next_fit i h)
 
-  pub step-station : (i : ℕ) → i < countAt a → stationAt (stepArea a) i ≡ (actAt a i).outcome.station
-  unfolding stationAt
-  step-station i h =
+  pub step_station : (i : ℕ) → i < count_at a → station_at (step_area a) i ≡ (act_at a i).outcome.station
+  unfolding station_at
+  step_station i h =
       let few = r.spread.few in
-      ap₂ decoded (step-record i h) (address-by (stepArea a) a i (omega arith) (omega (arith, step-length, r.long))
-      r.long step-layout ∙ sym (next_address i))
-      ∙ decoded-encoded (actAt a i).outcome.station
+      ap₂ decoded (step_record i h) (address_by (step_area a) a i (omega arith) (omega (arith, step_length, r.long))
+      r.long step_layout ∙ sym (next_address i))
+      ∙ decoded_encoded (act_at a i).outcome.station
 
-  pub step-counters : (i : ℕ) → i < countAt a
-      → countersAt (stepArea a) i ≡ counted (countersAt a i) (actAt a i).outcome
+  pub step_counters : (i : ℕ) → i < count_at a
+      → counters_at (step_area a) i ≡ counted (counters_at a i) (act_at a i).outcome
   unfolding turned
-  step-counters i h =
-      counters-by (stepArea a) turned i (after-clock (counters i) (λ p q. omega arith))
-      ∙ counters-all (countAt a) (clockAt a) (actAt a) a r.spread (bits a) r.long i h (r.counts i h)
+  step_counters i h =
+      counters_by (step_area a) turned i (after_clock (counters i) (λ p q. omega arith))
+      ∙ counters_all (count_at a) (clock_at a) (act_at a) a r.spread (bits a) r.long i h (r.counts i h)
 
-  pub step-buffer : (i : ℕ) → i < countAt a
-      → bufferAt (stepArea a) i ≡ storedIn (bufferAt a i) (actAt a i).outcome.stored
+  pub step_buffer : (i : ℕ) → i < count_at a
+      → buffer_at (step_area a) i ≡ stored_in (buffer_at a i) (act_at a i).outcome.stored
   unfolding turned
-  step-buffer i h =
+  step_buffer i h =
       let few = r.spread.few in
-      buffer-by (stepArea a) turned i (omega arith) (omega (arith, step-length, r.long)) long
-      (after-clock (buffer i) (λ p q. omega arith))
-      ∙ buffer-all (countAt a) (clockAt a) (actAt a) a r.spread (bits a) r.long i h
+      buffer_by (step_area a) turned i (omega arith) (omega (arith, step_length, r.long)) long
+      (after_clock (buffer i) (λ p q. omega arith))
+      ∙ buffer_all (count_at a) (clock_at a) (act_at a) a r.spread (bits a) r.long i h
 
-  step-sizes : (i : ℕ) → i < countAt a → Sized (frame_at a i minFrame) (bufferAt a i) (stationAt a i)
-      → Sized (frame_at (stepArea a) i minFrame) (bufferAt (stepArea a) i) (stationAt (stepArea a) i)
-  unfolding bufferAt
-  step-sizes i h v =
+  step_sizes : (i : ℕ) → i < count_at a → Sized (frame_at a i min_frame) (buffer_at a i) (station_at a i)
+      → Sized (frame_at (step_area a) i min_frame) (buffer_at (step_area a) i) (station_at (step_area a) i)
+  unfolding buffer_at
+  step_sizes i h v =
       let few = r.spread.few in
-      let e : frame_at (stepArea a) i minFrame ≡ frame_at a i minFrame =
-      frame-by (stepArea a) a i minFrame (omega arith) (omega arith) (omega (arith, step-length, r.long)) r.long
-      (step-frame i (omega arith)) in
-      let n = length_part a (from (theBuffer i)) bufferOctets (omega (arith, r.long)) in
-      rw (e, step-buffer i h, step-station i h) (next-sized i (omega arith) v)
+      let e : frame_at (step_area a) i min_frame ≡ frame_at a i min_frame =
+      frame_by (step_area a) a i min_frame (omega arith) (omega arith) (omega (arith, step_length, r.long)) r.long
+      (step_frame i (omega arith)) in
+      let n = length_part a (from (the_buffer i)) buffer_octets (omega (arith, r.long)) in
+      rw (e, step_buffer i h, step_station i h) (next_sized i (omega arith) v)
 
-  step-codes : (i u : ℕ) → i < countAt a → symbol_at (stepArea a) i u ≤ maxCode
+  step_codes : (i u : ℕ) → i < count_at a → symbol_at (step_area a) i u ≤ max_code
   unfolding turned
-  step-codes i u h =
-      rw (symbol-by (stepArea a) turned i u (after-clock (place i u) (λ p q. omega arith)))
-      (codes_all (countAt a) (clockAt a) (actAt a) a r.spread (bits a) r.long (countAt a) (omega arith)
+  step_codes i u h =
+      rw (symbol_by (step_area a) turned i u (after_clock (place i u) (λ p q. omega arith)))
+      (codes_all (count_at a) (clock_at a) (act_at a) a r.spread (bits a) r.long (count_at a) (omega arith)
       r.codes i u h)
 
-  step_counts : (i : ℕ) → i < countAt a → Small (countersAt (stepArea a) i)
-  unfolding countersAt
+  step_counts : (i : ℕ) → i < count_at a → Small (counters_at (step_area a) i)
+  unfolding counters_at
   step_counts i h =
-      subst Small (sym (step-counters i h))
-      (counted_words (countersAt a i) (actAt a i).outcome
-      (length-words counterCount a (from (theCounters i)), r.counts i h)).1
+      subst Small (sym (step_counters i h))
+      (counted_words (counters_at a i) (act_at a i).outcome
+      (length_words counter_count a (from (the_counters i)), r.counts i h)).1
 
-  pub step-ready : clockAt a < lastClock → Readiness (stepArea a)
-  step-ready early =
-      let n = count_by (stepArea a) a step-layout in
-      let f = figures-by (stepArea a) a step-layout in
-      let d = depth-by (stepArea a) a step-depth in
-      let big : areaSize ≤ length (stepArea a) = omega (arith, step-length, r.long) in
-      let t : clockAt (stepArea a) ≡ suc (clockAt a) = step-clock ∙ add-one (clockAt a) in
+  pub step_ready : clock_at a < last_clock → Readiness (step_area a)
+  step_ready early =
+      let n = count_by (step_area a) a step_layout in
+      let f = figures_by (step_area a) a step_layout in
+      let d = depth_by (step_area a) a step_depth in
+      let big : area_size ≤ length (step_area a) = omega (arith, step_length, r.long) in
+      let t : clock_at (step_area a) ≡ suc (clock_at a) = step_clock ∙ add-one (clock_at a) in
       record {
         long = big;
-        sound = ap refusalOf (layout-by (stepArea a) a big r.long step-layout) ∙ r.sound;
+        sound = ap refusal_of (layout_by (step_area a) a big r.long step_layout) ∙ r.sound;
         figures = subst Figured (sym f) r.figures;
         spread =
-            subst (λ (m : ℕ). Spread m (stepArea a)) (sym n)
-            (spread-by (countAt a) (stepArea a) a step-layout r.spread);
+            subst (λ (m : ℕ). Spread m (step_area a)) (sym n)
+            (spread_by (count_at a) (step_area a) a step_layout r.spread);
         depth = rw d r.depth;
-        clock = omega (arith, step-clock);
-        fine = λ i h. let k : i < countAt a = omega arith in rw (f, d, t, step-station i k) (next-fine i k);
-        codes = λ i u h. step-codes i u (omega arith);
+        clock = omega (arith, step_clock);
+        fine = λ i h. let k : i < count_at a = omega arith in rw (f, d, t, step_station i k) (next_fine i k);
+        codes = λ i u h. step_codes i u (omega arith);
         counts = λ i h. step_counts i (omega arith);
       }
 
 -- "none of them is refused under 1 or 2": the step
-pub step-passing : (a : List ℕ) → Passing a → clockAt a < lastClock → Passing (stepArea a)
-step-passing a v early =
+pub step_passing : (a : List ℕ) → Passing a → clock_at a < last_clock → Passing (step_area a)
+step_passing a v early =
     let r = v.ready in
-    let n = count_by (stepArea a) a (step-layout a r) in
-    let f = figures-by (stepArea a) a (step-layout a r) in
-    let d = depth-by (stepArea a) a (step-depth a r) in
-    let t : clockAt (stepArea a) ≡ suc (clockAt a) = step-clock a r ∙ add-one (clockAt a) in
+    let n = count_by (step_area a) a (step_layout a r) in
+    let f = figures_by (step_area a) a (step_layout a r) in
+    let d = depth_by (step_area a) a (step_depth a r) in
+    let t : clock_at (step_area a) ≡ suc (clock_at a) = step_clock a r ∙ add-one (clock_at a) in
     record {
-      ready = step-ready a r early;
+      ready = step_ready a r early;
       records =
-          λ i h. let k : i < countAt a = omega arith in rw (f, d, t, step-record a r i k)
-          (record-right (figuresAt a) (depthAt a) (suc (clockAt a)) (actAt a i).outcome.station (next-fine a r i k));
-      sizes = λ i h. let k : i < countAt a = omega arith in step-sizes a r i k (v.sizes i k);
+          λ i h. let k : i < count_at a = omega arith in rw (f, d, t, step_record a r i k)
+          (record_right (figures_at a) (depth_at a) (suc (clock_at a)) (act_at a i).outcome.station (next_fine a r i k));
+      sizes = λ i h. let k : i < count_at a = omega arith in step_sizes a r i k (v.sizes i k);
     }

@@ -1,11 +1,11 @@
 // How far a run goes: its answer, and the definition of a run and its laws (specs).
 
 ghost use Rattle.std.specs.Prelude.{◌≡◌, ◌+◌, ◌-◌, ◌<◌, length, replicate};
-ghost use Rattle.octets.specs.Base.{refused, doneAnswer};
+ghost use Rattle.octets.specs.Base.{refused, done_answer};
 ghost use Rattle.station_tally.specs.TallyLaws.{Bounded};
 ghost use Rattle.bus_spec.specs.Run.{tallied};
 ghost use Rattle.bus_spec.specs.declared.course.Ended.TheVariants.{All, Late};
-ghost use Rattle.station_tally.specs.Words.{wordCount};
+ghost use Rattle.station_tally.specs.Words.{word_count};
 
 use crate::Events;
 use octets::Done;
@@ -54,7 +54,7 @@ pub fn late_end(steps: u32, station: u32) -> Ended
 
 // The events of a step, counted into `words`. No word is past `top` yet.
 pub fn count_events(words: &mut [u32], events: [Events; 16], top: u32)
-    requires { (length words.old ≡ wordCount) × Bounded words.old top × (top + 32 < 4294967295) }
+    requires { (length words.old ≡ word_count) × Bounded words.old top × (top + 32 < 4294967295) }
     ensures { words.new ≡ tallied events 16 words.old }
 {
     let mut i: usize = 0;
@@ -71,7 +71,7 @@ pub fn count_events(words: &mut [u32], events: [Events; 16], top: u32)
 
 // A run refused under this number.
 pub fn no_run(number: u32) -> RunAnswer
-    ensures { (doneAnswer result.done ≡ refused number) × (result.steps ≡ 0) × (result.words ≡ replicate wordCount 0)
+    ensures { (done_answer result.done ≡ refused number) × (result.steps ≡ 0) × (result.words ≡ replicate word_count 0)
         × (result.ended ≡ All) }
 {
     RunAnswer {

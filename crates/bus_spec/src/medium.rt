@@ -1,18 +1,18 @@
 // The pair as a medium: a symbol that a station emits is on its way to the others' delay lines.
 
 ghost use Rattle.std.specs.Prelude.{◌≡◌, ◌<◌, ◌≤◌, length};
-ghost use Rattle.area.specs.Area.{positionAt};
-ghost use Rattle.bus_spec.specs.Medium.{codeTo, pushed};
-ghost use Rattle.area.specs.Offsets.{areaSize};
-ghost use Rattle.sheet_layout.specs.Limits.{maxStations};
+ghost use Rattle.area.specs.Area.{position_at};
+ghost use Rattle.bus_spec.specs.Medium.{code_to, pushed};
+ghost use Rattle.area.specs.Offsets.{area_size};
+ghost use Rattle.sheet_layout.specs.Limits.{max_stations};
 
 use station_symbols::Symbol;
 
 // The symbol with this code that station i, at p, emits in step t is on its way to station j.
 fn send_to(area: &mut [u8], t: usize, i: usize, p: u32, code: u8, j: usize)
-    requires { (i < maxStations) × (j < maxStations) × (t < 4294967296) × (areaSize ≤ length area.old)
-        × (p ≡ positionAt area.old i) }
-    ensures { area.new ≡ codeTo t i code j area.old }
+    requires { (i < max_stations) × (j < max_stations) × (t < 4294967296) × (area_size ≤ length area.old)
+        × (p ≡ position_at area.old i) }
+    ensures { area.new ≡ code_to t i code j area.old }
 {
     if j == i {
         return;
@@ -24,7 +24,7 @@ fn send_to(area: &mut [u8], t: usize, i: usize, p: u32, code: u8, j: usize)
 
 // The symbol goes to each of n stations but its own.
 pub fn push(area: &mut [u8], n: usize, t: usize, i: usize, s: Symbol)
-    requires { (i < maxStations) × (n ≤ maxStations) × (t < 4294967296) × (areaSize ≤ length area.old) }
+    requires { (i < max_stations) × (n ≤ max_stations) × (t < 4294967296) × (area_size ≤ length area.old) }
     ensures { area.new ≡ pushed n t i s area.old }
 {
     let code = area_line::symbol_code(s);

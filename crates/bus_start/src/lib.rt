@@ -1,20 +1,20 @@
 // A fresh start: zeros, and over them the layout, D and the draws.
 
 ghost use Rattle.std.specs.Prelude.{◌≡◌, ◌+◌, ◌*◌, ◌<◌, ◌≤◌, length};
-ghost use Rattle.octets.specs.Base.{doneAnswer, outcome};
-ghost use Rattle.bus_start.specs.Fresh.{withFigures, withTap, withTaps, withDepth, withDraw, with_row, withDraws};
-ghost use Rattle.bus_start.specs.Fresh.{withPlan, fresh};
+ghost use Rattle.octets.specs.Base.{done_answer, outcome};
+ghost use Rattle.bus_start.specs.Fresh.{with_figures, with_tap, with_taps, with_depth, with_draw, with_row, with_draws};
+ghost use Rattle.bus_start.specs.Fresh.{with_plan, fresh};
 ghost use Rattle.bus_start.specs.Start.{started};
-ghost use Rattle.area.specs.Offsets.{areaSize};
-ghost use Rattle.sheet_layout.specs.Limits.{maxStations, maxDraws};
+ghost use Rattle.area.specs.Offsets.{area_size};
+ghost use Rattle.sheet_layout.specs.Limits.{max_stations, max_draws};
 
 use octets::Done;
 use sheet_layout::{Figures, Layout, Tap};
 
 // The figures, N among them.
 fn write_figures(area: &mut [u8], f: Figures, count: u32)
-    requires { areaSize ≤ length area.old }
-    ensures { area.new ≡ withFigures f count area.old }
+    requires { area_size ≤ length area.old }
+    ensures { area.new ≡ with_figures f count area.old }
 {
     let words = [
         f.slot, f.gap1, f.gap2, f.jam, f.limit, f.backoff, count, f.ends,
@@ -23,8 +23,8 @@ fn write_figures(area: &mut [u8], f: Figures, count: u32)
 }
 
 fn write_tap(area: &mut [u8], i: usize, position: u32, address: [u8; 6])
-    requires { (i < maxStations) × (areaSize ≤ length area.old) }
-    ensures { area.new ≡ withTap position address i area.old }
+    requires { (i < max_stations) × (area_size ≤ length area.old) }
+    ensures { area.new ≡ with_tap position address i area.old }
 {
     octets_words::put32(area, area::TAPS_AT + 16 * i, position);
     octets_copies::store(area, area::ADDRESSES_AT + 16 * i, &address);
@@ -32,8 +32,8 @@ fn write_tap(area: &mut [u8], i: usize, position: u32, address: [u8; 6])
 
 // The first n stations.
 fn write_taps(area: &mut [u8], taps: [Tap; 16], n: usize)
-    requires { (n ≤ maxStations) × (areaSize ≤ length area.old) }
-    ensures { area.new ≡ withTaps taps n area.old }
+    requires { (n ≤ max_stations) × (area_size ≤ length area.old) }
+    ensures { area.new ≡ with_taps taps n area.old }
 {
     let mut i: usize = 0;
     while i < n {
@@ -45,22 +45,22 @@ fn write_taps(area: &mut [u8], taps: [Tap; 16], n: usize)
 }
 
 fn write_depth(area: &mut [u8], depth: u32)
-    requires { areaSize ≤ length area.old }
-    ensures { area.new ≡ withDepth depth area.old }
+    requires { area_size ≤ length area.old }
+    ensures { area.new ≡ with_depth depth area.old }
 {
     octets_words::put32(area, area::DEPTH_AT, depth);
 }
 
 fn write_draw(area: &mut [u8], i: usize, k: usize, v: u16)
-    requires { (i < maxStations) × (k < maxDraws) × (areaSize ≤ length area.old) }
-    ensures { area.new ≡ withDraw i k v area.old }
+    requires { (i < max_stations) × (k < max_draws) × (area_size ≤ length area.old) }
+    ensures { area.new ≡ with_draw i k v area.old }
 {
     octets_words::put16(area, area::DRAWS_AT + 32 * i + 2 * k, v);
 }
 
 // The first draws of station i, as many as there are.
 fn write_row(area: &mut [u8], i: usize, depth: usize, row: [u16; 16])
-    requires { (i < maxStations) × (depth ≤ maxDraws) × (areaSize ≤ length area.old) }
+    requires { (i < max_stations) × (depth ≤ max_draws) × (area_size ≤ length area.old) }
     ensures { area.new ≡ with_row row i depth area.old }
 {
     let mut k: usize = 0;
@@ -71,8 +71,8 @@ fn write_row(area: &mut [u8], i: usize, depth: usize, row: [u16; 16])
 }
 
 fn write_draws(area: &mut [u8], n: usize, depth: usize, draws: [[u16; 16]; 16])
-    requires { (n ≤ maxStations) × (depth ≤ maxDraws) × (areaSize ≤ length area.old) }
-    ensures { area.new ≡ withDraws draws n depth area.old }
+    requires { (n ≤ max_stations) × (depth ≤ max_draws) × (area_size ≤ length area.old) }
+    ensures { area.new ≡ with_draws draws n depth area.old }
 {
     let mut i: usize = 0;
     while i < n {
@@ -83,8 +83,8 @@ fn write_draws(area: &mut [u8], n: usize, depth: usize, draws: [[u16; 16]; 16])
 }
 
 fn write_plan(area: &mut [u8], y: Layout, depth: u32, draws: [[u16; 16]; 16])
-    requires { (y.count ≤ maxStations) × (depth ≤ maxDraws) × (areaSize ≤ length area.old) }
-    ensures { area.new ≡ withPlan y depth draws area.old }
+    requires { (y.count ≤ max_stations) × (depth ≤ max_draws) × (area_size ≤ length area.old) }
+    ensures { area.new ≡ with_plan y depth draws area.old }
 {
     let figures = y.figures;
     let taps = y.stations;
@@ -97,7 +97,7 @@ fn write_plan(area: &mut [u8], y: Layout, depth: u32, draws: [[u16; 16]; 16])
 
 // A fresh start on this layout, with D and the draws of each station.
 pub fn write_fresh(area: &mut [u8], y: Layout, depth: u32, draws: [[u16; 16]; 16])
-    requires { (y.count ≤ maxStations) × (depth ≤ maxDraws) × (areaSize ≤ length area.old) }
+    requires { (y.count ≤ max_stations) × (depth ≤ max_draws) × (area_size ≤ length area.old) }
     ensures { area.new ≡ fresh y depth draws area.old }
 {
     octets_copies::blank(area, area::AREA);
@@ -106,7 +106,7 @@ pub fn write_fresh(area: &mut [u8], y: Layout, depth: u32, draws: [[u16; 16]; 16
 
 // A fresh start on this layout, with D and the draws of each station. Refusals 1, 5 to 9.
 pub fn start(area: &mut [u8], y: Layout, depth: u32, draws: [[u16; 16]; 16]) -> Done
-    ensures { outcome (doneAnswer result) area.new ≡ started area.old y depth draws }
+    ensures { outcome (done_answer result) area.new ≡ started area.old y depth draws }
 {
     if area.len() < area::AREA {
         return Done::Refused(1);

@@ -1,12 +1,12 @@
 -- A step (document 01, refusals 1, 2, 13). The laws are in StepLaws. Assumes nothing.
 use Rattle.std.specs.Prelude.{ℕ, ◌+◌, List, [], ltb, eqb, replicate}
-use Rattle.octets.specs.Base.{pick, Answer, refused, accepted, doneAnswer}
-use Rattle.area.specs.Area.{clockAt}
-use Rattle.area_check.specs.Valid.{areaRefusal}
+use Rattle.octets.specs.Base.{pick, Answer, refused, accepted, done_answer}
+use Rattle.area.specs.Area.{clock_at}
+use Rattle.area_check.specs.Valid.{area_refusal}
 use Rattle.bus_spec.specs.declared.Events.{Events}
-use Rattle.bus_spec.specs.BitTime.{noEvents, eventsAt, stepArea}
+use Rattle.bus_spec.specs.BitTime.{no_events, events_at, step_area}
 use Rattle.bus_step.specs.declared.BitTime.{BitTime}
-use Rattle.sheet_layout.specs.Limits.{lastClock}
+use Rattle.sheet_layout.specs.Limits.{last_clock}
 
 -- what a step leaves: its answer, the events of each station, the area
 pub record Bit : Type 0 where
@@ -14,16 +14,16 @@ pub record Bit : Type 0 where
   pub events : List Events
   pub octets : List ℕ
 
-abbrev pub bitTimeOutcome : BitTime → List ℕ → Bit
-bitTimeOutcome r a = record { answer = doneAnswer r.done; events = r.events; octets = a }
+abbrev pub bit_time_outcome : BitTime → List ℕ → Bit
+bit_time_outcome r a = record { answer = done_answer r.done; events = r.events; octets = a }
 
 abbrev pub unstepped : ℕ → List ℕ → Bit
-unstepped k a = record { answer = refused k; events = replicate 16 noEvents; octets = a }
+unstepped k a = record { answer = refused k; events = replicate 16 no_events; octets = a }
 
 -- "13. Clock plus the bit times asked exceeds 16,777,216."
-unfoldable pub steppedOnce : List ℕ → Bit
-steppedOnce a =
-    pick (eqb (areaRefusal a) 0)
-    (pick (ltb lastClock (clockAt a + 1)) (unstepped 13 a)
-    (record { answer = accepted []; events = eventsAt a; octets = stepArea a }))
-    (unstepped (areaRefusal a) a)
+unfoldable pub stepped_once : List ℕ → Bit
+stepped_once a =
+    pick (eqb (area_refusal a) 0)
+    (pick (ltb last_clock (clock_at a + 1)) (unstepped 13 a)
+    (record { answer = accepted []; events = events_at a; octets = step_area a }))
+    (unstepped (area_refusal a) a)

@@ -1,10 +1,10 @@
 // A bit time, and the counters of a station.
 
 ghost use Rattle.std.specs.Prelude.{◌≡◌, replicate};
-ghost use Rattle.octets.specs.Base.{refused, doneAnswer};
-ghost use Rattle.bus_spec.specs.BitTime.{noEvents};
-ghost use Rattle.bus_step.specs.Step.{bitTimeOutcome, steppedOnce};
-ghost use Rattle.bus_step.specs.Counters.{countersReading, countersRead};
+ghost use Rattle.octets.specs.Base.{refused, done_answer};
+ghost use Rattle.bus_spec.specs.BitTime.{no_events};
+ghost use Rattle.bus_step.specs.Step.{bit_time_outcome, stepped_once};
+ghost use Rattle.bus_step.specs.Counters.{counters_reading, counters_read};
 
 use bus_spec::Events;
 use octets::Done;
@@ -26,7 +26,7 @@ pub struct BitTime {
 
 // The counters of station i. Refusals 1, 2, 10.
 pub fn read_counters(area: &[u8], i: usize) -> Counters
-    ensures { countersReading result ≡ countersRead area.now i }
+    ensures { counters_reading result ≡ counters_read area.now i }
 {
     let number = area_check::refusal(area);
     if number != 0 {
@@ -49,8 +49,8 @@ pub fn read_counters(area: &[u8], i: usize) -> Counters
 
 // A step refused under this number.
 fn no_step(number: u32) -> BitTime
-    ensures done { doneAnswer result.done ≡ refused number }
-    ensures events { result.events ≡ replicate 16 noEvents }
+    ensures done { done_answer result.done ≡ refused number }
+    ensures events { result.events ≡ replicate 16 no_events }
 {
     let none = Events {
         sent: TransmitEvent::NoTransmit,
@@ -64,7 +64,7 @@ fn no_step(number: u32) -> BitTime
 
 // One bit time. Refusals 1, 2, 13.
 pub fn step(area: &mut [u8]) -> BitTime
-    ensures { bitTimeOutcome result area.new ≡ steppedOnce area.old }
+    ensures { bit_time_outcome result area.new ≡ stepped_once area.old }
 {
     let number = bus_spec::ready::refusal(area);
     if number != 0 {

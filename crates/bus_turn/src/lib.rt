@@ -4,14 +4,14 @@
 pub mod step;
 
 ghost use Rattle.std.specs.Prelude.{◌≡◌, ◌+◌, ◌*◌, ◌<◌, ◌≤◌, length};
-ghost use Rattle.area.specs.Area.{stationAt, withStation};
-ghost use Rattle.bus_spec.specs.BitTime.{happened, withStored, withCounted, placed, settled, actIn, turnIn, eventsOf};
-ghost use Rattle.bus_spec.specs.BitTime.{noEvents};
+ghost use Rattle.area.specs.Area.{station_at, with_station};
+ghost use Rattle.bus_spec.specs.BitTime.{happened, with_stored, with_counted, placed, settled, act_in, turn_in, events_of};
+ghost use Rattle.bus_spec.specs.BitTime.{no_events};
 ghost use Rattle.bus_spec.specs.InPlace.{Kept};
 ghost use Rattle.bus_spec.specs.Ready.{Able};
-ghost use Rattle.area.specs.Offsets.{areaSize};
-ghost use Rattle.sheet_layout.specs.Limits.{maxStations};
-ghost use Rattle.station_tally.specs.Words.{isTransmit, isReceive};
+ghost use Rattle.area.specs.Offsets.{area_size};
+ghost use Rattle.sheet_layout.specs.Limits.{max_stations};
+ghost use Rattle.station_tally.specs.Words.{is_transmit, is_receive};
 
 use bus_spec::{Act, Events};
 use sheet_layout::Figures;
@@ -21,8 +21,8 @@ use station_symbols::Heard;
 
 // A collected bit is kept.
 pub fn keep_bit(area: &mut [u8], i: usize, stored: Stored)
-    requires { (i < maxStations) × (areaSize ≤ length area.old) × Kept stored }
-    ensures { area.new ≡ withStored i stored area.old }
+    requires { (i < max_stations) × (area_size ≤ length area.old) × Kept stored }
+    ensures { area.new ≡ with_stored i stored area.old }
 {
     match stored {
         Stored::NoStore => {}
@@ -48,8 +48,8 @@ fn has_happened(o: Stepped) -> bool
 }
 
 pub fn count_step(area: &mut [u8], i: usize, o: Stepped)
-    requires { (i < maxStations) × (areaSize ≤ length area.old) }
-    ensures { area.new ≡ withCounted i o area.old }
+    requires { (i < max_stations) × (area_size ≤ length area.old) }
+    ensures { area.new ≡ with_counted i o area.old }
 {
     if has_happened(o) {
         let c = area::read_counters(area, i);
@@ -59,8 +59,8 @@ pub fn count_step(area: &mut [u8], i: usize, o: Stepped)
 }
 
 fn load_deference(area: &[u8], i: usize) -> Deference
-    requires { (i < maxStations) × (areaSize ≤ length area.now) }
-    ensures { result ≡ (stationAt area.now i).deference }
+    requires { (i < max_stations) × (area_size ≤ length area.now) }
+    ensures { result ≡ (station_at area.now i).deference }
 {
     let code = area::read_word(area, i, area_record::words::DEFERENCE);
     let own = area::read_word(area, i, area_record::words::STRETCH);
@@ -69,8 +69,8 @@ fn load_deference(area: &[u8], i: usize) -> Deference
 }
 
 fn load_transmitter(area: &[u8], i: usize) -> Transmitter
-    requires { (i < maxStations) × (areaSize ≤ length area.now) }
-    ensures { result ≡ (stationAt area.now i).transmitter }
+    requires { (i < max_stations) × (area_size ≤ length area.now) }
+    ensures { result ≡ (station_at area.now i).transmitter }
 {
     let code = area::read_word(area, i, area_record::words::PHASE);
     let number = area::read_word(area, i, area_record::words::PHASE_NUMBER);
@@ -78,8 +78,8 @@ fn load_transmitter(area: &[u8], i: usize) -> Transmitter
 }
 
 fn load_receiver(area: &[u8], i: usize) -> Receiver
-    requires { (i < maxStations) × (areaSize ≤ length area.now) }
-    ensures { result ≡ (stationAt area.now i).receiver }
+    requires { (i < max_stations) × (area_size ≤ length area.now) }
+    ensures { result ≡ (station_at area.now i).receiver }
 {
     let code = area::read_word(area, i, area_record::words::RECEIVER);
     let number = area::read_word(area, i, area_record::words::RECEIVER_NUMBER);
@@ -91,8 +91,8 @@ fn load_receiver(area: &[u8], i: usize) -> Receiver
 // Station i. It is `area::read_station`, here once more: called from one place it is put in there, and no word goes
 // through memory.
 fn load(area: &[u8], i: usize) -> Station
-    requires { (i < maxStations) × (areaSize ≤ length area.now) }
-    ensures { result ≡ stationAt area.now i }
+    requires { (i < max_stations) × (area_size ≤ length area.now) }
+    ensures { result ≡ station_at area.now i }
 {
     let deference = load_deference(area, i);
     let transmitter = load_transmitter(area, i);
@@ -113,8 +113,8 @@ fn load(area: &[u8], i: usize) -> Station
 
 // Writes station i, as `area::write_station` does.
 fn store(area: &mut [u8], i: usize, s: Station)
-    requires { (i < maxStations) × (areaSize ≤ length area.old) }
-    ensures { area.new ≡ withStation area.old i s }
+    requires { (i < max_stations) × (area_size ≤ length area.old) }
+    ensures { area.new ≡ with_station area.old i s }
 {
     let w = area_record::encode(s);
     octets_words::store_words(area, area::RECORDS_AT + 64 * i, &w);
@@ -123,7 +123,7 @@ fn store(area: &mut [u8], i: usize, s: Station)
 // Station i is what its step t made of it: its record, its counters, the bit it collected; what reached it is taken
 // from its line.
 fn place(area: &mut [u8], t: usize, i: usize, o: Stepped)
-    requires { (i < maxStations) × (areaSize ≤ length area.old) × Kept o.stored }
+    requires { (i < max_stations) × (area_size ≤ length area.old) × Kept o.stored }
     ensures { area.new ≡ placed t i o area.old }
 {
     let next = o.station;
@@ -135,7 +135,7 @@ fn place(area: &mut [u8], t: usize, i: usize, o: Stepped)
 }
 
 fn settle(area: &mut [u8], n: usize, t: usize, i: usize, a: Act)
-    requires { (i < maxStations) × (n ≤ maxStations) × (t < 4294967296) × (areaSize ≤ length area.old)
+    requires { (i < max_stations) × (n ≤ max_stations) × (t < 4294967296) × (area_size ≤ length area.old)
         × Kept a.outcome.stored }
     ensures { area.new ≡ settled n t i a area.old }
 {
@@ -147,8 +147,8 @@ fn settle(area: &mut [u8], n: usize, t: usize, i: usize, a: Act)
 
 // What station i does in step t, from the area as it stands.
 fn acts(area: &[u8], depth: u32, t: usize, f: Figures, i: usize) -> Act
-    requires { (i < maxStations) × (areaSize ≤ length area.now) × Able f area.now i }
-    ensures { result ≡ actIn f depth t area.now i }
+    requires { (i < max_stations) × (area_size ≤ length area.now) × Able f area.now i }
+    ensures { result ≡ act_in f depth t area.now i }
 {
     let s = load(area, i);
     let h = area_line::arrival(area, i, t);
@@ -163,10 +163,10 @@ fn acts(area: &[u8], depth: u32, t: usize, f: Figures, i: usize) -> Act
 
 // Any turn of station i in step t.
 fn general(area: &mut [u8], n: usize, depth: u32, t: usize, f: Figures, i: usize) -> Events
-    requires { (i < maxStations) × (n ≤ maxStations) × (t < 4294967296) × (areaSize ≤ length area.old)
+    requires { (i < max_stations) × (n ≤ max_stations) × (t < 4294967296) × (area_size ≤ length area.old)
         × Able f area.old i }
-    ensures area { area.new ≡ turnIn f depth n t i area.old }
-    ensures events { result ≡ eventsOf (actIn f depth t area.old i) }
+    ensures area { area.new ≡ turn_in f depth n t i area.old }
+    ensures events { result ≡ events_of (act_in f depth t area.old i) }
 {
     let a = acts(area, depth, t, f, i);
     let o = a.outcome;
@@ -177,7 +177,7 @@ fn general(area: &mut [u8], n: usize, depth: u32, t: usize, f: Figures, i: usize
 }
 
 fn no_events() -> Events
-    ensures { result ≡ noEvents }
+    ensures { result ≡ no_events }
 {
     Events {
         sent: TransmitEvent::NoTransmit,
@@ -189,10 +189,10 @@ fn no_events() -> Events
 // places, and so is this one: each is then a function of its own. Put together, the octets that one reads would take
 // apart the words that another reads.
 fn work(area: &mut [u8], n: usize, depth: u32, t: usize, f: Figures, i: usize) -> Events
-    requires { (i < maxStations) × (n ≤ maxStations) × (t < 4294967296) × (areaSize ≤ length area.old)
+    requires { (i < max_stations) × (n ≤ max_stations) × (t < 4294967296) × (area_size ≤ length area.old)
         × Able f area.old i }
-    ensures area { area.new ≡ turnIn f depth n t i area.old }
-    ensures events { result ≡ eventsOf (actIn f depth t area.old i) }
+    ensures area { area.new ≡ turn_in f depth n t i area.old }
+    ensures events { result ≡ events_of (act_in f depth t area.old i) }
 {
     if area_line::read_symbol(area, i, t) == 0 {
         if bus_quick::easy::waits(area, n, depth, t, f, i) {
@@ -206,10 +206,10 @@ fn work(area: &mut [u8], n: usize, depth: u32, t: usize, f: Figures, i: usize) -
 // Station i's turn in step t: it acts from the area as the stations before it have left it. One that rests, and that
 // nothing reaches, leaves all as it is; of one whose reception goes on few words change.
 pub fn turn(area: &mut [u8], n: usize, depth: u32, t: usize, f: Figures, i: usize) -> Events
-    requires { (i < maxStations) × (n ≤ maxStations) × (t < 4294967296) × (areaSize ≤ length area.old)
+    requires { (i < max_stations) × (n ≤ max_stations) × (t < 4294967296) × (area_size ≤ length area.old)
         × Able f area.old i }
-    ensures area { area.new ≡ turnIn f depth n t i area.old }
-    ensures events { result ≡ eventsOf (actIn f depth t area.old i) }
+    ensures area { area.new ≡ turn_in f depth n t i area.old }
+    ensures events { result ≡ events_of (act_in f depth t area.old i) }
 {
     if area_line::read_symbol(area, i, t) == 0 {
         if bus_quick::easy::rests(area, i) {

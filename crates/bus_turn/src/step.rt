@@ -1,11 +1,11 @@
 // One bit time of the whole pair, in place: station after station takes its turn.
 
 ghost use Rattle.std.specs.Prelude.{◌≡◌, ◌+◌, ◌<◌, ◌≤◌, length};
-ghost use Rattle.area.specs.Area.{clockAt};
-ghost use Rattle.bus_spec.specs.BitTime.{turnedIn, eventsIn, advancedIn, stepArea, eventsAt};
+ghost use Rattle.area.specs.Area.{clock_at};
+ghost use Rattle.bus_spec.specs.BitTime.{turned_in, events_in, advanced_in, step_area, events_at};
 ghost use Rattle.bus_spec.specs.Ready.{AllAble, Ready};
-ghost use Rattle.sheet_layout.specs.Limits.{lastClock, maxStations};
-ghost use Rattle.area.specs.Offsets.{areaSize};
+ghost use Rattle.sheet_layout.specs.Limits.{last_clock, max_stations};
+ghost use Rattle.area.specs.Offsets.{area_size};
 
 use bus_spec::Events;
 use sheet_layout::Figures;
@@ -13,9 +13,9 @@ use station_spec::{ReceiveEvent, TransmitEvent};
 
 // The turns of n stations, and the events of each.
 fn turn_all(area: &mut [u8], n: usize, depth: u32, t: usize, f: Figures) -> [Events; 16]
-    requires { (n ≤ maxStations) × (t < 4294967296) × (areaSize ≤ length area.old) × AllAble n f area.old }
-    ensures area { area.new ≡ turnedIn f depth n t area.old n }
-    ensures events { result ≡ eventsIn f depth t area.old n }
+    requires { (n ≤ max_stations) × (t < 4294967296) × (area_size ≤ length area.old) × AllAble n f area.old }
+    ensures area { area.new ≡ turned_in f depth n t area.old n }
+    ensures events { result ≡ events_in f depth t area.old n }
 {
     let none = Events {
         sent: TransmitEvent::NoTransmit,
@@ -33,9 +33,9 @@ fn turn_all(area: &mut [u8], n: usize, depth: u32, t: usize, f: Figures) -> [Eve
 
 // All turns, and the clock.
 fn advance(area: &mut [u8], n: usize, depth: u32, t: u32, f: Figures) -> [Events; 16]
-    requires { (n ≤ maxStations) × (t < 4294967295) × (areaSize ≤ length area.old) × AllAble n f area.old }
-    ensures area { area.new ≡ advancedIn f depth n t area.old }
-    ensures events { result ≡ eventsIn f depth t area.old n }
+    requires { (n ≤ max_stations) × (t < 4294967295) × (area_size ≤ length area.old) × AllAble n f area.old }
+    ensures area { area.new ≡ advanced_in f depth n t area.old }
+    ensures events { result ≡ events_in f depth t area.old n }
 {
     let all = turn_all(area, n, depth, t as usize, f);
     area::write_clock(area, t + 1);
@@ -44,9 +44,9 @@ fn advance(area: &mut [u8], n: usize, depth: u32, t: u32, f: Figures) -> [Events
 
 // One bit time: the events of each station.
 pub fn step(area: &mut [u8]) -> [Events; 16]
-    requires { (areaSize ≤ length area.old) × (clockAt area.old < lastClock) × Ready area.old }
-    ensures area { area.new ≡ stepArea area.old }
-    ensures events { result ≡ eventsAt area.old }
+    requires { (area_size ≤ length area.old) × (clock_at area.old < last_clock) × Ready area.old }
+    ensures area { area.new ≡ step_area area.old }
+    ensures events { result ≡ events_at area.old }
 {
     let n = area::read_count(area) as usize;
     let depth = area::read_depth(area);

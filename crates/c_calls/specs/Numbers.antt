@@ -3,223 +3,223 @@
 use Rattle.std.specs.Prelude.{ℕ, zero, suc, ◌+◌, ◌-◌, ◌*◌, ◌≤◌, ◌<◌, min, ◌≡◌, Bool, false, ◌||◌, List, ltb, leb, eqb, length, get_or, drop}
 use Rattle.std.proofs.Common.{ap, arith, ltb-false, leb-true, eqb-true, length-take, length-drop}
 use Rattle.octets.specs.Base.{some, outside, number_of, values_of}
-use Rattle.octets.specs.BaseLaws.{by-test}
-use Rattle.octets.specs.NumberLaws.{length-spelled}
+use Rattle.octets.specs.BaseLaws.{by_test}
+use Rattle.octets.specs.NumberLaws.{length_spelled}
 use Rattle.octets.specs.Number.{spelled}
 use Rattle.sheet_layout.specs.declared.Layout.{Layout}
-use Rattle.sheet_layout.specs.Check.{figuresOut, positionOut, falls, addressWrong, refusalOf}
-use Rattle.sheet_layout.specs.Layout.{fitsWell}
+use Rattle.sheet_layout.specs.Check.{figures_out, position_out, falls, address_wrong, refusal_of}
+use Rattle.sheet_layout.specs.Layout.{fits_well}
 use Rattle.sheet_layout.specs.CheckLaws.{sound}
-use Rattle.sheet_layout.specs.Fit.{fitOf}
+use Rattle.sheet_layout.specs.Fit.{fit_of}
 use Rattle.sheet_read.specs.declared.Sheet.{Sheet}
-use Rattle.sheet_read.specs.Sheet.{mapOf, stands, width, field_at, countIn, layoutIn, sheetSize, Reading, readSheet}
-use Rattle.sheet_read.specs.Sheet.{sheetAnswer, sheetReading, fieldCount}
-use Rattle.sheet_read.specs.SheetLaws.{width-most}
-use Rattle.frame_build.specs.Limits.{maxFrame, refusesData, bufferOctets}
+use Rattle.sheet_read.specs.Sheet.{map_of, stands, width, field_at, count_in, layout_in, sheet_size, Reading, read_sheet}
+use Rattle.sheet_read.specs.Sheet.{sheet_answer, sheet_reading, field_count}
+use Rattle.sheet_read.specs.SheetLaws.{width_most}
+use Rattle.frame_build.specs.Limits.{max_frame, refuses_data, buffer_octets}
 use Rattle.frame_build.specs.Build.{frame_of, built}
-use Rattle.frame_open.specs.Open.{value_of as lengthType, dataField, checkWrong, checkError, lengthWrong, clientSize}
+use Rattle.frame_open.specs.Open.{value_of as lengthType, data_field, check_wrong, check_error, length_wrong, client_size}
 use Rattle.frame_open.specs.Open.{unpadded, opened}
-use Rattle.frame_build.specs.BuildLaws.{frame-size, frame-most, data-within}
-use Rattle.area.specs.Area.{clockAt, countAt, stationAt}
-use Rattle.station_spec.specs.Count.{octetsIn}
-use Rattle.area_check.specs.Valid.{areaWrong, areaRefusal}
+use Rattle.frame_build.specs.BuildLaws.{frame_size_lem, frame_most, data_within}
+use Rattle.area.specs.Area.{clock_at, count_at, station_at}
+use Rattle.station_spec.specs.Count.{octets_in}
+use Rattle.area_check.specs.Valid.{area_wrong, area_refusal}
 use Rattle.bus_start.specs.Start.{started}
 use Rattle.bus_offer.specs.Offer.{holds, offered}
-use Rattle.bus_step.specs.Counters.{countersRead}
-use Rattle.bus_read.specs.Read.{isReadable, frameRead}
-use Rattle.c_words.specs.Answers.{value_of, maxRefusal}
-use Rattle.c_calls.specs.Calls.{timeRefusal}
-use Rattle.sheet_layout.specs.Limits.{lastClock, maxStations}
-use Rattle.area.specs.Offsets.{areaSize}
+use Rattle.bus_step.specs.Counters.{counters_read}
+use Rattle.bus_read.specs.Read.{is_readable, frame_read}
+use Rattle.c_words.specs.Answers.{value_of, max_refusal}
+use Rattle.c_calls.specs.Calls.{time_refusal}
+use Rattle.sheet_layout.specs.Limits.{last_clock, max_stations}
+use Rattle.area.specs.Offsets.{area_size}
 
 -- ---- sheets
 
-pub layout-low : (y : Layout) → refusalOf y ≤ maxRefusal
-unfolding refusalOf
-layout-low y =
-    by-test (figuresOut y.figures) (λ p. rw p (omega arith))
-    (λ p. by-test (some (positionOut y) (min y.count 16)) (λ q. rw (p, q) (omega arith))
-    (λ q. by-test (outside y.count 2 16) (λ r. rw (p, q, r) (omega arith))
-    (λ r. by-test (some (falls y) (y.count - 1)) (λ s. rw (p, q, r, s) (omega arith))
-    (λ s. by-test (some (addressWrong y) y.count) (λ t. rw (p, q, r, s, t) (omega arith))
+pub layout_low : (y : Layout) → refusal_of y ≤ max_refusal
+unfolding refusal_of
+layout_low y =
+    by_test (figures_out y.figures) (λ p. rw p (omega arith))
+    (λ p. by_test (some (position_out y) (min y.count 16)) (λ q. rw (p, q) (omega arith))
+    (λ q. by_test (outside y.count 2 16) (λ r. rw (p, q, r) (omega arith))
+    (λ r. by_test (some (falls y) (y.count - 1)) (λ s. rw (p, q, r, s) (omega arith))
+    (λ s. by_test (some (address_wrong y) y.count) (λ t. rw (p, q, r, s, t) (omega arith))
     (λ t. rw (p, q, r, s, t) (omega arith))))))
 
-pub fit_low : (y : Layout) → number_of (fitOf y) ≤ maxRefusal
-unfolding fitOf
+pub fit_low : (y : Layout) → number_of (fit_of y) ≤ max_refusal
+unfolding fit_of
 fit_low y =
-    by-test (eqb (refusalOf y) 0)
-    (λ p. by-test (fitsWell y) (λ q. rw (p, q) (omega arith)) (λ q. rw (p, q) (omega arith)))
-    (λ p. rw p (layout-low y))
+    by_test (eqb (refusal_of y) 0)
+    (λ p. by_test (fits_well y) (λ q. rw (p, q) (omega arith)) (λ q. rw (p, q) (omega arith)))
+    (λ p. rw p (layout_low y))
 
-pub sheet-low : (l : List ℕ) → number_of (readSheet l).answer ≤ maxRefusal
-unfolding readSheet
-sheet-low l =
-    by-test (ltb (length l) (sheetSize l)) (λ p. rw p (omega arith))
-    (λ p. by-test (stands (mapOf l) 7) (λ q. rw (p, q) (omega arith))
-    (λ q. by-test (eqb (refusalOf (layoutIn l)) 0) (λ r. rw (p, q, r) (omega arith))
-    (λ r. rw (p, q, r) (layout-low (layoutIn l)))))
+pub sheet_low : (l : List ℕ) → number_of (read_sheet l).answer ≤ max_refusal
+unfolding read_sheet
+sheet_low l =
+    by_test (ltb (length l) (sheet_size l)) (λ p. rw p (omega arith))
+    (λ p. by_test (stands (map_of l) 7) (λ q. rw (p, q) (omega arith))
+    (λ q. by_test (eqb (refusal_of (layout_in l)) 0) (λ r. rw (p, q, r) (omega arith))
+    (λ r. rw (p, q, r) (layout_low (layout_in l)))))
 
 -- a layout that is handed on has at most 16 stations
-pub sheet-few : (l : List ℕ) → (readSheet l).layout.count ≤ maxStations
-unfolding readSheet
-sheet-few l =
-    by-test (ltb (length l) (sheetSize l)) (λ p. rw p (omega arith))
-    (λ p. by-test (stands (mapOf l) 7) (λ q. rw (p, q) (omega arith))
-    (λ q. by-test (eqb (refusalOf (layoutIn l)) 0)
-    (λ r. rw (p, q, r) (sound (layoutIn l) (eqb-true (refusalOf (layoutIn l)) 0 r)).count.1)
+pub sheet_few : (l : List ℕ) → (read_sheet l).layout.count ≤ max_stations
+unfolding read_sheet
+sheet_few l =
+    by_test (ltb (length l) (sheet_size l)) (λ p. rw p (omega arith))
+    (λ p. by_test (stands (map_of l) 7) (λ q. rw (p, q) (omega arith))
+    (λ q. by_test (eqb (refusal_of (layout_in l)) 0)
+    (λ r. rw (p, q, r) (sound (layout_in l) (eqb-true (refusal_of (layout_in l)) 0 r)).count.1)
     (λ r. rw (p, q, r) (omega arith))))
 
-fields-small : (m k : ℕ) → field_at m k ≤ 1 + 2 * k
+fields_small : (m k : ℕ) → field_at m k ≤ 1 + 2 * k
 unfolding field_at
-fields-small m zero = omega arith
-fields-small m (suc k) =
-    by-test (stands m k) (λ p. rw p (omega (arith, fields-small m k, width-most k)))
-    (λ p. rw p (omega (arith, fields-small m k)))
+fields_small m zero = omega arith
+fields_small m (suc k) =
+    by_test (stands m k) (λ p. rw p (omega (arith, fields_small m k, width_most k)))
+    (λ p. rw p (omega (arith, fields_small m k)))
 
-size_small : (l : List ℕ) → countIn l ≤ maxStations → sheetSize l < 256
-unfolding sheetSize
-size_small l h = omega (arith, fields-small (mapOf l) fieldCount)
+size_small : (l : List ℕ) → count_in l ≤ max_stations → sheet_size l < 256
+unfolding sheet_size
+size_small l h = omega (arith, fields_small (map_of l) field_count)
 
-size-within : (l : List ℕ) → (layoutIn l).count ≤ maxStations → sheetSize l < 256
-unfolding layoutIn
-size-within l h = size_small l h
+size_within : (l : List ℕ) → (layout_in l).count ≤ max_stations → sheet_size l < 256
+unfolding layout_in
+size_within l h = size_small l h
 
 -- the octets that a sheet uses
-pub sheet-small : (l : List ℕ) → value_of (readSheet l).answer < 256
-unfolding readSheet
-sheet-small l =
-    by-test (ltb (length l) (sheetSize l)) (λ p. rw p (omega arith))
-    (λ p. by-test (stands (mapOf l) 7) (λ q. rw (p, q) (omega arith))
-    (λ q. by-test (eqb (refusalOf (layoutIn l)) 0)
-    (λ r. rw (p, q, r) (size-within l (sound (layoutIn l) (eqb-true (refusalOf (layoutIn l)) 0 r)).count.1))
+pub sheet_small : (l : List ℕ) → value_of (read_sheet l).answer < 256
+unfolding read_sheet
+sheet_small l =
+    by_test (ltb (length l) (sheet_size l)) (λ p. rw p (omega arith))
+    (λ p. by_test (stands (map_of l) 7) (λ q. rw (p, q) (omega arith))
+    (λ q. by_test (eqb (refusal_of (layout_in l)) 0)
+    (λ r. rw (p, q, r) (size_within l (sound (layout_in l) (eqb-true (refusal_of (layout_in l)) 0 r)).count.1))
     (λ r. rw (p, q, r) (omega arith))))
 
-pub sheet-value : (l : List ℕ) (f : Sheet) → sheetReading f ≡ readSheet l → value_of (sheetAnswer f.read) < 4294967296
-sheet-value l f p =
-    let e : value_of (sheetAnswer f.read) ≡ value_of
-    (readSheet l).answer = ap (λ (r : Reading). value_of r.answer) p in
-    omega (arith, sheet-small l)
+pub sheet_value : (l : List ℕ) (f : Sheet) → sheet_reading f ≡ read_sheet l → value_of (sheet_answer f.read) < 4294967296
+sheet_value l f p =
+    let e : value_of (sheet_answer f.read) ≡ value_of
+    (read_sheet l).answer = ap (λ (r : Reading). value_of r.answer) p in
+    omega (arith, sheet_small l)
 
 -- ---- frames
 
-check-low : (e : ℕ) → number_of (checkError e) ≤ maxRefusal
-unfolding checkError
-check-low e = by-test (eqb e 0) (λ p. rw p (omega arith)) (λ p. rw p (omega arith))
+check_low : (e : ℕ) → number_of (check_error e) ≤ max_refusal
+unfolding check_error
+check_low e = by_test (eqb e 0) (λ p. rw p (omega arith)) (λ p. rw p (omega arith))
 
-rules-low : (v : ℕ) (l : List ℕ) → number_of (unpadded v l).status ≤ maxRefusal
+rules_low : (v : ℕ) (l : List ℕ) → number_of (unpadded v l).status ≤ max_refusal
 unfolding unpadded
-rules-low v l = by-test (lengthWrong v (length l)) (λ p. rw p (omega arith)) (λ p. rw p (omega arith))
+rules_low v l = by_test (length_wrong v (length l)) (λ p. rw p (omega arith)) (λ p. rw p (omega arith))
 
-pub open-low : (s : Bool) (f : List ℕ) (e : ℕ) → number_of (opened s f e).status ≤ maxRefusal
+pub open_low : (s : Bool) (f : List ℕ) (e : ℕ) → number_of (opened s f e).status ≤ max_refusal
 unfolding opened
-open-low b f e =
-    by-test (ltb 7 e) (λ p. rw p (omega arith))
-    (λ p. by-test (ltb (length f) 64) (λ q. rw (p, q) (omega arith))
-    (λ q. by-test (ltb (maxFrame (lengthType f)) (length f)) (λ r. rw (p, q, r) (omega arith))
-    (λ r. by-test (checkWrong b f) (λ s. rw (p, q, r, s) (check-low e))
-    (λ s. rw (p, q, r, s) (rules-low (lengthType f) (dataField f))))))
+open_low b f e =
+    by_test (ltb 7 e) (λ p. rw p (omega arith))
+    (λ p. by_test (ltb (length f) 64) (λ q. rw (p, q) (omega arith))
+    (λ q. by_test (ltb (max_frame (lengthType f)) (length f)) (λ r. rw (p, q, r) (omega arith))
+    (λ r. by_test (check_wrong b f) (λ s. rw (p, q, r, s) (check_low e))
+    (λ s. rw (p, q, r, s) (rules_low (lengthType f) (data_field f))))))
 
 -- the octets of client data
-check-small : (e : ℕ) → get_or (values_of (checkError e)) 1 0 < 4294967296
-unfolding checkError
-check-small e = by-test (eqb e 0) (λ p. rw p (omega arith)) (λ p. rw p (omega arith))
+check_small : (e : ℕ) → get_or (values_of (check_error e)) 1 0 < 4294967296
+unfolding check_error
+check_small e = by_test (eqb e 0) (λ p. rw p (omega arith)) (λ p. rw p (omega arith))
 
-client-small : (v n : ℕ) → n ≤ bufferOctets → clientSize v n < 4294967296
-unfolding clientSize
-client-small v n h = by-test (leb v 1500) (λ p. rw p (omega (arith, leb-true v 1500 p))) (λ p. rw p (omega arith))
+client_small : (v n : ℕ) → n ≤ buffer_octets → client_size v n < 4294967296
+unfolding client_size
+client_small v n h = by_test (leb v 1500) (λ p. rw p (omega (arith, leb-true v 1500 p))) (λ p. rw p (omega arith))
 
-rules-small : (v : ℕ) (l : List ℕ) → length l ≤ bufferOctets → get_or (values_of (unpadded v l).status) 1 0 < 4294967296
+rules_small : (v : ℕ) (l : List ℕ) → length l ≤ buffer_octets → get_or (values_of (unpadded v l).status) 1 0 < 4294967296
 unfolding unpadded
-rules-small v l h =
-    by-test (lengthWrong v (length l)) (λ p. rw p (omega arith)) (λ p. rw p (client-small v (length l) h))
+rules_small v l h =
+    by_test (length_wrong v (length l)) (λ p. rw p (omega arith)) (λ p. rw p (client_small v (length l) h))
 
-field-small : (f : List ℕ) → length f ≤ bufferOctets → length (dataField f) ≤ bufferOctets
-unfolding dataField
-field-small f h = omega (arith, length-take (length f - 18) (drop 14 f), length-drop 14 f)
+field_small : (f : List ℕ) → length f ≤ buffer_octets → length (data_field f) ≤ buffer_octets
+unfolding data_field
+field_small f h = omega (arith, length-take (length f - 18) (drop 14 f), length-drop 14 f)
 
-frame_small : (v n : ℕ) → ltb (maxFrame v) n ≡ false → n ≤ bufferOctets
-frame_small v n p = omega (arith, ltb-false (maxFrame v) n p, frame-most v)
+frame_small : (v n : ℕ) → ltb (max_frame v) n ≡ false → n ≤ buffer_octets
+frame_small v n p = omega (arith, ltb-false (max_frame v) n p, frame_most v)
 
-pub open-small : (s : Bool) (f : List ℕ) (e : ℕ) → get_or (values_of (opened s f e).status) 1 0 < 4294967296
+pub open_small : (s : Bool) (f : List ℕ) (e : ℕ) → get_or (values_of (opened s f e).status) 1 0 < 4294967296
 unfolding opened
-open-small b f e =
-    by-test (ltb 7 e) (λ p. rw p (omega arith))
-    (λ p. by-test (ltb (length f) 64) (λ q. rw (p, q) (omega arith))
-    (λ q. by-test (ltb (maxFrame (lengthType f)) (length f)) (λ r. rw (p, q, r) (omega arith))
-    (λ r. by-test (checkWrong b f) (λ s. rw (p, q, r, s) (check-small e))
-    (λ s. rw (p, q, r, s) (rules-small (lengthType f) (dataField f)
-    (field-small f (frame_small (lengthType f) (length f) r)))))))
+open_small b f e =
+    by_test (ltb 7 e) (λ p. rw p (omega arith))
+    (λ p. by_test (ltb (length f) 64) (λ q. rw (p, q) (omega arith))
+    (λ q. by_test (ltb (max_frame (lengthType f)) (length f)) (λ r. rw (p, q, r) (omega arith))
+    (λ r. by_test (check_wrong b f) (λ s. rw (p, q, r, s) (check_small e))
+    (λ s. rw (p, q, r, s) (rules_small (lengthType f) (data_field f)
+    (field_small f (frame_small (lengthType f) (length f) r)))))))
 
-pub build-low : (l d s : List ℕ) (v : ℕ) (x : List ℕ) → number_of (built l d s v x).answer ≤ maxRefusal
+pub build_low : (l d s : List ℕ) (v : ℕ) (x : List ℕ) → number_of (built l d s v x).answer ≤ max_refusal
 unfolding built
-build-low l d s v x =
-    by-test (refusesData v (length x)) (λ p. rw p (omega arith))
-    (λ p. by-test (ltb (length l) (length (frame_of d s v x))) (λ q. rw (p, q) (omega arith))
+build_low l d s v x =
+    by_test (refuses_data v (length x)) (λ p. rw p (omega arith))
+    (λ p. by_test (ltb (length l) (length (frame_of d s v x))) (λ q. rw (p, q) (omega arith))
     (λ q. rw (p, q) (omega arith)))
 
-pub build-size : (l d s : List ℕ) (v : ℕ) (x : List ℕ) → length d ≡ 6 → length s ≡ 6
-    → value_of (built l d s v x).answer ≤ bufferOctets
+pub build_size : (l d s : List ℕ) (v : ℕ) (x : List ℕ) → length d ≡ 6 → length s ≡ 6
+    → value_of (built l d s v x).answer ≤ buffer_octets
 unfolding built
-build-size l d s v x hd hs =
-    by-test (refusesData v (length x)) (λ p. rw p (omega arith))
-    (λ p. by-test (ltb (length l) (length (frame_of d s v x))) (λ q. rw (p, q) (omega arith))
-    (λ q. rw (p, q) (omega (arith, frame-size d s v x hd hs, data-within v (length x) p))))
+build_size l d s v x hd hs =
+    by_test (refuses_data v (length x)) (λ p. rw p (omega arith))
+    (λ p. by_test (ltb (length l) (length (frame_of d s v x))) (λ q. rw (p, q) (omega arith))
+    (λ q. rw (p, q) (omega (arith, frame_size_lem d s v x hd hs, data_within v (length x) p))))
 
-pub build-small : (l : List ℕ) (d s v : ℕ) (x : List ℕ)
+pub build_small : (l : List ℕ) (d s v : ℕ) (x : List ℕ)
     → value_of (built l (spelled 6 d) (spelled 6 s) v x).answer < 4294967296
-build-small l d s v x =
-    omega (arith, build-size l (spelled 6 d) (spelled 6 s) v x (length-spelled 6 d) (length-spelled 6 s))
+build_small l d s v x =
+    omega (arith, build_size l (spelled 6 d) (spelled 6 s) v x (length_spelled 6 d) (length_spelled 6 s))
 
 -- ---- work areas
 
-pub area-low : (a : List ℕ) → areaRefusal a ≤ maxRefusal
-unfolding areaRefusal
-area-low a =
-    by-test (ltb (length a) areaSize) (λ p. rw p (omega arith))
-    (λ p. by-test (areaWrong a) (λ q. rw (p, q) (omega arith))
+pub area_low : (a : List ℕ) → area_refusal a ≤ max_refusal
+unfolding area_refusal
+area_low a =
+    by_test (ltb (length a) area_size) (λ p. rw p (omega arith))
+    (λ p. by_test (area_wrong a) (λ q. rw (p, q) (omega arith))
     (λ q. rw (p, q) (omega arith)))
 
-pub start-low : (a : List ℕ) (y : Layout) (d : ℕ) (ds : List (List ℕ))
-    → number_of (started a y d ds).answer ≤ maxRefusal
+pub start_low : (a : List ℕ) (y : Layout) (d : ℕ) (ds : List (List ℕ))
+    → number_of (started a y d ds).answer ≤ max_refusal
 unfolding started
-start-low a y d ds =
-    by-test (ltb (length a) areaSize) (λ p. rw p (omega arith))
-    (λ p. by-test (eqb (refusalOf y) 0)
-    (λ q. by-test (outside d 1 16) (λ r. rw (p, q, r) (omega arith)) (λ r. rw (p, q, r) (omega arith)))
-    (λ q. rw (p, q) (layout-low y)))
+start_low a y d ds =
+    by_test (ltb (length a) area_size) (λ p. rw p (omega arith))
+    (λ p. by_test (eqb (refusal_of y) 0)
+    (λ q. by_test (outside d 1 16) (λ r. rw (p, q, r) (omega arith)) (λ r. rw (p, q, r) (omega arith)))
+    (λ q. rw (p, q) (layout_low y)))
 
-pub offer-low : (a : List ℕ) (i : ℕ) (d : List ℕ) (v : ℕ) (x : List ℕ)
-    → number_of (offered a i d v x).answer ≤ maxRefusal
+pub offer_low : (a : List ℕ) (i : ℕ) (d : List ℕ) (v : ℕ) (x : List ℕ)
+    → number_of (offered a i d v x).answer ≤ max_refusal
 unfolding offered
-offer-low a i d v x =
-    by-test (eqb (areaRefusal a) 0)
-    (λ p. by-test (leb (countAt a) i) (λ q. rw (p, q) (omega arith))
-    (λ q. by-test (refusesData v (length x)) (λ r. rw (p, q, r) (omega arith))
-    (λ r. by-test (holds (stationAt a i).transmitter) (λ s. rw (p, q, r, s) (omega arith))
+offer_low a i d v x =
+    by_test (eqb (area_refusal a) 0)
+    (λ p. by_test (leb (count_at a) i) (λ q. rw (p, q) (omega arith))
+    (λ q. by_test (refuses_data v (length x)) (λ r. rw (p, q, r) (omega arith))
+    (λ r. by_test (holds (station_at a i).transmitter) (λ s. rw (p, q, r, s) (omega arith))
     (λ s. rw (p, q, r, s) (omega arith)))))
-    (λ p. rw p (area-low a))
+    (λ p. rw p (area_low a))
 
-pub time-low : (a : List ℕ) (n : ℕ) → timeRefusal a n ≤ maxRefusal
-unfolding timeRefusal
-time-low a n =
-    by-test (eqb (areaRefusal a) 0)
-    (λ p. by-test (ltb lastClock (clockAt a + n)) (λ q. rw (p, q) (omega arith)) (λ q. rw (p, q) (omega arith)))
-    (λ p. rw p (area-low a))
+pub time_low : (a : List ℕ) (n : ℕ) → time_refusal a n ≤ max_refusal
+unfolding time_refusal
+time_low a n =
+    by_test (eqb (area_refusal a) 0)
+    (λ p. by_test (ltb last_clock (clock_at a + n)) (λ q. rw (p, q) (omega arith)) (λ q. rw (p, q) (omega arith)))
+    (λ p. rw p (area_low a))
 
-pub frame-low : (a : List ℕ) (i : ℕ) (out : List ℕ) → number_of (frameRead a i out).answer ≤ maxRefusal
-unfolding frameRead
-frame-low a i out =
-    by-test (eqb (areaRefusal a) 0)
-    (λ p. by-test (leb (countAt a) i) (λ q. rw (p, q) (omega arith))
-    (λ q. by-test (isReadable (stationAt a i).receiver)
-    (λ r. by-test (ltb (length out) (octetsIn (stationAt a i).receiver)) (λ s. rw (p, q, r, s) (omega arith))
+pub frame_low : (a : List ℕ) (i : ℕ) (out : List ℕ) → number_of (frame_read a i out).answer ≤ max_refusal
+unfolding frame_read
+frame_low a i out =
+    by_test (eqb (area_refusal a) 0)
+    (λ p. by_test (leb (count_at a) i) (λ q. rw (p, q) (omega arith))
+    (λ q. by_test (is_readable (station_at a i).receiver)
+    (λ r. by_test (ltb (length out) (octets_in (station_at a i).receiver)) (λ s. rw (p, q, r, s) (omega arith))
     (λ s. rw (p, q, r, s) (omega arith)))
     (λ r. rw (p, q, r) (omega arith))))
-    (λ p. rw p (area-low a))
+    (λ p. rw p (area_low a))
 
-pub counters-low : (a : List ℕ) (i : ℕ) → number_of (countersRead a i).answer ≤ maxRefusal
-unfolding countersRead
-counters-low a i =
-    by-test (eqb (areaRefusal a) 0)
-    (λ p. by-test (leb (countAt a) i) (λ q. rw (p, q) (omega arith)) (λ q. rw (p, q) (omega arith)))
-    (λ p. rw p (area-low a))
+pub counters_low : (a : List ℕ) (i : ℕ) → number_of (counters_read a i).answer ≤ max_refusal
+unfolding counters_read
+counters_low a i =
+    by_test (eqb (area_refusal a) 0)
+    (λ p. by_test (leb (count_at a) i) (λ q. rw (p, q) (omega arith)) (λ q. rw (p, q) (omega arith)))
+    (λ p. rw p (area_low a))

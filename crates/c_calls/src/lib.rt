@@ -6,19 +6,19 @@
 ghost use Rattle.std.specs.Prelude.{◌≡◌, ◌*◌, ◌<◌, ◌≤◌, eqb};
 ghost use Rattle.octets.specs.Base.{pick, number_of};
 ghost use Rattle.c_words.specs.Answers.{replied, value_of};
-ghost use Rattle.bus_read.specs.Read.{readAnswer};
-ghost use Rattle.c_calls.specs.Calls.{given, left, sheetGiven, fitsGiven, buildGiven, statusGiven, clientGiven};
-ghost use Rattle.c_calls.specs.Calls.{drawnGiven, startGiven, offerGiven, stepLeft, timeRefusal, frameGiven};
-ghost use Rattle.c_calls.specs.Calls.{countersGiven};
-ghost use Rattle.sheet_layout.specs.Limits.{maxStations};
+ghost use Rattle.bus_read.specs.Read.{read_answer};
+ghost use Rattle.c_calls.specs.Calls.{given, left, sheet_given, fits_given, build_given, status_given, client_given};
+ghost use Rattle.c_calls.specs.Calls.{drawn_given, start_given, offer_given, step_left, time_refusal, frame_given};
+ghost use Rattle.c_calls.specs.Calls.{counters_given};
+ghost use Rattle.sheet_layout.specs.Limits.{max_stations};
 
 use bus_read::Reading;
 use sheet_layout::Layout;
 
 // A fresh start on a layout, with the octets of its draws.
 fn start_drawn(area: &mut [u8], y: Layout, depth: u32, draws: &[u8]) -> u32
-    requires { y.count ≤ maxStations }
-    ensures { given result area.new ≡ drawnGiven area.old y depth draws.now }
+    requires { y.count ≤ max_stations }
+    ensures { given result area.new ≡ drawn_given area.old y depth draws.now }
 {
     if octets::out_of(depth, 1, 16) {
         return c_words::numbers::reply(9, 0);
@@ -35,7 +35,7 @@ fn start_drawn(area: &mut [u8], y: Layout, depth: u32, draws: &[u8]) -> u32
 
 // The refusal of n bit times, 1, 2 or 13, or 0.
 fn time_refusal(area: &[u8], n: u32) -> u32
-    ensures { result ≡ timeRefusal area.now n }
+    ensures { result ≡ time_refusal area.now n }
 {
     let number = bus_spec::ready::refusal(area);
     if number != 0 {
@@ -51,7 +51,7 @@ fn time_refusal(area: &[u8], n: u32) -> u32
 // What n bit times answer where the output is too short: their own refusal first, then 15.
 pub fn refuse_short(area: &[u8], n: u32) -> u32
     ensures { result ≡ replied
-        (pick (eqb (timeRefusal area.now n) 0) 15 (timeRefusal area.now n)) 0 }
+        (pick (eqb (time_refusal area.now n) 0) 15 (time_refusal area.now n)) 0 }
 {
     let number = time_refusal(area, n);
     if number != 0 {
@@ -61,7 +61,7 @@ pub fn refuse_short(area: &[u8], n: u32) -> u32
 }
 
 fn read_number(g: Reading) -> u32
-    ensures { result ≡ number_of (readAnswer g) }
+    ensures { result ≡ number_of (read_answer g) }
 {
     match g {
         Reading::Refused(n) => n,
@@ -71,7 +71,7 @@ fn read_number(g: Reading) -> u32
 
 // The octets of the frame.
 fn read_size(g: Reading) -> u32
-    ensures { result ≡ value_of (readAnswer g) }
+    ensures { result ≡ value_of (read_answer g) }
 {
     match g {
         Reading::Refused(_) => 0,
@@ -81,7 +81,7 @@ fn read_size(g: Reading) -> u32
 
 // Reads a sheet: the octets used. Refusals 3 to 8, 15.
 pub fn read_sheet(sheet: &[u8], out: &mut [u8]) -> u32
-    ensures { given result out.new ≡ sheetGiven sheet.now out.old }
+    ensures { given result out.new ≡ sheet_given sheet.now out.old }
 {
     let front = sheet_read::read_sheet(sheet);
     let read = front.read;
@@ -99,7 +99,7 @@ pub fn read_sheet(sheet: &[u8], out: &mut [u8]) -> u32
 
 // Whether the layout of a sheet fits: 1 or 0. Refusals 3 to 8.
 pub fn fits(sheet: &[u8]) -> u32
-    ensures { result ≡ fitsGiven sheet.now }
+    ensures { result ≡ fits_given sheet.now }
 {
     let front = sheet_read::read_sheet(sheet);
     let read = front.read;
@@ -118,7 +118,7 @@ pub fn fits(sheet: &[u8]) -> u32
 // Builds a frame: its octets. Refusals 11, 15.
 pub fn build(destination: u64, source: u64, value: u16, payload: &[u8], out: &mut [u8]) -> u32
     ensures { given result out.new
-        ≡ buildGiven destination source value payload.now out.old }
+        ≡ build_given destination source value payload.now out.old }
 {
     let d = c_words::numbers::address(destination);
     let s = c_words::numbers::address(source);
@@ -131,7 +131,7 @@ pub fn build(destination: u64, source: u64, value: u16, payload: &[u8], out: &mu
 
 // The status of a frame's octets and excess bits: 0 to 5. Refusal 5.
 pub fn status(frame: &[u8], excess: u32) -> u32
-    ensures { result ≡ statusGiven frame.now excess }
+    ensures { result ≡ status_given frame.now excess }
 {
     let s = frame_open::status(frame, excess);
     c_words::numbers::reply(
@@ -142,7 +142,7 @@ pub fn status(frame: &[u8], excess: u32) -> u32
 
 // The status, and where the client data lie. Refusals 5, 15.
 pub fn client_data(frame: &[u8], excess: u32, out: &mut [u8]) -> u32
-    ensures { given result out.new ≡ clientGiven frame.now excess out.old }
+    ensures { given result out.new ≡ client_given frame.now excess out.old }
 {
     let s = frame_open::status(frame, excess);
     let number = c_words::numbers::status_number(s);
@@ -160,7 +160,7 @@ pub fn client_data(frame: &[u8], excess: u32, out: &mut [u8]) -> u32
 // A fresh start: 0. Refusals 1, 3 to 8, 9.
 pub fn start(area: &mut [u8], sheet: &[u8], depth: u32, draws: &[u8]) -> u32
     ensures { given result area.new
-        ≡ startGiven area.old sheet.now depth draws.now }
+        ≡ start_given area.old sheet.now depth draws.now }
 {
     if area.len() < area::AREA {
         return c_words::numbers::reply(1, 0);
@@ -178,7 +178,7 @@ pub fn start(area: &mut [u8], sheet: &[u8], depth: u32, draws: &[u8]) -> u32
 // Offers a frame to a station: 0. Refusals 1, 2, 10, 11, 12.
 pub fn offer(area: &mut [u8], station: u32, destination: u64, value: u16, payload: &[u8]) -> u32
     ensures { given result area.new
-        ≡ offerGiven area.old station destination value payload.now }
+        ≡ offer_given area.old station destination value payload.now }
 {
     let d = c_words::numbers::address(destination);
     let done = bus_offer::offer(area, station as usize, d, value, payload);
@@ -187,7 +187,7 @@ pub fn offer(area: &mut [u8], station: u32, destination: u64, value: u16, payloa
 
 // One bit time: 0, and the events of each station. Refusals 1, 2, 13, 15.
 pub fn step(area: &mut [u8], out: &mut [u8]) -> u32
-    ensures { left result area.new out.new ≡ stepLeft area.old out.old }
+    ensures { left result area.new out.new ≡ step_left area.old out.old }
 {
     if out.len() < 256 {
         return refuse_short(area, 1);
@@ -205,7 +205,7 @@ pub fn step(area: &mut [u8], out: &mut [u8]) -> u32
 
 // Reads the frame that a station received: its octets. Refusals 1, 2, 10, 14, 15.
 pub fn read_frame(area: &[u8], station: u32, out: &mut [u8]) -> u32
-    ensures { given result out.new ≡ frameGiven area.now station out.old }
+    ensures { given result out.new ≡ frame_given area.now station out.old }
 {
     let g = bus_read::read_frame(area, station as usize, out);
     c_words::numbers::reply(read_number(g), read_size(g))
@@ -213,7 +213,7 @@ pub fn read_frame(area: &[u8], station: u32, out: &mut [u8]) -> u32
 
 // The counters of a station: 0. Refusals 1, 2, 10, 15.
 pub fn counters(area: &[u8], station: u32, out: &mut [u8]) -> u32
-    ensures { given result out.new ≡ countersGiven area.now station out.old }
+    ensures { given result out.new ≡ counters_given area.now station out.old }
 {
     let c = bus_step::read_counters(area, station as usize);
     let done = c.done;

@@ -2,48 +2,48 @@
 use Rattle.std.specs.Prelude.{List, ℕ, ◌≤◌, ◌≡◌, refl, ltb, eqb, length}
 use Rattle.std.proofs.Common.{arith, eqb-true}
 use Rattle.octets.specs.Base.{number_of}
-use Rattle.octets.specs.BaseLaws.{by-test}
-use Rattle.octets.specs.Words.{putWords}
+use Rattle.octets.specs.BaseLaws.{by_test}
+use Rattle.octets.specs.Words.{put_words}
 use Rattle.sheet_layout.specs.declared.Layout.{Layout}
-use Rattle.sheet_layout.specs.Check.{refusalOf}
-use Rattle.sheet_read.specs.Sheet.{readSheet}
-use Rattle.sheet_write.specs.Write.{written, sheetWritten}
-use Rattle.sheet_write.specs.WriteTheorems.{Formed, written-most, always-formed}
-use Rattle.plan_read.specs.Plan.{planRead}
-use Rattle.c_words.specs.Answers.{value_of, layoutPut, planOut, sheetOut}
+use Rattle.sheet_layout.specs.Check.{refusal_of}
+use Rattle.sheet_read.specs.Sheet.{read_sheet}
+use Rattle.sheet_write.specs.Write.{written, sheet_written}
+use Rattle.sheet_write.specs.WriteTheorems.{Formed, written_most, always_formed}
+use Rattle.plan_read.specs.Plan.{plan_as_read}
+use Rattle.c_words.specs.Answers.{value_of, layout_put, plan_out, sheet_out}
 use Rattle.c_calls.specs.Calls.{short}
 use Rattle.c_calls.specs.CallTheorems.{Keeps, checks, answers, coded}
-use Rattle.c_checks.specs.CheckCalls.{planWords, planGiven, writeGiven}
+use Rattle.c_checks.specs.CheckCalls.{plan_words, plan_given, write_given}
 
-pub plan-keeps : (l out : List ℕ) → Keeps out (planGiven l out)
-unfolding planGiven
-plan-keeps l out =
-    checks (number_of (planRead l).answer) out _
-    (checks (short planOut out) out _ (answers 0 out
-    (putWords 6 (layoutPut (planRead l).layout out) sheetOut (planWords (planRead l))) (omega arith)))
+pub plan_keeps : (l out : List ℕ) → Keeps out (plan_given l out)
+unfolding plan_given
+plan_keeps l out =
+    checks (number_of (plan_as_read l).answer) out _
+    (checks (short plan_out out) out _ (answers 0 out
+    (put_words 6 (layout_put (plan_as_read l).layout out) sheet_out (plan_words (plan_as_read l))) (omega arith)))
 
-write_same : (y : Layout) (out : List ℕ) → (number_of (sheetWritten y out).answer ≡ 0 → ⊥)
-    → (sheetWritten y out).octets ≡ out
-unfolding sheetWritten
+write_same : (y : Layout) (out : List ℕ) → (number_of (sheet_written y out).answer ≡ 0 → ⊥)
+    → (sheet_written y out).octets ≡ out
+unfolding sheet_written
 write_same y out =
-    by-test (eqb (refusalOf y) 0)
-    (λ p. by-test (ltb (length out) (length (written y))) (λ q. rw (p, q) (λ h. refl))
+    by_test (eqb (refusal_of y) 0)
+    (λ p. by_test (ltb (length out) (length (written y))) (λ q. rw (p, q) (λ h. refl))
     (λ q. rw (p, q) (λ h. absurd (h refl))))
     (λ p. rw p (λ h. refl))
 
-write-small : (y : Layout) (out : List ℕ) → Formed y → value_of (sheetWritten y out).answer ≤ 128
-unfolding sheetWritten
-write-small y out f =
-    by-test (eqb (refusalOf y) 0)
-    (λ p. by-test (ltb (length out) (length (written y))) (λ q. rw (p, q) (omega arith))
-    (λ q. rw (p, q) (written-most y (record { passes = eqb-true (refusalOf y) 0 p; formed = f }))))
+write_small : (y : Layout) (out : List ℕ) → Formed y → value_of (sheet_written y out).answer ≤ 128
+unfolding sheet_written
+write_small y out f =
+    by_test (eqb (refusal_of y) 0)
+    (λ p. by_test (ltb (length out) (length (written y))) (λ q. rw (p, q) (omega arith))
+    (λ q. rw (p, q) (written_most y (record { passes = eqb-true (refusal_of y) 0 p; formed = f }))))
     (λ p. rw p (omega arith))
 
-pub write_keeps : (l out : List ℕ) → Keeps out (writeGiven l out)
-unfolding writeGiven
+pub write_keeps : (l out : List ℕ) → Keeps out (write_given l out)
+unfolding write_given
 write_keeps l out =
-    checks (number_of (readSheet l).answer) out _
-    (coded out (sheetWritten (readSheet l).layout out) (
-      omega (arith, write-small (readSheet l).layout out (always-formed l)),
-      write_same (readSheet l).layout out,
+    checks (number_of (read_sheet l).answer) out _
+    (coded out (sheet_written (read_sheet l).layout out) (
+      omega (arith, write_small (read_sheet l).layout out (always_formed l)),
+      write_same (read_sheet l).layout out,
     ))

@@ -4,13 +4,13 @@
 ghost use Rattle.std.specs.Prelude.{◌≡◌, ◌<◌, ◌≤◌, length};
 ghost use Rattle.octets.specs.Base.{pick, number_of};
 ghost use Rattle.sheet_layout.specs.Layout.{places_of};
-ghost use Rattle.plan_read.specs.Plan.{verdictAnswer, planReading};
+ghost use Rattle.plan_read.specs.Plan.{verdict_answer, plan_reading};
 ghost use Rattle.c_calls.specs.Calls.{given};
-ghost use Rattle.c_checks.specs.CheckCalls.{receptionGiven, areaGiven, figuresWritten, tapWritten, layoutWritten};
-ghost use Rattle.c_checks.specs.CheckCalls.{layoutGiven, planWords, planGiven, writeGiven};
-ghost use Rattle.sheet_layout.specs.Limits.{maxStations};
-ghost use Rattle.c_words.specs.Answers.{sheetOut, value_of};
-ghost use Rattle.sheet_write.specs.Write.{writtenAnswer};
+ghost use Rattle.c_checks.specs.CheckCalls.{reception_given, area_given, figures_written, tap_written, layout_written};
+ghost use Rattle.c_checks.specs.CheckCalls.{layout_given, plan_words, plan_given, write_given};
+ghost use Rattle.sheet_layout.specs.Limits.{max_stations};
+ghost use Rattle.c_words.specs.Answers.{sheet_out, value_of};
+ghost use Rattle.sheet_write.specs.Write.{written_answer};
 
 use plan_read::{Plan, Verdict};
 use sheet_layout::{Figures, Layout, Tap};
@@ -18,7 +18,7 @@ use sheet_write::Written;
 
 // The status of a reception: 0 to 5. Refusal 5.
 pub fn reception_status(frame: &[u8], excess: u32, spoiled: u32) -> u32
-    ensures { result ≡ receptionGiven frame.now excess spoiled }
+    ensures { result ≡ reception_given frame.now excess spoiled }
 {
     let s = frame_open::reception_status(frame, excess, spoiled != 0);
     c_words::numbers::reply(
@@ -29,7 +29,7 @@ pub fn reception_status(frame: &[u8], excess: u32, spoiled: u32) -> u32
 
 // Checks a work area: 0. Refusals 1, 2.
 pub fn check_area(area: &[u8]) -> u32
-    ensures { result ≡ areaGiven area.now }
+    ensures { result ≡ area_given area.now }
 {
     let number = area_check::refusal(area);
     c_words::numbers::reply(number, 0)
@@ -37,8 +37,8 @@ pub fn check_area(area: &[u8]) -> u32
 
 // The figures, each in a word; the last stands after the stations.
 fn read_figures(s: &[u8]) -> Figures
-    requires { sheetOut ≤ length s.now }
-    ensures { result ≡ figuresWritten s.now }
+    requires { sheet_out ≤ length s.now }
+    ensures { result ≡ figures_written s.now }
 {
     let slot = octets_words::get32(s, 0);
     let gap1 = octets_words::get32(s, 4);
@@ -60,8 +60,8 @@ fn read_figures(s: &[u8]) -> Figures
 
 // The station at place i.
 fn read_tap(s: &[u8], i: usize) -> Tap
-    requires { (i < maxStations) × (sheetOut ≤ length s.now) }
-    ensures { result ≡ tapWritten s.now i }
+    requires { (i < max_stations) × (sheet_out ≤ length s.now) }
+    ensures { result ≡ tap_written s.now i }
 {
     let address = octets_copies::six(s, 36 + 10 * i);
     let position = octets_words::get32(s, 32 + 10 * i);
@@ -70,8 +70,8 @@ fn read_tap(s: &[u8], i: usize) -> Tap
 
 // All sixteen places.
 fn read_taps(s: &[u8]) -> [Tap; 16]
-    requires { sheetOut ≤ length s.now }
-    ensures { result ≡ places_of (tapWritten s.now) 16 }
+    requires { sheet_out ≤ length s.now }
+    ensures { result ≡ places_of (tap_written s.now) 16 }
 {
     let blank = Tap {
         position: 0,
@@ -89,8 +89,8 @@ fn read_taps(s: &[u8]) -> [Tap; 16]
 
 // A layout as `c_tables::write_layout` writes one.
 fn read_layout(s: &[u8]) -> Layout
-    requires { sheetOut ≤ length s.now }
-    ensures { result ≡ layoutWritten s.now }
+    requires { sheet_out ≤ length s.now }
+    ensures { result ≡ layout_written s.now }
 {
     let figures = read_figures(s);
     let stations = read_taps(s);
@@ -104,7 +104,7 @@ fn read_layout(s: &[u8]) -> Layout
 
 // Checks a layout: 0. Refusals 3, 5 to 8.
 pub fn check_layout(layout: &[u8]) -> u32
-    ensures { result ≡ layoutGiven layout.now }
+    ensures { result ≡ layout_given layout.now }
 {
     if layout.len() < c_words::SHEET_OUT {
         return c_words::numbers::reply(3, 0);
@@ -116,7 +116,7 @@ pub fn check_layout(layout: &[u8]) -> u32
 
 // The number of the refusal of an input, 0 where there is none.
 fn verdict_number(v: Verdict) -> u32
-    ensures { result ≡ number_of (verdictAnswer v) }
+    ensures { result ≡ number_of (verdict_answer v) }
 {
     match v {
         Verdict::Refused(n) => n,
@@ -134,7 +134,7 @@ fn name_flag(named: bool) -> u32
 // D, where the draws begin, the number of offers, where the first begins, the bit times, and whether there are names.
 fn plan_words(p: Plan) -> [u32; 6]
     requires { (p.drawn < 4294967296) × (p.first < 4294967296) }
-    ensures { result ≡ planWords (planReading p) }
+    ensures { result ≡ plan_words (plan_reading p) }
 {
     let names = name_flag(p.named);
     [
@@ -149,7 +149,7 @@ fn plan_words(p: Plan) -> [u32; 6]
 
 // Reads a run input: 0. Refusals 3 to 9, 13, 15, 16, 19.
 pub fn read_plan(input: &[u8], out: &mut [u8]) -> u32
-    ensures { given result out.new ≡ planGiven input.now out.old }
+    ensures { given result out.new ≡ plan_given input.now out.old }
 {
     let p = plan_read::read_plan(input);
     let read = p.read;
@@ -169,7 +169,7 @@ pub fn read_plan(input: &[u8], out: &mut [u8]) -> u32
 
 // The number of the writer's refusal, 0 where there is none.
 fn written_number(w: Written) -> u32
-    ensures { result ≡ number_of (writtenAnswer w) }
+    ensures { result ≡ number_of (written_answer w) }
 {
     match w {
         Written::Refused(n) => n,
@@ -179,7 +179,7 @@ fn written_number(w: Written) -> u32
 
 // The octets written, 0 where there is a refusal.
 fn written_size(w: Written) -> u32
-    ensures { result ≡ value_of (writtenAnswer w) }
+    ensures { result ≡ value_of (written_answer w) }
 {
     match w {
         Written::Refused(_) => 0,
@@ -189,7 +189,7 @@ fn written_size(w: Written) -> u32
 
 // Writes the shortest sheet that reads as a sheet does: its octets. Refusals 3 to 8, 15.
 pub fn write_sheet(sheet: &[u8], out: &mut [u8]) -> u32
-    ensures { given result out.new ≡ writeGiven sheet.now out.old }
+    ensures { given result out.new ≡ write_given sheet.now out.old }
 {
     let front = sheet_read::read_sheet(sheet);
     let read = front.read;

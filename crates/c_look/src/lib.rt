@@ -3,7 +3,7 @@
 
 ghost use Rattle.std.specs.Prelude.{◌≡◌, ◌≤◌, length};
 ghost use Rattle.c_calls.specs.Calls.{left};
-ghost use Rattle.c_look.specs.LookCalls.{lookOut, lookPut, lookLeft};
+ghost use Rattle.c_look.specs.LookCalls.{look_out, look_put, look_left};
 
 use bus_spec::course::Ended;
 
@@ -17,8 +17,8 @@ fn write_look(
     ended: Ended,
     counters: [u32; look_ahead::ALL_COUNTERS],
 )
-    requires { lookOut ≤ length out.old }
-    ensures { out.new ≡ lookPut words ended counters out.old }
+    requires { look_out ≤ length out.old }
+    ensures { out.new ≡ look_put words ended counters out.old }
 {
     c_tables::write_run(out, words, ended);
     octets_words::store_words(out, c_words::RUN_OUT, &counters);
@@ -37,7 +37,7 @@ pub fn look(
     out: &mut [u8],
 ) -> u32
     ensures { left result second.new out.new
-        ≡ lookLeft area.now second.old station destination value payload.now n
+        ≡ look_left area.now second.old station destination value payload.now n
         out.old }
 {
     let number = look_ahead::refusal(area, second, station as usize, value, payload, n);

@@ -4,7 +4,7 @@
 ghost use Rattle.std.specs.Prelude.{◌≡◌};
 ghost use Rattle.octets.specs.Number.{spelled};
 ghost use Rattle.c_calls.specs.Calls.{given};
-ghost use Rattle.c_marks.specs.MarkCalls.{markGiven, returnGiven, dropGiven};
+ghost use Rattle.c_marks.specs.MarkCalls.{mark_given, return_given, drop_given};
 
 // The octets of a name.
 fn name_of(x: u64) -> [u8; 8]
@@ -24,7 +24,7 @@ fn name_of(x: u64) -> [u8; 8]
 
 // Marks a work area under a name: 0. Refusals 1, 2, 15, 18.
 pub fn mark(area: &[u8], store: &mut [u8], name: u64) -> u32
-    ensures { given result store.new ≡ markGiven area.now store.old name }
+    ensures { given result store.new ≡ mark_given area.now store.old name }
 {
     let done = marks::mark(area, store, name_of(name));
     c_words::numbers::reply(c_words::numbers::done_number(done), 0)
@@ -32,7 +32,7 @@ pub fn mark(area: &[u8], store: &mut [u8], name: u64) -> u32
 
 // Puts back the work area that is marked under a name: 0. Refusals 1, 15, 17, 2.
 pub fn go_back(area: &mut [u8], store: &[u8], name: u64) -> u32
-    ensures { given result area.new ≡ returnGiven area.old store.now name }
+    ensures { given result area.new ≡ return_given area.old store.now name }
 {
     let done = marks::go_back(area, store, name_of(name));
     c_words::numbers::reply(c_words::numbers::done_number(done), 0)
@@ -40,7 +40,7 @@ pub fn go_back(area: &mut [u8], store: &[u8], name: u64) -> u32
 
 // Drops the mark of a name: 0. Refusals 15, 17.
 pub fn drop_mark(store: &mut [u8], name: u64) -> u32
-    ensures { given result store.new ≡ dropGiven store.old name }
+    ensures { given result store.new ≡ drop_given store.old name }
 {
     let done = marks::drop_mark(store, name_of(name));
     c_words::numbers::reply(c_words::numbers::done_number(done), 0)

@@ -1,12 +1,12 @@
 // What the calls write into the output that is lent to them. All numbers are high octet first.
 
 ghost use Rattle.std.specs.Prelude.{◌≡◌, ◌+◌, ◌*◌, ◌<◌, ◌≤◌, length};
-ghost use Rattle.octets.specs.Words.{putWords};
-ghost use Rattle.c_words.specs.Answers.{layoutWords, tapPut, tapsPut, layoutPut, eventsPut};
-ghost use Rattle.c_words.specs.Answers.{countersOut, runOut, sheetOut};
-ghost use Rattle.c_tables.specs.RunWords.{endedWords, runPut};
-ghost use Rattle.sheet_layout.specs.Limits.{maxStations};
-ghost use Rattle.station_state.specs.State.{counterCount};
+ghost use Rattle.octets.specs.Words.{put_words};
+ghost use Rattle.c_words.specs.Answers.{layout_words, tap_put, taps_put, layout_put, events_put};
+ghost use Rattle.c_words.specs.Answers.{counters_out, run_out, sheet_out};
+ghost use Rattle.c_tables.specs.RunWords.{ended_words, run_put};
+ghost use Rattle.sheet_layout.specs.Limits.{max_stations};
+ghost use Rattle.station_state.specs.State.{counter_count};
 
 use bus_spec::Events;
 use bus_spec::course::Ended;
@@ -15,7 +15,7 @@ use sheet_layout::{Layout, Tap};
 
 // Slot, gap1, gap2, jam, attempt limit, backoff limit, N, and whether the layout fits.
 fn layout_words(y: Layout) -> [u32; 8]
-    ensures { result ≡ layoutWords y }
+    ensures { result ≡ layout_words y }
 {
     let f = y.figures;
     let fit = sheet_fit::fits(y);
@@ -32,8 +32,8 @@ fn layout_words(y: Layout) -> [u32; 8]
 }
 
 fn write_tap(out: &mut [u8], i: usize, position: u32, address: [u8; 6])
-    requires { (i < maxStations) × (sheetOut ≤ length out.old) }
-    ensures { out.new ≡ tapPut position address i out.old }
+    requires { (i < max_stations) × (sheet_out ≤ length out.old) }
+    ensures { out.new ≡ tap_put position address i out.old }
 {
     octets_words::put32(out, 32 + 10 * i, position);
     octets_copies::store(out, 36 + 10 * i, &address);
@@ -41,8 +41,8 @@ fn write_tap(out: &mut [u8], i: usize, position: u32, address: [u8; 6])
 
 // All sixteen places.
 fn write_taps(out: &mut [u8], taps: [Tap; 16])
-    requires { sheetOut ≤ length out.old }
-    ensures { out.new ≡ tapsPut taps 16 out.old }
+    requires { sheet_out ≤ length out.old }
+    ensures { out.new ≡ taps_put taps 16 out.old }
 {
     let mut i: usize = 0;
     while i < sheet_layout::MAX_STATIONS {
@@ -54,8 +54,8 @@ fn write_taps(out: &mut [u8], taps: [Tap; 16])
 }
 
 pub fn write_layout(out: &mut [u8], y: Layout)
-    requires { sheetOut ≤ length out.old }
-    ensures { out.new ≡ layoutPut y out.old }
+    requires { sheet_out ≤ length out.old }
+    ensures { out.new ≡ layout_put y out.old }
 {
     let words = layout_words(y);
     let taps = y.stations;
@@ -67,7 +67,7 @@ pub fn write_layout(out: &mut [u8], y: Layout)
 // Four words for each of the sixteen stations.
 pub fn write_events(out: &mut [u8], events: [Events; 16])
     requires { 256 ≤ length out.old }
-    ensures { out.new ≡ eventsPut events 16 out.old }
+    ensures { out.new ≡ events_put events 16 out.old }
 {
     let mut i: usize = 0;
     while i < sheet_layout::MAX_STATIONS {
@@ -80,15 +80,15 @@ pub fn write_events(out: &mut [u8], events: [Events; 16])
 
 // The counters of a station.
 pub fn write_counters(out: &mut [u8], words: [u32; station_state::COUNTERS])
-    requires { countersOut ≤ length out.old }
-    ensures { out.new ≡ putWords counterCount out.old 0 words }
+    requires { counters_out ≤ length out.old }
+    ensures { out.new ≡ put_words counter_count out.old 0 words }
 {
     octets_words::store_words(out, 0, &words);
 }
 
 // How a run ended as three words: whether early, and the step and station of the late collision.
 fn ended_words(e: Ended) -> [u32; 3]
-    ensures { result ≡ endedWords e }
+    ensures { result ≡ ended_words e }
 {
     match e {
         Ended::All => [0, 0, 0],
@@ -98,8 +98,8 @@ fn ended_words(e: Ended) -> [u32; 3]
 
 // The event words of a run, and how it ended.
 pub fn write_run(out: &mut [u8], words: [u32; station_tally::WORDS], ended: Ended)
-    requires { runOut ≤ length out.old }
-    ensures { out.new ≡ runPut words ended out.old }
+    requires { run_out ≤ length out.old }
+    ensures { out.new ≡ run_put words ended out.old }
 {
     let last = ended_words(ended);
     octets_words::store_words(out, 0, &words);

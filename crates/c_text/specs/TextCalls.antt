@@ -6,12 +6,12 @@ use Rattle.std.proofs.lemmas.List.Edits.{sets}
 use Rattle.octets.specs.Base.{pick, Answer, number_of}
 use Rattle.octets.specs.Number.{get}
 use Rattle.octets.specs.Store.{part}
-use Rattle.octets.specs.Words.{putWords}
-use Rattle.area.specs.Offsets.{areaSize}
-use Rattle.area_check.specs.Valid.{areaRefusal}
+use Rattle.octets.specs.Words.{put_words}
+use Rattle.area.specs.Offsets.{area_size}
+use Rattle.area_check.specs.Valid.{area_refusal}
 use Rattle.report_spec.specs.declared.Progress.{Progress}
 use Rattle.report_spec.specs.Pieces.{standing, Hand, begun, advanced}
-use Rattle.report_whole.specs.Print.{Print, printedInto}
+use Rattle.report_whole.specs.Print.{Print, printed_into}
 use Rattle.c_words.specs.Answers.{replied}
 use Rattle.c_calls.specs.Calls.{code_of, Left, left}
 
@@ -19,27 +19,27 @@ use Rattle.c_calls.specs.Calls.{code_of, Left, left}
 
 -- the octet of the input at which the first offer begins, the number of offers, the bit times left, 1 where the last
 -- line is handed out, and 1 where the offers have names
-unfoldable pub laterWords : Progress → List ℕ
-laterWords g = g.offers ∷ g.times ∷ pick g.ended 1 0 ∷ pick g.named 1 0 ∷ []
+unfoldable pub later_words : Progress → List ℕ
+later_words g = g.offers ∷ g.times ∷ pick g.ended 1 0 ∷ pick g.named 1 0 ∷ []
 
-unfoldable pub progressWords : Progress → List ℕ
-progressWords g = g.at ∷ laterWords g
+unfoldable pub progress_words : Progress → List ℕ
+progress_words g = g.at ∷ later_words g
 
 -- and after these words an octet for the fate of each offer
-abbrev pub progressSize : ℕ
-progressSize = 84
+abbrev pub progress_size : ℕ
+progress_size = 84
 
-unfoldable pub progressOver : Progress → List ℕ → List ℕ
-progressOver g p = sets (putWords 5 p 0 (progressWords g)) 20 g.fates
+unfoldable pub progress_over : Progress → List ℕ → List ℕ
+progress_over g p = sets (put_words 5 p 0 (progress_words g)) 20 g.fates
 
 -- the same, read: a fourth word that is not 0 stands for the end, and a fifth for names
-unfoldable pub progressIn : List ℕ → Progress
-progressIn p =
+unfoldable pub progress_in : List ℕ → Progress
+progress_in p =
     standing (get 4 p 0) (get 4 p 4) (not (eqb (get 4 p 16) 0)) (get 4 p 8) (not (eqb (get 4 p 12) 0)) (part p 20 64)
 
 -- "A refusal .. changes nothing lent": the words after answer r
-unfoldable pub progressPut : (r : Answer) → Progress → List ℕ → List ℕ
-progressPut r g p = pick (eqb (number_of r) 0) (progressOver g p) p
+unfoldable pub progress_put : (r : Answer) → Progress → List ℕ → List ℕ
+progress_put r g p = pick (eqb (number_of r) 0) (progress_over g p) p
 
 -- ---- piece by piece
 
@@ -54,35 +54,35 @@ abbrev pub lent : ℕ → (area progress out : List ℕ) → Lent
 lent r a p o = record { result = r; area = a; progress = p; out = o }
 
 -- the octets of the piece, and where the run stands after it
-abbrev pub handLent : Hand → List ℕ → Lent
-handLent h p = lent (code_of h.answer) h.octets (progressPut h.answer h.progress p) h.out
+abbrev pub hand_lent : Hand → List ℕ → Lent
+hand_lent h p = lent (code_of h.answer) h.octets (progress_put h.answer h.progress p) h.out
 
 -- the first piece; refusals 1, 15
-unfoldable pub begunLent : List ℕ → (a p o : List ℕ) → Lent
-begunLent l a p o =
-    pick (ltb (length p) progressSize) (lent (replied (pick (ltb (length a) areaSize) 1 15) 0) a p o)
-    (handLent (begun l a o) p)
+unfoldable pub begun_lent : List ℕ → (a p o : List ℕ) → Lent
+begun_lent l a p o =
+    pick (ltb (length p) progress_size) (lent (replied (pick (ltb (length a) area_size) 1 15) 0) a p o)
+    (hand_lent (begun l a o) p)
 
 -- no plan has more octets, and of a longer input no more are looked at
-abbrev pub planOctets : ℕ
-planOctets = 16384
+abbrev pub plan_octets : ℕ
+plan_octets = 16384
 
 -- the next piece; refusals 1, 2, 13, 15, 16. Where the words are too short for a place, 13 and 16 cannot be asked
-unfoldable pub advancedLent : List ℕ → (a p o : List ℕ) → Lent
-advancedLent l a p o =
-    pick (ltb (length p) progressSize) (lent (replied (pick (eqb (areaRefusal a) 0) 15 (areaRefusal a)) 0) a p o)
-    (handLent (advanced (take planOctets l) a o (progressIn p)) p)
+unfoldable pub advanced_lent : List ℕ → (a p o : List ℕ) → Lent
+advanced_lent l a p o =
+    pick (ltb (length p) progress_size) (lent (replied (pick (eqb (area_refusal a) 0) 15 (area_refusal a)) 0) a p o)
+    (hand_lent (advanced (take plan_octets l) a o (progress_in p)) p)
 
 -- ---- the whole
 
 -- the largest number that a reply can tell: bit 31 is a refusal's
-abbrev pub mostTold : ℕ
-mostTold = 2147483647
+abbrev pub most_told : ℕ
+most_told = 2147483647
 
 -- what the call leaves of an output o, the front of which it was lent
-abbrev pub printFront : (o : List ℕ) → Print → Left
-printFront o x = left (code_of x.answer) x.area (x.out ++ drop mostTold o)
+abbrev pub print_front : (o : List ℕ) → Print → Left
+print_front o x = left (code_of x.answer) x.area (x.out ++ drop most_told o)
 
 -- how many octets are printed; refusals 1, 15. Of a longer output no more octets are used than a reply can tell
-unfoldable pub printLeft : List ℕ → (a o : List ℕ) → Left
-printLeft l a o = printFront o (printedInto l a (take mostTold o))
+unfoldable pub print_left : List ℕ → (a o : List ℕ) → Left
+print_left l a o = print_front o (printed_into l a (take most_told o))

@@ -7,12 +7,12 @@ ghost use Rattle.std.proofs.lemmas.List.Edits.{sets};
 ghost use Rattle.octets.specs.Base.{pick, number_of};
 ghost use Rattle.octets.specs.Number.{put};
 ghost use Rattle.octets.specs.Store.{part};
-ghost use Rattle.area_check.specs.Valid.{areaRefusal};
-ghost use Rattle.report_spec.specs.Pieces.{pieceAnswer};
-ghost use Rattle.c_words.specs.Answers.{replied, value_of, maxRefusal};
+ghost use Rattle.area_check.specs.Valid.{area_refusal};
+ghost use Rattle.report_spec.specs.Pieces.{piece_answer};
+ghost use Rattle.c_words.specs.Answers.{replied, value_of, max_refusal};
 ghost use Rattle.c_calls.specs.Calls.{code_of, given, left};
-ghost use Rattle.c_text.specs.TextCalls.{laterWords, progressSize, progressOver, progressIn, progressPut, lent};
-ghost use Rattle.c_text.specs.TextCalls.{begunLent, advancedLent, printLeft};
+ghost use Rattle.c_text.specs.TextCalls.{later_words, progress_size, progress_over, progress_in, progress_put, lent};
+ghost use Rattle.c_text.specs.TextCalls.{begun_lent, advanced_lent, print_left};
 
 use report_spec::{Handed, Piece, Progress};
 
@@ -38,7 +38,7 @@ fn flag(b: bool) -> u32
 
 // The words after the first.
 fn later_words(g: Progress) -> [u32; 4]
-    ensures { result ≡ laterWords g }
+    ensures { result ≡ later_words g }
 {
     let ended = flag(g.ended);
     let named = flag(g.named);
@@ -47,7 +47,7 @@ fn later_words(g: Progress) -> [u32; 4]
 
 // Writes the fates, after the words.
 fn write_fates(s: &mut [u8], fates: [u8; 64])
-    requires { progressSize ≤ length s.old }
+    requires { progress_size ≤ length s.old }
     ensures { s.new ≡ sets s.old 20 fates }
 {
     octets_copies::store(s, 20, &fates);
@@ -55,8 +55,8 @@ fn write_fates(s: &mut [u8], fates: [u8; 64])
 
 // Writes where a run stands.
 fn write_progress(s: &mut [u8], g: Progress)
-    requires { progressSize ≤ length s.old }
-    ensures { s.new ≡ progressOver g s.old }
+    requires { progress_size ≤ length s.old }
+    ensures { s.new ≡ progress_over g s.old }
 {
     put_place(s, 0, g.at);
     let words = later_words(g);
@@ -67,7 +67,7 @@ fn write_progress(s: &mut [u8], g: Progress)
 
 // The fates in it.
 fn read_fates(s: &[u8]) -> [u8; 64]
-    requires { progressSize ≤ length s.now }
+    requires { progress_size ≤ length s.now }
     ensures { result ≡ part s.now 20 64 }
 {
     let mut fates = [0u8; 64];
@@ -77,8 +77,8 @@ fn read_fates(s: &[u8]) -> [u8; 64]
 
 // Reads where a run stands.
 fn read_progress(s: &[u8]) -> Progress
-    requires { progressSize ≤ length s.now }
-    ensures { result ≡ progressIn s.now }
+    requires { progress_size ≤ length s.now }
+    ensures { result ≡ progress_in s.now }
 {
     let at = octets_words::get32(s, 0) as usize;
     let offers = octets_words::get32(s, 4);
@@ -97,7 +97,7 @@ fn read_progress(s: &[u8]) -> Progress
 }
 
 fn piece_number(p: Piece) -> u32
-    ensures { result ≡ number_of (pieceAnswer p) }
+    ensures { result ≡ number_of (piece_answer p) }
 {
     match p {
         Piece::Refused(n) => n,
@@ -107,8 +107,8 @@ fn piece_number(p: Piece) -> u32
 
 // The octets of the piece.
 fn piece_size(p: Piece) -> u32
-    requires { value_of (pieceAnswer p) < 4294967296 }
-    ensures { result ≡ value_of (pieceAnswer p) }
+    requires { value_of (piece_answer p) < 4294967296 }
+    ensures { result ≡ value_of (piece_answer p) }
 {
     match p {
         Piece::Refused(_) => 0,
@@ -118,11 +118,11 @@ fn piece_size(p: Piece) -> u32
 
 // What a call replies that hands out a piece; where the run stands is written, unless it is a refusal.
 fn hand_over(h: Handed, progress: &mut [u8]) -> u32
-    requires { (progressSize ≤ length progress.old) × (number_of (pieceAnswer h.piece) ≤ maxRefusal)
-        × (value_of (pieceAnswer h.piece) < 4294967296) }
+    requires { (progress_size ≤ length progress.old) × (number_of (piece_answer h.piece) ≤ max_refusal)
+        × (value_of (piece_answer h.piece) < 4294967296) }
     ensures { given result progress.new
-        ≡ given (code_of (pieceAnswer h.piece))
-        (progressPut (pieceAnswer h.piece) h.progress progress.old) }
+        ≡ given (code_of (piece_answer h.piece))
+        (progress_put (piece_answer h.piece) h.progress progress.old) }
 {
     let piece = h.piece;
     let number = piece_number(piece);
@@ -145,7 +145,7 @@ fn at_most(n: usize, most: usize) -> usize
 // The first piece of what is printed for an input: its octets, and where the run stands. Refusals 1, 15.
 pub fn begin(input: &[u8], area: &mut [u8], progress: &mut [u8], out: &mut [u8]) -> u32
     ensures { lent result area.new progress.new out.new
-        ≡ begunLent input.now area.old progress.old out.old }
+        ≡ begun_lent input.now area.old progress.old out.old }
 {
     if progress.len() < PROGRESS {
         if area.len() < area::AREA {
@@ -160,7 +160,7 @@ pub fn begin(input: &[u8], area: &mut [u8], progress: &mut [u8], out: &mut [u8])
 // What `advance` replies where the place is too short: the area's own refusal first, then 15.
 fn refuse_place(area: &[u8]) -> u32
     ensures { result ≡ replied
-        (pick (eqb (areaRefusal area.now) 0) 15 (areaRefusal area.now)) 0 }
+        (pick (eqb (area_refusal area.now) 0) 15 (area_refusal area.now)) 0 }
 {
     let number = area_check::refusal(area);
     if number != 0 {
@@ -172,7 +172,7 @@ fn refuse_place(area: &[u8]) -> u32
 // The next piece: its octets, and where the run stands after it. Refusals 1, 2, 13, 15, 16.
 pub fn advance(input: &[u8], area: &mut [u8], progress: &mut [u8], out: &mut [u8]) -> u32
     ensures { lent result area.new progress.new out.new
-        ≡ advancedLent input.now area.old progress.old out.old }
+        ≡ advanced_lent input.now area.old progress.old out.old }
 {
     if progress.len() < PROGRESS {
         return refuse_place(area);
@@ -186,7 +186,7 @@ pub fn advance(input: &[u8], area: &mut [u8], progress: &mut [u8], out: &mut [u8
 // The whole text of an input: its octets. Refusals 1, 15.
 pub fn print(input: &[u8], area: &mut [u8], out: &mut [u8]) -> u32
     ensures { left result area.new out.new
-        ≡ printLeft input.now area.old out.old }
+        ≡ print_left input.now area.old out.old }
 {
     let end = at_most(out.len(), 2147483647);
     let piece = report_whole::print(input, area, &mut out[0..end]);

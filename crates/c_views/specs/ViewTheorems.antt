@@ -6,28 +6,28 @@ use Rattle.std.specs.Prelude.{◌≡◌, refl, Bool, true, false, List, [], ◌�
 use Rattle.std.proofs.Common.{sym, inl, inr, arith, eqb-true, ltb-true, ltb-false}
 use Rattle.std.proofs.Math.Path.{ap}
 use Rattle.octets.specs.Base.{pick, accepted}
-use Rattle.octets.specs.BaseLaws.{by-test, refused_none}
+use Rattle.octets.specs.BaseLaws.{by_test, refused_none}
 use Rattle.sheet_layout.specs.declared.Tap.{Tap}
-use Rattle.sheet_layout.specs.Layout.{positionAt, fitsWell}
-use Rattle.sheet_layout.specs.Fit.{fitOf}
-use Rattle.sheet_layout.specs.Check.{refusalOf}
+use Rattle.sheet_layout.specs.Layout.{position_at, fits_well}
+use Rattle.sheet_layout.specs.Fit.{fit_of}
+use Rattle.sheet_layout.specs.Check.{refusal_of}
 use Rattle.sheet_layout.specs.CheckLaws.{sound}
-use Rattle.sheet_layout.specs.Limits.{maxPosition}
-use Rattle.sheet_read.specs.Sheet.{readSheet}
-use Rattle.sheet_read.specs.SheetTheorems.{read-passes, read-formed}
-use Rattle.sheet_fit.specs.Margin.{movedOut, outwardOf, marginOf}
-use Rattle.sheet_fit.specs.MarginLaws.{margin-made, margin-no}
-use Rattle.sheet_fit.specs.MarginTheorems.{margin-exact, margin-none}
+use Rattle.sheet_layout.specs.Limits.{max_position}
+use Rattle.sheet_read.specs.Sheet.{read_sheet}
+use Rattle.sheet_read.specs.SheetTheorems.{read_passes, read_formed}
+use Rattle.sheet_fit.specs.Margin.{moved_out, outward_of, margin_of}
+use Rattle.sheet_fit.specs.MarginLaws.{margin_made, margin_no}
+use Rattle.sheet_fit.specs.MarginTheorems.{margin_exact, margin_none}
 use Rattle.c_words.specs.Answers.{replied}
 use Rattle.c_calls.specs.Calls.{short}
 use Rattle.c_calls.specs.CallTheorems.{Keeps, checks, answers}
-use Rattle.c_views.specs.Views.{stationOut, stationRefusal, stationPut, stationGiven, noMargin, marginGiven}
+use Rattle.c_views.specs.Views.{station_out, station_refusal, station_put, station_given, no_margin, margin_given}
 
-pub station-keeps : (a : List ℕ) (i : ℕ) (out : List ℕ) → Keeps out (stationGiven a i out)
-unfolding stationGiven
-station-keeps a i out =
-    checks (stationRefusal a i) out _
-    (checks (short stationOut out) out _ (answers 0 out (stationPut a i out) (omega arith)))
+pub station_keeps : (a : List ℕ) (i : ℕ) (out : List ℕ) → Keeps out (station_given a i out)
+unfolding station_given
+station_keeps a i out =
+    checks (station_refusal a i) out _
+    (checks (short station_out out) out _ (answers 0 out (station_put a i out) (omega arith)))
 
 -- ---- the margin
 
@@ -37,64 +37,64 @@ past_end [] i t h = refl
 past_end (x ∷ ts) zero t h = absurd (omega arith)
 past_end (x ∷ ts) (suc i) t h = past_end ts i t (omega arith)
 
-module _ (l : List ℕ) (n : ℕ) (read : (readSheet l).answer ≡ accepted (n ∷ [])) where
+module _ (l : List ℕ) (n : ℕ) (read : (read_sheet l).answer ≡ accepted (n ∷ [])) where
   -- every station has a place: its address is six octets
-  read-room : (readSheet l).layout.count ≤ length (readSheet l).layout.stations
-  read-room =
-      let y = (readSheet l).layout in
-      let w = sound y (read-passes l n read) in
-      by-test (ltb (length y.stations) y.count)
-      (λ p. absurd (let h = read-formed l n read (y.count - 1) (omega (arith, w.count)) in
+  read_room : (read_sheet l).layout.count ≤ length (read_sheet l).layout.stations
+  read_room =
+      let y = (read_sheet l).layout in
+      let w = sound y (read_passes l n read) in
+      by_test (ltb (length y.stations) y.count)
+      (λ p. absurd (let h = read_formed l n read (y.count - 1) (omega (arith, w.count)) in
       let e = past_end y.stations (y.count - 1) (record { position = 0; address = [] })
       (omega (arith, ltb-true (length y.stations) y.count p)) in
       omega (arith, h, ap (λ (t : Tap). length t.address) e)))
       (λ p. ltb-false (length y.stations) y.count p)
 
   -- what the call returns where there is a margin, and where there is none
-  given-some : (k : ℕ) → marginOf (readSheet l).layout ≡ accepted (k ∷ []) → marginGiven l ≡ k
-  unfolding marginGiven replied
-  given-some k e = rw (read, e)
+  given_some : (k : ℕ) → margin_of (read_sheet l).layout ≡ accepted (k ∷ []) → margin_given l ≡ k
+  unfolding margin_given replied
+  given_some k e = rw (read, e)
 
-  given-none : marginOf (readSheet l).layout ≡ accepted [] → marginGiven l ≡ noMargin
-  unfolding marginGiven replied
-  given-none e = rw (read, e)
+  given_none : margin_of (read_sheet l).layout ≡ accepted [] → margin_given l ≡ no_margin
+  unfolding margin_given replied
+  given_none e = rw (read, e)
 
-  fits-so : fitsWell (readSheet l).layout ≡ true
-      → marginOf (readSheet l).layout ≡ accepted (outwardOf (readSheet l).layout ∷ [])
-  fits-so h = sym (margin-made (readSheet l).layout 0 true _ (sym (read-passes l n read)) refl (sym h) refl refl)
+  fits_so : fits_well (read_sheet l).layout ≡ true
+      → margin_of (read_sheet l).layout ≡ accepted (outward_of (read_sheet l).layout ∷ [])
+  fits_so h = sym (margin_made (read_sheet l).layout 0 true _ (sym (read_passes l n read)) refl (sym h) refl refl)
 
-  not_so : fitsWell (readSheet l).layout ≡ false → marginOf (readSheet l).layout ≡ accepted []
-  not_so h = sym (margin-no (readSheet l).layout 0 false (sym (read-passes l n read)) refl (sym h) refl)
+  not_so : fits_well (read_sheet l).layout ≡ false → margin_of (read_sheet l).layout ≡ accepted []
+  not_so h = sym (margin_no (read_sheet l).layout 0 false (sym (read_passes l n read)) refl (sym h) refl)
 
   -- the last of two or more taps is not at 0
-  outward-low : outwardOf (readSheet l).layout < maxPosition
-  unfolding outwardOf
-  outward-low =
-      let y = (readSheet l).layout in
-      let w = sound y (read-passes l n read) in
+  outward_low : outward_of (read_sheet l).layout < max_position
+  unfolding outward_of
+  outward_low =
+      let y = (read_sheet l).layout in
+      let w = sound y (read_passes l n read) in
       let e : suc (y.count - 2) ≡ y.count - 1 = omega (arith, w.count) in
-      omega (arith, w.rising (y.count - 2) (omega (arith, w.count)), ap (positionAt y) e)
+      omega (arith, w.rising (y.count - 2) (omega (arith, w.count)), ap (position_at y) e)
 
-  pub margin-within : (marginGiven l < maxPosition) ⊎ (marginGiven l ≡ noMargin)
-  margin-within =
-      by-test (fitsWell (readSheet l).layout)
-      (λ h. inl (let e = given-some _ (fits-so h) in omega (arith, e, outward-low)))
-      (λ h. inr (given-none (not_so h)))
+  pub margin_within : (margin_given l < max_position) ⊎ (margin_given l ≡ no_margin)
+  margin_within =
+      by_test (fits_well (read_sheet l).layout)
+      (λ h. inl (let e = given_some _ (fits_so h) in omega (arith, e, outward_low)))
+      (λ h. inr (given_none (not_so h)))
 
   -- it fits exactly up to there
-  pub margin-up-to : marginGiven l < noMargin → (d : ℕ)
-      → (d ≤ marginGiven l → fitOf (movedOut (readSheet l).layout d) ≡ accepted (1 ∷ []))
-      × (fitOf (movedOut (readSheet l).layout d) ≡ accepted (1 ∷ []) → d ≤ marginGiven l)
-  margin-up-to g d =
-      by-test (fitsWell (readSheet l).layout)
-      (λ h. let e = given-some _ (fits-so h) in
-      rw e (margin-exact (readSheet l).layout read-room (outwardOf (readSheet l).layout) (fits-so h) d))
-      (λ h. absurd (let e = given-none (not_so h) in omega (arith, e)))
+  pub margin_up_to : margin_given l < no_margin → (d : ℕ)
+      → (d ≤ margin_given l → fit_of (moved_out (read_sheet l).layout d) ≡ accepted (1 ∷ []))
+      × (fit_of (moved_out (read_sheet l).layout d) ≡ accepted (1 ∷ []) → d ≤ margin_given l)
+  margin_up_to g d =
+      by_test (fits_well (read_sheet l).layout)
+      (λ h. let e = given_some _ (fits_so h) in
+      rw e (margin_exact (read_sheet l).layout read_room (outward_of (read_sheet l).layout) (fits_so h) d))
+      (λ h. absurd (let e = given_none (not_so h) in omega (arith, e)))
 
   -- it fits with no move outward
-  pub margin-nowhere : marginGiven l ≡ noMargin → (d : ℕ)
-      → fitOf (movedOut (readSheet l).layout d) ≡ accepted (1 ∷ []) → ⊥
-  margin-nowhere g d =
-      by-test (fitsWell (readSheet l).layout)
-      (λ h. absurd (let e = given-some _ (fits-so h) in omega (arith, e, outward-low)))
-      (λ h. margin-none (readSheet l).layout read-room (not_so h) d)
+  pub margin_nowhere : margin_given l ≡ no_margin → (d : ℕ)
+      → fit_of (moved_out (read_sheet l).layout d) ≡ accepted (1 ∷ []) → ⊥
+  margin_nowhere g d =
+      by_test (fits_well (read_sheet l).layout)
+      (λ h. absurd (let e = given_some _ (fits_so h) in omega (arith, e, outward_low)))
+      (λ h. margin_none (read_sheet l).layout read_room (not_so h) d)

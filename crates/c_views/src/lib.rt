@@ -3,13 +3,13 @@
 
 ghost use Rattle.std.specs.Prelude.{◌≡◌, ◌<◌, ◌≤◌, length, get_or};
 ghost use Rattle.octets.specs.Base.{number_of, values_of};
-ghost use Rattle.sheet_layout.specs.Limits.{maxStations};
-ghost use Rattle.sheet_fit.specs.Margin.{marginAnswer};
-ghost use Rattle.area.specs.Area.{heardCode};
-ghost use Rattle.area.specs.Offsets.{areaSize};
+ghost use Rattle.sheet_layout.specs.Limits.{max_stations};
+ghost use Rattle.sheet_fit.specs.Margin.{margin_answer};
+ghost use Rattle.area.specs.Area.{heard_code};
+ghost use Rattle.area.specs.Offsets.{area_size};
 ghost use Rattle.c_calls.specs.Calls.{given};
-ghost use Rattle.c_views.specs.Views.{stationOut, stationRefusal, stationPut, stationGiven};
-ghost use Rattle.c_views.specs.Views.{noMargin, marginGiven};
+ghost use Rattle.c_views.specs.Views.{station_out, station_refusal, station_put, station_given};
+ghost use Rattle.c_views.specs.Views.{no_margin, margin_given};
 
 use sheet_fit::MarginAnswer;
 use station_symbols::Heard;
@@ -21,7 +21,7 @@ pub const NO_MARGIN: u32 = 256;
 
 // The refusal of a look at a station, 1, 2 or 10, or 0.
 fn station_refusal(area: &[u8], station: u32) -> u32
-    ensures { result ≡ stationRefusal area.now station }
+    ensures { result ≡ station_refusal area.now station }
 {
     let number = area_check::refusal(area);
     if number != 0 {
@@ -35,7 +35,7 @@ fn station_refusal(area: &[u8], station: u32) -> u32
 
 // The code of what is heard.
 fn heard_code(h: Heard) -> u32
-    ensures { result ≡ heardCode h }
+    ensures { result ≡ heard_code h }
 {
     match h {
         Heard::Nothing => 0,
@@ -46,8 +46,8 @@ fn heard_code(h: Heard) -> u32
 
 // The record of station i, what it hears in the next step, and the clock.
 fn write_station(area: &[u8], i: usize, out: &mut [u8])
-    requires { (i < maxStations) × (areaSize ≤ length area.now) × (stationOut ≤ length out.old) }
-    ensures { out.new ≡ stationPut area.now i out.old }
+    requires { (i < max_stations) × (area_size ≤ length area.now) × (station_out ≤ length out.old) }
+    ensures { out.new ≡ station_put area.now i out.old }
 {
     let s = area::read_station(area, i);
     let words = area_record::encode(s);
@@ -60,7 +60,7 @@ fn write_station(area: &[u8], i: usize, out: &mut [u8])
 
 // The state of a station: 0. Refusals 1, 2, 10, 15.
 pub fn station(area: &[u8], station: u32, out: &mut [u8]) -> u32
-    ensures { given result out.new ≡ stationGiven area.now station out.old }
+    ensures { given result out.new ≡ station_given area.now station out.old }
 {
     let number = station_refusal(area, station);
     if number != 0 {
@@ -74,7 +74,7 @@ pub fn station(area: &[u8], station: u32, out: &mut [u8]) -> u32
 }
 
 fn margin_number(m: MarginAnswer) -> u32
-    ensures { result ≡ number_of (marginAnswer m) }
+    ensures { result ≡ number_of (margin_answer m) }
 {
     match m {
         MarginAnswer::Refused(n) => n,
@@ -85,7 +85,7 @@ fn margin_number(m: MarginAnswer) -> u32
 
 // The bit times, or 256.
 fn margin_value(m: MarginAnswer) -> u32
-    ensures { result ≡ get_or (values_of (marginAnswer m)) 0 noMargin }
+    ensures { result ≡ get_or (values_of (margin_answer m)) 0 no_margin }
 {
     match m {
         MarginAnswer::Refused(_) => NO_MARGIN,
@@ -97,7 +97,7 @@ fn margin_value(m: MarginAnswer) -> u32
 // How far the last tap of a sheet may move outward so that its layout still fits: so many bit times, or 256 where it
 // does not fit. Refusals 3 to 8.
 pub fn margin(sheet: &[u8]) -> u32
-    ensures { result ≡ marginGiven sheet.now }
+    ensures { result ≡ margin_given sheet.now }
 {
     let front = sheet_read::read_sheet(sheet);
     let read = front.read;

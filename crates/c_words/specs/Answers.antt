@@ -4,54 +4,54 @@ use Rattle.std.specs.Prelude.{ℕ, ◌+◌, ◌*◌, ◌-◌, List, [], ◌∷�
 use Rattle.std.proofs.lemmas.List.Edits.{sets}
 use Rattle.octets.specs.Base.{pick, Answer, values_of}
 use Rattle.octets.specs.Number.{put}
-use Rattle.octets.specs.Words.{putWords}
+use Rattle.octets.specs.Words.{put_words}
 use Rattle.octets.specs.Turns.{turns}
 use Rattle.sheet_layout.specs.declared.Layout.{Layout}
 use Rattle.sheet_layout.specs.declared.Tap.{Tap}
-use Rattle.sheet_layout.specs.Fit.{fitOf}
+use Rattle.sheet_layout.specs.Fit.{fit_of}
 use Rattle.station_spec.specs.declared.ReceiveEvent.{ReceiveEvent}
 use Rattle.station_spec.specs.declared.ReceiveEvent.TheVariants.{NoReceive, GotOk, GotTooLong, GotAlignment}
 use Rattle.station_spec.specs.declared.ReceiveEvent.TheVariants.{GotCheck, GotLength}
 use Rattle.station_spec.specs.declared.TransmitEvent.{TransmitEvent}
 use Rattle.station_spec.specs.declared.TransmitEvent.TheVariants.{NoTransmit, Collision, Late, Sent, GivenUp}
 use Rattle.station_spec.specs.declared.TransmitEvent.TheVariants.{LateEnded}
-use Rattle.bus_start.specs.Fresh.{tapIn}
+use Rattle.bus_start.specs.Fresh.{tap_in}
 use Rattle.bus_spec.specs.declared.Events.{Events}
-use Rattle.bus_spec.specs.BitTime.{eventAt}
-use Rattle.station_tally.specs.Words.{transmitWord, transmitValue, receiveWord, receiveValue, lastTransmit, wordCount}
-use Rattle.station_state.specs.State.{counterCount}
-use Rattle.sheet_layout.specs.Limits.{maxStations}
+use Rattle.bus_spec.specs.BitTime.{event_at}
+use Rattle.station_tally.specs.Words.{transmit_word, transmit_value, receive_word, receive_value, last_transmit, word_count}
+use Rattle.station_state.specs.State.{counter_count}
+use Rattle.sheet_layout.specs.Limits.{max_stations}
 
 -- ---- the octets of the outputs
 
 -- a layout: eight words, the sixteen places, and the late-end field
-abbrev pub sheetOut : ℕ
-sheetOut = 196
+abbrev pub sheet_out : ℕ
+sheet_out = 196
 
 -- what a run input says: its layout, and six words
-abbrev pub planOut : ℕ
-planOut = sheetOut + 24
+abbrev pub plan_out : ℕ
+plan_out = sheet_out + 24
 
 -- a run: its event words, and three words of how it ended
-abbrev pub runOut : ℕ
-runOut = 4 * wordCount + 12
+abbrev pub run_out : ℕ
+run_out = 4 * word_count + 12
 
-abbrev pub countersOut : ℕ
-countersOut = 4 * counterCount
+abbrev pub counters_out : ℕ
+counters_out = 4 * counter_count
 
 -- ---- the number that a call returns
 
 -- bit 31, set in a refusal
-abbrev pub refusalBit : ℕ
-refusalBit = 2147483648
+abbrev pub refusal_bit : ℕ
+refusal_bit = 2147483648
 
 -- the highest number of a refusal
-abbrev pub maxRefusal : ℕ
-maxRefusal = 21
+abbrev pub max_refusal : ℕ
+max_refusal = 21
 
 -- refusal n, or where n is 0 the value
 unfoldable pub replied : (n value : ℕ) → ℕ
-replied n v = pick (eqb n 0) v (refusalBit + n)
+replied n v = pick (eqb n 0) v (refusal_bit + n)
 
 -- the first value of an answer, 0 where it has none
 abbrev pub value_of : Answer → ℕ
@@ -60,8 +60,8 @@ value_of r = get_or (values_of r) 0 0
 -- ---- a layout
 
 -- slot, gap1, gap2, jam, attempt limit, backoff limit, N, and 1 where the layout fits or 0
-unfoldable pub layoutWords : Layout → List ℕ
-layoutWords y =
+unfoldable pub layout_words : Layout → List ℕ
+layout_words y =
     y.figures.slot
     ∷ y.figures.gap1
     ∷ y.figures.gap2
@@ -69,37 +69,37 @@ layoutWords y =
     ∷ y.figures.limit
     ∷ y.figures.backoff
     ∷ y.count
-    ∷ value_of (fitOf y)
+    ∷ value_of (fit_of y)
     ∷ []
 
 -- place i: a station's position, 4 octets, and its address, 6
-unfoldable pub tapPut : (position : ℕ) (address : List ℕ) (i : ℕ) → List ℕ → List ℕ
-tapPut p d i out = sets (put 4 out (32 + 10 * i) p) (36 + 10 * i) d
+unfoldable pub tap_put : (position : ℕ) (address : List ℕ) (i : ℕ) → List ℕ → List ℕ
+tap_put p d i out = sets (put 4 out (32 + 10 * i) p) (36 + 10 * i) d
 
 -- the first n places
-unfoldable pub tapsPut : List Tap → ℕ → List ℕ → List ℕ
-tapsPut ts n out = turns (λ i x. tapPut (tapIn ts i).position (tapIn ts i).address i x) n out
+unfoldable pub taps_put : List Tap → ℕ → List ℕ → List ℕ
+taps_put ts n out = turns (λ i x. tap_put (tap_in ts i).position (tap_in ts i).address i x) n out
 
 -- the eight words, after them the sixteen places, and last the late-end field
-unfoldable pub layoutPut : Layout → List ℕ → List ℕ
-layoutPut y out = put 4 (tapsPut y.stations maxStations (putWords 8 out 0 (layoutWords y))) 192 y.figures.ends
+unfoldable pub layout_put : Layout → List ℕ → List ℕ
+layout_put y out = put 4 (taps_put y.stations max_stations (put_words 8 out 0 (layout_words y))) 192 y.figures.ends
 
 -- ---- client data
 
 -- where the client data begin in the frame, and how many octets they are; 0 and 0 but with receiveOK
-unfoldable pub clientWords : Answer → List ℕ
-clientWords r = pick (eqb (value_of r) 5) 14 0 ∷ get_or (values_of r) 1 0 ∷ []
+unfoldable pub client_words : Answer → List ℕ
+client_words r = pick (eqb (value_of r) 5) 14 0 ∷ get_or (values_of r) 1 0 ∷ []
 
 -- ---- events
 
 -- the code of a receive event: its place among theirs
-abbrev pub gotCode : ReceiveEvent → ℕ
-gotCode e = receiveWord e - lastTransmit
+abbrev pub got_code : ReceiveEvent → ℕ
+got_code e = receive_word e - last_transmit
 
 -- "transmit comes before receive"
-unfoldable pub eventWords : Events → List ℕ
-eventWords e = transmitWord e.sent ∷ transmitValue e.sent ∷ gotCode e.got ∷ receiveValue e.got ∷ []
+unfoldable pub event_words : Events → List ℕ
+event_words e = transmit_word e.sent ∷ transmit_value e.sent ∷ got_code e.got ∷ receive_value e.got ∷ []
 
 -- the first n stations' events, four words each
-unfoldable pub eventsPut : List Events → ℕ → List ℕ → List ℕ
-eventsPut es n out = turns (λ i x. putWords 4 x (16 * i) (eventWords (eventAt es i))) n out
+unfoldable pub events_put : List Events → ℕ → List ℕ → List ℕ
+events_put es n out = turns (λ i x. put_words 4 x (16 * i) (event_words (event_at es i))) n out

@@ -2,12 +2,12 @@
 
 ghost use Rattle.std.specs.Prelude.{◌≡◌, ◌<◌, ◌≤◌, get_or};
 ghost use Rattle.octets.specs.Number.{spelled};
-ghost use Rattle.sheet_layout.specs.Fit.{fitAnswer};
-ghost use Rattle.sheet_read.specs.Sheet.{sheetAnswer};
-ghost use Rattle.frame_build.specs.Build.{builtAnswer};
-ghost use Rattle.frame_open.specs.Open.{statusAnswer};
-ghost use Rattle.octets.specs.Base.{doneAnswer, number_of, values_of};
-ghost use Rattle.c_words.specs.Answers.{replied, value_of, clientWords, gotCode, eventWords, maxRefusal};
+ghost use Rattle.sheet_layout.specs.Fit.{fit_answer};
+ghost use Rattle.sheet_read.specs.Sheet.{sheet_answer};
+ghost use Rattle.frame_build.specs.Build.{built_answer};
+ghost use Rattle.frame_open.specs.Open.{status_answer};
+ghost use Rattle.octets.specs.Base.{done_answer, number_of, values_of};
+ghost use Rattle.c_words.specs.Answers.{replied, value_of, client_words, got_code, event_words, max_refusal};
 
 use bus_spec::Events;
 use frame_build::builder::Built;
@@ -22,7 +22,7 @@ const REFUSAL: u32 = 0x8000_0000;
 
 // What a call returns: the refusal's number with bit 31, or with none the value.
 pub fn reply(number: u32, value: u32) -> u32
-    requires { number ≤ maxRefusal }
+    requires { number ≤ max_refusal }
     ensures { result ≡ replied number value }
 {
     if number == 0 {
@@ -46,7 +46,7 @@ pub fn address(x: u64) -> [u8; 6]
 }
 
 pub fn done_number(d: Done) -> u32
-    ensures { result ≡ number_of (doneAnswer d) }
+    ensures { result ≡ number_of (done_answer d) }
 {
     match d {
         Done::Refused(n) => n,
@@ -55,7 +55,7 @@ pub fn done_number(d: Done) -> u32
 }
 
 pub fn sheet_number(s: SheetRead) -> u32
-    ensures { result ≡ number_of (sheetAnswer s) }
+    ensures { result ≡ number_of (sheet_answer s) }
 {
     match s {
         SheetRead::Refused(n) => n,
@@ -65,8 +65,8 @@ pub fn sheet_number(s: SheetRead) -> u32
 
 // The octets that the sheet used.
 pub fn sheet_size(s: SheetRead) -> u32
-    requires { value_of (sheetAnswer s) < 4294967296 }
-    ensures { result ≡ value_of (sheetAnswer s) }
+    requires { value_of (sheet_answer s) < 4294967296 }
+    ensures { result ≡ value_of (sheet_answer s) }
 {
     match s {
         SheetRead::Refused(_) => 0,
@@ -75,7 +75,7 @@ pub fn sheet_size(s: SheetRead) -> u32
 }
 
 pub fn fit_number(f: Fit) -> u32
-    ensures { result ≡ number_of (fitAnswer f) }
+    ensures { result ≡ number_of (fit_answer f) }
 {
     match f {
         Fit::Refused(n) => n,
@@ -86,7 +86,7 @@ pub fn fit_number(f: Fit) -> u32
 
 // 1 where the layout fits, else 0.
 pub fn fit_value(f: Fit) -> u32
-    ensures { result ≡ value_of (fitAnswer f) }
+    ensures { result ≡ value_of (fit_answer f) }
 {
     match f {
         Fit::Refused(_) => 0,
@@ -96,7 +96,7 @@ pub fn fit_value(f: Fit) -> u32
 }
 
 pub fn built_number(b: Built) -> u32
-    ensures { result ≡ number_of (builtAnswer b) }
+    ensures { result ≡ number_of (built_answer b) }
 {
     match b {
         Built::Refused(n) => n,
@@ -106,8 +106,8 @@ pub fn built_number(b: Built) -> u32
 
 // The octets of the frame.
 pub fn built_size(b: Built) -> u32
-    requires { value_of (builtAnswer b) < 4294967296 }
-    ensures { result ≡ value_of (builtAnswer b) }
+    requires { value_of (built_answer b) < 4294967296 }
+    ensures { result ≡ value_of (built_answer b) }
 {
     match b {
         Built::Refused(_) => 0,
@@ -116,7 +116,7 @@ pub fn built_size(b: Built) -> u32
 }
 
 pub fn status_number(s: ReceiveStatus) -> u32
-    ensures { result ≡ number_of (statusAnswer s) }
+    ensures { result ≡ number_of (status_answer s) }
 {
     match s {
         ReceiveStatus::Refused(n) => n,
@@ -131,7 +131,7 @@ pub fn status_number(s: ReceiveStatus) -> u32
 
 // The status's number.
 pub fn status_value(s: ReceiveStatus) -> u32
-    ensures { result ≡ value_of (statusAnswer s) }
+    ensures { result ≡ value_of (status_answer s) }
 {
     match s {
         ReceiveStatus::Refused(_) => 0,
@@ -146,8 +146,8 @@ pub fn status_value(s: ReceiveStatus) -> u32
 
 // Where the client data begin, and their octets.
 pub fn status_words(s: ReceiveStatus) -> [u32; 2]
-    requires { get_or (values_of (statusAnswer s)) 1 0 < 4294967296 }
-    ensures { result ≡ clientWords (statusAnswer s) }
+    requires { get_or (values_of (status_answer s)) 1 0 < 4294967296 }
+    ensures { result ≡ client_words (status_answer s) }
 {
     match s {
         ReceiveStatus::Refused(_) => [0, 0],
@@ -162,7 +162,7 @@ pub fn status_words(s: ReceiveStatus) -> [u32; 2]
 
 // The code of a receive event: its place among theirs.
 fn got_code(e: ReceiveEvent) -> u32
-    ensures { result ≡ gotCode e }
+    ensures { result ≡ got_code e }
 {
     let w = station_tally::receive_word(e);
     if w <= station_tally::LAST_TRANSMIT {
@@ -173,7 +173,7 @@ fn got_code(e: ReceiveEvent) -> u32
 
 // A station's events as four words: transmit event and its number, receive event and its number.
 pub fn event_words(e: Events) -> [u32; 4]
-    ensures { result ≡ eventWords e }
+    ensures { result ≡ event_words e }
 {
     let sent = e.sent;
     let got = e.got;

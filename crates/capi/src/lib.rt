@@ -4,20 +4,20 @@
 // octet first; octets past what is written stay.
 
 ghost use Rattle.std.specs.Prelude.{◌≡◌, ◌<◌};
-ghost use Rattle.frame_crc.specs.Crc.{crcOf};
-ghost use Rattle.c_calls.specs.Calls.{given, left, sheetGiven, fitsGiven, buildGiven, statusGiven, clientGiven};
-ghost use Rattle.c_calls.specs.Calls.{startGiven, offerGiven, stepLeft, runLeft, frameGiven, countersGiven};
-ghost use Rattle.c_checks.specs.CheckCalls.{receptionGiven, areaGiven, layoutGiven, planGiven, writeGiven};
-ghost use Rattle.c_log.specs.LogCalls.{windowsGiven};
-ghost use Rattle.c_look.specs.LookCalls.{lookLeft};
-ghost use Rattle.c_views.specs.Views.{stationGiven, marginGiven};
-ghost use Rattle.c_marks.specs.MarkCalls.{markGiven, returnGiven, dropGiven};
-ghost use Rattle.c_text.specs.TextCalls.{lent, begunLent, advancedLent, printLeft};
+ghost use Rattle.frame_crc.specs.Crc.{crc_of};
+ghost use Rattle.c_calls.specs.Calls.{given, left, sheet_given, fits_given, build_given, status_given, client_given};
+ghost use Rattle.c_calls.specs.Calls.{start_given, offer_given, step_left, run_left, frame_given, counters_given};
+ghost use Rattle.c_checks.specs.CheckCalls.{reception_given, area_given, layout_given, plan_given, write_given};
+ghost use Rattle.c_log.specs.LogCalls.{windows_given};
+ghost use Rattle.c_look.specs.LookCalls.{look_left};
+ghost use Rattle.c_views.specs.Views.{station_given, margin_given};
+ghost use Rattle.c_marks.specs.MarkCalls.{mark_given, return_given, drop_given};
+ghost use Rattle.c_text.specs.TextCalls.{lent, begun_lent, advanced_lent, print_left};
 
 // Reads a sheet: the octets used. Refusals 3 to 8, 15.
 #[unsafe(no_mangle)]
 pub extern "C" fn wisavulome_read_sheet(sheet: &[u8], out: &mut [u8]) -> u32
-    ensures { given result out.new ≡ sheetGiven sheet.now out.old }
+    ensures { given result out.new ≡ sheet_given sheet.now out.old }
 {
     c_calls::read_sheet(sheet, out)
 }
@@ -25,7 +25,7 @@ pub extern "C" fn wisavulome_read_sheet(sheet: &[u8], out: &mut [u8]) -> u32
 // Whether the layout of a sheet fits: 1 or 0. Refusals 3 to 8.
 #[unsafe(no_mangle)]
 pub extern "C" fn wisavulome_fits(sheet: &[u8]) -> u32
-    ensures { result ≡ fitsGiven sheet.now }
+    ensures { result ≡ fits_given sheet.now }
 {
     c_calls::fits(sheet)
 }
@@ -34,7 +34,7 @@ pub extern "C" fn wisavulome_fits(sheet: &[u8]) -> u32
 // does not fit. Refusals 3 to 8.
 #[unsafe(no_mangle)]
 pub extern "C" fn wisavulome_margin(sheet: &[u8]) -> u32
-    ensures { result ≡ marginGiven sheet.now }
+    ensures { result ≡ margin_given sheet.now }
 {
     c_views::margin(sheet)
 }
@@ -42,7 +42,7 @@ pub extern "C" fn wisavulome_margin(sheet: &[u8]) -> u32
 // Checks a layout, as `wisavulome_read_sheet` writes one: 0. Refusals 3, 5 to 8.
 #[unsafe(no_mangle)]
 pub extern "C" fn wisavulome_check_layout(layout: &[u8]) -> u32
-    ensures { result ≡ layoutGiven layout.now }
+    ensures { result ≡ layout_given layout.now }
 {
     c_checks::check_layout(layout)
 }
@@ -50,7 +50,7 @@ pub extern "C" fn wisavulome_check_layout(layout: &[u8]) -> u32
 // Reads a run input: 0. Refusals 3 to 9, 13, 15, 16.
 #[unsafe(no_mangle)]
 pub extern "C" fn wisavulome_read_plan(input: &[u8], out: &mut [u8]) -> u32
-    ensures { given result out.new ≡ planGiven input.now out.old }
+    ensures { given result out.new ≡ plan_given input.now out.old }
 {
     c_checks::read_plan(input, out)
 }
@@ -58,7 +58,7 @@ pub extern "C" fn wisavulome_read_plan(input: &[u8], out: &mut [u8]) -> u32
 // Writes the shortest sheet that reads as this one: its octets. Refusals 3 to 8, 15.
 #[unsafe(no_mangle)]
 pub extern "C" fn wisavulome_write_sheet(sheet: &[u8], out: &mut [u8]) -> u32
-    ensures { given result out.new ≡ writeGiven sheet.now out.old }
+    ensures { given result out.new ≡ write_given sheet.now out.old }
 {
     c_checks::write_sheet(sheet, out)
 }
@@ -73,7 +73,7 @@ pub extern "C" fn wisavulome_build(
     out: &mut [u8],
 ) -> u32
     ensures { given result out.new
-        ≡ buildGiven destination source value payload.now out.old }
+        ≡ build_given destination source value payload.now out.old }
 {
     c_calls::build(destination, source, value, payload, out)
 }
@@ -81,7 +81,7 @@ pub extern "C" fn wisavulome_build(
 // The status of a frame's octets and excess bits: 0 to 5. Refusal 5.
 #[unsafe(no_mangle)]
 pub extern "C" fn wisavulome_status(frame: &[u8], excess: u32) -> u32
-    ensures { result ≡ statusGiven frame.now excess }
+    ensures { result ≡ status_given frame.now excess }
 {
     c_calls::status(frame, excess)
 }
@@ -89,7 +89,7 @@ pub extern "C" fn wisavulome_status(frame: &[u8], excess: u32) -> u32
 // The status of a reception, spoiled (not 0) or not: 0 to 5. Refusal 5.
 #[unsafe(no_mangle)]
 pub extern "C" fn wisavulome_reception_status(frame: &[u8], excess: u32, spoiled: u32) -> u32
-    ensures { result ≡ receptionGiven frame.now excess spoiled }
+    ensures { result ≡ reception_given frame.now excess spoiled }
 {
     c_checks::reception_status(frame, excess, spoiled)
 }
@@ -97,7 +97,7 @@ pub extern "C" fn wisavulome_reception_status(frame: &[u8], excess: u32, spoiled
 // The status, and where the client data lie. Refusals 5, 15.
 #[unsafe(no_mangle)]
 pub extern "C" fn wisavulome_client_data(frame: &[u8], excess: u32, out: &mut [u8]) -> u32
-    ensures { given result out.new ≡ clientGiven frame.now excess out.old }
+    ensures { given result out.new ≡ client_given frame.now excess out.old }
 {
     c_calls::client_data(frame, excess, out)
 }
@@ -106,7 +106,7 @@ pub extern "C" fn wisavulome_client_data(frame: &[u8], excess: u32, out: &mut [u
 #[unsafe(no_mangle)]
 pub extern "C" fn wisavulome_start(area: &mut [u8], sheet: &[u8], depth: u32, draws: &[u8]) -> u32
     ensures { given result area.new
-        ≡ startGiven area.old sheet.now depth draws.now }
+        ≡ start_given area.old sheet.now depth draws.now }
 {
     c_calls::start(area, sheet, depth, draws)
 }
@@ -114,7 +114,7 @@ pub extern "C" fn wisavulome_start(area: &mut [u8], sheet: &[u8], depth: u32, dr
 // Checks a work area: 0. Refusals 1, 2.
 #[unsafe(no_mangle)]
 pub extern "C" fn wisavulome_check_area(area: &[u8]) -> u32
-    ensures { result ≡ areaGiven area.now }
+    ensures { result ≡ area_given area.now }
 {
     c_checks::check_area(area)
 }
@@ -129,7 +129,7 @@ pub extern "C" fn wisavulome_offer(
     payload: &[u8],
 ) -> u32
     ensures { given result area.new
-        ≡ offerGiven area.old station destination value payload.now }
+        ≡ offer_given area.old station destination value payload.now }
 {
     c_calls::offer(area, station, destination, value, payload)
 }
@@ -137,7 +137,7 @@ pub extern "C" fn wisavulome_offer(
 // One bit time: 0, and the events of each station. Refusals 1, 2, 13, 15.
 #[unsafe(no_mangle)]
 pub extern "C" fn wisavulome_step(area: &mut [u8], out: &mut [u8]) -> u32
-    ensures { left result area.new out.new ≡ stepLeft area.old out.old }
+    ensures { left result area.new out.new ≡ step_left area.old out.old }
 {
     c_calls::step(area, out)
 }
@@ -145,7 +145,7 @@ pub extern "C" fn wisavulome_step(area: &mut [u8], out: &mut [u8]) -> u32
 // A run of n bit times: the steps made, and how many events of each word came. Refusals 1, 2, 13, 15.
 #[unsafe(no_mangle)]
 pub extern "C" fn wisavulome_run(area: &mut [u8], n: u32, out: &mut [u8]) -> u32
-    ensures { left result area.new out.new ≡ runLeft area.old n out.old }
+    ensures { left result area.new out.new ≡ run_left area.old n out.old }
 {
     if out.len() < c_words::RUN_OUT {
         return c_calls::refuse_short(area, n);
@@ -165,7 +165,7 @@ pub extern "C" fn wisavulome_run(area: &mut [u8], n: u32, out: &mut [u8]) -> u32
 // The same run, made step by step: the reference.
 #[unsafe(no_mangle)]
 pub extern "C" fn wisavulome_run_stepwise(area: &mut [u8], n: u32, out: &mut [u8]) -> u32
-    ensures { left result area.new out.new ≡ runLeft area.old n out.old }
+    ensures { left result area.new out.new ≡ run_left area.old n out.old }
 {
     if out.len() < c_words::RUN_OUT {
         return c_calls::refuse_short(area, n);
@@ -196,7 +196,7 @@ pub extern "C" fn wisavulome_look(
     out: &mut [u8],
 ) -> u32
     ensures { left result second.new out.new
-        ≡ lookLeft area.now second.old station destination value payload.now n
+        ≡ look_left area.now second.old station destination value payload.now n
         out.old }
 {
     c_look::look(area, second, station, destination, value, payload, n, out)
@@ -205,7 +205,7 @@ pub extern "C" fn wisavulome_look(
 // Reads the frame that a station received: its octets. Refusals 1, 2, 10, 14, 15.
 #[unsafe(no_mangle)]
 pub extern "C" fn wisavulome_read_frame(area: &[u8], station: u32, out: &mut [u8]) -> u32
-    ensures { given result out.new ≡ frameGiven area.now station out.old }
+    ensures { given result out.new ≡ frame_given area.now station out.old }
 {
     c_calls::read_frame(area, station, out)
 }
@@ -213,7 +213,7 @@ pub extern "C" fn wisavulome_read_frame(area: &[u8], station: u32, out: &mut [u8
 // The counters of a station: 0. Refusals 1, 2, 10, 15.
 #[unsafe(no_mangle)]
 pub extern "C" fn wisavulome_counters(area: &[u8], station: u32, out: &mut [u8]) -> u32
-    ensures { given result out.new ≡ countersGiven area.now station out.old }
+    ensures { given result out.new ≡ counters_given area.now station out.old }
 {
     c_calls::counters(area, station, out)
 }
@@ -221,7 +221,7 @@ pub extern "C" fn wisavulome_counters(area: &[u8], station: u32, out: &mut [u8])
 // The state of a station: 0. Refusals 1, 2, 10, 15.
 #[unsafe(no_mangle)]
 pub extern "C" fn wisavulome_station(area: &[u8], station: u32, out: &mut [u8]) -> u32
-    ensures { given result out.new ≡ stationGiven area.now station out.old }
+    ensures { given result out.new ≡ station_given area.now station out.old }
 {
     c_views::station(area, station, out)
 }
@@ -229,7 +229,7 @@ pub extern "C" fn wisavulome_station(area: &[u8], station: u32, out: &mut [u8]) 
 // Marks a work area under a name, in a store: 0. Refusals 1, 2, 15, 18.
 #[unsafe(no_mangle)]
 pub extern "C" fn wisavulome_mark(area: &[u8], store: &mut [u8], name: u64) -> u32
-    ensures { given result store.new ≡ markGiven area.now store.old name }
+    ensures { given result store.new ≡ mark_given area.now store.old name }
 {
     c_marks::mark(area, store, name)
 }
@@ -237,7 +237,7 @@ pub extern "C" fn wisavulome_mark(area: &[u8], store: &mut [u8], name: u64) -> u
 // Puts back the work area that is marked under a name: 0. Refusals 1, 15, 17, 2.
 #[unsafe(no_mangle)]
 pub extern "C" fn wisavulome_return(area: &mut [u8], store: &[u8], name: u64) -> u32
-    ensures { given result area.new ≡ returnGiven area.old store.now name }
+    ensures { given result area.new ≡ return_given area.old store.now name }
 {
     c_marks::go_back(area, store, name)
 }
@@ -245,7 +245,7 @@ pub extern "C" fn wisavulome_return(area: &mut [u8], store: &[u8], name: u64) ->
 // Drops the mark of a name: 0. Refusals 15, 17.
 #[unsafe(no_mangle)]
 pub extern "C" fn wisavulome_drop(store: &mut [u8], name: u64) -> u32
-    ensures { given result store.new ≡ dropGiven store.old name }
+    ensures { given result store.new ≡ drop_given store.old name }
 {
     c_marks::drop_mark(store, name)
 }
@@ -259,7 +259,7 @@ pub extern "C" fn wisavulome_begin(
     out: &mut [u8],
 ) -> u32
     ensures { lent result area.new progress.new out.new
-        ≡ begunLent input.now area.old progress.old out.old }
+        ≡ begun_lent input.now area.old progress.old out.old }
 {
     c_text::begin(input, area, progress, out)
 }
@@ -273,7 +273,7 @@ pub extern "C" fn wisavulome_advance(
     out: &mut [u8],
 ) -> u32
     ensures { lent result area.new progress.new out.new
-        ≡ advancedLent input.now area.old progress.old out.old }
+        ≡ advanced_lent input.now area.old progress.old out.old }
 {
     c_text::advance(input, area, progress, out)
 }
@@ -282,7 +282,7 @@ pub extern "C" fn wisavulome_advance(
 #[unsafe(no_mangle)]
 pub extern "C" fn wisavulome_print(input: &[u8], area: &mut [u8], out: &mut [u8]) -> u32
     ensures { left result area.new out.new
-        ≡ printLeft input.now area.old out.old }
+        ≡ print_left input.now area.old out.old }
 {
     c_text::print(input, area, out)
 }
@@ -296,7 +296,7 @@ pub extern "C" fn wisavulome_windows(
     out: &mut [u32],
 ) -> u32
     ensures { given result out.new
-        ≡ windowsGiven log.now stations windows.now out.old }
+        ≡ windows_given log.now stations windows.now out.old }
 {
     c_log::windows(log, stations, windows, out)
 }
@@ -304,7 +304,7 @@ pub extern "C" fn wisavulome_windows(
 // The CRC-32 of the octets.
 #[unsafe(no_mangle)]
 pub extern "C" fn wisavulome_crc32(payload: &[u8]) -> u32
-    ensures { result ≡ crcOf payload.now }
+    ensures { result ≡ crc_of payload.now }
 {
     frame_crc::crc_of(payload)
 }

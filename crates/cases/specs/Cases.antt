@@ -6,19 +6,19 @@ use Rattle.octets.specs.Bits.{low_bits, bits_of, low_first, packed}
 use Rattle.octets.specs.Equal.{equal}
 use Rattle.octets.specs.Filled.{listed, filled}
 use Rattle.octets.specs.Number.{get, spelled}
-use Rattle.frame_crc.specs.Crc.{generator, add, complementFirst, remainder, dividend, crcBits, checkSequence}
-use Rattle.frame_build.specs.Limits.{maxData, maxFrame, refusesValue, refusesData}
+use Rattle.frame_crc.specs.Crc.{generator, add, complement_first, remainder, dividend, crc_bits, check_sequence}
+use Rattle.frame_build.specs.Limits.{max_data, max_frame, refuses_value, refuses_data}
 use Rattle.frame_build.specs.Build.{header, padded, covered, frame_of, built}
-use Rattle.frame_open.specs.Open.{destinationOf, value_of, dataField, checkWrong, checkError, lengthWrong, clientSize}
+use Rattle.frame_open.specs.Open.{destination_of, value_of, data_field, check_wrong, check_error, length_wrong, client_size}
 use Rattle.frame_open.specs.Open.{unpadded, opened}
 use Rattle.sheet_layout.specs.declared.Figures.{Figures}
-use Rattle.sheet_layout.specs.Layout.{tapAt, gap_of, span_of, fitsWell}
-use Rattle.sheet_layout.specs.Check.{gap1Out, figuresOut, addressWrong, refusalOf}
-use Rattle.sheet_layout.specs.Fit.{fitOf}
-use Rattle.sheet_read.specs.Sheet.{field_at, field, figuresIn, tapIn, layoutIn}
-use Rattle.station_spec.specs.Transmit.{afterBit, collision, backoffRange}
-use Rattle.station_spec.specs.Receive.{addressed, openAnswer, gotEvent, readableAfter, opening, decide}
-use Rattle.station_tally.specs.Words.{transmitWord, transmitValue, receiveWord, receiveValue, numbersOf}
+use Rattle.sheet_layout.specs.Layout.{tap_at, gap_of, span_of, fits_well}
+use Rattle.sheet_layout.specs.Check.{gap1_out, figures_out, address_wrong, refusal_of}
+use Rattle.sheet_layout.specs.Fit.{fit_of}
+use Rattle.sheet_read.specs.Sheet.{field_at, field, figures_in, tap_in, layout_in}
+use Rattle.station_spec.specs.Transmit.{after_bit, collision, backoff_range}
+use Rattle.station_spec.specs.Receive.{addressed, open_answer, got_event, readable_after, opening, decide}
+use Rattle.station_tally.specs.Words.{transmit_word, transmit_value, receive_word, receive_value, numbers_of}
 
 -- a sheet of two stations so far apart, behind a map and its fields
 sheet : List ℕ → ℕ → List ℕ
@@ -47,12 +47,12 @@ data Row : Type 0 where
 
 -- the answer in document 01's numbers; of an event its word's number and its values (station_spec/Events)
 answer : Row → Answer
-answer (fit fields span) = fitOf (layoutIn (sheet fields span))
-answer (range n) = accepted (backoffRange n figures.backoff ∷ [])
-answer (collide k) = let e = (collision figures k).event in accepted (numbersOf (transmitWord e) (transmitValue e))
+answer (fit fields span) = fit_of (layout_in (sheet fields span))
+answer (range n) = accepted (backoff_range n figures.backoff ∷ [])
+answer (collide k) = let e = (collision figures k).event in accepted (numbers_of (transmit_word e) (transmit_value e))
 answer (build v n) = (built (replicate 1522 0) (replicate 6 0) (replicate 6 0) v (replicate n 0)).answer
 answer (gather spoiled n) =
-    let e = (decide address buffer n spoiled false).event in accepted (numbersOf (receiveWord e) (receiveValue e))
+    let e = (decide address buffer n spoiled false).event in accepted (numbers_of (receive_word e) (receive_value e))
 
 rows :
     map answer
@@ -84,5 +84,5 @@ rows :
     ∷ accepted (0 ∷ []) ∷ accepted (6 ∷ 46 ∷ []) ∷ accepted (9 ∷ 64 ∷ [])
     -- P8: 519 bits, good check: receiveOK
     ∷ accepted (6 ∷ 46 ∷ []) ∷ []
-unfolding sheet figures address buffer answer some outside equal get spelled listed filled low_bits bits_of low_first packed generator add complementFirst remainder dividend crcBits checkSequence maxData maxFrame refusesValue refusesData header padded covered frame_of built destinationOf value_of dataField checkWrong checkError lengthWrong clientSize unpadded opened tapAt gap_of span_of fitsWell gap1Out figuresOut addressWrong refusalOf fitOf field_at field figuresIn tapIn layoutIn afterBit collision backoffRange addressed openAnswer gotEvent readableAfter opening decide xor
+unfolding sheet figures address buffer answer some outside equal get spelled listed filled low_bits bits_of low_first packed generator add complement_first remainder dividend crc_bits check_sequence max_data max_frame refuses_value refuses_data header padded covered frame_of built destination_of value_of data_field check_wrong check_error length_wrong client_size unpadded opened tap_at gap_of span_of fits_well gap1_out figures_out address_wrong refusal_of fit_of field_at field figures_in tap_in layout_in after_bit collision backoff_range addressed open_answer got_event readable_after opening decide xor
 rows = refl

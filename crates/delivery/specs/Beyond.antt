@@ -12,93 +12,93 @@ use Rattle.std.proofs.Math.ListN.{length, replicate}
 use Rattle.std.proofs.lemmas.List.{length-replicate}
 use Rattle.std.proofs.Math.Seq.{get_or-append_seam}
 use Rattle.octets.specs.Base.{accepted, number_of}
-use Rattle.octets.specs.BaseLaws.{by-eq, below_none, some-none, some-hit}
+use Rattle.octets.specs.BaseLaws.{by_eq, below_none, some_none, some_hit}
 use Rattle.octets.specs.NumberLaws.{Octets}
-use Rattle.frame_build.specs.Limits.{refusesData, refusesValue, maxData}
+use Rattle.frame_build.specs.Limits.{refuses_data, refuses_value, max_data}
 use Rattle.frame_build.specs.Build.{frame_of}
-use Rattle.frame_build.specs.BuildLaws.{frame-size}
+use Rattle.frame_build.specs.BuildLaws.{frame_size_lem}
 use Rattle.sheet_layout.specs.declared.Figures.{Figures}
 use Rattle.sheet_layout.specs.declared.Layout.{Layout}
 use Rattle.sheet_layout.specs.Layout as lay
-use Rattle.sheet_layout.specs.Check.{refusalOf}
+use Rattle.sheet_layout.specs.Check.{refusal_of}
 use Rattle.sheet_layout.specs.CheckLaws.{sound}
-use Rattle.sheet_layout.specs.Limits.{lastClock, maxPosition}
+use Rattle.sheet_layout.specs.Limits.{last_clock, max_position}
 use Rattle.station_state.specs.declared.Station.{Station}
 use Rattle.station_spec.specs.declared.TransmitEvent.{TransmitEvent}
 use Rattle.station_spec.specs.declared.TransmitEvent.TheVariants.{Late}
-use Rattle.station_spec.specs.Transmit.{closesFrame, packetLength}
-use Rattle.station_tally.specs.Words.{endsRun, wordCount}
-use Rattle.area.specs.Area.{clockAt, countAt, addressAt, stationAt, figuresAt}
-use Rattle.area_check.specs.Valid.{areaRefusal}
+use Rattle.station_spec.specs.Transmit.{closes_frame, packet_length}
+use Rattle.station_tally.specs.Words.{ends_run, word_count}
+use Rattle.area.specs.Area.{clock_at, count_at, address_at, station_at, figures_at}
+use Rattle.area_check.specs.Valid.{area_refusal}
 use Rattle.bus_spec.specs.declared.Events.{Events}
 use Rattle.bus_spec.specs.declared.course.Ended.TheVariants as how
-use Rattle.bus_spec.specs.BitTime.{eventsAt, eventAt}
-use Rattle.bus_spec.specs.Passes.{ready-passes}
-use Rattle.bus_spec.specs.Run.{tallied, lateAt, first, run_of, ran, stops}
-use Rattle.bus_spec.specs.RunLaws.{first-hit}
+use Rattle.bus_spec.specs.BitTime.{events_at, event_at}
+use Rattle.bus_spec.specs.Passes.{ready_passes}
+use Rattle.bus_spec.specs.Run.{tallied, late_at, first, run_of, ran, stops}
+use Rattle.bus_spec.specs.RunLaws.{first_hit}
 use Rattle.bus_offer.specs.Offer.{holds, offered}
 use Rattle.bus_start.specs.Fresh.{fresh}
 use Rattle.bus_start.specs.Start.{started}
-use Rattle.bus_step.specs.Step.{steppedOnce}
-use Rattle.sheet_read.specs.Sheet.{readSheet}
-use Rattle.sheet_read.specs.SheetTheorems.{read-formed, read-octets}
+use Rattle.bus_step.specs.Step.{stepped_once}
+use Rattle.sheet_read.specs.Sheet.{read_sheet}
+use Rattle.sheet_read.specs.SheetTheorems.{read_formed, read_octets}
 use Rattle.trace.specs.Basic.{by_le}
-use Rattle.trace.specs.Frames.{octets-replicate}
+use Rattle.trace.specs.Frames.{octets_replicate}
 use Rattle.trace.specs.World.{Offer, frame_for, ready}
 use Rattle.trace.specs.Run.{state, out_at}
 use Rattle.trace.specs.Run as exec
 use Rattle.trace.specs.Beyond as plan
 use Rattle.bus_meeting.specs.Net.{Net}
-use Rattle.delivery.specs.Calls.{Call, offer, step, run, FairOffer, Moment, next, accept, late, runEnd}
-use Rattle.delivery.specs.Calls.{made, leaves, log, end, begin, momentAt, sentAt}
-use Rattle.delivery.specs.Net.{netOf, spanAt, Proper, net-sound, ends-apart}
-use Rattle.delivery.specs.Passing.{by-start}
-use Rattle.delivery.specs.Traced.{Row, Traced, Known, known-begin, known_step, known-offer, put, put-else, put-now}
-use Rattle.delivery.specs.Traced.{sent-in, clock-is, end_none, end_on}
-use Rattle.delivery.specs.Theorem.{Fresh, fresh-known, not-late-event, no-station, run-answer}
+use Rattle.delivery.specs.Calls.{Call, offer, step, run, FairOffer, Moment, next, accept, late, run_end}
+use Rattle.delivery.specs.Calls.{made, leaves, log, end, begin, moment_at, sent_at}
+use Rattle.delivery.specs.Net.{net_of, span_at, Proper, net_sound, ends_apart}
+use Rattle.delivery.specs.Passing.{by_start}
+use Rattle.delivery.specs.Traced.{Row, Traced, Known, known_begin, known_step, known_offer, put, put_else, put_now}
+use Rattle.delivery.specs.Traced.{sent_in_lem, clock_is, end_none, end_on}
+use Rattle.delivery.specs.Theorem.{Fresh, fresh_known, not_late_event, no_station, run_answer}
 
 -- ---- the plan
 
 -- 1,500 octets of data under the type 0800 hexadecimal: 12,208 bits, more than any 2·S
-abbrev pub typeValue : ℕ
-typeValue = 2048
+abbrev pub type_value : ℕ
+type_value = 2048
 
 pub payload : List ℕ
 payload = replicate 1500 0
 
 -- what the calls are, for destinations d and e
-abbrev pub firstOffer : (d : List ℕ) → Call
-firstOffer d = offer 0 d typeValue payload
+abbrev pub first_offer : (d : List ℕ) → Call
+first_offer d = offer 0 d type_value payload
 
-abbrev pub lastOffer : Layout → (e : List ℕ) → Call
-lastOffer y e = offer (y.count - 1) e typeValue payload
+abbrev pub last_offer : Layout → (e : List ℕ) → Call
+last_offer y e = offer (y.count - 1) e type_value payload
 
 -- up to the second offer, by steps
 abbrev pub earlier : Layout → (d : List ℕ) → List Call
-earlier y d = firstOffer d ∷ replicate (lay.span_of y - 1) step
+earlier y d = first_offer d ∷ replicate (lay.span_of y - 1) step
 
 abbrev pub planned : Layout → (d e : List ℕ) → List Call
-planned y d e = earlier y d ++ (lastOffer y e ∷ replicate (lay.span_of y + 1) step)
+planned y d e = earlier y d ++ (last_offer y e ∷ replicate (lay.span_of y + 1) step)
 
 -- and the same by runs, up to the second one
-abbrev pub plannedRuns : Layout → (d e : List ℕ) → List Call
-plannedRuns y d e = firstOffer d ∷ run (lay.span_of y - 1) ∷ lastOffer y e ∷ []
+abbrev pub planned_runs : Layout → (d e : List ℕ) → List Call
+planned_runs y d e = first_offer d ∷ run (lay.span_of y - 1) ∷ last_offer y e ∷ []
 
 -- What it brings, from the area b that a fresh start on the layout y left: both offers are accepted, 2·S steps are made,
 -- and in the last of them the first station has a late collision at bit 2·S.
 pub record Collides (y : Layout) (b d e : List ℕ) : Type 0 where
-  pub first : (offered b 0 d typeValue payload).answer ≡ accepted []
-  pub last : (offered (end (earlier y d) (begin b)).area (y.count - 1) e typeValue payload).answer ≡ accepted []
+  pub first : (offered b 0 d type_value payload).answer ≡ accepted []
+  pub last : (offered (end (earlier y d) (begin b)).area (y.count - 1) e type_value payload).answer ≡ accepted []
   pub steps : length (log (planned y d e) (begin b)) ≡ 2 * lay.span_of y
-  pub late : sentAt (log (planned y d e) (begin b)) (2 * lay.span_of y - 1) 0
-      ≡ Late (2 * lay.span_of y) (closesFrame y.figures)
+  pub late : sent_at (log (planned y d e) (begin b)) (2 * lay.span_of y - 1) 0
+      ≡ Late (2 * lay.span_of y) (closes_frame y.figures)
   -- By runs the area before the last one is the same; with late-end 0 that run, of any length past S, ends early
   -- after the step of the collision: S steps before it, at station 0.
-  pub runs : end (plannedRuns y d e) (begin b) ≡ end (earlier y d ++ (lastOffer y e ∷ [])) (begin b)
-  pub ends : y.figures.ends ≡ 0 → (n : ℕ) → lay.span_of y < n → lay.span_of y - 1 + n ≤ lastClock
-      → ((ran (end (plannedRuns y d e) (begin b)).area n).answer ≡ accepted [])
-      × (((ran (end (plannedRuns y d e) (begin b)).area n).steps ≡ lay.span_of y + 1)
-      × ((ran (end (plannedRuns y d e) (begin b)).area n).ended ≡ how.Late (lay.span_of y) 0))
+  pub runs : end (planned_runs y d e) (begin b) ≡ end (earlier y d ++ (last_offer y e ∷ [])) (begin b)
+  pub ends : y.figures.ends ≡ 0 → (n : ℕ) → lay.span_of y < n → lay.span_of y - 1 + n ≤ last_clock
+      → ((ran (end (planned_runs y d e) (begin b)).area n).answer ≡ accepted [])
+      × (((ran (end (planned_runs y d e) (begin b)).area n).steps ≡ lay.span_of y + 1)
+      × ((ran (end (planned_runs y d e) (begin b)).area n).ended ≡ how.Late (lay.span_of y) 0))
 
 -- ---- steps and runs of known length
 
@@ -110,145 +110,145 @@ row_of : ℕ → Moment → List Moment
 row_of zero m = []
 row_of (suc k) m = m ∷ row_of k (next m)
 
-row-length : (k : ℕ) (m : Moment) → length (row_of k m) ≡ k
+row_length : (k : ℕ) (m : Moment) → length (row_of k m) ≡ k
 unfolding row_of
-row-length zero m = refl
-row-length (suc k) m = ap suc (row-length k (next m))
+row_length zero m = refl
+row_length (suc k) m = ap suc (row_length k (next m))
 
 row_last : (k : ℕ) (m : Moment) → row_of (suc k) m ≡ row_of k m ++ (nexts k m ∷ [])
 unfolding row_of nexts
 row_last zero m = refl
 row_last (suc k) m = ap (λ (l : List Moment). m ∷ l) (row_last k (next m))
 
-row_at : (k j : ℕ) (m : Moment) → j < k → momentAt (row_of k m) j ≡ nexts j m
+row_at : (k j : ℕ) (m : Moment) → j < k → moment_at (row_of k m) j ≡ nexts j m
 unfolding row_of nexts
 row_at zero j m h = absurd (omega arith)
 row_at (suc k) zero m h = refl
 row_at (suc k) (suc j) m h = row_at k j (next m) (omega arith)
 
 -- a step that is not refused
-step-made : (m : Moment) → areaRefusal m.area ≡ 0 → clockAt m.area < lastClock
+step_made : (m : Moment) → area_refusal m.area ≡ 0 → clock_at m.area < last_clock
     → (made step m ≡ m ∷ []) × (leaves step m ≡ next m)
-unfolding made leaves steppedOnce
-step-made m ok h =
-    rw (eq-eqb (areaRefusal m.area) 0 ok, le-ltb lastClock (clockAt m.area + 1) (omega arith)) (refl, refl)
+unfolding made leaves stepped_once
+step_made m ok h =
+    rw (eq-eqb (area_refusal m.area) 0 ok, le-ltb last_clock (clock_at m.area + 1) (omega arith)) (refl, refl)
 
 -- an offer that is accepted
-offer-made : (a : List ℕ) (i : ℕ) (d : List ℕ) (v : ℕ) (x : List ℕ) → areaRefusal a ≡ 0 → i < countAt a
-    → refusesData v (length x) ≡ false → holds (stationAt a i).transmitter ≡ false
+offer_made : (a : List ℕ) (i : ℕ) (d : List ℕ) (v : ℕ) (x : List ℕ) → area_refusal a ≡ 0 → i < count_at a
+    → refuses_data v (length x) ≡ false → holds (station_at a i).transmitter ≡ false
     → (offered a i d v x).answer ≡ accepted []
 unfolding offered
-offer-made a i d v x ok h g f = rw (eq-eqb (areaRefusal a) 0 ok, lt-leb (countAt a) i h, g, f)
+offer_made a i d v x ok h g f = rw (eq-eqb (area_refusal a) 0 ok, lt-leb (count_at a) i h, g, f)
 
-offer-leaves : (m : Moment) (i : ℕ) (d : List ℕ) (v : ℕ) (x : List ℕ) → (offered m.area i d v x).answer ≡ accepted []
-    → leaves (offer i d v x) m ≡ accept i (frame_of d (addressAt m.area i) v x) (offered m.area i d v x).octets m
+offer_leaves : (m : Moment) (i : ℕ) (d : List ℕ) (v : ℕ) (x : List ℕ) → (offered m.area i d v x).answer ≡ accepted []
+    → leaves (offer i d v x) m ≡ accept i (frame_of d (address_at m.area i) v x) (offered m.area i d v x).octets m
 unfolding leaves
-offer-leaves m i d v x e = rw e
+offer_leaves m i d v x e = rw e
 
-offer-log : (m : Moment) (i : ℕ) (d : List ℕ) (v : ℕ) (x : List ℕ) (cs : List Call)
+offer_log : (m : Moment) (i : ℕ) (d : List ℕ) (v : ℕ) (x : List ℕ) (cs : List Call)
     → log (offer i d v x ∷ cs) m ≡ log cs (leaves (offer i d v x) m)
 unfolding log made
-offer-log m i d v x cs = refl
+offer_log m i d v x cs = refl
 
-offer-end : (m : Moment) (c : Call) (cs : List Call) → end (c ∷ cs) m ≡ end cs (leaves c m)
+offer_end : (m : Moment) (c : Call) (cs : List Call) → end (c ∷ cs) m ≡ end cs (leaves c m)
 unfolding end
-offer-end m c cs = refl
+offer_end m c cs = refl
 
-end-nil : (m : Moment) → end [] m ≡ m
+end_nil : (m : Moment) → end [] m ≡ m
 unfolding end
-end-nil m = refl
+end_nil m = refl
 
-log-nil : (m : Moment) → log [] m ≡ []
+log_nil : (m : Moment) → log [] m ≡ []
 unfolding log
-log-nil m = refl
+log_nil m = refl
 
-log-step : (m : Moment) (cs : List Call) → log (step ∷ cs) m ≡ made step m ++ log cs (leaves step m)
+log_step : (m : Moment) (cs : List Call) → log (step ∷ cs) m ≡ made step m ++ log cs (leaves step m)
 unfolding log
-log-step m cs = refl
+log_step m cs = refl
 
 module _ (P : Net) (inp : ℕ → List (Offer P)) where
-  known-passes : (m : Moment) (T : List Moment) → Known P inp m T → areaRefusal m.area ≡ 0
-  known-passes m T v = ready-passes m.area v.traced.here.passing
+  known_passes : (m : Moment) (T : List Moment) → Known P inp m T → area_refusal m.area ≡ 0
+  known_passes m T v = ready_passes m.area v.traced.here.passing
 
-  known-early : (k : ℕ) (m : Moment) (T : List Moment) → Known P inp m T → length T + suc k ≤ lastClock
-      → clockAt m.area < lastClock
-  known-early k m T v h = omega (arith, clock-is P m T v.traced)
+  known_early : (k : ℕ) (m : Moment) (T : List Moment) → Known P inp m T → length T + suc k ≤ last_clock
+      → clock_at m.area < last_clock
+  known_early k m T v h = omega (arith, clock_is P m T v.traced)
 
   longer : (m : Moment) (T : List Moment) → length (T ++ (m ∷ [])) ≡ suc (length T)
   longer m T = length-append T (m ∷ []) ∙ omega arith
 
-  known-steps : (k : ℕ) (m : Moment) (T : List Moment) → Known P inp m T → length T + k ≤ lastClock
+  known_steps : (k : ℕ) (m : Moment) (T : List Moment) → Known P inp m T → length T + k ≤ last_clock
       → Known P inp (nexts k m) (T ++ row_of k m)
   unfolding nexts row_of
-  known-steps zero m T v h = subst (Known P inp m) (sym (append-nil T)) v
-  known-steps (suc k) m T v h =
+  known_steps zero m T v h = subst (Known P inp m) (sym (append-nil T)) v
+  known_steps (suc k) m T v h =
       subst (Known P inp (nexts k (next m))) (append_assoc T (m ∷ []) (row_of k (next m)))
-      (known-steps k (next m) (T ++ (m ∷ [])) (known_step P inp m T v (known-early k m T v h))
+      (known_steps k (next m) (T ++ (m ∷ [])) (known_step P inp m T v (known_early k m T v h))
       (omega (arith, longer m T)))
 
   -- the calls of steps
-  steps-end : (k : ℕ) (m : Moment) (T : List Moment) (cs : List Call) → Known P inp m T → length T + k ≤ lastClock
+  steps_end : (k : ℕ) (m : Moment) (T : List Moment) (cs : List Call) → Known P inp m T → length T + k ≤ last_clock
       → (log (replicate k step ++ cs) m ≡ row_of k m ++ log cs (nexts k m))
       × (end (replicate k step ++ cs) m ≡ end cs (nexts k m))
   unfolding nexts row_of
-  steps-end zero m T cs v h = (refl, refl)
-  steps-end (suc k) m T cs v h =
-      let early = known-early k m T v h in
-      let s = step-made m (known-passes m T v) early in
-      let r = steps-end k (next m) (T ++ (m ∷ [])) cs (known_step P inp m T v early) (omega (arith, longer m T)) in (
-        log-step m (replicate k step ++ cs)
+  steps_end zero m T cs v h = (refl, refl)
+  steps_end (suc k) m T cs v h =
+      let early = known_early k m T v h in
+      let s = step_made m (known_passes m T v) early in
+      let r = steps_end k (next m) (T ++ (m ∷ [])) cs (known_step P inp m T v early) (omega (arith, longer m T)) in (
+        log_step m (replicate k step ++ cs)
             ∙ ap₂ (λ (l : List Moment) (x : Moment). l ++ log (replicate k step ++ cs) x) s.0 s.1
             ∙ ap (λ (l : List Moment). m ∷ l) r.0,
-        offer-end m step (replicate k step ++ cs)
+        offer_end m step (replicate k step ++ cs)
             ∙ ap (λ (x : Moment). end (replicate k step ++ cs) x) s.1 ∙ r.1,
       )
 
 -- a run with no late collision makes all its steps
-run-all : (k : ℕ) (m : Moment) → ((j : ℕ) → j < k → late (nexts j m) ≡ false) → runEnd k m ≡ nexts k m
+run_all : (k : ℕ) (m : Moment) → ((j : ℕ) → j < k → late (nexts j m) ≡ false) → run_end k m ≡ nexts k m
 unfolding nexts
-run-all zero m h = end_none m
-run-all (suc k) m h = end_on k m (h 0 (omega arith)) ∙ run-all k (next m) (λ j l. h (suc j) (omega arith))
+run_all zero m h = end_none m
+run_all (suc k) m h = end_on k m (h 0 (omega arith)) ∙ run_all k (next m) (λ j l. h (suc j) (omega arith))
 
-run-leaves : (k : ℕ) (m : Moment) → areaRefusal m.area ≡ 0 → clockAt m.area + k ≤ lastClock
-    → leaves (run k) m ≡ runEnd k m
+run_leaves : (k : ℕ) (m : Moment) → area_refusal m.area ≡ 0 → clock_at m.area + k ≤ last_clock
+    → leaves (run k) m ≡ run_end k m
 unfolding leaves ran
-run-leaves k m ok h =
+run_leaves k m ok h =
     rw (
-      eq-eqb (areaRefusal m.area) 0 ok,
-      le-ltb lastClock (clockAt m.area + k) h,
-      eq-eqb (number_of (run_of k 0 (replicate wordCount 0) m.area).answer) 0
-          (ap number_of (run-answer k 0 (replicate wordCount 0) m.area)),
+      eq-eqb (area_refusal m.area) 0 ok,
+      le-ltb last_clock (clock_at m.area + k) h,
+      eq-eqb (number_of (run_of k 0 (replicate word_count 0) m.area).answer) 0
+          (ap number_of (run_answer k 0 (replicate word_count 0) m.area)),
     )
 
 -- one with a late collision at station 0 after k steps ends there
-run-stops : (k n t : ℕ) (ws : List ℕ) (m : Moment) → k < n → ((j : ℕ) → j < k → late (nexts j m) ≡ false)
-    → lateAt (eventsAt (nexts k m).area) 0 ≡ true
+run_stops : (k n t : ℕ) (ws : List ℕ) (m : Moment) → k < n → ((j : ℕ) → j < k → late (nexts j m) ≡ false)
+    → late_at (events_at (nexts k m).area) 0 ≡ true
     → ((run_of n t ws m.area).steps ≡ t + k + 1) × ((run_of n t ws m.area).ended ≡ how.Late (t + k) 0)
 unfolding run_of late next nexts
-run-stops k zero t ws m l h e = absurd (omega arith)
-run-stops zero (suc n) t ws m l h e =
-    let s : stops (eventsAt m.area) ≡ true = sym (some-hit (lateAt (eventsAt m.area)) 16 0
-    (lateAt (eventsAt m.area) 0) refl e (omega arith)) in
+run_stops k zero t ws m l h e = absurd (omega arith)
+run_stops zero (suc n) t ws m l h e =
+    let s : stops (events_at m.area) ≡ true = sym (some_hit (late_at (events_at m.area)) 16 0
+    (late_at (events_at m.area) 0) refl e (omega arith)) in
     rw s (
       omega arith,
-      ap₂ how.Late (omega arith) (first-hit (lateAt (eventsAt m.area)) 16 0
-          (lateAt (eventsAt m.area) 0) refl e (some-none (lateAt (eventsAt m.area))) (omega arith)),
+      ap₂ how.Late (omega arith) (first_hit (late_at (events_at m.area)) 16 0
+          (late_at (events_at m.area) 0) refl e (some_none (late_at (events_at m.area))) (omega arith)),
     )
-run-stops (suc k) (suc n) t ws m l h e =
-    let s : stops (eventsAt m.area) ≡ false = h 0 (omega arith) in
-    let r = run-stops k n (t + 1) (tallied (eventsAt m.area) 16 ws) (next m) (omega arith)
+run_stops (suc k) (suc n) t ws m l h e =
+    let s : stops (events_at m.area) ≡ false = h 0 (omega arith) in
+    let r = run_stops k n (t + 1) (tallied (events_at m.area) 16 ws) (next m) (omega arith)
     (λ j g. h (suc j) (omega arith)) e in
     rw s (r.0 ∙ omega arith, r.1 ∙ ap (λ (x : ℕ). how.Late x 0) (omega arith))
 
-ran-stops : (m : Moment) (k n : ℕ) → areaRefusal m.area ≡ 0 → clockAt m.area + n ≤ lastClock → k < n
-    → ((j : ℕ) → j < k → late (nexts j m) ≡ false) → lateAt (eventsAt (nexts k m).area) 0 ≡ true
+ran_stops : (m : Moment) (k n : ℕ) → area_refusal m.area ≡ 0 → clock_at m.area + n ≤ last_clock → k < n
+    → ((j : ℕ) → j < k → late (nexts j m) ≡ false) → late_at (events_at (nexts k m).area) 0 ≡ true
     → ((ran m.area n).answer ≡ accepted [])
     × (((ran m.area n).steps ≡ k + 1) × ((ran m.area n).ended ≡ how.Late k 0))
 unfolding ran
-ran-stops m k n ok room l h e =
-    let r = run-stops k n 0 (replicate wordCount 0) m l h e in
-    rw (eq-eqb (areaRefusal m.area) 0 ok, le-ltb lastClock (clockAt m.area + n) room) (
-      run-answer n 0 (replicate wordCount 0) m.area,
+ran_stops m k n ok room l h e =
+    let r = run_stops k n 0 (replicate word_count 0) m l h e in
+    rw (eq-eqb (area_refusal m.area) 0 ok, le-ltb last_clock (clock_at m.area + n) room) (
+      run_answer n 0 (replicate word_count 0) m.area,
       (r.0 ∙ omega arith, r.1 ∙ ap (λ (x : ℕ). how.Late x 0) (omega arith)),
     )
 
@@ -256,98 +256,98 @@ ran-stops m k n ok room l h e =
 
 module _ (P : Net) (inp : ℕ → List (Offer P)) (m : Moment) (t : ℕ) (r : Row P m (ready P inp t)) where
   timely : ((i k : ℕ) (closes : Bool) → i < P.n → (out_at P inp i t).sent ≡ Late k closes → ⊥) → late m ≡ false
-  unfolding late lateAt out_at
+  unfolding late late_at out_at
   timely h =
-      below_none (lateAt (eventsAt m.area)) 16
-      (λ i hi. by_le (countAt m.area) i
-      (λ c. ap (λ (e : Events). endsRun e.sent) (no-station m.area i c))
-      (λ c. not-late-event (eventAt (eventsAt m.area) i).sent
+      below_none (late_at (events_at m.area)) 16
+      (λ i hi. by_le (count_at m.area) i
+      (λ c. ap (λ (e : Events). ends_run e.sent) (no_station m.area i c))
+      (λ c. not_late_event (event_at (events_at m.area) i).sent
       (λ k closes e. let hn : i < P.n = omega (arith, r.coded.plan.count) in
-      h i k closes hn (sym (sent-in P m (ready P inp t) r i hn) ∙ e))))
+      h i k closes hn (sym (sent_in_lem P m (ready P inp t) r i hn) ∙ e))))
 
-  sent-late : (i : ℕ) (w : TransmitEvent) → i < P.n → (out_at P inp i t).sent ≡ w
-      → (eventAt (eventsAt m.area) i).sent ≡ w
+  sent_late : (i : ℕ) (w : TransmitEvent) → i < P.n → (out_at P inp i t).sent ≡ w
+      → (event_at (events_at m.area) i).sent ≡ w
   unfolding out_at
-  sent-late i w hi e = sent-in P m (ready P inp t) r i hi ∙ e
+  sent_late i w hi e = sent_in_lem P m (ready P inp t) r i hi ∙ e
 
-ends-late : (es : List Events) (k : ℕ) (closes : Bool) → (eventAt es 0).sent ≡ Late k closes → closes ≡ false
-    → lateAt es 0 ≡ true
-unfolding lateAt
-ends-late es k closes e h = ap endsRun (e ∙ ap (Late k) h)
+ends_late : (es : List Events) (k : ℕ) (closes : Bool) → (event_at es 0).sent ≡ Late k closes → closes ≡ false
+    → late_at es 0 ≡ true
+unfolding late_at
+ends_late es k closes e h = ap ends_run (e ∙ ap (Late k) h)
 
 -- ---- the theorem, from a fresh start
 
 -- the offers' data
-payload-size : length payload ≡ 1500
+payload_size : length payload ≡ 1500
 unfolding payload
-payload-size = length-replicate {A = ℕ} 1500 0
+payload_size = length-replicate {A = ℕ} 1500 0
 
-payload-octets : Octets payload
+payload_octets : Octets payload
 unfolding payload
-payload-octets = octets-replicate 1500 0 (omega arith)
+payload_octets = octets_replicate 1500 0 (omega arith)
 
-payload-allowed : refusesData typeValue (length payload) ≡ false
-unfolding refusesData refusesValue maxData
-payload-allowed = rw payload-size refl
+payload_allowed : refuses_data type_value (length payload) ≡ false
+unfolding refuses_data refuses_value max_data
+payload_allowed = rw payload_size refl
 
-fair : (d : List ℕ) → length d ≡ 6 → Octets d → FairOffer d typeValue payload
-fair d six o = record { six = six; destination = o; value = omega arith; payload = payload-octets }
+fair : (d : List ℕ) → length d ≡ 6 → Octets d → FairOffer d type_value payload
+fair d six o = record { six = six; destination = o; value = omega arith; payload = payload_octets }
 
-module _ (y : Layout) (b : List ℕ) (f : Fresh y b) (ok : refusalOf y ≡ 0) (wide : y.figures.slot < 2 * lay.span_of y)
-    (d e : List ℕ) (fd : FairOffer d typeValue payload) (fe : FairOffer e typeValue payload) where
-  L : exec.Sound (netOf b) (spanAt b)
-  L = net-sound b f.passing f.octets
+module _ (y : Layout) (b : List ℕ) (f : Fresh y b) (ok : refusal_of y ≡ 0) (wide : y.figures.slot < 2 * lay.span_of y)
+    (d e : List ℕ) (fd : FairOffer d type_value payload) (fe : FairOffer e type_value payload) where
+  L : exec.Sound (net_of b) (span_at b)
+  L = net_sound b f.passing f.octets
 
-  size : 2 ≤ countAt b
+  size : 2 ≤ count_at b
   size = omega (arith, (sound y ok).count, f.laid.count)
 
   -- S is 33 at least, since the slot is 64 at least, and at most the largest position
   least : 33 ≤ lay.span_of y
   least = omega (arith, (sound y ok).figures.slot)
 
-  most : lay.span_of y ≤ maxPosition
+  most : lay.span_of y ≤ max_position
   unfolding lay.span_of
   most = let w = sound y ok in omega (arith, w.position (y.count - 1) (omega (arith, w.count)))
 
-  slot_is : (figuresAt b).slot ≡ y.figures.slot
+  slot_is : (figures_at b).slot ≡ y.figures.slot
   slot_is = ap (λ (x : Figures). x.slot) f.laid.figures
 
-  count-is : y.count - 1 ≡ countAt b - 1
-  count-is = omega (arith, f.laid.count)
+  count_is : y.count - 1 ≡ count_at b - 1
+  count_is = omega (arith, f.laid.count)
 
   -- a station to which nothing was offered takes an offer
-  takes : (inp : ℕ → List (Offer (netOf b))) (m : Moment) (T : List Moment) → Known (netOf b) inp m T → (i : ℕ)
-      → i < countAt b → ((u : ℕ) → plan.Spared (netOf b) (inp u) i) → (c : List ℕ)
-      → (offered m.area i c typeValue payload).answer ≡ accepted []
+  takes : (inp : ℕ → List (Offer (net_of b))) (m : Moment) (T : List Moment) → Known (net_of b) inp m T → (i : ℕ)
+      → i < count_at b → ((u : ℕ) → plan.Spared (net_of b) (inp u) i) → (c : List ℕ)
+      → (offered m.area i c type_value payload).answer ≡ accepted []
   takes inp m T v i hi h c =
       let t = v.traced in
-      offer-made m.area i c typeValue payload (known-passes (netOf b) inp m T v)
-      (omega (arith, t.here.coded.plan.count)) payload-allowed
+      offer_made m.area i c type_value payload (known_passes (net_of b) inp m T v)
+      (omega (arith, t.here.coded.plan.count)) payload_allowed
       (ap (λ (s : Station). holds s.transmitter) (t.here.coded.state i hi)
-      ∙ ap holds (plan.idle (netOf b) t.inp (spanAt b) L i hi (length T)
-      (λ u l. subst (λ (os : List (Offer (netOf b))). plan.Spared (netOf b) os i) (sym (v.input u)) (h u))))
+      ∙ ap holds (plan.idle (net_of b) t.inp (span_at b) L i hi (length T)
+      (λ u l. subst (λ (os : List (Offer (net_of b))). plan.Spared (net_of b) os i) (sym (v.input u)) (h u))))
 
   -- ---- the first offer
 
-  k₀ : Known (netOf b) (λ u. []) (begin b) []
-  k₀ = known-begin (netOf b) b f.encodes f.passing
+  k₀ : Known (net_of b) (λ u. []) (begin b) []
+  k₀ = known_begin (net_of b) b f.encodes f.passing
 
-  first_taken : (offered b 0 d typeValue payload).answer ≡ accepted []
-  first_taken = takes (λ u. []) (begin b) [] k₀ 0 (omega (arith, size)) (λ u. plan.spared-none (netOf b) [] 0 refl) d
+  first_taken : (offered b 0 d type_value payload).answer ≡ accepted []
+  first_taken = takes (λ u. []) (begin b) [] k₀ 0 (omega (arith, size)) (λ u. plan.spared_none (net_of b) [] 0 refl) d
 
   m₁ : Moment
-  m₁ = accept 0 (frame_of d (addressAt b 0) typeValue payload) (offered b 0 d typeValue payload).octets (begin b)
+  m₁ = accept 0 (frame_of d (address_at b 0) type_value payload) (offered b 0 d type_value payload).octets (begin b)
 
   record First : Type 0 where
-    o : Offer (netOf b)
+    o : Offer (net_of b)
     to : o.to ≡ 0
     data' : o.payload ≡ payload
-    known : Known (netOf b) (put (netOf b) (λ u. []) o 0) m₁ []
+    known : Known (net_of b) (put (net_of b) (λ u. []) o 0) m₁ []
 
-  first-known : First
+  first_known : First
   unfolding m₁
-  first-known =
-      let r = known-offer (netOf b) (λ u. []) (begin b) [] k₀ 0 d typeValue payload fd (ap number_of first_taken) in
+  first_known =
+      let r = known_offer (net_of b) (λ u. []) (begin b) [] k₀ 0 d type_value payload fd (ap number_of first_taken) in
       record { o = r.0; to = r.1; data' = r.2.0; known = r.2.1 }
 
   m₂ : Moment
@@ -358,255 +358,255 @@ module _ (y : Layout) (b : List ℕ) (f : Fresh y b) (ok : refusalOf y ≡ 0) (w
 
   long₂ : length T₂ ≡ lay.span_of y - 1
   unfolding T₂
-  long₂ = row-length (lay.span_of y - 1) m₁
+  long₂ = row_length (lay.span_of y - 1) m₁
 
   module _ (q : First) where
-    inp₁ : ℕ → List (Offer (netOf b))
-    inp₁ = put (netOf b) (λ u. []) q.o 0
+    inp₁ : ℕ → List (Offer (net_of b))
+    inp₁ = put (net_of b) (λ u. []) q.o 0
 
-    k₂ : Known (netOf b) inp₁ m₂ T₂
+    k₂ : Known (net_of b) inp₁ m₂ T₂
     unfolding m₂ T₂ inp₁
-    k₂ = known-steps (netOf b) inp₁ (lay.span_of y - 1) m₁ [] q.known (omega (arith, most))
+    k₂ = known_steps (net_of b) inp₁ (lay.span_of y - 1) m₁ [] q.known (omega (arith, most))
 
     -- what was offered so far
-    one-first : inp₁ 0 ≡ q.o ∷ []
+    one_first : inp₁ 0 ≡ q.o ∷ []
     unfolding inp₁
-    one-first = put-now (netOf b) (λ u. []) q.o 0
+    one_first = put_now (net_of b) (λ u. []) q.o 0
 
-    one-else : (t : ℕ) → (t ≡ 0 → ⊥) → inp₁ t ≡ []
+    one_else : (t : ℕ) → (t ≡ 0 → ⊥) → inp₁ t ≡ []
     unfolding inp₁
-    one-else t h = put-else (netOf b) (λ u. []) q.o 0 t h
+    one_else t h = put_else (net_of b) (λ u. []) q.o 0 t h
 
-    last-spared : (u : ℕ) → plan.Spared (netOf b) (inp₁ u) (y.count - 1)
-    last-spared u =
-        by-eq u 0
-        (λ z. plan.spared-one (netOf b) (inp₁ u) (y.count - 1) q.o (ap inp₁ z ∙ one-first)
+    last_spared : (u : ℕ) → plan.Spared (net_of b) (inp₁ u) (y.count - 1)
+    last_spared u =
+        by_eq u 0
+        (λ z. plan.spared_one (net_of b) (inp₁ u) (y.count - 1) q.o (ap inp₁ z ∙ one_first)
         (λ x. omega (arith, q.to, size, f.laid.count)))
-        (λ z. plan.spared-none (netOf b) (inp₁ u) (y.count - 1) (one-else u z))
+        (λ z. plan.spared_none (net_of b) (inp₁ u) (y.count - 1) (one_else u z))
 
-    last_taken : (offered m₂.area (y.count - 1) e typeValue payload).answer ≡ accepted []
-    last_taken = takes inp₁ m₂ T₂ k₂ (y.count - 1) (omega (arith, size, f.laid.count)) last-spared e
+    last_taken : (offered m₂.area (y.count - 1) e type_value payload).answer ≡ accepted []
+    last_taken = takes inp₁ m₂ T₂ k₂ (y.count - 1) (omega (arith, size, f.laid.count)) last_spared e
 
   m₃ : Moment
   m₃ =
-      accept (y.count - 1) (frame_of e (addressAt m₂.area (y.count - 1)) typeValue payload)
-      (offered m₂.area (y.count - 1) e typeValue payload).octets m₂
+      accept (y.count - 1) (frame_of e (address_at m₂.area (y.count - 1)) type_value payload)
+      (offered m₂.area (y.count - 1) e type_value payload).octets m₂
 
   record Second (q : First) : Type 0 where
-    p : Offer (netOf b)
+    p : Offer (net_of b)
     to : p.to ≡ y.count - 1
-    known : Known (netOf b) (put (netOf b) (inp₁ q) p (length T₂)) m₃ T₂
+    known : Known (net_of b) (put (net_of b) (inp₁ q) p (length T₂)) m₃ T₂
 
-  second-known : (q : First) → Second q
+  second_known : (q : First) → Second q
   unfolding m₃
-  second-known q =
-      let r = known-offer (netOf b) (inp₁ q) m₂ T₂ (k₂ q) (y.count - 1) e typeValue payload fe
+  second_known q =
+      let r = known_offer (net_of b) (inp₁ q) m₂ T₂ (k₂ q) (y.count - 1) e type_value payload fe
       (ap number_of (last_taken q)) in
       record { p = r.0; to = r.1; known = r.2.1 }
 
   -- ---- the execution of the plan
 
   module _ (q : First) (r : Second q) where
-    inp₂ : ℕ → List (Offer (netOf b))
-    inp₂ = put (netOf b) (inp₁ q) r.p (length T₂)
+    inp₂ : ℕ → List (Offer (net_of b))
+    inp₂ = put (net_of b) (inp₁ q) r.p (length T₂)
 
-    two-first : inp₂ 0 ≡ q.o ∷ []
+    two_first : inp₂ 0 ≡ q.o ∷ []
     unfolding inp₂
-    two-first =
-        put-else (netOf b) (inp₁ q) r.p (length T₂) 0 (λ z. omega (arith, long₂, least)) ∙ one-first q
+    two_first =
+        put_else (net_of b) (inp₁ q) r.p (length T₂) 0 (λ z. omega (arith, long₂, least)) ∙ one_first q
 
-    two-second : inp₂ (spanAt b - 1) ≡ r.p ∷ []
+    two_second : inp₂ (span_at b - 1) ≡ r.p ∷ []
     unfolding inp₂
-    two-second =
-        let s : spanAt b - 1 ≡ length T₂ = omega (arith, long₂, f.span) in
-        ap inp₂ s ∙ put-now (netOf b) (inp₁ q) r.p (length T₂)
-        ∙ ap (λ (l : List (Offer (netOf b))). l ++ (r.p ∷ []))
-        (one-else q (length T₂) (λ z. omega (arith, long₂, least)))
+    two_second =
+        let s : span_at b - 1 ≡ length T₂ = omega (arith, long₂, f.span) in
+        ap inp₂ s ∙ put_now (net_of b) (inp₁ q) r.p (length T₂)
+        ∙ ap (λ (l : List (Offer (net_of b))). l ++ (r.p ∷ []))
+        (one_else q (length T₂) (λ z. omega (arith, long₂, least)))
 
-    two_none : (t : ℕ) → (t ≡ 0 → ⊥) → (t ≡ spanAt b - 1 → ⊥) → inp₂ t ≡ []
+    two_none : (t : ℕ) → (t ≡ 0 → ⊥) → (t ≡ span_at b - 1 → ⊥) → inp₂ t ≡ []
     unfolding inp₂
     two_none t h g =
-        put-else (netOf b) (inp₁ q) r.p (length T₂) t (λ z. g (omega (arith, long₂, f.span)))
-        ∙ one-else q t h
+        put_else (net_of b) (inp₁ q) r.p (length T₂) t (λ z. g (omega (arith, long₂, f.span)))
+        ∙ one_else q t h
 
-    room : 2 * spanAt b ≤ packetLength (length (frame_for (netOf b) q.o))
+    room : 2 * span_at b ≤ packet_length (length (frame_for (net_of b) q.o))
     unfolding frame_for
     room =
         let o = q.o in
-        let a : length (addressAt b o.to) ≡ 6 = L.address o.to (omega (arith, q.to, size)) in
+        let a : length (address_at b o.to) ≡ 6 = L.address o.to (omega (arith, q.to, size)) in
         omega (
           arith,
-          frame-size o.destination (addressAt b o.to) o.value o.payload o.six a,
+          frame_size_lem o.destination (address_at b o.to) o.value o.payload o.six a,
           ap length q.data',
-          payload-size,
+          payload_size,
           f.span,
           most,
         )
 
-    module _ (m : Moment) (T : List Moment) (v : Known (netOf b) inp₂ m T) where
-      collided : (out_at (netOf b) v.traced.inp 0 (2 * spanAt b - 1)).sent
-          ≡ Late (2 * spanAt b) (closesFrame (figuresAt b))
+    module _ (m : Moment) (T : List Moment) (v : Known (net_of b) inp₂ m T) where
+      collided : (out_at (net_of b) v.traced.inp 0 (2 * span_at b - 1)).sent
+          ≡ Late (2 * span_at b) (closes_frame (figures_at b))
       collided =
-          plan.collides-late (netOf b) v.traced.inp (spanAt b) L 0 (countAt b - 1) (omega (arith, size))
-          (omega (arith, size)) (λ z. omega (arith, size)) (ends-apart b f.passing (omega (arith, size)))
-          (omega (arith, wide, f.span, slot_is)) q.o r.p q.to (r.to ∙ count-is)
-          (v.input 0 ∙ two-first) (v.input (spanAt b - 1) ∙ two-second) (λ t g h. v.input t ∙ two_none t g h) room
+          plan.collides_late (net_of b) v.traced.inp (span_at b) L 0 (count_at b - 1) (omega (arith, size))
+          (omega (arith, size)) (λ z. omega (arith, size)) (ends_apart b f.passing (omega (arith, size)))
+          (omega (arith, wide, f.span, slot_is)) q.o r.p q.to (r.to ∙ count_is)
+          (v.input 0 ∙ two_first) (v.input (span_at b - 1) ∙ two_second) (λ t g h. v.input t ∙ two_none t g h) room
 
-      unstruck : (i t k : ℕ) (closes : Bool) → i < countAt b → t < 2 * spanAt b - 1
-          → (out_at (netOf b) v.traced.inp i t).sent ≡ Late k closes → ⊥
+      unstruck : (i t k : ℕ) (closes : Bool) → i < count_at b → t < 2 * span_at b - 1
+          → (out_at (net_of b) v.traced.inp i t).sent ≡ Late k closes → ⊥
       unstruck =
-          plan.none-late (netOf b) v.traced.inp (spanAt b) L 0 (countAt b - 1) (omega (arith, size))
-          (omega (arith, size)) (λ z. omega (arith, size)) (ends-apart b f.passing (omega (arith, size)))
-          (omega (arith, wide, f.span, slot_is)) q.o r.p q.to (r.to ∙ count-is)
-          (v.input 0 ∙ two-first) (v.input (spanAt b - 1) ∙ two-second) (λ t g h. v.input t ∙ two_none t g h) room
+          plan.none_late (net_of b) v.traced.inp (span_at b) L 0 (count_at b - 1) (omega (arith, size))
+          (omega (arith, size)) (λ z. omega (arith, size)) (ends_apart b f.passing (omega (arith, size)))
+          (omega (arith, wide, f.span, slot_is)) q.o r.p q.to (r.to ∙ count_is)
+          (v.input 0 ∙ two_first) (v.input (span_at b - 1) ∙ two_second) (λ t g h. v.input t ∙ two_none t g h) room
 
     -- k steps after the second offer
-    k₃ : (k : ℕ) → k ≤ lay.span_of y + 1 → Known (netOf b) inp₂ (nexts k m₃) (T₂ ++ row_of k m₃)
+    k₃ : (k : ℕ) → k ≤ lay.span_of y + 1 → Known (net_of b) inp₂ (nexts k m₃) (T₂ ++ row_of k m₃)
     unfolding inp₂
-    k₃ k h = known-steps (netOf b) inp₂ k m₃ T₂ r.known (omega (arith, long₂, most))
+    k₃ k h = known_steps (net_of b) inp₂ k m₃ T₂ r.known (omega (arith, long₂, most))
 
     long₃ : (k : ℕ) → length (T₂ ++ row_of k m₃) ≡ lay.span_of y - 1 + k
-    long₃ k = length-append T₂ (row_of k m₃) ∙ ap₂ (λ (s t : ℕ). s + t) long₂ (row-length k m₃)
+    long₃ k = length-append T₂ (row_of k m₃) ∙ ap₂ (λ (s t : ℕ). s + t) long₂ (row_length k m₃)
 
     -- no step before 2·S - 1 has a late collision
-    on-time : (k : ℕ) → k < lay.span_of y → late (nexts k m₃) ≡ false
-    on-time k h =
+    on_time : (k : ℕ) → k < lay.span_of y → late (nexts k m₃) ≡ false
+    on_time k h =
         let v = k₃ k (omega arith) in
-        timely (netOf b) v.traced.inp (nexts k m₃) (length (T₂ ++ row_of k m₃)) v.traced.here
+        timely (net_of b) v.traced.inp (nexts k m₃) (length (T₂ ++ row_of k m₃)) v.traced.here
         (λ i c closes hi. unstruck (nexts k m₃) (T₂ ++ row_of k m₃) v i (length (T₂ ++ row_of k m₃)) c closes hi
         (omega (arith, long₃ k, f.span, least)))
 
-    on-time-first : (k : ℕ) → k < lay.span_of y - 1 → late (nexts k m₁) ≡ false
+    on_time_first : (k : ℕ) → k < lay.span_of y - 1 → late (nexts k m₁) ≡ false
     unfolding T₂ inp₂
-    on-time-first k h =
+    on_time_first k h =
         let t = r.known.traced in
-        timely (netOf b) t.inp (nexts k m₁) k
-        (subst (λ (x : Moment). Row (netOf b) x (ready (netOf b) t.inp k)) (row_at (lay.span_of y - 1) k m₁ h)
+        timely (net_of b) t.inp (nexts k m₁) k
+        (subst (λ (x : Moment). Row (net_of b) x (ready (net_of b) t.inp k)) (row_at (lay.span_of y - 1) k m₁ h)
         (t.rows k (omega (arith, long₂))))
         (λ i c closes hi. unstruck m₃ T₂ r.known i k c closes hi (omega (arith, f.span, least)))
 
     -- step 2·S - 1 has one, at station 0
-    in-time : (eventAt (eventsAt (nexts (lay.span_of y) m₃).area) 0).sent
-        ≡ Late (2 * lay.span_of y) (closesFrame y.figures)
-    in-time =
+    in_time : (event_at (events_at (nexts (lay.span_of y) m₃).area) 0).sent
+        ≡ Late (2 * lay.span_of y) (closes_frame y.figures)
+    in_time =
         let v = k₃ (lay.span_of y) (omega arith) in
-        let l : length (T₂ ++ row_of (lay.span_of y) m₃) ≡ 2 * spanAt b - 1 = omega (
+        let l : length (T₂ ++ row_of (lay.span_of y) m₃) ≡ 2 * span_at b - 1 = omega (
           arith,
           long₃ (lay.span_of y),
           f.span,
           least,
         ) in
-        sent-late (netOf b) v.traced.inp (nexts (lay.span_of y) m₃) (length (T₂ ++ row_of (lay.span_of y) m₃))
-        v.traced.here 0 (Late (2 * spanAt b) (closesFrame (figuresAt b))) (omega (arith, size))
-        (ap (λ (t : ℕ). (out_at (netOf b) v.traced.inp 0 t).sent) l
+        sent_late (net_of b) v.traced.inp (nexts (lay.span_of y) m₃) (length (T₂ ++ row_of (lay.span_of y) m₃))
+        v.traced.here 0 (Late (2 * span_at b) (closes_frame (figures_at b))) (omega (arith, size))
+        (ap (λ (t : ℕ). (out_at (net_of b) v.traced.inp 0 t).sent) l
         ∙ collided (nexts (lay.span_of y) m₃) (T₂ ++ row_of (lay.span_of y) m₃) v)
-        ∙ ap₂ (λ (s : ℕ) (x : Figures). Late (2 * s) (closesFrame x)) f.span f.laid.figures
+        ∙ ap₂ (λ (s : ℕ) (x : Figures). Late (2 * s) (closes_frame x)) f.span f.laid.figures
 
     -- ---- the calls of the plan
 
-    first-leaves : leaves (firstOffer d) (begin b) ≡ m₁
+    first_leaves : leaves (first_offer d) (begin b) ≡ m₁
     unfolding m₁
-    first-leaves = offer-leaves (begin b) 0 d typeValue payload first_taken
+    first_leaves = offer_leaves (begin b) 0 d type_value payload first_taken
 
-    last-leaves : leaves (lastOffer y e) m₂ ≡ m₃
+    last_leaves : leaves (last_offer y e) m₂ ≡ m₃
     unfolding m₃
-    last-leaves = offer-leaves m₂ (y.count - 1) e typeValue payload (last_taken q)
+    last_leaves = offer_leaves m₂ (y.count - 1) e type_value payload (last_taken q)
 
-    first-is : Known (netOf b) (inp₁ q) m₁ []
+    first_is : Known (net_of b) (inp₁ q) m₁ []
     unfolding inp₁
-    first-is = q.known
+    first_is = q.known
 
     -- after the first offer: S - 1 steps, and then others
-    to-second : (cs : List Call)
-        → (log (firstOffer d ∷ (replicate (lay.span_of y - 1) step ++ cs)) (begin b) ≡ T₂ ++ log cs m₂)
-        × (end (firstOffer d ∷ (replicate (lay.span_of y - 1) step ++ cs)) (begin b) ≡ end cs m₂)
+    to_second : (cs : List Call)
+        → (log (first_offer d ∷ (replicate (lay.span_of y - 1) step ++ cs)) (begin b) ≡ T₂ ++ log cs m₂)
+        × (end (first_offer d ∷ (replicate (lay.span_of y - 1) step ++ cs)) (begin b) ≡ end cs m₂)
     unfolding m₂ T₂
-    to-second cs =
-        let s = steps-end (netOf b) (inp₁ q) (lay.span_of y - 1) m₁ [] cs first-is (omega (arith, most)) in (
-          offer-log (begin b) 0 d typeValue payload (replicate (lay.span_of y - 1) step ++ cs)
-              ∙ ap (log (replicate (lay.span_of y - 1) step ++ cs)) first-leaves ∙ s.0,
-          offer-end (begin b) (firstOffer d) (replicate (lay.span_of y - 1) step ++ cs)
-              ∙ ap (end (replicate (lay.span_of y - 1) step ++ cs)) first-leaves ∙ s.1,
+    to_second cs =
+        let s = steps_end (net_of b) (inp₁ q) (lay.span_of y - 1) m₁ [] cs first_is (omega (arith, most)) in (
+          offer_log (begin b) 0 d type_value payload (replicate (lay.span_of y - 1) step ++ cs)
+              ∙ ap (log (replicate (lay.span_of y - 1) step ++ cs)) first_leaves ∙ s.0,
+          offer_end (begin b) (first_offer d) (replicate (lay.span_of y - 1) step ++ cs)
+              ∙ ap (end (replicate (lay.span_of y - 1) step ++ cs)) first_leaves ∙ s.1,
         )
 
     then_is : end (earlier y d) (begin b) ≡ m₂
     then_is =
-        ap (λ (cs : List Call). end (firstOffer d ∷ cs) (begin b))
-        (sym (append-nil (replicate (lay.span_of y - 1) step))) ∙ (to-second []).1 ∙ end-nil m₂
+        ap (λ (cs : List Call). end (first_offer d ∷ cs) (begin b))
+        (sym (append-nil (replicate (lay.span_of y - 1) step))) ∙ (to_second []).1 ∙ end_nil m₂
 
-    last_end : end (lastOffer y e ∷ []) m₂ ≡ m₃
-    last_end = offer-end m₂ (lastOffer y e) [] ∙ end-nil (leaves (lastOffer y e) m₂) ∙ last-leaves
+    last_end : end (last_offer y e ∷ []) m₂ ≡ m₃
+    last_end = offer_end m₂ (last_offer y e) [] ∙ end_nil (leaves (last_offer y e) m₂) ∙ last_leaves
 
-    both_end : end (earlier y d ++ (lastOffer y e ∷ [])) (begin b) ≡ m₃
-    both_end = (to-second (lastOffer y e ∷ [])).1 ∙ last_end
+    both_end : end (earlier y d ++ (last_offer y e ∷ [])) (begin b) ≡ m₃
+    both_end = (to_second (last_offer y e ∷ [])).1 ∙ last_end
 
     -- 2·S steps are made
     log_is : log (planned y d e) (begin b) ≡ T₂ ++ row_of (lay.span_of y + 1) m₃
     unfolding inp₂
     log_is =
         let k = lay.span_of y + 1 in
-        let s = steps-end (netOf b) inp₂ k m₃ T₂ [] r.known (omega (arith, long₂, most)) in
-        (to-second (lastOffer y e ∷ replicate k step)).0
+        let s = steps_end (net_of b) inp₂ k m₃ T₂ [] r.known (omega (arith, long₂, most)) in
+        (to_second (last_offer y e ∷ replicate k step)).0
         ∙ ap (λ (l : List Moment). T₂ ++ l)
-        (offer-log m₂ (y.count - 1) e typeValue payload (replicate k step) ∙ ap (log (replicate k step)) last-leaves
+        (offer_log m₂ (y.count - 1) e type_value payload (replicate k step) ∙ ap (log (replicate k step)) last_leaves
         ∙ ap (λ (cs : List Call). log cs m₃) (sym (append-nil (replicate k step))) ∙ s.0
-        ∙ ap (λ (l : List Moment). row_of k m₃ ++ l) (log-nil (nexts k m₃)) ∙ append-nil (row_of k m₃))
+        ∙ ap (λ (l : List Moment). row_of k m₃ ++ l) (log_nil (nexts k m₃)) ∙ append-nil (row_of k m₃))
 
-    steps-are : length (log (planned y d e) (begin b)) ≡ 2 * lay.span_of y
-    steps-are = ap length log_is ∙ long₃ (lay.span_of y + 1) ∙ omega (arith, least)
+    steps_are : length (log (planned y d e) (begin b)) ≡ 2 * lay.span_of y
+    steps_are = ap length log_is ∙ long₃ (lay.span_of y + 1) ∙ omega (arith, least)
 
-    last-moment : momentAt (T₂ ++ row_of (lay.span_of y + 1) m₃) (2 * lay.span_of y - 1) ≡ nexts (lay.span_of y) m₃
-    last-moment =
+    last_moment : moment_at (T₂ ++ row_of (lay.span_of y + 1) m₃) (2 * lay.span_of y - 1) ≡ nexts (lay.span_of y) m₃
+    last_moment =
         let k = lay.span_of y in
         let l : 2 * k - 1 ≡ length (T₂ ++ row_of k m₃) = omega (arith, long₃ k, least) in
         let g : row_of (k + 1) m₃ ≡ row_of k m₃ ++ (nexts k m₃ ∷ []) = ap (λ (x : ℕ). row_of x m₃) (add-one k)
         ∙ row_last k m₃ in
-        ap₂ (λ (T : List Moment) (u : ℕ). momentAt T u)
+        ap₂ (λ (T : List Moment) (u : ℕ). moment_at T u)
         (ap (λ (U : List Moment). T₂ ++ U) g ∙ sym (append_assoc T₂ (row_of k m₃) (nexts k m₃ ∷ []))) l
         ∙ get_or-append_seam (T₂ ++ row_of k m₃) (nexts k m₃) [] (begin [])
 
     -- by runs
-    run-first : leaves (run (lay.span_of y - 1)) m₁ ≡ m₂
+    run_first : leaves (run (lay.span_of y - 1)) m₁ ≡ m₂
     unfolding m₂
-    run-first =
-        let t = first-is.traced in
-        run-leaves (lay.span_of y - 1) m₁ (ready-passes m₁.area t.here.passing)
-        (omega (arith, clock-is (netOf b) m₁ [] t, most)) ∙ run-all (lay.span_of y - 1) m₁ on-time-first
+    run_first =
+        let t = first_is.traced in
+        run_leaves (lay.span_of y - 1) m₁ (ready_passes m₁.area t.here.passing)
+        (omega (arith, clock_is (net_of b) m₁ [] t, most)) ∙ run_all (lay.span_of y - 1) m₁ on_time_first
 
-    runs-end : end (plannedRuns y d e) (begin b) ≡ m₃
-    runs-end =
-        offer-end (begin b) (firstOffer d) (run (lay.span_of y - 1) ∷ lastOffer y e ∷ [])
-        ∙ ap (end (run (lay.span_of y - 1) ∷ lastOffer y e ∷ [])) first-leaves
-        ∙ offer-end m₁ (run (lay.span_of y - 1)) (lastOffer y e ∷ [])
-        ∙ ap (end (lastOffer y e ∷ [])) run-first ∙ last_end
+    runs_end : end (planned_runs y d e) (begin b) ≡ m₃
+    runs_end =
+        offer_end (begin b) (first_offer d) (run (lay.span_of y - 1) ∷ last_offer y e ∷ [])
+        ∙ ap (end (run (lay.span_of y - 1) ∷ last_offer y e ∷ [])) first_leaves
+        ∙ offer_end m₁ (run (lay.span_of y - 1)) (last_offer y e ∷ [])
+        ∙ ap (end (last_offer y e ∷ [])) run_first ∙ last_end
 
-    second-ends : y.figures.ends ≡ 0 → (n : ℕ) → lay.span_of y < n → lay.span_of y - 1 + n ≤ lastClock
+    second_ends : y.figures.ends ≡ 0 → (n : ℕ) → lay.span_of y < n → lay.span_of y - 1 + n ≤ last_clock
         → ((ran m₃.area n).answer ≡ accepted [])
         × (((ran m₃.area n).steps ≡ lay.span_of y + 1) × ((ran m₃.area n).ended ≡ how.Late (lay.span_of y) 0))
-    second-ends h n l g =
+    second_ends h n l g =
         let t = r.known.traced in
-        ran-stops m₃ (lay.span_of y) n (ready-passes m₃.area t.here.passing)
-        (omega (arith, clock-is (netOf b) m₃ T₂ t, long₂)) l on-time
-        (ends-late (eventsAt (nexts (lay.span_of y) m₃).area) (2 * lay.span_of y) (closesFrame y.figures) in-time
+        ran_stops m₃ (lay.span_of y) n (ready_passes m₃.area t.here.passing)
+        (omega (arith, clock_is (net_of b) m₃ T₂ t, long₂)) l on_time
+        (ends_late (events_at (nexts (lay.span_of y) m₃).area) (2 * lay.span_of y) (closes_frame y.figures) in_time
         (ap (λ (x : ℕ). eqb x 1) h))
 
-    collides-there : Collides y b d e
-    collides-there =
+    collides_there : Collides y b d e
+    collides_there =
         record {
           first = first_taken;
-          last = ap (λ (m : Moment). (offered m.area (y.count - 1) e typeValue payload).answer) then_is
+          last = ap (λ (m : Moment). (offered m.area (y.count - 1) e type_value payload).answer) then_is
               ∙ last_taken q;
-          steps = steps-are;
-          late = ap (λ (T : List Moment). sentAt T (2 * lay.span_of y - 1) 0) log_is
-              ∙ ap (λ (m : Moment). (eventAt (eventsAt m.area) 0).sent) last-moment ∙ in-time;
-          runs = runs-end ∙ sym both_end;
+          steps = steps_are;
+          late = ap (λ (T : List Moment). sent_at T (2 * lay.span_of y - 1) 0) log_is
+              ∙ ap (λ (m : Moment). (event_at (events_at m.area) 0).sent) last_moment ∙ in_time;
+          runs = runs_end ∙ sym both_end;
           ends = λ h n l g. subst
               (λ (m : Moment). ((ran m.area n).answer ≡ accepted []) × (((ran m.area n).steps ≡ lay.span_of y + 1)
-              × ((ran m.area n).ended ≡ how.Late (lay.span_of y) 0))) (sym runs-end) (second-ends h n l g);
+              × ((ran m.area n).ended ≡ how.Late (lay.span_of y) 0))) (sym runs_end) (second_ends h n l g);
         }
 
-  collides-fresh : Collides y b d e
-  collides-fresh = let q = first-known in collides-there q (second-known q)
+  collides_fresh : Collides y b d e
+  collides_fresh = let q = first_known in collides_there q (second_known q)
 
 -- "on any layout with 2 × S > slot": every layout that is not refused, with addresses of six octets, as the code's
 -- layouts have; a fresh start on it, with any D and draws, on any area; any destinations.
@@ -614,16 +614,16 @@ pub collides : (y : Layout) → Proper y → y.figures.slot < 2 * lay.span_of y 
     → (started a y k ds).answer ≡ accepted [] → (d e : List ℕ) → length d ≡ 6 → Octets d → length e ≡ 6 → Octets e
     → Collides y (started a y k ds).octets d e
 collides y proper wide a k ds start d e sd od se oe =
-    by-start a y k ds (λ (b : List ℕ). Collides y b d e) start
-    (λ big ok low high. collides-fresh y (fresh y k ds a) (fresh-known y k ds a proper big ok low high) ok wide d e
+    by_start a y k ds (λ (b : List ℕ). Collides y b d e) start
+    (λ big ok low high. collides_fresh y (fresh y k ds a) (fresh_known y k ds a proper big ok low high) ok wide d e
     (fair d sd od) (fair e se oe))
 
 -- of a sheet that is read
-pub collides-sheet : (s : List ℕ) → Octets s → (n : ℕ) → (readSheet s).answer ≡ accepted (n ∷ [])
-    → (readSheet s).layout.figures.slot < 2 * lay.span_of (readSheet s).layout → (a : List ℕ) (k : ℕ)
-    (ds : List (List ℕ)) → (started a (readSheet s).layout k ds).answer ≡ accepted []
+pub collides_sheet : (s : List ℕ) → Octets s → (n : ℕ) → (read_sheet s).answer ≡ accepted (n ∷ [])
+    → (read_sheet s).layout.figures.slot < 2 * lay.span_of (read_sheet s).layout → (a : List ℕ) (k : ℕ)
+    (ds : List (List ℕ)) → (started a (read_sheet s).layout k ds).answer ≡ accepted []
     → (d e : List ℕ) → length d ≡ 6 → Octets d → length e ≡ 6 → Octets e
-    → Collides (readSheet s).layout (started a (readSheet s).layout k ds).octets d e
-collides-sheet s octets n sheet wide a k ds start d e sd od se oe =
-    collides (readSheet s).layout (record { six = read-formed s n sheet; octets = read-octets s n sheet octets }) wide a
+    → Collides (read_sheet s).layout (started a (read_sheet s).layout k ds).octets d e
+collides_sheet s octets n sheet wide a k ds start d e sd od se oe =
+    collides (read_sheet s).layout (record { six = read_formed s n sheet; octets = read_octets s n sheet octets }) wide a
     k ds start d e sd od se oe

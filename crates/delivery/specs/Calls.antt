@@ -10,10 +10,10 @@ use Rattle.station_symbols.specs.declared.Heard.TheVariants.{Nothing}
 use Rattle.station_spec.specs.declared.ReceiveEvent.{ReceiveEvent}
 use Rattle.station_spec.specs.declared.TransmitEvent.{TransmitEvent}
 use Rattle.station_spec.specs.declared.TransmitEvent.TheVariants.{Sent, GivenUp, LateEnded}
-use Rattle.area.specs.Area.{clockAt, addressAt, arrivalAt}
-use Rattle.bus_spec.specs.BitTime.{actAt, eventsAt, stepArea, eventAt}
+use Rattle.area.specs.Area.{clock_at, address_at, arrival_at}
+use Rattle.bus_spec.specs.BitTime.{act_at, events_at, step_area, event_at}
 use Rattle.bus_offer.specs.Offer.{offered}
-use Rattle.bus_step.specs.Step.{steppedOnce}
+use Rattle.bus_step.specs.Step.{stepped_once}
 use Rattle.bus_spec.specs.Run.{ran, stops}
 
 -- offer: station, destination, length/type value, data. read: station, and what the lent output holds
@@ -53,10 +53,10 @@ pub record Moment : Type 0 where
 unfoldable pub next : Moment → Moment
 next m =
     record {
-      area = stepArea m.area;
+      area = step_area m.area;
       offers = m.offers;
       frame = m.frame;
-      starts = λ i. m.starts i + pick (actAt m.area i).outcome.start 1 0;
+      starts = λ i. m.starts i + pick (act_at m.area i).outcome.start 1 0;
     }
 
 -- an offer that is accepted
@@ -71,16 +71,16 @@ accept i F b m =
 
 -- whether any station has a late collision in the next step
 unfoldable pub late : Moment → Bool
-late m = stops (eventsAt m.area)
+late m = stops (events_at m.area)
 
 -- the steps of a run: the moments before them, and the one after; it ends early after a step with a late collision
-unfoldable pub runMade : ℕ → Moment → List Moment
-runMade zero m = []
-runMade (suc k) m = m ∷ pick (late m) [] (runMade k (next m))
+unfoldable pub run_made : ℕ → Moment → List Moment
+run_made zero m = []
+run_made (suc k) m = m ∷ pick (late m) [] (run_made k (next m))
 
-unfoldable pub runEnd : ℕ → Moment → Moment
-runEnd zero m = m
-runEnd (suc k) m = pick (late m) (next m) (runEnd k (next m))
+unfoldable pub run_end : ℕ → Moment → Moment
+run_end zero m = m
+run_end (suc k) m = pick (late m) (next m) (run_end k (next m))
 
 -- whether a call is not refused
 abbrev pub taken : ℕ → Bool
@@ -89,18 +89,18 @@ taken number = eqb number 0
 -- the steps that a call makes: the moment before each
 unfoldable pub made : Call → Moment → List Moment
 made (offer i d v x) m = []
-made step m = pick (taken (number_of (steppedOnce m.area).answer)) (m ∷ []) []
-made (run n) m = pick (taken (number_of (ran m.area n).answer)) (runMade n m) []
+made step m = pick (taken (number_of (stepped_once m.area).answer)) (m ∷ []) []
+made (run n) m = pick (taken (number_of (ran m.area n).answer)) (run_made n m) []
 made (read i out) m = []
 
 -- and what it leaves
 unfoldable pub leaves : Call → Moment → Moment
 leaves (offer i d v x) m =
     pick (taken (number_of (offered m.area i d v x).answer))
-    (accept i (frame_of d (addressAt m.area i) v x) (offered m.area i d v x).octets m)
+    (accept i (frame_of d (address_at m.area i) v x) (offered m.area i d v x).octets m)
     m
-leaves step m = pick (taken (number_of (steppedOnce m.area).answer)) (next m) m
-leaves (run n) m = pick (taken (number_of (ran m.area n).answer)) (runEnd n m) m
+leaves step m = pick (taken (number_of (stepped_once m.area).answer)) (next m) m
+leaves (run n) m = pick (taken (number_of (ran m.area n).answer)) (run_end n m) m
 leaves (read i out) m = m
 
 -- a list of calls: the moment before each step made, in order, and what is left
@@ -118,23 +118,23 @@ begin b = record { area = b; offers = λ i. 0; frame = λ i. []; starts = λ i. 
 
 -- ---- what a step reports: "Step t is the one made at clock t"
 
-abbrev pub momentAt : List Moment → ℕ → Moment
-momentAt T u = get_or T u (begin [])
+abbrev pub moment_at : List Moment → ℕ → Moment
+moment_at T u = get_or T u (begin [])
 
-abbrev pub sentAt : List Moment → (u i : ℕ) → TransmitEvent
-sentAt T u i = (eventAt (eventsAt (momentAt T u).area) i).sent
+abbrev pub sent_at : List Moment → (u i : ℕ) → TransmitEvent
+sent_at T u i = (event_at (events_at (moment_at T u).area) i).sent
 
-abbrev pub gotAt : List Moment → (u j : ℕ) → ReceiveEvent
-gotAt T u j = (eventAt (eventsAt (momentAt T u).area) j).got
+abbrev pub got_at : List Moment → (u j : ℕ) → ReceiveEvent
+got_at T u j = (event_at (events_at (moment_at T u).area) j).got
 
 -- an event that ends a frame, with the attempts that it carries
 abbrev pub Ends : TransmitEvent → ℕ → Type 0
 Ends v n = (v ≡ Sent n) ⊎ ((v ≡ GivenUp n) ⊎ (v ≡ LateEnded n))
 
 -- what station j hears in it
-abbrev pub hearsAt : List Moment → (u j : ℕ) → Heard
-hearsAt T u j = arrivalAt (momentAt T u).area j (clockAt (momentAt T u).area)
+abbrev pub hears_at : List Moment → (u j : ℕ) → Heard
+hears_at T u j = arrival_at (moment_at T u).area j (clock_at (moment_at T u).area)
 
 -- "after u and before j next hears another": j has heard no other since step u
 abbrev pub QuietSince : List Moment → (u j : ℕ) → Type 0
-QuietSince T u j = (s : ℕ) → u < s → s < length T → hearsAt T s j ≡ Nothing
+QuietSince T u j = (s : ℕ) → u < s → s < length T → hears_at T s j ≡ Nothing

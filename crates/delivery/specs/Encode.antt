@@ -8,75 +8,75 @@ use mathlib.Core.List.{List}
 use native.Mathlib.Omega.{arith}
 use Rattle.std.proofs.Math.Numerals.{add-one}
 use Rattle.std.proofs.Math.ListN.{length}
-use Rattle.octets.specs.BaseLaws.{by-eq}
+use Rattle.octets.specs.BaseLaws.{by_eq}
 use Rattle.octets.specs.Turns.{turns}
 use Rattle.sheet_layout.specs.declared.Figures.{Figures}
 use Rattle.station_symbols.specs.declared.Heard.{Heard}
 use Rattle.station_symbols.specs.declared.Symbol.{Symbol}
 use Rattle.station_symbols.specs.declared.Emission.{Emission}
 use Rattle.station_symbols.specs.declared.Emission.TheVariants.{Rest}
-use Rattle.station_symbols.specs.Packet.{symbol_of, hearsAny}
+use Rattle.station_symbols.specs.Packet.{symbol_of, hears_any}
 use Rattle.station_state.specs.declared.Transmitter.{Transmitter}
 use Rattle.station_state.specs.declared.Transmitter.TheVariants.{NoFrame, Waiting, BackingOff, Sending, Heading}
 use Rattle.station_state.specs.declared.Transmitter.TheVariants.{Jamming}
-use Rattle.station_spec.specs.Transmit.{octetsHeld, transmit}
+use Rattle.station_spec.specs.Transmit.{octets_held, transmit}
 use Rattle.station_state.specs.declared.Station.{Station}
 use Rattle.station_spec.specs.declared.Stepped.{Stepped}
-use Rattle.station_spec.specs.Step.{triesAfter, deferring, stepped, nextStation}
+use Rattle.station_spec.specs.Step.{tries_after, deferring, stepped, next_station}
 use Rattle.area.specs.Places.{clock, depth, layout, draws, station, frame, buffer, place, Keeps}
-use Rattle.area.specs.Area.{clockAt, depthAt, drawAt, figuresAt, countAt, addressAt, spaceAt, stationAt, frame_at}
-use Rattle.area.specs.Area.{bufferAt, arrivalAt, met}
-use Rattle.area.specs.AreaLaws.{depth-by, draw-by, figures-by, count_by, address-by, space-by, frame-by, arrival-by}
-use Rattle.area.specs.AreaLaws.{arrival-turn, clock-keeps}
-use Rattle.bus_spec.specs.BitTime.{outcomeIn, actIn, actAt, settled, stepArea}
+use Rattle.area.specs.Area.{clock_at, depth_at, draw_at, figures_at, count_at, address_at, space_at, station_at, frame_at}
+use Rattle.area.specs.Area.{buffer_at, arrival_at, met}
+use Rattle.area.specs.AreaLaws.{depth_by, draw_by, figures_by, count_by, address_by, space_by, frame_by, arrival_by}
+use Rattle.area.specs.AreaLaws.{arrival_turn, clock_keeps}
+use Rattle.bus_spec.specs.BitTime.{outcome_in, act_in, act_at, settled, step_area}
 use Rattle.bus_spec.specs.Range.{FrameIn}
 use Rattle.bus_spec.specs.Ready.{Readiness, kept_at}
-use Rattle.bus_spec.specs.After.{storedIn}
-use Rattle.bus_spec.specs.Stays.{step-length, step-layout, step-depth, step-draws, step-frame, step-clock, step-station}
-use Rattle.bus_spec.specs.Stays.{step-buffer}
+use Rattle.bus_spec.specs.After.{stored_in}
+use Rattle.bus_spec.specs.Stays.{step_length, step_layout, step_depth, step_draws, step_frame, step_clock, step_station}
+use Rattle.bus_spec.specs.Stays.{step_buffer}
 use Rattle.bus_offer.specs.Offer.{holds}
 use Rattle.bus_meeting.specs.Net.{Net, gathered, heard, grown}
 use Rattle.trace.specs.World.{World, outcome, symbol, step}
-use Rattle.bus_meeting.specs.Gather.{gathered-same}
+use Rattle.bus_meeting.specs.Gather.{gathered_same}
 use Rattle.trace.specs.Keep.{held_back}
-use Rattle.bus_meeting.specs.Meet.{adds, Ends, grown-ends, heard-grown, heard-far}
-use Rattle.bus_meeting.specs.Lines.{share, share-adds, line-all, clear-all}
-use Rattle.area.specs.Offsets.{areaSize, ring, frameRoom}
-use Rattle.sheet_layout.specs.Limits.{maxDraws, maxStations}
+use Rattle.bus_meeting.specs.Meet.{adds, Ends, grown_ends, heard_grown, heard_far}
+use Rattle.bus_meeting.specs.Lines.{share, share_adds, line_all, clear_all}
+use Rattle.area.specs.Offsets.{area_size, ring, frame_room}
+use Rattle.sheet_layout.specs.Limits.{max_draws, max_stations}
 
 -- the layout, the draws and the addresses of area a are P's
 pub record Plan (P : Net) (a : List ℕ) : Type 0 where
-  pub count : countAt a ≡ P.n
-  pub figures : figuresAt a ≡ P.fig
-  pub deep : depthAt a ≡ P.depth
-  pub draw : (i k : ℕ) → i < P.n → k < maxDraws → drawAt a i k ≡ P.draw i k
-  pub address : (i : ℕ) → i < P.n → addressAt a i ≡ P.address i
-  pub space : (i j : ℕ) → i < P.n → j < P.n → spaceAt a i j ≡ P.d i j
+  pub count : count_at a ≡ P.n
+  pub figures : figures_at a ≡ P.fig
+  pub deep : depth_at a ≡ P.depth
+  pub draw : (i k : ℕ) → i < P.n → k < max_draws → draw_at a i k ≡ P.draw i k
+  pub address : (i : ℕ) → i < P.n → address_at a i ≡ P.address i
+  pub space : (i j : ℕ) → i < P.n → j < P.n → space_at a i j ≡ P.d i j
 
 -- and its state is w
 pub record Encodes (P : Net) (a : List ℕ) (w : World) : Type 0 where
   pub plan : Plan P a
-  pub time : clockAt a ≡ w.clock
-  pub state : (i : ℕ) → i < P.n → stationAt a i ≡ w.station i
-  pub buffers : (i : ℕ) → i < P.n → bufferAt a i ≡ w.buffer i
+  pub time : clock_at a ≡ w.clock
+  pub state : (i : ℕ) → i < P.n → station_at a i ≡ w.station i
+  pub buffers : (i : ℕ) → i < P.n → buffer_at a i ≡ w.buffer i
   -- a frame that is held is at its place
   pub frames : (i : ℕ) → i < P.n → holds (w.station i).transmitter ≡ true
       → frame_at a i (w.station i).frame ≡ w.frame i
   pub ends : Ends w.clock w.past
   -- the delay lines: place u of j's line holds what the others emitted so far that reaches j in step u
-  pub line : (j u : ℕ) → j < P.n → w.clock ≤ u → u < w.clock + ring → arrivalAt a j u ≡ heard P w.past j u
+  pub line : (j u : ℕ) → j < P.n → w.clock ≤ u → u < w.clock + ring → arrival_at a j u ≡ heard P w.past j u
 
 -- a plan goes by its parts
-pub plan-by : (P : Net) (a b : List ℕ) → P.n ≤ maxStations → areaSize ≤ length a → areaSize ≤ length b
+pub plan_by_lem : (P : Net) (a b : List ℕ) → P.n ≤ max_stations → area_size ≤ length a → area_size ≤ length b
     → Keeps layout b a → Keeps depth b a → Keeps draws b a → Plan P a → Plan P b
-plan-by P a b few la lb k kd kw p =
+plan_by_lem P a b few la lb k kd kw p =
     record {
       count = count_by b a k ∙ p.count;
-      figures = figures-by b a k ∙ p.figures;
-      deep = depth-by b a kd ∙ p.deep;
-      draw = λ i m hi hm. draw-by b a i m (omega arith) hm kw ∙ p.draw i m hi hm;
-      address = λ i hi. address-by b a i (omega arith) lb la k ∙ p.address i hi;
-      space = λ i j hi hj. space-by b a i j (omega arith) (omega arith) k ∙ p.space i j hi hj;
+      figures = figures_by b a k ∙ p.figures;
+      deep = depth_by b a kd ∙ p.deep;
+      draw = λ i m hi hm. draw_by b a i m (omega arith) hm kw ∙ p.draw i m hi hm;
+      address = λ i hi. address_by b a i (omega arith) lb la k ∙ p.address i hi;
+      space = λ i j hi hj. space_by b a i j (omega arith) (omega arith) k ∙ p.space i j hi hj;
     }
 
 -- ---- a station acts the same in both
@@ -86,41 +86,41 @@ unfolding transmit
 rests f z n draw start h = refl
 
 -- the symbol is that of the frame held; with none there is silence
-same-symbol : (a : List ℕ) (i : ℕ) (x : Transmitter) (z : ℕ) (F : List ℕ) (e : Emission)
+same_symbol : (a : List ℕ) (i : ℕ) (x : Transmitter) (z : ℕ) (F : List ℕ) (e : Emission)
     → (holds x ≡ true → frame_at a i z ≡ F) → (x ≡ NoFrame → e ≡ Rest)
-    → symbol_of (frame_at a i (octetsHeld x z)) e ≡ symbol_of F e
-same-symbol a i NoFrame z F e h n = rw (n refl)
-same-symbol a i Waiting z F e h n = ap (λ (l : List ℕ). symbol_of l e) (h refl)
-same-symbol a i (BackingOff w) z F e h n = ap (λ (l : List ℕ). symbol_of l e) (h refl)
-same-symbol a i (Sending k) z F e h n = ap (λ (l : List ℕ). symbol_of l e) (h refl)
-same-symbol a i (Heading k) z F e h n = ap (λ (l : List ℕ). symbol_of l e) (h refl)
-same-symbol a i (Jamming m ends) z F e h n = ap (λ (l : List ℕ). symbol_of l e) (h refl)
+    → symbol_of (frame_at a i (octets_held x z)) e ≡ symbol_of F e
+same_symbol a i NoFrame z F e h n = rw (n refl)
+same_symbol a i Waiting z F e h n = ap (λ (l : List ℕ). symbol_of l e) (h refl)
+same_symbol a i (BackingOff w) z F e h n = ap (λ (l : List ℕ). symbol_of l e) (h refl)
+same_symbol a i (Sending k) z F e h n = ap (λ (l : List ℕ). symbol_of l e) (h refl)
+same_symbol a i (Heading k) z F e h n = ap (λ (l : List ℕ). symbol_of l e) (h refl)
+same_symbol a i (Jamming m ends) z F e h n = ap (λ (l : List ℕ). symbol_of l e) (h refl)
 
-as-outcome : (a : List ℕ) (i : ℕ) → outcomeIn (figuresAt a) (depthAt a) (clockAt a) a i ≡ (actAt a i).outcome
-unfolding actAt actIn
-as-outcome a i = refl
+as_outcome : (a : List ℕ) (i : ℕ) → outcome_in (figures_at a) (depth_at a) (clock_at a) a i ≡ (act_at a i).outcome
+unfolding act_at act_in
+as_outcome a i = refl
 
 module _ (P : Net) (a : List ℕ) (w : World) (e : Encodes P a w) (r : Readiness a) where
-  few : P.n ≤ maxStations
+  few : P.n ≤ max_stations
   few = let c = r.spread.few in omega (arith, e.plan.count)
 
-  counted : (i : ℕ) → i < P.n → i < countAt a
+  counted : (i : ℕ) → i < P.n → i < count_at a
   counted i h = omega (arith, e.plan.count)
 
-  pub same_outcome : (i : ℕ) → i < P.n → (actAt a i).outcome ≡ outcome P w i
-  unfolding actAt actIn outcomeIn outcome
+  pub same_outcome : (i : ℕ) → i < P.n → (act_at a i).outcome ≡ outcome P w i
+  unfolding act_at act_in outcome_in outcome
   same_outcome i hi =
       let s = e.state i hi in
-      let d : (stationAt a i).draw < maxDraws = omega (arith, (r.fine i (counted i hi)).draw, r.depth) in
-      ap (λ (t : ℕ). stepped (figuresAt a) (stationAt a i) (depthAt a) (drawAt a i (stationAt a i).draw) (bufferAt a i)
-      (arrivalAt a i t)) e.time
-      ∙ ap (λ (h : Heard). stepped (figuresAt a) (stationAt a i) (depthAt a) (drawAt a i (stationAt a i).draw)
-      (bufferAt a i) h) (e.line i w.clock hi (omega arith) (omega arith))
-      ∙ ap (λ (x : ℕ). stepped (figuresAt a) (stationAt a i) (depthAt a) x (bufferAt a i)
-      (heard P w.past i w.clock)) (e.plan.draw i (stationAt a i).draw hi d)
-      ∙ ap (λ (x : Station). stepped (figuresAt a) x (depthAt a) (P.draw i x.draw) (bufferAt a i)
+      let d : (station_at a i).draw < max_draws = omega (arith, (r.fine i (counted i hi)).draw, r.depth) in
+      ap (λ (t : ℕ). stepped (figures_at a) (station_at a i) (depth_at a) (draw_at a i (station_at a i).draw) (buffer_at a i)
+      (arrival_at a i t)) e.time
+      ∙ ap (λ (h : Heard). stepped (figures_at a) (station_at a i) (depth_at a) (draw_at a i (station_at a i).draw)
+      (buffer_at a i) h) (e.line i w.clock hi (omega arith) (omega arith))
+      ∙ ap (λ (x : ℕ). stepped (figures_at a) (station_at a i) (depth_at a) x (buffer_at a i)
+      (heard P w.past i w.clock)) (e.plan.draw i (station_at a i).draw hi d)
+      ∙ ap (λ (x : Station). stepped (figures_at a) x (depth_at a) (P.draw i x.draw) (buffer_at a i)
       (heard P w.past i w.clock)) s
-      ∙ ap (λ (f : Figures). stepped f (w.station i) (depthAt a) (P.draw i (w.station i).draw) (bufferAt a i)
+      ∙ ap (λ (f : Figures). stepped f (w.station i) (depth_at a) (P.draw i (w.station i).draw) (buffer_at a i)
       (heard P w.past i w.clock)) e.plan.figures
       ∙ ap₂ (λ (m : ℕ) (b : List ℕ). stepped P.fig (w.station i) m (P.draw i (w.station i).draw) b
       (heard P w.past i w.clock)) e.plan.deep (e.buffers i hi)
@@ -131,72 +131,72 @@ module _ (P : Net) (a : List ℕ) (w : World) (e : Encodes P a w) (r : Readiness
       let s = w.station i in
       let h = heard P w.past i w.clock in
       let b = (deferring P.fig s h).start in
-      let m = triesAfter s.attempts b in
-      ap (λ (x : Transmitter). (transmit P.fig x s.frame m (P.draw i s.draw) b (hearsAny h)).emission) z
-      ∙ rests P.fig s.frame m (P.draw i s.draw) b (hearsAny h)
+      let m = tries_after s.attempts b in
+      ap (λ (x : Transmitter). (transmit P.fig x s.frame m (P.draw i s.draw) b (hears_any h)).emission) z
+      ∙ rests P.fig s.frame m (P.draw i s.draw) b (hears_any h)
 
-  pub same-symbols : (i : ℕ) → i < P.n → (actAt a i).symbol ≡ symbol P w i
-  unfolding actAt actIn symbol
-  same-symbols i hi =
-      ap₂ (λ (x : Station) (o : Stepped). symbol_of (frame_at a i (octetsHeld x.transmitter x.frame)) o.emission)
-      (e.state i hi) (as-outcome a i ∙ same_outcome i hi)
-      ∙ same-symbol a i (w.station i).transmitter (w.station i).frame (w.frame i) (outcome P w i).emission
+  pub same_symbols : (i : ℕ) → i < P.n → (act_at a i).symbol ≡ symbol P w i
+  unfolding act_at act_in symbol
+  same_symbols i hi =
+      ap₂ (λ (x : Station) (o : Stepped). symbol_of (frame_at a i (octets_held x.transmitter x.frame)) o.emission)
+      (e.state i hi) (as_outcome a i ∙ same_outcome i hi)
+      ∙ same_symbol a i (w.station i).transmitter (w.station i).frame (w.frame i) (outcome P w i).emission
       (e.frames i hi) (silent i)
 
 -- a frame that is held is small
-pub frame-room : (x : Transmitter) (z : ℕ) → holds x ≡ true → FrameIn x z → z ≤ frameRoom
-frame-room NoFrame z h v = absurd (true≢false (sym h))
-frame-room Waiting z h v = omega (arith, v.1)
-frame-room (BackingOff w) z h v = omega (arith, v.1)
-frame-room (Sending k) z h v = omega (arith, v.1)
-frame-room (Heading k) z h v = omega (arith, v.1)
-frame-room (Jamming m ends) z h v = omega (arith, v.1)
+pub frame_room_lem : (x : Transmitter) (z : ℕ) → holds x ≡ true → FrameIn x z → z ≤ frame_room
+frame_room_lem NoFrame z h v = absurd (true≢false (sym h))
+frame_room_lem Waiting z h v = omega (arith, v.1)
+frame_room_lem (BackingOff w) z h v = omega (arith, v.1)
+frame_room_lem (Sending k) z h v = omega (arith, v.1)
+frame_room_lem (Heading k) z h v = omega (arith, v.1)
+frame_room_lem (Jamming m ends) z h v = omega (arith, v.1)
 
 -- ---- the delay lines
 
 module _ (P : Net) (a : List ℕ) (w : World) (e : Encodes P a w) (r : Readiness a) where
   turned : List ℕ
-  turned = turns (λ i x. settled (countAt a) (clockAt a) i (actAt a i) x) (countAt a) a
+  turned = turns (λ i x. settled (count_at a) (clock_at a) i (act_at a i) x) (count_at a) a
 
-  after-clock : (j u : ℕ) → arrivalAt (stepArea a) j u ≡ arrivalAt turned j u
-  unfolding stepArea turned
-  after-clock j u =
-      arrival-by (stepArea a) turned j u (clock-keeps (place j u) turned (clockAt a + 1) (λ p q. omega arith))
+  after_clock : (j u : ℕ) → arrival_at (step_area a) j u ≡ arrival_at turned j u
+  unfolding step_area turned
+  after_clock j u =
+      arrival_by (step_area a) turned j u (clock_keeps (place j u) turned (clock_at a + 1) (λ p q. omega arith))
 
-  line-turned : (j u : ℕ) → j < P.n → w.clock < u → u < w.clock + ring
-      → arrivalAt turned j u ≡ heard P (step P w).past j u
+  line_turned : (j u : ℕ) → j < P.n → w.clock < u → u < w.clock + ring
+      → arrival_at turned j u ≡ heard P (step P w).past j u
   unfolding turned step
-  line-turned j u hj lo hi =
+  line_turned j u hj lo hi =
       let c = e.time in
-      line-all (countAt a) (clockAt a) (actAt a) a r.spread (kept_at a) r.long (countAt a) j u (omega arith)
+      line_all (count_at a) (clock_at a) (act_at a) a r.spread (kept_at a) r.long (count_at a) j u (omega arith)
       (omega (arith, e.plan.count)) (λ z. omega arith)
       ∙ ap₂ met (e.line j u hj (omega arith) hi)
-      (ap (λ (m : ℕ). gathered m (λ i. share (clockAt a) (spaceAt a i j) i (actAt a i).symbol j u)) e.plan.count
-      ∙ gathered-same P.n (λ i. share (clockAt a) (spaceAt a i j) i (actAt a i).symbol j u)
+      (ap (λ (m : ℕ). gathered m (λ i. share (clock_at a) (space_at a i j) i (act_at a i).symbol j u)) e.plan.count
+      ∙ gathered_same P.n (λ i. share (clock_at a) (space_at a i j) i (act_at a i).symbol j u)
       (adds P.d w.clock (symbol P w) j u) (λ i hi'. one i j u hi' hj lo hi))
-      ∙ sym (heard-grown P w.clock (symbol P w) w.past j u e.ends)
+      ∙ sym (heard_grown P w.clock (symbol P w) w.past j u e.ends)
     where
       one : (i j u : ℕ) → i < P.n → j < P.n → w.clock < u → u < w.clock + ring
-          → share (clockAt a) (spaceAt a i j) i (actAt a i).symbol j u ≡ adds P.d w.clock (symbol P w) j u i
+          → share (clock_at a) (space_at a i j) i (act_at a i).symbol j u ≡ adds P.d w.clock (symbol P w) j u i
       one i j u hi hj lo up =
-          ap (λ (c : ℕ). share c (spaceAt a i j) i (actAt a i).symbol j u) e.time
+          ap (λ (c : ℕ). share c (space_at a i j) i (act_at a i).symbol j u) e.time
           ∙ ap₂ (λ (d : ℕ) (s : Symbol). share w.clock d i s j u) (e.plan.space i j hi hj)
-          (same-symbols P a w e r i hi)
-          ∙ share-adds P.d 0 w.clock (symbol P w) j u i _ _ (omega arith) (omega arith)
+          (same_symbols P a w e r i hi)
+          ∙ share_adds P.d 0 w.clock (symbol P w) j u i _ _ (omega arith) (omega arith)
           (λ ne. subst (λ (x : ℕ). 0 < x) (e.plan.space i j hi hj)
           (r.spread.pos i j (counted P a w e r i hi) (counted P a w e r j hj) ne))
           (subst (λ (x : ℕ). x < ring) (e.plan.space i j hi hj)
           (r.spread.near i j (counted P a w e r i hi) (counted P a w e r j hj))) lo up
 
   -- the place of this step is that of step t + 256: it is empty, and nothing takes so long
-  line-last : (j : ℕ) → j < P.n → arrivalAt turned j (w.clock + ring) ≡ heard P (step P w).past j (w.clock + ring)
+  line_last : (j : ℕ) → j < P.n → arrival_at turned j (w.clock + ring) ≡ heard P (step P w).past j (w.clock + ring)
   unfolding turned step
-  line-last j hj =
-      arrival-turn turned j (w.clock + ring) (clockAt a) (omega (arith, e.time))
-      ∙ clear-all (countAt a) (clockAt a) (actAt a) a r.spread (kept_at a) r.long (countAt a) j (omega arith)
+  line_last j hj =
+      arrival_turn turned j (w.clock + ring) (clock_at a) (omega (arith, e.time))
+      ∙ clear_all (count_at a) (clock_at a) (act_at a) a r.spread (kept_at a) r.long (count_at a) j (omega arith)
       (counted P a w e r j hj)
-      ∙ sym (heard-far P (suc w.clock) (grown w.clock (symbol P w) w.past) j (w.clock + ring)
-      (grown-ends w.clock (symbol P w) w.past e.ends)
+      ∙ sym (heard_far P (suc w.clock) (grown w.clock (symbol P w) w.past) j (w.clock + ring)
+      (grown_ends w.clock (symbol P w) w.past e.ends)
       (λ i hi. omega (
         arith,
         e.plan.space i j hi hj,
@@ -204,44 +204,44 @@ module _ (P : Net) (a : List ℕ) (w : World) (e : Encodes P a w) (r : Readiness
             (counted P a w e r j hj),
       )))
 
-  still-held : (i : ℕ) → holds (outcome P w i).station.transmitter ≡ true → holds (w.station i).transmitter ≡ true
-  unfolding outcome stepped nextStation
-  still-held i h = held_back P.fig (w.station i).transmitter _ _ _ _ _ h
+  still_held : (i : ℕ) → holds (outcome P w i).station.transmitter ≡ true → holds (w.station i).transmitter ≡ true
+  unfolding outcome stepped next_station
+  still_held i h = held_back P.fig (w.station i).transmitter _ _ _ _ _ h
 
   same_size : (i : ℕ) → (outcome P w i).station.frame ≡ (w.station i).frame
-  unfolding outcome stepped nextStation
+  unfolding outcome stepped next_station
   same_size i = refl
 
-  held-room : (i : ℕ) → i < P.n → holds (w.station i).transmitter ≡ true → (w.station i).frame ≤ frameRoom
-  held-room i hi h =
-      frame-room (w.station i).transmitter (w.station i).frame h
+  held_room : (i : ℕ) → i < P.n → holds (w.station i).transmitter ≡ true → (w.station i).frame ≤ frame_room
+  held_room i hi h =
+      frame_room_lem (w.station i).transmitter (w.station i).frame h
       (subst (λ (x : Station). FrameIn x.transmitter x.frame) (e.state i hi)
       (r.fine i (counted P a w e r i hi)).frame)
 
-  pub encodes-step : Encodes P (stepArea a) (step P w)
+  pub encodes_step : Encodes P (step_area a) (step P w)
   unfolding step
-  encodes-step =
-      let big : areaSize ≤ length (stepArea a) = omega (arith, step-length a r, r.long) in
+  encodes_step =
+      let big : area_size ≤ length (step_area a) = omega (arith, step_length a r, r.long) in
       record {
         plan =
-            plan-by P a (stepArea a) (few P a w e r) r.long big (step-layout a r) (step-depth a r) (step-draws a r)
+            plan_by_lem P a (step_area a) (few P a w e r) r.long big (step_layout a r) (step_depth a r) (step_draws a r)
             e.plan;
-        time = step-clock a r ∙ add-one (clockAt a) ∙ ap suc e.time;
+        time = step_clock a r ∙ add-one (clock_at a) ∙ ap suc e.time;
         state =
-            λ i hi. step-station a r i (counted P a w e r i hi)
+            λ i hi. step_station a r i (counted P a w e r i hi)
             ∙ ap (λ (o : Stepped). o.station) (same_outcome P a w e r i hi);
         buffers =
-            λ i hi. step-buffer a r i (counted P a w e r i hi)
-            ∙ ap₂ (λ (b : List ℕ) (o : Stepped). storedIn b o.stored) (e.buffers i hi)
+            λ i hi. step_buffer a r i (counted P a w e r i hi)
+            ∙ ap₂ (λ (b : List ℕ) (o : Stepped). stored_in b o.stored) (e.buffers i hi)
             (same_outcome P a w e r i hi);
         frames = λ i hi h.
             let k = few P a w e r in
-            ap (frame_at (stepArea a) i) (same_size i)
-            ∙ frame-by (stepArea a) a i (w.station i).frame (omega arith) (held-room i hi (still-held i h)) big
-            r.long (step-frame a r i (omega arith))
-            ∙ e.frames i hi (still-held i h);
-        ends = grown-ends w.clock (symbol P w) w.past e.ends;
+            ap (frame_at (step_area a) i) (same_size i)
+            ∙ frame_by (step_area a) a i (w.station i).frame (omega arith) (held_room i hi (still_held i h)) big
+            r.long (step_frame a r i (omega arith))
+            ∙ e.frames i hi (still_held i h);
+        ends = grown_ends w.clock (symbol P w) w.past e.ends;
         line =
-            λ j u hj lo hi. after-clock j u
-            ∙ by-eq u (w.clock + ring) (λ z. rw z (line-last j hj)) (λ z. line-turned j u hj lo (omega arith));
+            λ j u hj lo hi. after_clock j u
+            ∙ by_eq u (w.clock + ring) (λ z. rw z (line_last j hj)) (λ z. line_turned j u hj lo (omega arith));
       }

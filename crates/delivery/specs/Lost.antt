@@ -6,16 +6,16 @@ use Rattle.std.proofs.Common.{arith}
 use Rattle.octets.specs.Base.{accepted}
 use Rattle.octets.specs.NumberLaws.{Octets}
 use Rattle.sheet_layout.specs.declared.Layout.{Layout}
-use Rattle.sheet_layout.specs.Layout.{addressAt}
-use Rattle.sheet_layout.specs.Fit.{fitOf}
-use Rattle.sheet_read.specs.Sheet.{readSheet}
+use Rattle.sheet_layout.specs.Layout.{address_at}
+use Rattle.sheet_layout.specs.Fit.{fit_of}
+use Rattle.sheet_read.specs.Sheet.{read_sheet}
 use Rattle.bus_start.specs.Start.{started}
 use Rattle.station_spec.specs.declared.TransmitEvent.TheVariants.{Sent}
 use Rattle.station_spec.specs.declared.ReceiveEvent.TheVariants.{GotOk}
 use Rattle.station_spec.specs.Receive.{addressed}
-use Rattle.delivery.specs.Calls.{Call, AllFair, Moment, log, end, begin, momentAt, sentAt, gotAt}
+use Rattle.delivery.specs.Calls.{Call, AllFair, Moment, log, end, begin, moment_at, sent_at, got_at}
 use Rattle.delivery.specs.Demand3.{apart, Sender, Demand3}
-use Rattle.delivery.specs.Theorem.{demand-3}
+use Rattle.delivery.specs.Theorem.{demand_3}
 
 -- the step in which station j has to report what station i reported sent in step t
 abbrev pub due_at : Layout → (t i j : ℕ) → ℕ
@@ -28,18 +28,18 @@ pub record Due (y : Layout) (T : List Moment) (t i j : ℕ) : Type 0 where
   pub sender : i < y.count
   pub addressee : j < y.count
   pub other : i ≡ j → ⊥
-  pub sent : sentAt T t i ≡ Sent attempts
-  pub for : addressed (addressAt y j) ((momentAt T t).frame i) ≡ true
+  pub sent : sent_at T t i ≡ Sent attempts
+  pub for : addressed (address_at y j) ((moment_at T t).frame i) ≡ true
   pub made : due_at y t i j < length T
 
 -- and j did not report it intact
 pub record Lost (y : Layout) (T : List Moment) (t i j : ℕ) : Type 0 where
   pub due : Due y T t i j
-  pub missed : (k : ℕ) → gotAt T (due_at y t i j) j ≡ GotOk k → ⊥
+  pub missed : (k : ℕ) → got_at T (due_at y t i j) j ≡ GotOk k → ⊥
 
 module _ (y : Layout) (T : List Moment) (m : Moment) (holds : Demand3 y T m) (t i j : ℕ) (g : Due y T t i j) where
-  from-sender : Sender y T (due_at y t i j) j
-  from-sender =
+  from_sender : Sender y T (due_at y t i j) j
+  from_sender =
       record {
         from = i;
         at = t;
@@ -52,24 +52,24 @@ module _ (y : Layout) (T : List Moment) (m : Moment) (holds : Demand3 y T m) (t 
       }
 
   -- a frame that is due was got, and in that step no other station's
-  pub always-got : ((k : ℕ) × (gotAt T (due_at y t i j) j ≡ GotOk k))
+  pub always_got : ((k : ℕ) × (got_at T (due_at y t i j) j ≡ GotOk k))
       × ((s : Sender y T (due_at y t i j) j) → s.from ≡ i)
-  unfolding from-sender
-  always-got = (
-    holds.delivered (due_at y t i j) j (omega (arith, g.made)) g.addressee from-sender,
-    (λ s. holds.one (due_at y t i j) j (omega (arith, g.made)) g.addressee s from-sender),
+  unfolding from_sender
+  always_got = (
+    holds.delivered (due_at y t i j) j (omega (arith, g.made)) g.addressee from_sender,
+    (λ s. holds.one (due_at y t i j) j (omega (arith, g.made)) g.addressee s from_sender),
   )
 
-pub none-lost : (y : Layout) (T : List Moment) (m : Moment) → Demand3 y T m → (t i j : ℕ) → Lost y T t i j → ⊥
-none-lost y T m holds t i j l =
-    let q = (always-got y T m holds t i j l.due).0 in l.missed q.0 q.1
+pub none_lost : (y : Layout) (T : List Moment) (m : Moment) → Demand3 y T m → (t i j : ℕ) → Lost y T t i j → ⊥
+none_lost y T m holds t i j l =
+    let q = (always_got y T m holds t i j l.due).0 in l.missed q.0 q.1
 
 -- "On a sheet that fits, whatever is drawn and offered, over every list of calls from a fresh start": no frame is lost.
-pub never-lost : (s : List ℕ) → Octets s → (n : ℕ) → (readSheet s).answer ≡ accepted (n ∷ []) → (a : List ℕ) (d : ℕ)
-    (ds : List (List ℕ)) → (started a (readSheet s).layout d ds).answer ≡ accepted [] → (cs : List Call) → AllFair cs
-    → fitOf (readSheet s).layout ≡ accepted (1 ∷ []) → (t i j : ℕ)
-    → Lost (readSheet s).layout (log cs (begin (started a (readSheet s).layout d ds).octets)) t i j → ⊥
-never-lost s octets n sheet a d ds start cs fair fits =
-    none-lost (readSheet s).layout (log cs (begin (started a (readSheet s).layout d ds).octets))
-    (end cs (begin (started a (readSheet s).layout d ds).octets))
-    (demand-3 s octets n sheet a d ds start cs fair fits)
+pub never_lost : (s : List ℕ) → Octets s → (n : ℕ) → (read_sheet s).answer ≡ accepted (n ∷ []) → (a : List ℕ) (d : ℕ)
+    (ds : List (List ℕ)) → (started a (read_sheet s).layout d ds).answer ≡ accepted [] → (cs : List Call) → AllFair cs
+    → fit_of (read_sheet s).layout ≡ accepted (1 ∷ []) → (t i j : ℕ)
+    → Lost (read_sheet s).layout (log cs (begin (started a (read_sheet s).layout d ds).octets)) t i j → ⊥
+never_lost s octets n sheet a d ds start cs fair fits =
+    none_lost (read_sheet s).layout (log cs (begin (started a (read_sheet s).layout d ds).octets))
+    (end cs (begin (started a (read_sheet s).layout d ds).octets))
+    (demand_3 s octets n sheet a d ds start cs fair fits)

@@ -2,11 +2,11 @@
 use Rattle.std.specs.Prelude.{ℕ, ◌-◌, ◌≤◌, ◌≡◌, List, replicate}
 use Rattle.std.proofs.Common.{◌∙◌}
 use Rattle.bus_spec.specs.declared.Events.{Events}
-use Rattle.bus_spec.specs.BitTime.{noEvents}
-use Rattle.bus_spec.specs.Until.{Stretched, untilEvent}
-use Rattle.bus_spec.specs.UntilLaws.{plus, stretch-end}
+use Rattle.bus_spec.specs.BitTime.{no_events}
+use Rattle.bus_spec.specs.Until.{Stretched, until_event}
+use Rattle.bus_spec.specs.UntilLaws.{plus, stretch_end}
 
-pub onward-end : (n t : ℕ) (a : List ℕ) (R : Stretched) (k : ℕ) (es : List Events) → plus t (untilEvent (n - t) a) ≡ R
+pub onward_end : (n t : ℕ) (a : List ℕ) (R : Stretched) (k : ℕ) (es : List Events) → plus t (until_event (n - t) a) ≡ R
     → n ≤ t
-    → k ≡ t → es ≡ replicate 16 noEvents → record { steps = k; events = es; octets = a } ≡ R
-onward-end n t a R k es p h e f = (λ i. record { steps = e i; events = f i; octets = a }) ∙ stretch-end n t a R h p
+    → k ≡ t → es ≡ replicate 16 no_events → record { steps = k; events = es; octets = a } ≡ R
+onward_end n t a R k es p h e f = (λ i. record { steps = e i; events = f i; octets = a }) ∙ stretch_end n t a R h p

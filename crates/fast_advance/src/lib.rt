@@ -3,10 +3,10 @@
 pub mod until;
 
 ghost use Rattle.std.specs.Prelude.{◌≡◌, ◌<◌, ◌≤◌, length, replicate};
-ghost use Rattle.bus_spec.specs.BitTime.{noEvents};
+ghost use Rattle.bus_spec.specs.BitTime.{no_events};
 ghost use Rattle.bus_spec.specs.RunLaws.{Runnable};
 ghost use Rattle.fast_advance.specs.Advance.{Leapt, Advanced};
-ghost use Rattle.area.specs.Offsets.{areaSize};
+ghost use Rattle.area.specs.Offsets.{area_size};
 
 use bus_spec::Events;
 use bus_spec::course::Stretch;
@@ -18,7 +18,7 @@ const LEAST: u32 = 4;
 // So many steps, and no events.
 pub fn eventless(steps: u32) -> Stretch
     ensures steps { result.steps ≡ steps }
-    ensures events { result.events ≡ replicate 16 noEvents }
+    ensures events { result.events ≡ replicate 16 no_events }
 {
     let none = Events {
         sent: TransmitEvent::NoTransmit,
@@ -32,7 +32,7 @@ pub fn eventless(steps: u32) -> Stretch
 
 // Steps of silence at once, or of a window, at most so many as are left; none where neither can be.
 fn leap(area: &mut [u8], left: u32) -> u32
-    requires { Runnable left area.old × (areaSize ≤ length area.old) × (0 < left) }
+    requires { Runnable left area.old × (area_size ≤ length area.old) × (0 < left) }
     ensures made { Leapt left result area.old area.new }
     ensures bound { result ≤ left }
 {
@@ -48,7 +48,7 @@ fn leap(area: &mut [u8], left: u32) -> u32
 
 // Many steps at once, or one: at most so many as are left, and the events of the last of them.
 pub fn advance(area: &mut [u8], left: u32) -> Stretch
-    requires { Runnable left area.old × (areaSize ≤ length area.old) × (0 < left) }
+    requires { Runnable left area.old × (area_size ≤ length area.old) × (0 < left) }
     ensures made { Advanced result.steps result.events area.old area.new }
     ensures bound { (0 < result.steps) × (result.steps ≤ left) }
 {

@@ -2,14 +2,14 @@
 
 ghost use Rattle.std.specs.Prelude.{◌≡◌, ◌≤◌, length};
 ghost use Rattle.bus_spec.specs.RunLaws.{Runnable};
-ghost use Rattle.bus_spec.specs.Until.{hasEvent, eventful, untilEvent, stretchOf};
-ghost use Rattle.area.specs.Offsets.{areaSize};
+ghost use Rattle.bus_spec.specs.Until.{has_event, eventful, until_event, stretch_of};
+ghost use Rattle.area.specs.Offsets.{area_size};
 
 use bus_spec::Events;
 use bus_spec::course::Stretch;
 
 fn has_event(e: Events) -> bool
-    ensures { result ≡ hasEvent e }
+    ensures { result ≡ has_event e }
 {
     let sent = e.sent;
     let got = e.got;
@@ -36,8 +36,8 @@ fn is_eventful(events: [Events; 16]) -> bool
 
 // At most n steps, until one has an event.
 pub fn until_event(area: &mut [u8], n: u32) -> Stretch
-    requires { Runnable n area.old × (areaSize ≤ length area.old) }
-    ensures { stretchOf result area.new ≡ untilEvent n area.old }
+    requires { Runnable n area.old × (area_size ≤ length area.old) }
+    ensures { stretch_of result area.new ≡ until_event n area.old }
 {
     let mut t: u32 = 0;
     while t < n {

@@ -7,11 +7,11 @@ use Rattle.std.proofs.Math.Bool.{true, false, not}
 use mathlib.Core.List.{List}
 use native.Mathlib.Omega.{arith}
 use borrow.Author.Tests.{ltb-true, ltb-false, not-true, not-false}
-use Rattle.octets.specs.BaseLaws.{by-test, by-eq}
+use Rattle.octets.specs.BaseLaws.{by_test, by_eq}
 use Rattle.sheet_layout.specs.declared.Figures.{Figures}
 use Rattle.station_symbols.specs.declared.Heard.{Heard}
 use Rattle.station_symbols.specs.declared.Heard.TheVariants.{Nothing, Clean, Spoiled}
-use Rattle.station_symbols.specs.Packet.{hearsAny}
+use Rattle.station_symbols.specs.Packet.{hears_any}
 use Rattle.station_state.specs.declared.Deference.{Deference}
 use Rattle.station_state.specs.declared.Deference.TheVariants.{Quiet, Busy, Gap}
 use Rattle.station_state.specs.declared.Transmitter.{Transmitter}
@@ -19,329 +19,329 @@ use Rattle.station_state.specs.declared.Transmitter.TheVariants.{NoFrame, Waitin
 use Rattle.station_state.specs.declared.Transmitter.TheVariants.{Jamming}
 use Rattle.station_state.specs.declared.Receiver.{Receiver}
 use Rattle.station_state.specs.declared.Station.{Station}
-use Rattle.station_spec.specs.Receive.{bitsIn}
-use Rattle.area.specs.Area.{clockAt, depthAt, figuresAt, countAt, addressAt, recordAt, stationAt, bufferAt, arrivalAt}
+use Rattle.station_spec.specs.Receive.{bits_in}
+use Rattle.area.specs.Area.{clock_at, depth_at, figures_at, count_at, address_at, record_at, station_at, buffer_at, arrival_at}
 use Rattle.bus_spec.specs.Range.{FrameIn}
 use Rattle.bus_spec.specs.Ready.{Readiness, Ready}
 use Rattle.bus_quick.specs.Quick.{both_true}
 use Rattle.fast_plan.specs.Plan.{hears}
-use Rattle.fast_plan.specs.Calm.{AllCalm, calm-none, calm-less}
-use Rattle.fast_silence.specs.Bound.{framesRest, frames-last, is-idle}
-use Rattle.fast_station.specs.Forms.{heardRest, emitsFor}
-use Rattle.fast_receive.specs.Received.{mayReport}
-use Rattle.fast_segment.specs.Alone.{address-in}
-use Rattle.fast_line.specs.LineLaws.{by-clean, heard-spoiled}
+use Rattle.fast_plan.specs.Calm.{AllCalm, calm_none, calm_less}
+use Rattle.fast_silence.specs.Bound.{frames_rest, frames_last, is_idle}
+use Rattle.fast_station.specs.Forms.{heard_rest, emits_for}
+use Rattle.fast_receive.specs.Received.{may_report}
+use Rattle.fast_segment.specs.Alone.{address_in}
+use Rattle.fast_line.specs.LineLaws.{by_clean, heard_spoiled}
 use Rattle.fast_heard.specs.declared.Near.{Near}
 use Rattle.fast_heard.specs.declared.Kind.{Kind}
 use Rattle.fast_heard.specs.declared.Kind.TheVariants.{Silent, Line, From, Mixed}
 use Rattle.fast_heard.specs.declared.Segment.{Segment}
-use Rattle.fast_heard.specs.Hearing.{plan_of, held_at, emits, emitsAt, nearestOf, nearBit, Says, Segmented}
-use Rattle.fast_heard.specs.NearLaws.{silent-by-code, emits-by-code}
+use Rattle.fast_heard.specs.Hearing.{plan_of, held_at, emits, emits_at, nearest_of, near_bit, Says, Segmented}
+use Rattle.fast_heard.specs.NearLaws.{silent_by_code, emits_by_code}
 use Rattle.fast_heard.specs.declared.Sight.{Sight}
-use Rattle.fast_heard.specs.Sights.{sightBy, sight_of, blankSight, sights_of}
-use Rattle.fast_heard.specs.SightLaws.{sight-at}
-use Rattle.fast_heard.specs.HearingLaws.{segment-hears}
+use Rattle.fast_heard.specs.Sights.{sight_by, sight_of, blank_sight, sights_of}
+use Rattle.fast_heard.specs.SightLaws.{sight_at}
+use Rattle.fast_heard.specs.HearingLaws.{segment_hears}
 use Rattle.fast_bound.specs.declared.Ahead.{Ahead}
-use Rattle.fast_bound.specs.Foresee.{Foreseen, bits-clock, foreseen-start, foreseen-heard, foreseen-rest}
-use Rattle.fast_bound.specs.Foresee.{emits-unheard, emits-heard}
-use Rattle.fast_bound.specs.Bound.{restSteps, hearSteps, restedTo, heardTo, restAhead, hearAhead, ahead, ahead_of}
-use Rattle.fast_bound.specs.Bound.{ownBusy, sends, unhurt, emitsWith, emitSteps, isLike, Alike, CalmFor, CalmIf}
+use Rattle.fast_bound.specs.Foresee.{Foreseen, bits_clock, foreseen_start, foreseen_heard, foreseen_rest}
+use Rattle.fast_bound.specs.Foresee.{emits_unheard, emits_heard}
+use Rattle.fast_bound.specs.Bound.{rest_steps, hear_steps, rested_to, heard_to, rest_ahead, hear_ahead, ahead, ahead_of}
+use Rattle.fast_bound.specs.Bound.{own_busy, sends, unhurt, emits_with, emit_steps, is_like, Alike, CalmFor, CalmIf}
 use Rattle.fast_bound.specs.Bound.{CalmAmong, AllLast, ReadFrom, NearTo, Underway}
-use Rattle.sheet_layout.specs.Limits.{lastClock}
-use Rattle.frame_build.specs.Limits.{bufferOctets, shortestFrame}
-use Rattle.area_record.specs.Words.{phaseWord}
+use Rattle.sheet_layout.specs.Limits.{last_clock}
+use Rattle.frame_build.specs.Limits.{buffer_octets, shortest_frame}
+use Rattle.area_record.specs.Words.{phase_word}
 
 -- ---- in a run of any kind but silence others are heard
 
 module _ (H L : ℕ → Heard) (F : List ℕ) (k d s m : ℕ) where
-  line-any : Says H L F k d s Line m → (v : ℕ) → v < m → hearsAny (H (s + v)) ≡ true
-  line-any h v l = by-clean (L (s + v)) (h v l).1 (λ b e. ap hearsAny ((h v l).0 ∙ e))
+  line_any : Says H L F k d s Line m → (v : ℕ) → v < m → hears_any (H (s + v)) ≡ true
+  line_any h v l = by_clean (L (s + v)) (h v l).1 (λ b e. ap hears_any ((h v l).0 ∙ e))
 
-  from-any : Says H L F k d s From m → (v : ℕ) → v < m → hearsAny (H (s + v)) ≡ true
-  from-any h v l = ap hearsAny (h.2 v l)
+  from_any : Says H L F k d s From m → (v : ℕ) → v < m → hears_any (H (s + v)) ≡ true
+  from_any h v l = ap hears_any (h.2 v l)
 
-  spoiled-any : Says H L F k d s Mixed m → (v : ℕ) → v < m → hearsAny (H (s + v)) ≡ true
-  spoiled-any h v l = ap hearsAny (heard-spoiled (H (s + v)) (h v l))
+  spoiled_any : Says H L F k d s Mixed m → (v : ℕ) → v < m → hears_any (H (s + v)) ≡ true
+  spoiled_any h v l = ap hears_any (heard_spoiled (H (s + v)) (h v l))
 
 -- ---- a station that emits nothing
 
-rest-within : (f : Figures) (m : ℕ) (d : Deference) (x : Transmitter) (q : ℕ) (b : Bool) (k : ℕ)
-    → k ≡ restSteps f m d x q b → 0 < k
-    → ((b || ltb q shortestFrame) ≡ true) × (k ≤ m) × (k ≤ framesRest f m d x)
-unfolding restSteps
-rest-within f m d x q b k e p =
-    by-test (b || ltb q shortestFrame)
-    (λ c. let y : k ≡ min m (framesRest f m d x) = rw c at e in (c, omega arith, omega arith))
+rest_within : (f : Figures) (m : ℕ) (d : Deference) (x : Transmitter) (q : ℕ) (b : Bool) (k : ℕ)
+    → k ≡ rest_steps f m d x q b → 0 < k
+    → ((b || ltb q shortest_frame) ≡ true) × (k ≤ m) × (k ≤ frames_rest f m d x)
+unfolding rest_steps
+rest_within f m d x q b k e p =
+    by_test (b || ltb q shortest_frame)
+    (λ c. let y : k ≡ min m (frames_rest f m d x) = rw c at e in (c, omega arith, omega arith))
     (λ c. let y : k ≡ 0 = rw c at e in absurd (omega arith))
 
-hear-within : (f : Figures) (m : ℕ) (d : Deference) (x : Transmitter) (k : ℕ) → k ≡ hearSteps f m d x
-    → (k ≤ m) × (k ≤ heardRest f m d x)
-unfolding hearSteps
-hear-within f m d x k e = (omega arith, omega arith)
+hear_within : (f : Figures) (m : ℕ) (d : Deference) (x : Transmitter) (k : ℕ) → k ≡ hear_steps f m d x
+    → (k ≤ m) × (k ≤ heard_rest f m d x)
+unfolding hear_steps
+hear_within f m d x k e = (omega arith, omega arith)
 
-module _ (a : List ℕ) (r : Readiness a) (j : ℕ) (hj : j < countAt a) (off : emitsAt a j ≡ false) (m s n : ℕ)
-    (early : clockAt a + (s + n) ≤ lastClock) (within : s + n ≤ m) (g : Ahead)
+module _ (a : List ℕ) (r : Readiness a) (j : ℕ) (hj : j < count_at a) (off : emits_at a j ≡ false) (m s n : ℕ)
+    (early : clock_at a + (s + n) ≤ last_clock) (within : s + n ≤ m) (g : Ahead)
     (v : Foreseen a r j hj m s g.deference g.transmitter g.bits g.harmless) where
   Next : Ahead → Type 0
   Next h = Foreseen a r j hj m (s + h.len) h.deference h.transmitter h.bits h.harmless
 
   rest_goes : ((u : ℕ) → u < n → hears a (plan_of a) j (s + u) ≡ Nothing) → (k : ℕ)
-      → k ≡ restSteps (figuresAt a) n g.deference g.transmitter g.bits g.harmless → 0 < k
-      → Next (restedTo (figuresAt a) k g)
-  unfolding Next restedTo
+      → k ≡ rest_steps (figures_at a) n g.deference g.transmitter g.bits g.harmless → 0 < k
+      → Next (rested_to (figures_at a) k g)
+  unfolding Next rested_to
   rest_goes none k e pos =
-      let q = rest-within (figuresAt a) n g.deference g.transmitter g.bits g.harmless k e pos in
+      let q = rest_within (figures_at a) n g.deference g.transmitter g.bits g.harmless k e pos in
       let le = q.1 in
-      foreseen-rest a r j hj off s k pos (omega arith) m g.deference g.transmitter g.bits g.harmless v
+      foreseen_rest a r j hj off s k pos (omega arith) m g.deference g.transmitter g.bits g.harmless v
       (λ u l. none u (omega arith))
-      (frames-last (figuresAt a) n k g.deference g.transmitter pos q.2) q.0
+      (frames_last (figures_at a) n k g.deference g.transmitter pos q.2) q.0
 
-  hear-goes : ((u : ℕ) → u < n → hearsAny (hears a (plan_of a) j (s + u)) ≡ true) → (k : ℕ)
-      → k ≡ hearSteps (figuresAt a) n g.deference g.transmitter → 0 < k
-      → Next (heardTo (figuresAt a) k g)
-  unfolding Next heardTo
-  hear-goes all k e pos =
-      let q = hear-within (figuresAt a) n g.deference g.transmitter k e in
+  hear_goes : ((u : ℕ) → u < n → hears_any (hears a (plan_of a) j (s + u)) ≡ true) → (k : ℕ)
+      → k ≡ hear_steps (figures_at a) n g.deference g.transmitter → 0 < k
+      → Next (heard_to (figures_at a) k g)
+  unfolding Next heard_to
+  hear_goes all k e pos =
+      let q = hear_within (figures_at a) n g.deference g.transmitter k e in
       let le = q.0 in
-      foreseen-heard a r j hj off s k pos (omega arith) m g.deference g.transmitter g.bits g.harmless v n
+      foreseen_heard a r j hj off s k pos (omega arith) m g.deference g.transmitter g.bits g.harmless v n
       (λ u l. all u (omega arith)) q.1 (omega arith)
 
   -- a run of any kind
-  run-goes : (L : ℕ → Heard) (F : List ℕ) (k d : ℕ) (c : Kind) → Says (hears a (plan_of a) j) L F k d s c n
-      → 0 < (ahead (figuresAt a) c n g).len → Next (ahead (figuresAt a) c n g)
-  unfolding ahead restAhead hearAhead restedTo heardTo
-  run-goes L F k d Silent h pos =
-      rest_goes h (restSteps (figuresAt a) n g.deference g.transmitter g.bits g.harmless) refl pos
-  run-goes L F k d Line h pos =
-      hear-goes (line-any (hears a (plan_of a) j) L F k d s n h)
-      (hearSteps (figuresAt a) n g.deference g.transmitter) refl pos
-  run-goes L F k d From h pos =
-      hear-goes (from-any (hears a (plan_of a) j) L F k d s n h)
-      (hearSteps (figuresAt a) n g.deference g.transmitter) refl pos
-  run-goes L F k d Mixed h pos =
-      hear-goes (spoiled-any (hears a (plan_of a) j) L F k d s n h)
-      (hearSteps (figuresAt a) n g.deference g.transmitter) refl pos
+  run_goes : (L : ℕ → Heard) (F : List ℕ) (k d : ℕ) (c : Kind) → Says (hears a (plan_of a) j) L F k d s c n
+      → 0 < (ahead (figures_at a) c n g).len → Next (ahead (figures_at a) c n g)
+  unfolding ahead rest_ahead hear_ahead rested_to heard_to
+  run_goes L F k d Silent h pos =
+      rest_goes h (rest_steps (figures_at a) n g.deference g.transmitter g.bits g.harmless) refl pos
+  run_goes L F k d Line h pos =
+      hear_goes (line_any (hears a (plan_of a) j) L F k d s n h)
+      (hear_steps (figures_at a) n g.deference g.transmitter) refl pos
+  run_goes L F k d From h pos =
+      hear_goes (from_any (hears a (plan_of a) j) L F k d s n h)
+      (hear_steps (figures_at a) n g.deference g.transmitter) refl pos
+  run_goes L F k d Mixed h pos =
+      hear_goes (spoiled_any (hears a (plan_of a) j) L F k d s n h)
+      (hear_steps (figures_at a) n g.deference g.transmitter) refl pos
 
 module _ (a : List ℕ) (j : ℕ) where
-  pub calm-zero : CalmFor a j 0
+  pub calm_zero : CalmFor a j 0
   unfolding CalmFor
-  calm-zero =
+  calm_zero =
       record {
-        calm = calm-none (figuresAt a) (depthAt a) j (hears a (plan_of a) j) (plan_of a j) a;
+        calm = calm_none (figures_at a) (depth_at a) j (hears a (plan_of a) j) (plan_of a j) a;
         lasts = λ e. omega arith;
       }
 
-  pub under-start : (m : ℕ) (s : Station) (g : Ahead) (x : Receiver) (c : Bool) → s ≡ stationAt a j → x ≡ s.receiver
-      → c ≡ mayReport (addressAt a j) (bufferAt a j) m x → g ≡ ahead_of s (not c) → s.emitted ≡ false
+  pub under_start : (m : ℕ) (s : Station) (g : Ahead) (x : Receiver) (c : Bool) → s ≡ station_at a j → x ≡ s.receiver
+      → c ≡ may_report (address_at a j) (buffer_at a j) m x → g ≡ ahead_of s (not c) → s.emitted ≡ false
       → Underway a j m 0 g
   unfolding Underway ahead_of
-  under-start m s g x c es ex ec eg e =
+  under_start m s g x c es ex ec eg e =
       λ r hj. subst (λ (y : Ahead). Foreseen a r j hj m 0 y.deference y.transmitter y.bits y.harmless)
       (sym (eg ∙ ap (λ (y : Station). ahead_of y (not c)) es))
-      (foreseen-start a r j hj m (not c) (ap (λ (y : Station). y.emitted) (sym es) ∙ e)
-      (λ h. let z : x ≡ (stationAt a j).receiver = ex ∙ ap (λ (y : Station). y.receiver) es in
-      ap (λ (y : List ℕ). mayReport y (bufferAt a j) m (stationAt a j).receiver) (address-in a j)
-      ∙ ap (mayReport (addressAt a j) (bufferAt a j) m) (sym z) ∙ sym ec ∙ not-true c h))
+      (foreseen_start a r j hj m (not c) (ap (λ (y : Station). y.emitted) (sym es) ∙ e)
+      (λ h. let z : x ≡ (station_at a j).receiver = ex ∙ ap (λ (y : Station). y.receiver) es in
+      ap (λ (y : List ℕ). may_report y (buffer_at a j) m (station_at a j).receiver) (address_in a j)
+      ∙ ap (may_report (address_at a j) (buffer_at a j) m) (sym z) ∙ sym ec ∙ not-true c h))
 
 module _ (a : List ℕ) (f : Figures) (j t : ℕ) (w : Near) (k : ℕ) (v : NearTo a f j t w k) where
-  bits_most : bitsIn (stationAt a j).receiver ≤ t
+  bits_most : bits_in (station_at a j).receiver ≤ t
   unfolding NearTo
   bits_most =
       omega (
         arith,
         v.read.clock,
-        bits-clock (clockAt a) (stationAt a j).receiver
+        bits_clock (clock_at a) (station_at a j).receiver
             (v.read.ready.fine j v.station).receiver,
       )
 
-  pub bits-room : (m : ℕ) (s : Station) (x : Receiver) → s ≡ stationAt a j → x ≡ s.receiver → t + m ≤ lastClock
-      → bitsIn x + m < 4294967296
-  bits-room m s x es ex h =
-      subst (λ (y : Receiver). bitsIn y + m < 4294967296) (sym (ex ∙ ap (λ (y : Station). y.receiver) es))
+  pub bits_room : (m : ℕ) (s : Station) (x : Receiver) → s ≡ station_at a j → x ≡ s.receiver → t + m ≤ last_clock
+      → bits_in x + m < 4294967296
+  bits_room m s x es ex h =
+      subst (λ (y : Receiver). bits_in y + m < 4294967296) (sym (ex ∙ ap (λ (y : Station). y.receiver) es))
       (omega (arith, bits_most))
 
-  pub start-bits : (s : Station) (b : Bool) (g : Ahead) → s ≡ stationAt a j → g ≡ ahead_of s b → g.bits ≤ t + 0
+  pub start_bits : (s : Station) (b : Bool) (g : Ahead) → s ≡ station_at a j → g ≡ ahead_of s b → g.bits ≤ t + 0
   unfolding ahead_of
-  start-bits s b g es eg =
-      let y : g.bits ≡ bitsIn (stationAt a j).receiver = ap (λ (z : Ahead). z.bits)
+  start_bits s b g es eg =
+      let y : g.bits ≡ bits_in (station_at a j).receiver = ap (λ (z : Ahead). z.bits)
       (eg ∙ ap (λ (z : Station). ahead_of z b) es) in
       omega (arith, y, bits_most)
 
-  pub calm-end : emitsAt a j ≡ false → (m s : ℕ) (g : Ahead) → Underway a j m s g → CalmFor a j s
+  pub calm_end : emits_at a j ≡ false → (m s : ℕ) (g : Ahead) → Underway a j m s g → CalmFor a j s
   unfolding NearTo Underway CalmFor
-  calm-end off m s g u =
+  calm_end off m s g u =
       record { calm = (u v.read.ready v.station).calm; lasts = λ e. absurd (true≢false (sym e ∙ off)) }
 
   -- what a run says of what is heard
-  run-says : (s : ℕ) (run : Segment) → Segmented a j t w k s run
-      → Says (hears a (plan_of a) j) (λ u. arrivalAt a j (clockAt a + u)) (held_at a w.from) k w.d1 s run.kind
+  run_says : (s : ℕ) (run : Segment) → Segmented a j t w k s run
+      → Says (hears a (plan_of a) j) (λ u. arrival_at a j (clock_at a + u)) (held_at a w.from) k w.d1 s run.kind
       run.len
   unfolding NearTo
-  run-says s run h =
-      segment-hears a a j t w k v.read.ready v.station v.nearest v.bit v.read.clock (λ u. refl) s run h
+  run_says s run h =
+      segment_hears a a j t w k v.read.ready v.station v.nearest v.bit v.read.clock (λ u. refl) s run h
 
-  module _ (off : emitsAt a j ≡ false) (m s : ℕ) (run : Segment) (h : Segmented a j t w k s run) (g next : Ahead)
+  module _ (off : emits_at a j ≡ false) (m s : ℕ) (run : Segment) (h : Segmented a j t w k s run) (g next : Ahead)
       (u : Underway a j m s g) (e : next ≡ ahead f run.kind run.len g)
-      (hs : s < m) (len : run.len ≤ m - s) (early : t + m ≤ lastClock) where
-    under-on : 0 < next.len → Underway a j m (s + next.len) next
+      (hs : s < m) (len : run.len ≤ m - s) (early : t + m ≤ last_clock) where
+    under_on : 0 < next.len → Underway a j m (s + next.len) next
     unfolding NearTo Underway Next
-    under-on pos =
-        let p : next ≡ ahead (figuresAt a) run.kind run.len g = e
+    under_on pos =
+        let p : next ≡ ahead (figures_at a) run.kind run.len g = e
         ∙ ap (λ (y : Figures). ahead y run.kind run.len g) v.read.figures in
         λ r hj. subst (λ (y : Ahead). Foreseen a r j hj m (s + y.len) y.deference y.transmitter y.bits
         y.harmless) (sym p)
-        (run-goes a r j hj off m s run.len (omega (arith, v.read.clock)) (omega arith) g (u r hj)
-        (λ u. arrivalAt a j (clockAt a + u)) (held_at a w.from) k w.d1 run.kind (run-says s run h)
+        (run_goes a r j hj off m s run.len (omega (arith, v.read.clock)) (omega arith) g (u r hj)
+        (λ u. arrival_at a j (clock_at a + u)) (held_at a w.from) k w.d1 run.kind (run_says s run h)
         (subst (λ (y : Ahead). 0 < y.len) p pos))
 
-    pub under-again : 0 < run.len → run.len ≤ next.len → Underway a j m (s + next.len) next
-    under-again p q = under-on (omega arith)
+    pub under_again : 0 < run.len → run.len ≤ next.len → Underway a j m (s + next.len) next
+    under_again p q = under_on (omega arith)
 
-    pub calm-on : CalmFor a j (s + next.len)
-    calm-on =
-        by-eq next.len 0
-        (λ z. let y : s + next.len ≡ s = omega arith in subst (CalmFor a j) (sym y) (calm-end off m s g u))
-        (λ z. calm-end off m (s + next.len) next (under-on (omega (arith, z))))
+    pub calm_on : CalmFor a j (s + next.len)
+    calm_on =
+        by_eq next.len 0
+        (λ z. let y : s + next.len ≡ s = omega arith in subst (CalmFor a j) (sym y) (calm_end off m s g u))
+        (λ z. calm_end off m (s + next.len) next (under_on (omega (arith, z))))
 
 -- ---- a station that emits
 
-is-own : (d : Deference) → ownBusy d ≡ true → d ≡ Busy true
-unfolding ownBusy
-is-own Quiet h = absurd (true≢false (sym h))
-is-own (Busy own) h = ap Busy h
-is-own (Gap n own) h = absurd (true≢false (sym h))
+is_own : (d : Deference) → own_busy d ≡ true → d ≡ Busy true
+unfolding own_busy
+is_own Quiet h = absurd (true≢false (sym h))
+is_own (Busy own) h = ap Busy h
+is_own (Gap n own) h = absurd (true≢false (sym h))
 
-not-sending : (x : Transmitter) → not (sends x) ≡ true → (i : ℕ) → x ≡ Sending i → ⊥
+not_sending : (x : Transmitter) → not (sends x) ≡ true → (i : ℕ) → x ≡ Sending i → ⊥
 unfolding sends
-not-sending x h i e = true≢false (ap sends (sym e) ∙ not-true (sends x) h)
+not_sending x h i e = true≢false (ap sends (sym e) ∙ not-true (sends x) h)
 
-frame-held : (x : Transmitter) (z : ℕ) → emits x ≡ true → FrameIn x z → z ≤ bufferOctets
-frame-held NoFrame z e h = absurd (true≢false (sym e))
-frame-held Waiting z e h = h.1
-frame-held (BackingOff w) z e h = h.1
-frame-held (Sending k) z e h = h.1
-frame-held (Heading k) z e h = h.1
-frame-held (Jamming k ends) z e h = h.1
+frame_held : (x : Transmitter) (z : ℕ) → emits x ≡ true → FrameIn x z → z ≤ buffer_octets
+frame_held NoFrame z e h = absurd (true≢false (sym e))
+frame_held Waiting z e h = h.1
+frame_held (BackingOff w) z e h = h.1
+frame_held (Sending k) z e h = h.1
+frame_held (Heading k) z e h = h.1
+frame_held (Jamming k ends) z e h = h.1
 
-frame-most : (a : List ℕ) (r : Readiness a) (j : ℕ) → j < countAt a → emitsAt a j ≡ true
-    → (stationAt a j).frame ≤ bufferOctets
-unfolding emitsAt
-frame-most a r j hj on = frame-held (stationAt a j).transmitter (stationAt a j).frame on (r.fine j hj).frame
+frame_most : (a : List ℕ) (r : Readiness a) (j : ℕ) → j < count_at a → emits_at a j ≡ true
+    → (station_at a j).frame ≤ buffer_octets
+unfolding emits_at
+frame_most a r j hj on = frame_held (station_at a j).transmitter (station_at a j).frame on (r.fine j hj).frame
 
-emit-within : (q : Bool) (s : Station) (k : ℕ) → 0 < k → k ≤ emitSteps q s
-    → (emitsWith q s ≡ true) × (k ≤ emitsFor s.frame s.transmitter)
-unfolding emitSteps
-emit-within q s k p h =
-    by-test (emitsWith q s)
+emit_within : (q : Bool) (s : Station) (k : ℕ) → 0 < k → k ≤ emit_steps q s
+    → (emits_with q s ≡ true) × (k ≤ emits_for s.frame s.transmitter)
+unfolding emit_steps
+emit_within q s k p h =
+    by_test (emits_with q s)
     (λ e. (e, rw e at h))
     (λ e. let y : k ≤ 0 = rw e at h in absurd (omega arith))
 
-hears-none : (h : Heard) → hearsAny h ≡ false → h ≡ Nothing
-hears-none Nothing e = refl
-hears-none (Clean b) e = absurd (true≢false e)
-hears-none Spoiled e = absurd (true≢false e)
+hears_none : (h : Heard) → hears_any h ≡ false → h ≡ Nothing
+hears_none Nothing e = refl
+hears_none (Clean b) e = absurd (true≢false e)
+hears_none Spoiled e = absurd (true≢false e)
 
 -- what a run says of whether others are heard
-run-any : (H L : ℕ → Heard) (F : List ℕ) (k d s m : ℕ) (c : Kind) (q : Bool) → Says H L F k d s c m → isLike c q ≡ true
-    → (v : ℕ) → v < m → hearsAny (H (s + v)) ≡ not q
-unfolding isLike
-run-any H L F k d s m Silent q h e v l = ap hearsAny (h v l) ∙ sym (ap not e)
-run-any H L F k d s m Line q h e v l = line-any H L F k d s m h v l ∙ sym e
-run-any H L F k d s m From q h e v l = from-any H L F k d s m h v l ∙ sym e
-run-any H L F k d s m Mixed q h e v l = spoiled-any H L F k d s m h v l ∙ sym e
+run_any : (H L : ℕ → Heard) (F : List ℕ) (k d s m : ℕ) (c : Kind) (q : Bool) → Says H L F k d s c m → is_like c q ≡ true
+    → (v : ℕ) → v < m → hears_any (H (s + v)) ≡ not q
+unfolding is_like
+run_any H L F k d s m Silent q h e v l = ap hears_any (h v l) ∙ sym (ap not e)
+run_any H L F k d s m Line q h e v l = line_any H L F k d s m h v l ∙ sym e
+run_any H L F k d s m From q h e v l = from_any H L F k d s m h v l ∙ sym e
+run_any H L F k d s m Mixed q h e v l = spoiled_any H L F k d s m h v l ∙ sym e
 
 module _ (a : List ℕ) (j : ℕ) (q : Bool) where
-  pub alike-none : Alike a j q 0
+  pub alike_none : Alike a j q 0
   unfolding Alike
-  alike-none = λ v l. absurd (omega arith)
+  alike_none = λ v l. absurd (omega arith)
 
-  pub alike-more : (t : ℕ) (w : Near) (k : ℕ) → NearTo a (figuresAt a) j t w k → (s : ℕ) (run : Segment) (b : Bool)
-      → Segmented a j t w k s run → b ≡ isLike run.kind q → not b ≡ false → Alike a j q s
+  pub alike_more : (t : ℕ) (w : Near) (k : ℕ) → NearTo a (figures_at a) j t w k → (s : ℕ) (run : Segment) (b : Bool)
+      → Segmented a j t w k s run → b ≡ is_like run.kind q → not b ≡ false → Alike a j q s
       → Alike a j q (s + run.len)
   unfolding Alike
-  alike-more t w k n s run b h e p al =
-      λ v l. by-test (ltb v s)
+  alike_more t w k n s run b h e p al =
+      λ v l. by_test (ltb v s)
       (λ c. al v (ltb-true v s c))
       (λ c. let g = ltb-false v s c in
       let z : s + (v - s) ≡ v = omega arith in
-      subst (λ (y : ℕ). hearsAny (hears a (plan_of a) j y) ≡ not q) z
-      (run-any (hears a (plan_of a) j) (λ u. arrivalAt a j (clockAt a + u)) (held_at a w.from) k w.d1 s run.len
+      subst (λ (y : ℕ). hears_any (hears a (plan_of a) j y) ≡ not q) z
+      (run_any (hears a (plan_of a) j) (λ u. arrival_at a j (clock_at a + u)) (held_at a w.from) k w.d1 s run.len
       run.kind q
-      (run-says a (figuresAt a) j t w k n s run h) (sym e ∙ not-false b p) (v - s) (omega arith)))
+      (run_says a (figures_at a) j t w k n s run h) (sym e ∙ not-false b p) (v - s) (omega arith)))
 
-module _ (a : List ℕ) (r : Readiness a) (j : ℕ) (hj : j < countAt a) (on : emitsAt a j ≡ true) (k : ℕ) (pos : 0 < k)
-    (early : clockAt a + k ≤ lastClock) (emitted : (stationAt a j).emitted ≡ true)
-    (busy : (stationAt a j).deference ≡ Busy true)
-    (lasts : k ≤ emitsFor (stationAt a j).frame (stationAt a j).transmitter) where
-  emit-goes : (q : Bool) → ((v : ℕ) → v < k → hearsAny (hears a (plan_of a) j v) ≡ not q)
-      → unhurt q (stationAt a j).receiver (stationAt a j).transmitter ≡ true → CalmFor a j k
+module _ (a : List ℕ) (r : Readiness a) (j : ℕ) (hj : j < count_at a) (on : emits_at a j ≡ true) (k : ℕ) (pos : 0 < k)
+    (early : clock_at a + k ≤ last_clock) (emitted : (station_at a j).emitted ≡ true)
+    (busy : (station_at a j).deference ≡ Busy true)
+    (lasts : k ≤ emits_for (station_at a j).frame (station_at a j).transmitter) where
+  emit_goes : (q : Bool) → ((v : ℕ) → v < k → hears_any (hears a (plan_of a) j v) ≡ not q)
+      → unhurt q (station_at a j).receiver (station_at a j).transmitter ≡ true → CalmFor a j k
   unfolding CalmFor unhurt
-  emit-goes true al e =
+  emit_goes true al e =
       record {
-        calm = emits-unheard a r j hj k pos early busy emitted lasts (frame-most a r j hj on)
-            (λ v l. hears-none (hears a (plan_of a) j v) (al v l)) (is-idle (stationAt a j).receiver e);
+        calm = emits_unheard a r j hj k pos early busy emitted lasts (frame_most a r j hj on)
+            (λ v l. hears_none (hears a (plan_of a) j v) (al v l)) (is_idle (station_at a j).receiver e);
         lasts = λ w. lasts;
       }
-  emit-goes false al e =
+  emit_goes false al e =
       record {
         calm =
-            emits-heard a r j hj k pos early busy emitted lasts (frame-most a r j hj on) al
-            (not-sending (stationAt a j).transmitter e);
+            emits_heard a r j hj k pos early busy emitted lasts (frame_most a r j hj on) al
+            (not_sending (station_at a j).transmitter e);
         lasts = λ w. lasts;
       }
 
-module _ (a : List ℕ) (j t : ℕ) (w : Near) (b : ℕ) (v : NearTo a (figuresAt a) j t w b) (on : emitsAt a j ≡ true)
-    (s : Station) (es : s ≡ stationAt a j) where
+module _ (a : List ℕ) (j t : ℕ) (w : Near) (b : ℕ) (v : NearTo a (figures_at a) j t w b) (on : emits_at a j ≡ true)
+    (s : Station) (es : s ≡ station_at a j) where
   pub frame_small : s.frame < 65536
   unfolding NearTo
-  frame_small = omega (arith, ap (λ (y : Station). y.frame) es, frame-most a v.read.ready j v.station on)
+  frame_small = omega (arith, ap (λ (y : Station). y.frame) es, frame_most a v.read.ready j v.station on)
 
-  pub emit-calm : (q : Bool) (m n y k : ℕ) → Alike a j q n → n ≤ m → t + m ≤ lastClock → y ≡ emitSteps q s → k ≡ min n y
+  pub emit_calm : (q : Bool) (m n y k : ℕ) → Alike a j q n → n ≤ m → t + m ≤ last_clock → y ≡ emit_steps q s → k ≡ min n y
       → CalmFor a j k
-  unfolding NearTo emitsWith Alike
-  emit-calm q m n y k al len early ey ek =
-      by-eq k 0
-      (λ z. subst (CalmFor a j) (sym z) (calm-zero a j))
-      (λ z. let x = stationAt a j in
-      let u = emit-within q x k (omega (arith, z)) (omega (arith, ey ∙ ap (emitSteps q) es)) in
-      let p = both_true x.emitted (ownBusy x.deference && unhurt q x.receiver x.transmitter) u.0 in
-      let o = both_true (ownBusy x.deference) (unhurt q x.receiver x.transmitter) p.1 in
-      emit-goes a v.read.ready j v.station on k (omega (arith, z)) (omega (arith, v.read.clock)) p.0
-      (is-own x.deference o.0) u.1 q (λ i l. al i (omega arith)) o.1)
+  unfolding NearTo emits_with Alike
+  emit_calm q m n y k al len early ey ek =
+      by_eq k 0
+      (λ z. subst (CalmFor a j) (sym z) (calm_zero a j))
+      (λ z. let x = station_at a j in
+      let u = emit_within q x k (omega (arith, z)) (omega (arith, ey ∙ ap (emit_steps q) es)) in
+      let p = both_true x.emitted (own_busy x.deference && unhurt q x.receiver x.transmitter) u.0 in
+      let o = both_true (own_busy x.deference) (unhurt q x.receiver x.transmitter) p.1 in
+      emit_goes a v.read.ready j v.station on k (omega (arith, z)) (omega (arith, v.read.clock)) p.0
+      (is_own x.deference o.0) u.1 q (λ i l. al i (omega arith)) o.1)
 
 -- ---- all stations
 
 module _ (a : List ℕ) (f : Figures) (n t : ℕ) where
-  pub read-from : Ready a → f ≡ figuresAt a → n ≡ countAt a → t ≡ clockAt a → ReadFrom a f n t
+  pub read_from : Ready a → f ≡ figures_at a → n ≡ count_at a → t ≡ clock_at a → ReadFrom a f n t
   unfolding ReadFrom Ready
-  read-from r p q e = record { ready = r; figures = p; count = q; clock = e }
+  read_from r p q e = record { ready = r; figures = p; count = q; clock = e }
 
-  pub read_here : ReadFrom a f n t → ReadFrom a (figuresAt a) n t
+  pub read_here : ReadFrom a f n t → ReadFrom a (figures_at a) n t
   unfolding ReadFrom
   read_here v = record { ready = v.ready; figures = refl; count = v.count; clock = v.clock }
 
-  pub read-gap : ReadFrom a f n t → f.gap1 + f.gap2 < 65536
+  pub read_gap : ReadFrom a f n t → f.gap1 + f.gap2 < 65536
   unfolding ReadFrom
-  read-gap v =
+  read_gap v =
       subst (λ (g : Figures). g.gap1 + g.gap2 < 65536) (sym v.figures)
       (omega (arith, v.ready.figures.gap1, v.ready.figures.gap2))
 
-  pub near-to : (j : ℕ) (w : Near) (k : ℕ) → ReadFrom a f n t → j < n → w ≡ nearestOf a n j → k ≡ nearBit a w
+  pub near_to : (j : ℕ) (w : Near) (k : ℕ) → ReadFrom a f n t → j < n → w ≡ nearest_of a n j → k ≡ near_bit a w
       → NearTo a f j t w k
   unfolding ReadFrom NearTo
-  near-to j w k v hj ew ek =
+  near_to j w k v hj ew ek =
       record {
         read = record { ready = v.ready; figures = v.figures; count = refl; clock = v.clock };
         station = omega (arith, v.count);
-        nearest = ew ∙ ap (λ (m : ℕ). nearestOf a m j) v.count;
+        nearest = ew ∙ ap (λ (m : ℕ). nearest_of a m j) v.count;
         bit = ek;
       }
 
-  pub near-here : (j : ℕ) (w : Near) (k : ℕ) → ReadFrom a f n t → j < n → w ≡ nearestOf a n j → k ≡ nearBit a w
-      → NearTo a (figuresAt a) j t w k
+  pub near_here : (j : ℕ) (w : Near) (k : ℕ) → ReadFrom a f n t → j < n → w ≡ nearest_of a n j → k ≡ near_bit a w
+      → NearTo a (figures_at a) j t w k
   unfolding ReadFrom NearTo
-  near-here j w k v hj ew ek =
-      let y = near-to j w k v hj ew ek in
+  near_here j w k v hj ew ek =
+      let y = near_to j w k v hj ew ek in
       record {
         read = record { ready = v.ready; figures = refl; count = refl; clock = v.clock };
         station = y.station;
@@ -351,43 +351,43 @@ module _ (a : List ℕ) (f : Figures) (n t : ℕ) where
 
 -- what station j hears of
 module _ (a : List ℕ) (f : Figures) (n t j : ℕ) (ws : List Sight) (w : Sight) (v : ReadFrom a f n t)
-    (es : ws ≡ sights_of a n) (ew : w ≡ get_or ws j blankSight) (hj : j < n) where
-  is-sight : w ≡ sight_of a n j
-  is-sight = sight-at a n j ws w hj es ew
+    (es : ws ≡ sights_of a n) (ew : w ≡ get_or ws j blank_sight) (hj : j < n) where
+  is_sight : w ≡ sight_of a n j
+  is_sight = sight_at a n j ws w hj es ew
 
-  near-is : w.near ≡ nearestOf a n j
-  unfolding sight_of sightBy
-  near-is = ap (λ (q : Sight). q.near) is-sight
+  near_is : w.near ≡ nearest_of a n j
+  unfolding sight_of sight_by
+  near_is = ap (λ (q : Sight). q.near) is_sight
 
-  bit_is : w.bit ≡ nearBit a w.near
-  unfolding sight_of sightBy
-  bit_is = ap (λ (q : Sight). q.bit) is-sight ∙ ap (nearBit a) (sym near-is)
+  bit_is : w.bit ≡ near_bit a w.near
+  unfolding sight_of sight_by
+  bit_is = ap (λ (q : Sight). q.bit) is_sight ∙ ap (near_bit a) (sym near_is)
 
-  pub near-seen : NearTo a f j t w.near w.bit
-  near-seen = near-to a f n t j w.near w.bit v hj near-is bit_is
+  pub near_seen : NearTo a f j t w.near w.bit
+  near_seen = near_to a f n t j w.near w.bit v hj near_is bit_is
 
-  pub near-seen-here : NearTo a (figuresAt a) j t w.near w.bit
-  near-seen-here = near-here a f n t j w.near w.bit v hj near-is bit_is
+  pub near_seen_here : NearTo a (figures_at a) j t w.near w.bit
+  near_seen_here = near_here a f n t j w.near w.bit v hj near_is bit_is
 
 module _ (a : List ℕ) where
   -- one that is of the other sort
-  pub if-silent : (j r c : ℕ) → c ≡ get_or (recordAt a j) phaseWord 0 → c < 3 → CalmIf a true j r
+  pub if_silent : (j r c : ℕ) → c ≡ get_or (record_at a j) phase_word 0 → c < 3 → CalmIf a true j r
   unfolding CalmIf
-  if-silent j r c e h on = absurd (true≢false (sym on ∙ silent-by-code a j c e h))
+  if_silent j r c e h on = absurd (true≢false (sym on ∙ silent_by_code a j c e h))
 
-  pub if-emits : (j r c : ℕ) → c ≡ get_or (recordAt a j) phaseWord 0 → 3 ≤ c → CalmIf a false j r
+  pub if_emits : (j r c : ℕ) → c ≡ get_or (record_at a j) phase_word 0 → 3 ≤ c → CalmIf a false j r
   unfolding CalmIf
-  if-emits j r c e h off = absurd (true≢false (sym (emits-by-code a j c e h) ∙ off))
+  if_emits j r c e h off = absurd (true≢false (sym (emits_by_code a j c e h) ∙ off))
 
-  pub if-calm : (q : Bool) (j r : ℕ) → CalmFor a j r → CalmIf a q j r
+  pub if_calm : (q : Bool) (j r : ℕ) → CalmFor a j r → CalmIf a q j r
   unfolding CalmIf
-  if-calm q j r c e = c
+  if_calm q j r c e = c
 
-  for-less : (j k r : ℕ) → r ≤ k → CalmFor a j k → CalmFor a j r
+  for_less : (j k r : ℕ) → r ≤ k → CalmFor a j k → CalmFor a j r
   unfolding CalmFor
-  for-less j k r h y =
+  for_less j k r h y =
       record {
-        calm = calm-less (figuresAt a) (depthAt a) j (hears a (plan_of a) j) (plan_of a j) a k r h y.calm;
+        calm = calm_less (figures_at a) (depth_at a) j (hears a (plan_of a) j) (plan_of a j) a k r h y.calm;
         lasts = λ w. omega (arith, y.lasts w);
       }
 
@@ -396,33 +396,33 @@ module _ (a : List ℕ) where
     unfolding CalmAmong
     among_none k = λ j h. absurd (omega arith)
 
-    pub among-zero : (n : ℕ) → CalmAmong a q n 0
+    pub among_zero : (n : ℕ) → CalmAmong a q n 0
     unfolding CalmAmong CalmIf
-    among-zero n = λ j h e. calm-zero a j
+    among_zero n = λ j h e. calm_zero a j
 
-    pub among-more : (i k r : ℕ) → CalmAmong a q i k → CalmIf a q i r → r ≤ k → CalmAmong a q (i + 1) r
+    pub among_more : (i k r : ℕ) → CalmAmong a q i k → CalmIf a q i r → r ≤ k → CalmAmong a q (i + 1) r
     unfolding CalmAmong CalmIf
-    among-more i k r b c h =
-        λ j l e. by-eq j i
-        (λ z. subst (λ (y : ℕ). CalmFor a y r) (sym z) (c (ap (emitsAt a) (sym z) ∙ e)))
-        (λ z. for-less j k r h (b j (omega (arith, z)) e))
+    among_more i k r b c h =
+        λ j l e. by_eq j i
+        (λ z. subst (λ (y : ℕ). CalmFor a y r) (sym z) (c (ap (emits_at a) (sym z) ∙ e)))
+        (λ z. for_less j k r h (b j (omega (arith, z)) e))
 
-    pub among-end : (n i k : ℕ) → i ≤ n → n ≤ i → CalmAmong a q i k → CalmAmong a q n k
-    among-end n i k lo up b = let z : i ≡ n = omega arith in subst (λ (y : ℕ). CalmAmong a q y k) z b
+    pub among_end : (n i k : ℕ) → i ≤ n → n ≤ i → CalmAmong a q i k → CalmAmong a q n k
+    among_end n i k lo up b = let z : i ≡ n = omega arith in subst (λ (y : ℕ). CalmAmong a q y k) z b
 
   module _ (f : Figures) (n t k r : ℕ) (v : ReadFrom a f n t) (b : CalmAmong a true n k) (c : CalmAmong a false n r)
       (h : r ≤ k) where
-    each : (j : ℕ) → j < countAt a → CalmFor a j r
+    each : (j : ℕ) → j < count_at a → CalmFor a j r
     unfolding CalmAmong CalmIf ReadFrom
     each j l =
-        by-test (emitsAt a j)
-        (λ e. for-less j k r h (b j (omega (arith, v.count)) e))
+        by_test (emits_at a j)
+        (λ e. for_less j k r h (b j (omega (arith, v.count)) e))
         (λ e. c j (omega (arith, v.count)) e)
 
-    pub all-calm : AllCalm a (plan_of a) r
+    pub all_calm : AllCalm a (plan_of a) r
     unfolding CalmFor
-    all-calm = λ j l. (each j l).calm
+    all_calm = λ j l. (each j l).calm
 
-    pub all-last : AllLast a r
+    pub all_last : AllLast a r
     unfolding CalmFor AllLast
-    all-last = λ j l. (each j l).lasts
+    all_last = λ j l. (each j l).lasts

@@ -1,16 +1,16 @@
 // How long a window may be: the steps in which no station has an event or starts, and each emitter goes on.
 
 ghost use Rattle.std.specs.Prelude.{◌≡◌, true, false, ◌+◌, ◌<◌, ◌≤◌, length};
-ghost use Rattle.station_spec.specs.Receive.{bitsIn};
-ghost use Rattle.area.specs.Area.{figuresAt};
+ghost use Rattle.station_spec.specs.Receive.{bits_in};
+ghost use Rattle.area.specs.Area.{figures_at};
 ghost use Rattle.fast_plan.specs.Calm.{AllCalm};
-ghost use Rattle.fast_heard.specs.Hearing.{plan_of, emitsAt};
+ghost use Rattle.fast_heard.specs.Hearing.{plan_of, emits_at};
 ghost use Rattle.fast_heard.specs.Sights.{sights_of};
-ghost use Rattle.fast_bound.specs.Bound.{restSteps, hearSteps, restAhead, hearAhead, ahead, ahead_of, ownBusy};
-ghost use Rattle.fast_bound.specs.Bound.{sends, unhurt, emitSteps, isLike, Alike, CalmFor, CalmIf, CalmAmong};
+ghost use Rattle.fast_bound.specs.Bound.{rest_steps, hear_steps, rest_ahead, hear_ahead, ahead, ahead_of, own_busy};
+ghost use Rattle.fast_bound.specs.Bound.{sends, unhurt, emit_steps, is_like, Alike, CalmFor, CalmIf, CalmAmong};
 ghost use Rattle.fast_bound.specs.Bound.{AllLast, ReadFrom, NearTo, Underway};
-ghost use Rattle.sheet_layout.specs.Limits.{lastClock, maxStations};
-ghost use Rattle.area.specs.Offsets.{areaSize};
+ghost use Rattle.sheet_layout.specs.Limits.{last_clock, max_stations};
+ghost use Rattle.area.specs.Offsets.{area_size};
 
 use fast_heard::{Kind, Near, Sight};
 use sheet_layout::Figures;
@@ -36,7 +36,7 @@ pub struct Ahead {
 // reported.
 fn rest_steps(f: Figures, m: u32, d: Deference, x: Transmitter, q: u32, harmless: bool) -> u32
     requires { f.gap1 + f.gap2 < 65536 }
-    ensures same { result ≡ restSteps f m d x q harmless }
+    ensures same { result ≡ rest_steps f m d x q harmless }
     ensures bound { result ≤ m }
 {
     if octets::either(harmless, q < frame_build::limits::SHORTEST_FRAME) {
@@ -48,7 +48,7 @@ fn rest_steps(f: Figures, m: u32, d: Deference, x: Transmitter, q: u32, harmless
 // Of m steps in which others are heard those in which no frame starts.
 fn hear_steps(f: Figures, m: u32, d: Deference, x: Transmitter) -> u32
     requires { f.gap1 + f.gap2 < 65536 }
-    ensures same { result ≡ hearSteps f m d x }
+    ensures same { result ≡ hear_steps f m d x }
     ensures bound { result ≤ m }
 {
     fast_rest::smaller(m, fast_station::heard_rest(f, m, d, x))
@@ -56,7 +56,7 @@ fn hear_steps(f: Figures, m: u32, d: Deference, x: Transmitter) -> u32
 
 fn rest_ahead(f: Figures, m: u32, at: Ahead) -> Ahead
     requires { f.gap1 + f.gap2 < 65536 }
-    ensures same { result ≡ restAhead f m at }
+    ensures same { result ≡ rest_ahead f m at }
     ensures bound { (result.len ≤ m) × (result.bits ≤ at.bits + result.len) }
 {
     let d = at.deference;
@@ -75,7 +75,7 @@ fn rest_ahead(f: Figures, m: u32, at: Ahead) -> Ahead
 
 fn hear_ahead(f: Figures, m: u32, at: Ahead) -> Ahead
     requires { (f.gap1 + f.gap2 < 65536) × (at.bits + m < 4294967296) }
-    ensures same { result ≡ hearAhead f m at }
+    ensures same { result ≡ hear_ahead f m at }
     ensures bound { (result.len ≤ m) × (result.bits ≤ at.bits + result.len) }
 {
     let d = at.deference;
@@ -108,7 +108,7 @@ fn foresee(f: Figures, kind: Kind, m: u32, at: Ahead) -> Ahead
 
 // The bits that a receiver has collected.
 fn bits_in(r: Receiver) -> u32
-    ensures { result ≡ bitsIn r }
+    ensures { result ≡ bits_in r }
 {
     match r {
         Receiver::Listening => 0,
@@ -129,7 +129,7 @@ fn bits_in(r: Receiver) -> u32
 // ---- a station that emits, by value
 
 fn own_busy(d: Deference) -> bool
-    ensures { result ≡ ownBusy d }
+    ensures { result ≡ own_busy d }
 {
     match d {
         Deference::Quiet => false,
@@ -164,7 +164,7 @@ fn is_unhurt(quiet: bool, r: Receiver, x: Transmitter) -> bool
 // The steps through which a station goes on emitting while it hears nothing, or while it hears others.
 fn emit_steps(quiet: bool, s: Station) -> u32
     requires { s.frame < 65536 }
-    ensures { result ≡ emitSteps quiet s }
+    ensures { result ≡ emit_steps quiet s }
 {
     let d = s.deference;
     let r = s.receiver;
@@ -207,8 +207,8 @@ fn silent_runs(
     first: Ahead,
     m: u32,
 ) -> u32
-    requires { (j < maxStations) × (areaSize ≤ length area.now) × (t + m ≤ lastClock) × (f.gap1 + f.gap2 < 65536)
-        × NearTo area.now f j t near bit × (emitsAt area.now j ≡ false) × (first.bits ≤ t + 0)
+    requires { (j < max_stations) × (area_size ≤ length area.now) × (t + m ≤ last_clock) × (f.gap1 + f.gap2 < 65536)
+        × NearTo area.now f j t near bit × (emits_at area.now j ≡ false) × (first.bits ≤ t + 0)
         × Underway area.now j m 0 first }
     ensures calm { CalmFor area.now j result }
     ensures bound { result ≤ m }
@@ -239,8 +239,8 @@ fn silent_runs(
 
 // A station that emits nothing: at most m steps in which it starts nothing and has no event.
 fn silent_bound(area: &[u8], f: Figures, j: usize, t: u32, near: Near, bit: u32, m: u32) -> u32
-    requires { (j < maxStations) × (areaSize ≤ length area.now) × (t + m ≤ lastClock) × (f.gap1 + f.gap2 < 65536)
-        × NearTo area.now f j t near bit × (emitsAt area.now j ≡ false) }
+    requires { (j < max_stations) × (area_size ≤ length area.now) × (t + m ≤ last_clock) × (f.gap1 + f.gap2 < 65536)
+        × NearTo area.now f j t near bit × (emits_at area.now j ≡ false) }
     ensures calm { CalmFor area.now j result }
     ensures bound { result ≤ m }
 {
@@ -256,7 +256,7 @@ fn silent_bound(area: &[u8], f: Figures, j: usize, t: u32, near: Near, bit: u32,
 
 // Whether in steps of this kind nothing is heard, where `quiet`, or others are.
 fn is_like(kind: Kind, quiet: bool) -> bool
-    ensures { result ≡ isLike kind quiet }
+    ensures { result ≡ is_like kind quiet }
 {
     match kind {
         Kind::Silent => quiet,
@@ -268,8 +268,8 @@ fn is_like(kind: Kind, quiet: bool) -> bool
 
 // Of m steps those before station j hears something, where `quiet`, or before it hears nothing.
 fn alike_for(area: &[u8], j: usize, t: u32, near: Near, bit: u32, quiet: bool, m: u32) -> u32
-    requires { (j < maxStations) × (areaSize ≤ length area.now) × (t + m ≤ lastClock)
-        × NearTo area.now (figuresAt area.now) j t near bit }
+    requires { (j < max_stations) × (area_size ≤ length area.now) × (t + m ≤ last_clock)
+        × NearTo area.now (figures_at area.now) j t near bit }
     ensures alike { Alike area.now j quiet result }
     ensures bound { result ≤ m }
 {
@@ -295,8 +295,8 @@ fn alike_for(area: &[u8], j: usize, t: u32, near: Near, bit: u32, quiet: bool, m
 
 // A station that emits: at most m steps through which it goes on and has no event.
 fn emit_bound(area: &[u8], j: usize, t: u32, near: Near, bit: u32, m: u32) -> u32
-    requires { (j < maxStations) × (areaSize ≤ length area.now) × (t + m ≤ lastClock)
-        × NearTo area.now (figuresAt area.now) j t near bit × (emitsAt area.now j ≡ true) }
+    requires { (j < max_stations) × (area_size ≤ length area.now) × (t + m ≤ last_clock)
+        × NearTo area.now (figures_at area.now) j t near bit × (emits_at area.now j ≡ true) }
     ensures calm { CalmFor area.now j result }
     ensures bound { result ≤ m }
 {
@@ -311,8 +311,8 @@ fn emit_bound(area: &[u8], j: usize, t: u32, near: Near, bit: u32, m: u32) -> u3
 
 // Station j, if it emits: at most m steps through which it goes on and has no event.
 fn emitter_bound(area: &[u8], j: usize, t: u32, w: Sight, m: u32) -> u32
-    requires { (j < maxStations) × (areaSize ≤ length area.now) × (t + m ≤ lastClock)
-        × NearTo area.now (figuresAt area.now) j t w.near w.bit }
+    requires { (j < max_stations) × (area_size ≤ length area.now) × (t + m ≤ last_clock)
+        × NearTo area.now (figures_at area.now) j t w.near w.bit }
     ensures calm { CalmIf area.now true j result }
     ensures bound { result ≤ m }
 {
@@ -326,7 +326,7 @@ fn emitter_bound(area: &[u8], j: usize, t: u32, w: Sight, m: u32) -> u32
 
 // Station j, if it emits nothing: at most m steps in which it starts nothing and has no event.
 fn listener_bound(area: &[u8], f: Figures, j: usize, t: u32, w: Sight, m: u32) -> u32
-    requires { (j < maxStations) × (areaSize ≤ length area.now) × (t + m ≤ lastClock) × (f.gap1 + f.gap2 < 65536)
+    requires { (j < max_stations) × (area_size ≤ length area.now) × (t + m ≤ last_clock) × (f.gap1 + f.gap2 < 65536)
         × NearTo area.now f j t w.near w.bit }
     ensures calm { CalmIf area.now false j result }
     ensures bound { result ≤ m }
@@ -340,8 +340,8 @@ fn listener_bound(area: &[u8], f: Figures, j: usize, t: u32, w: Sight, m: u32) -
 
 // Of m steps those through which each of n stations that emits goes on and has no event; none where they are few.
 fn emitters_bound(area: &[u8], n: usize, t: u32, seen: [Sight; 16], m: u32) -> u32
-    requires { (n ≤ maxStations) × (areaSize ≤ length area.now) × (t + m ≤ lastClock)
-        × ReadFrom area.now (figuresAt area.now) n t × (seen ≡ sights_of area.now n) }
+    requires { (n ≤ max_stations) × (area_size ≤ length area.now) × (t + m ≤ last_clock)
+        × ReadFrom area.now (figures_at area.now) n t × (seen ≡ sights_of area.now n) }
     ensures calm { CalmAmong area.now true n result }
     ensures bound { result ≤ m }
 {
@@ -361,7 +361,7 @@ fn emitters_bound(area: &[u8], n: usize, t: u32, seen: [Sight; 16], m: u32) -> u
 // Of m steps those in which each of n stations that emits nothing starts nothing and has no event; none where they are
 // few.
 fn listeners_bound(area: &[u8], f: Figures, n: usize, t: u32, seen: [Sight; 16], m: u32) -> u32
-    requires { (n ≤ maxStations) × (areaSize ≤ length area.now) × (t + m ≤ lastClock) × (f.gap1 + f.gap2 < 65536)
+    requires { (n ≤ max_stations) × (area_size ≤ length area.now) × (t + m ≤ last_clock) × (f.gap1 + f.gap2 < 65536)
         × ReadFrom area.now f n t × (seen ≡ sights_of area.now n) }
     ensures calm { CalmAmong area.now false n result }
     ensures bound { result ≤ m }
@@ -382,7 +382,7 @@ fn listeners_bound(area: &[u8], f: Figures, n: usize, t: u32, seen: [Sight; 16],
 // How long a window of n stations may be, of m steps from clock t on. Emitters are looked at first: they allow the
 // fewest steps, and the others need not be looked at past those.
 pub fn bound(area: &[u8], f: Figures, n: usize, t: u32, seen: [Sight; 16], m: u32) -> u32
-    requires { (n ≤ maxStations) × (areaSize ≤ length area.now) × (t + m ≤ lastClock) × ReadFrom area.now f n t
+    requires { (n ≤ max_stations) × (area_size ≤ length area.now) × (t + m ≤ last_clock) × ReadFrom area.now f n t
         × (seen ≡ sights_of area.now n) }
     ensures calm { AllCalm area.now (plan_of area.now) result }
     ensures last { AllLast area.now result }

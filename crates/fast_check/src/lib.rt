@@ -2,8 +2,8 @@
 
 ghost use Rattle.std.specs.Prelude.{◌≡◌, ◌+◌, ◌*◌, ◌<◌, ◌≤◌, length};
 ghost use Rattle.fast_check.specs.Frameless.{NoneOf, is_none, Frameless, Tells};
-ghost use Rattle.area.specs.Offsets.{areaSize};
-ghost use Rattle.sheet_layout.specs.Limits.{maxStations};
+ghost use Rattle.area.specs.Offsets.{area_size};
+ghost use Rattle.sheet_layout.specs.Limits.{max_stations};
 
 use station_state::Transmitter;
 
@@ -38,7 +38,7 @@ fn is_none(x: Transmitter) -> bool
 // Whether station j holds no frame and the list has no stretch of it: then it agrees with the list for any number of
 // steps.
 pub fn is_frameless(area: &[u8], list: &[u32], n: usize, j: usize) -> bool
-    requires { (areaSize ≤ length area.now) × (j < maxStations) × (5 * n ≤ length list.now) × (n ≤ 64) }
+    requires { (area_size ≤ length area.now) × (j < max_stations) × (5 * n ≤ length list.now) × (n ≤ 64) }
     ensures { Tells result (Frameless area.now list.now n j) }
 {
     let s = area::read_station(area, j);

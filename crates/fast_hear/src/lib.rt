@@ -3,13 +3,13 @@
 
 ghost use Rattle.std.specs.Prelude.{◌≡◌, ◌+◌, ◌*◌, ◌<◌, ◌≤◌, min, max, ltb, length};
 ghost use Rattle.octets.specs.Base.{pick};
-ghost use Rattle.area.specs.Area.{positionAt, spaceAt};
-ghost use Rattle.fast_list.specs.Reaching.{nextIn, reachIn};
-ghost use Rattle.fast_hear.specs.Listed.{stretchAt, list_of, Fits};
-ghost use Rattle.fast_hear.specs.ListedLaws.{reachAt, last_at, Ends};
+ghost use Rattle.area.specs.Area.{position_at, space_at};
+ghost use Rattle.fast_list.specs.Reaching.{next_in, reach_in};
+ghost use Rattle.fast_hear.specs.Listed.{stretch_at, list_of, Fits};
+ghost use Rattle.fast_hear.specs.ListedLaws.{reach_at, last_at, Ends};
 ghost use Rattle.fast_hear.specs.Sound.{Sounds};
-ghost use Rattle.area.specs.Offsets.{areaSize};
-ghost use Rattle.sheet_layout.specs.Limits.{maxStations};
+ghost use Rattle.area.specs.Offsets.{area_size};
+ghost use Rattle.sheet_layout.specs.Limits.{max_stations};
 
 // Whether a stretch is heard from some step on, and the step up to which that stays.
 #[derive(Drop)]
@@ -20,10 +20,10 @@ pub struct Heard {
 
 // The step in which stretch k begins to be heard at station j, which is at p.
 fn arrival(area: &[u8], list: &[u32], n: usize, j: usize, p: u32, k: usize) -> u32
-    requires { (areaSize ≤ length area.now) × (5 * n ≤ length list.now) × (n ≤ 64) × (k < n) × Fits area.now list.now n j
-        × (p ≡ positionAt area.now j) }
-    ensures { result ≡ (stretchAt list.now k).from
-        + spaceAt area.now (stretchAt list.now k).who j }
+    requires { (area_size ≤ length area.now) × (5 * n ≤ length list.now) × (n ≤ 64) × (k < n) × Fits area.now list.now n j
+        × (p ≡ position_at area.now j) }
+    ensures { result ≡ (stretch_at list.now k).from
+        + space_at area.now (stretch_at list.now k).who j }
 {
     let who = list[5 * k] as usize;
     let q = area::read_position(area, who);
@@ -52,10 +52,10 @@ fn lesser(x: u32, y: u32) -> u32
 
 // The first step after s, of those up to m, in which one of n stretches begins to be heard at station j.
 fn next_heard(area: &[u8], list: &[u32], n: usize, j: usize, s: u32, m: u32) -> u32
-    requires area_size_in_bounds { (areaSize ≤ length area.now) × (5 * n ≤ length list.now) × (n ≤ 64) × (j < maxStations)
+    requires area_size_in_bounds { (area_size ≤ length area.now) × (5 * n ≤ length list.now) × (n ≤ 64) × (j < max_stations)
         × Fits area.now list.now n j }
     requires s_lt_m { s < m }
-    ensures value { result ≡ nextIn (spaceAt area.now) (list_of list.now n) j s m }
+    ensures value { result ≡ next_in (space_at area.now) (list_of list.now n) j s m }
     ensures bound { s < result }
 {
     let p = area::read_position(area, j);
@@ -87,9 +87,9 @@ fn last(list: &[u32], at: u32, s: u32, k: usize) -> u32
 
 // The end of stretch k at station j, which is at p, if it is heard there in step s; else s.
 fn reach(area: &[u8], list: &[u32], n: usize, j: usize, p: u32, s: u32, k: usize) -> u32
-    requires { (areaSize ≤ length area.now) × (5 * n ≤ length list.now) × (n ≤ 64) × (k < n) × Fits area.now list.now n j
-        × (p ≡ positionAt area.now j) }
-    ensures { result ≡ reachAt area.now list.now j s k }
+    requires { (area_size ≤ length area.now) × (5 * n ≤ length list.now) × (n ≤ 64) × (k < n) × Fits area.now list.now n j
+        × (p ≡ position_at area.now j) }
+    ensures { result ≡ reach_at area.now list.now j s k }
 {
     let who = list[5 * k] as usize;
     if who == j {
@@ -110,9 +110,9 @@ fn greater(x: u32, y: u32) -> u32
 
 // The step after the last one of those of n stretches that are heard at station j in step s; s where none is.
 fn sound_until(area: &[u8], list: &[u32], n: usize, j: usize, s: u32) -> u32
-    requires { (areaSize ≤ length area.now) × (5 * n ≤ length list.now) × (n ≤ 64) × (j < maxStations)
+    requires { (area_size ≤ length area.now) × (5 * n ≤ length list.now) × (n ≤ 64) × (j < max_stations)
         × Fits area.now list.now n j }
-    ensures { result ≡ reachIn (spaceAt area.now) (list_of list.now n) j s }
+    ensures { result ≡ reach_in (space_at area.now) (list_of list.now n) j s }
 {
     let p = area::read_position(area, j);
     let mut r = s;
@@ -127,7 +127,7 @@ fn sound_until(area: &[u8], list: &[u32], n: usize, j: usize, s: u32) -> u32
 
 // Whether one of n stretches is heard at station j in step s, and up to where that stays, m at most where none is.
 pub fn sound(area: &[u8], list: &[u32], n: usize, j: usize, s: u32, m: u32) -> Heard
-    requires area_size_in_bounds { (areaSize ≤ length area.now) × (5 * n ≤ length list.now) × (n ≤ 64) × (j < maxStations)
+    requires area_size_in_bounds { (area_size ≤ length area.now) × (5 * n ≤ length list.now) × (n ≤ 64) × (j < max_stations)
         × Fits area.now list.now n j }
     requires s_lt_m { s < m }
     ensures value { Sounds area.now list.now n j s result.until result.on }

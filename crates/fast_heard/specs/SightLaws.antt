@@ -4,57 +4,57 @@ use Rattle.std.proofs.Math.Path.{sym, ap, ap₂}
 use Rattle.std.proofs.Common.{◌∙◌, arith}
 use borrow.Author.Tests.{eq-eqb, ne_eqb, ltb-true}
 use Rattle.octets.specs.Base.{pick}
-use Rattle.octets.specs.BaseLaws.{by-test}
-use Rattle.octets.specs.Filled.{filled, filled_at, filled-end}
+use Rattle.octets.specs.BaseLaws.{by_test}
+use Rattle.octets.specs.Filled.{filled, filled_at, filled_end}
 use Rattle.area_record.specs.Codec.{decoded}
-use Rattle.area.specs.Area.{recordAt, stationAt}
+use Rattle.area.specs.Area.{record_at, station_at}
 use Rattle.fast_heard.specs.declared.Near.{Near}
 use Rattle.fast_heard.specs.declared.Sight.{Sight}
-use Rattle.fast_heard.specs.Hearing.{nearestOf, nearBit}
-use Rattle.fast_heard.specs.NearLaws.{near-station}
-use Rattle.fast_heard.specs.Sights.{sightBy, sight_of, unseen, blankSight, sights_of}
+use Rattle.fast_heard.specs.Hearing.{nearest_of, near_bit}
+use Rattle.fast_heard.specs.NearLaws.{near_station}
+use Rattle.fast_heard.specs.Sights.{sight_by, sight_of, unseen, blank_sight, sights_of}
 use Rattle.area.specs.Offsets.{ring}
-use Rattle.sheet_layout.specs.Limits.{maxStations}
-use Rattle.area_record.specs.Words.{frameWord}
+use Rattle.sheet_layout.specs.Limits.{max_stations}
+use Rattle.area_record.specs.Words.{frame_word}
 
-module _ (a : List ℕ) (n j : ℕ) (w : Near) (k : ℕ) (ew : w ≡ nearestOf a n j) (ek : k ≡ nearBit a w) where
-  is-sight : sightBy a w k ≡ sight_of a n j
+module _ (a : List ℕ) (n j : ℕ) (w : Near) (k : ℕ) (ew : w ≡ nearest_of a n j) (ek : k ≡ near_bit a w) where
+  is_sight : sight_by a w k ≡ sight_of a n j
   unfolding sight_of
-  is-sight = ap₂ (sightBy a) ew (ek ∙ ap (nearBit a) ew)
+  is_sight = ap₂ (sight_by a) ew (ek ∙ ap (near_bit a) ew)
 
-  pub sight-none : k ≡ 0 → record { near = w; bit = 0; from = 0; octets = 0 } ≡ sight_of a n j
-  unfolding sightBy
-  sight-none e = rw (eq-eqb k 0 e) (λ i. record { near = w; bit = sym e i; from = 0; octets = 0 }) ∙ is-sight
+  pub sight_none : k ≡ 0 → record { near = w; bit = 0; from = 0; octets = 0 } ≡ sight_of a n j
+  unfolding sight_by
+  sight_none e = rw (eq-eqb k 0 e) (λ i. record { near = w; bit = sym e i; from = 0; octets = 0 }) ∙ is_sight
 
-  sight-else : (o : ℕ) → (k ≡ 0 → ⊥) → o ≡ (stationAt a w.from).frame
-      → record { near = w; bit = k; from = w.from; octets = o } ≡ sightBy a w k
-  unfolding sightBy
-  sight-else o ne eo = rw (ne_eqb k 0 ne) (λ i. record { near = w; bit = k; from = w.from; octets = eo i })
+  sight_else : (o : ℕ) → (k ≡ 0 → ⊥) → o ≡ (station_at a w.from).frame
+      → record { near = w; bit = k; from = w.from; octets = o } ≡ sight_by a w k
+  unfolding sight_by
+  sight_else o ne eo = rw (ne_eqb k 0 ne) (λ i. record { near = w; bit = k; from = w.from; octets = eo i })
 
-  pub sight-some : (o : ℕ) → (k ≡ 0 → ⊥) → o ≡ get_or (recordAt a w.from) frameWord 0
+  pub sight_some : (o : ℕ) → (k ≡ 0 → ⊥) → o ≡ get_or (record_at a w.from) frame_word 0
       → record { near = w; bit = k; from = w.from; octets = o } ≡ sight_of a n j
-  unfolding stationAt decoded
-  sight-some o ne eo = sight-else o ne eo ∙ is-sight
+  unfolding station_at decoded
+  sight_some o ne eo = sight_else o ne eo ∙ is_sight
 
   -- a bit comes from an emitter
-  pub bit-near : (k ≡ 0 → ⊥) → w.d1 < ring
-  unfolding nearBit
-  bit-near ne = by-test (ltb w.d1 ring) (λ c. ltb-true w.d1 ring c) (λ c. absurd (ne (ek ∙ rw c)))
+  pub bit_near : (k ≡ 0 → ⊥) → w.d1 < ring
+  unfolding near_bit
+  bit_near ne = by_test (ltb w.d1 ring) (λ c. ltb-true w.d1 ring c) (λ c. absurd (ne (ek ∙ rw c)))
 
-  pub bit-from : (k ≡ 0 → ⊥) → n ≤ maxStations → w.from < maxStations
-  bit-from ne few = omega (arith, near-station a n j w ew (bit-near ne))
+  pub bit_from : (k ≡ 0 → ⊥) → n ≤ max_stations → w.from < max_stations
+  bit_from ne few = omega (arith, near_station a n j w ew (bit_near ne))
 
-pub sights-end : (a : List ℕ) (n i : ℕ) (ws : List Sight) → i ≤ n → n ≤ i → ws ≡ filled unseen (sight_of a n) i
+pub sights_end : (a : List ℕ) (n i : ℕ) (ws : List Sight) → i ≤ n → n ≤ i → ws ≡ filled unseen (sight_of a n) i
     → ws ≡ sights_of a n
 unfolding sights_of
-sights-end a n i ws p q r = filled-end unseen (sight_of a n) n i ws p q r
+sights_end a n i ws p q r = filled_end unseen (sight_of a n) n i ws p q r
 
-pub near-few : (a : List ℕ) (n j : ℕ) (w : Near) → n ≤ maxStations → w ≡ nearestOf a n j → w.d1 < ring
-    → w.from < maxStations
-near-few a n j w h e l = omega (arith, near-station a n j w e l)
+pub near_few : (a : List ℕ) (n j : ℕ) (w : Near) → n ≤ max_stations → w ≡ nearest_of a n j → w.d1 < ring
+    → w.from < max_stations
+near_few a n j w h e l = omega (arith, near_station a n j w e l)
 
-pub sight-at : (a : List ℕ) (n j : ℕ) (ws : List Sight) (w : Sight) → j < n → ws ≡ sights_of a n
-    → w ≡ get_or ws j blankSight → w ≡ sight_of a n j
+pub sight_at : (a : List ℕ) (n j : ℕ) (ws : List Sight) (w : Sight) → j < n → ws ≡ sights_of a n
+    → w ≡ get_or ws j blank_sight → w ≡ sight_of a n j
 unfolding sights_of
-sight-at a n j ws w hj es ew =
-    ew ∙ ap (λ (q : List Sight). get_or q j blankSight) es ∙ filled_at unseen (sight_of a n) n j blankSight hj
+sight_at a n j ws w hj es ew =
+    ew ∙ ap (λ (q : List Sight). get_or q j blank_sight) es ∙ filled_at unseen (sight_of a n) n j blank_sight hj

@@ -3,12 +3,12 @@
 
 ghost use Rattle.std.specs.Prelude.{◌≡◌, true, ◌+◌, ◌<◌, ◌≤◌, leb, length};
 ghost use Rattle.octets.specs.Base.{pick};
-ghost use Rattle.area.specs.Area.{positionAt};
+ghost use Rattle.area.specs.Area.{position_at};
 ghost use Rattle.fast_heard.specs.Sights.{sight_of, sights_of};
-ghost use Rattle.fast_heard.specs.Hearing.{emitsAt, nearer, noted, spaceTo, Lists, nearestOf, nearBit, begun};
-ghost use Rattle.fast_heard.specs.Hearing.{before, lineFrom, RunOf, kindNear, kindHeard, Segmented};
-ghost use Rattle.area.specs.Offsets.{areaSize, ring};
-ghost use Rattle.sheet_layout.specs.Limits.{maxStations};
+ghost use Rattle.fast_heard.specs.Hearing.{emits_at, nearer, noted, space_to, Lists, nearest_of, near_bit, begun};
+ghost use Rattle.fast_heard.specs.Hearing.{before, line_from, RunOf, kind_near, kind_heard, Segmented};
+ghost use Rattle.area.specs.Offsets.{area_size, ring};
+ghost use Rattle.sheet_layout.specs.Limits.{max_stations};
 
 use fast_line::LineRun;
 
@@ -59,7 +59,7 @@ fn nearer_with(near: Near, i: usize, d: usize) -> Near
 
 // So many emitters, or one more, by the code of a station's phase.
 fn counted(count: usize, code: u32) -> usize
-    requires { count < maxStations }
+    requires { count < max_stations }
     ensures value { result ≡ pick (leb 3 code) (count + 1) count }
     ensures bound { result ≤ count + 1 }
 {
@@ -71,7 +71,7 @@ fn counted(count: usize, code: u32) -> usize
 
 // Lists those of n stations that emit, in their order; says how many. Each is written, and counted if it emits.
 fn emitters(area: &[u8], n: usize, list: &mut [usize]) -> usize
-    requires { (n ≤ maxStations) × (areaSize ≤ length area.now) × (length list.old ≡ 16) }
+    requires { (n ≤ max_stations) × (area_size ≤ length area.now) × (length list.old ≡ 16) }
     ensures lists { Lists area.now n list.new result }
     ensures bound { result ≤ n }
 {
@@ -87,9 +87,9 @@ fn emitters(area: &[u8], n: usize, list: &mut [usize]) -> usize
 
 // With emitter i more, seen from station j, which is at p.
 fn note(area: &[u8], j: usize, p: u32, i: usize, near: Near) -> Near
-    requires { (i < maxStations) × (areaSize ≤ length area.now) × (p ≡ positionAt area.now j)
-        × (emitsAt area.now i ≡ true) }
-    ensures { result ≡ noted (emitsAt area.now) (spaceTo area.now j) j i near }
+    requires { (i < max_stations) × (area_size ≤ length area.now) × (p ≡ position_at area.now j)
+        × (emits_at area.now i ≡ true) }
+    ensures { result ≡ noted (emits_at area.now) (space_to area.now j) j i near }
 {
     if i == j {
         return near;
@@ -100,9 +100,9 @@ fn note(area: &[u8], j: usize, p: u32, i: usize, near: Near) -> Near
 
 // The emitters nearest to station j, of those of n stations that are listed.
 fn nearest(area: &[u8], n: usize, j: usize, list: &[usize], count: usize) -> Near
-    requires { (j < maxStations) × (n ≤ maxStations) × (areaSize ≤ length area.now) × (length list.now ≡ 16)
+    requires { (j < max_stations) × (n ≤ max_stations) × (area_size ≤ length area.now) × (length list.now ≡ 16)
         × (count ≤ n) × Lists area.now n list.now count }
-    ensures { result ≡ nearestOf area.now n j }
+    ensures { result ≡ nearest_of area.now n j }
 {
     let p = area::read_position(area, j);
     let mut near = Near {
@@ -121,8 +121,8 @@ fn nearest(area: &[u8], n: usize, j: usize, list: &[usize], count: usize) -> Nea
 
 // The next packet bit of the nearest emitter; 0 where there is none, or it jams.
 fn near_bit(area: &[u8], near: Near) -> u32
-    requires { (areaSize ≤ length area.now) × (near.d1 < ring → near.from < maxStations) }
-    ensures { result ≡ nearBit area.now near }
+    requires { (area_size ≤ length area.now) × (near.d1 < ring → near.from < max_stations) }
+    ensures { result ≡ near_bit area.now near }
 {
     if area::RING <= near.d1 {
         return 0;
@@ -161,8 +161,8 @@ fn steps_before(d: usize, s: usize, m: usize) -> usize
 
 // The line of station j at step t, from s steps on: it holds nothing after 256 steps.
 fn line_ahead(area: &[u8], j: usize, t: usize, s: usize, m: usize) -> LineRun
-    requires { (j < maxStations) × (areaSize ≤ length area.now) × (t + s + m < 4294967296) × (0 < m) }
-    ensures run { RunOf (lineFrom area.now j t) s result }
+    requires { (j < max_stations) × (area_size ≤ length area.now) × (t + s + m < 4294967296) × (0 < m) }
+    ensures run { RunOf (line_from area.now j t) s result }
     ensures bound { (0 < result.len) × (result.len ≤ m) }
 {
     if area::RING <= s {
@@ -179,7 +179,7 @@ fn line_ahead(area: &[u8], j: usize, t: usize, s: usize, m: usize) -> LineRun
 
 // The kind of what is heard where the nearest emitter is heard, by the kind of the line and its next packet bit.
 fn kind_near(line: u8, bit: u32) -> Kind
-    ensures { result ≡ kindNear line bit }
+    ensures { result ≡ kind_near line bit }
 {
     if line != 0 {
         return Kind::Mixed;
@@ -192,7 +192,7 @@ fn kind_near(line: u8, bit: u32) -> Kind
 
 // The kind of what is heard.
 fn kind_heard(line: u8, near: bool, bit: u32) -> Kind
-    ensures { result ≡ kindHeard line near bit }
+    ensures { result ≡ kind_heard line near bit }
 {
     if near {
         return kind_near(line, bit);
@@ -217,7 +217,7 @@ pub fn heard_run(
     s: usize,
     m: usize,
 ) -> Segment
-    requires { (j < maxStations) × (areaSize ≤ length area.now) × (t + s + m < 4294967296) × (0 < m) }
+    requires { (j < max_stations) × (area_size ≤ length area.now) × (t + s + m < 4294967296) × (0 < m) }
     ensures says { Segmented area.now j t near bit s result }
     ensures bound { (0 < result.len) × (result.len ≤ m) }
 {
@@ -248,7 +248,7 @@ pub struct Sight {
 
 // What station j, of n, hears of, by the list of those that emit.
 fn see(area: &[u8], n: usize, j: usize, list: &[usize], count: usize) -> Sight
-    requires { (j < maxStations) × (n ≤ maxStations) × (areaSize ≤ length area.now) × (length list.now ≡ 16)
+    requires { (j < max_stations) × (n ≤ max_stations) × (area_size ≤ length area.now) × (length list.now ≡ 16)
         × (count ≤ n) × Lists area.now n list.now count }
     ensures { result ≡ sight_of area.now n j }
 {
@@ -274,7 +274,7 @@ fn see(area: &[u8], n: usize, j: usize, list: &[usize], count: usize) -> Sight
 
 // What each of n stations hears of: to be taken before they move on.
 pub fn sights(area: &[u8], n: usize) -> [Sight; 16]
-    requires { (n ≤ maxStations) × (areaSize ≤ length area.now) }
+    requires { (n ≤ max_stations) × (area_size ≤ length area.now) }
     ensures { result ≡ sights_of area.now n }
 {
     let mut list = [0usize; 16];

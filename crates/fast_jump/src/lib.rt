@@ -1,20 +1,20 @@
 // Many steps of silence at once, on the area.
 
 ghost use Rattle.std.specs.Prelude.{◌≡◌, ◌+◌, ◌<◌, ◌≤◌, length};
-ghost use Rattle.area.specs.Area.{clockAt, figuresAt};
+ghost use Rattle.area.specs.Area.{clock_at, figures_at};
 ghost use Rattle.bus_spec.specs.Ready.{Ready};
-ghost use Rattle.fast_silence.specs.Jump.{restedAll, jumped};
-ghost use Rattle.fast_silence.specs.Bound.{silentFor, skipped};
-ghost use Rattle.sheet_layout.specs.Limits.{lastClock, maxStations};
-ghost use Rattle.area.specs.Offsets.{areaSize};
+ghost use Rattle.fast_silence.specs.Jump.{rested_all, jumped};
+ghost use Rattle.fast_silence.specs.Bound.{silent_for, skipped};
+ghost use Rattle.sheet_layout.specs.Limits.{last_clock, max_stations};
+ghost use Rattle.area.specs.Offsets.{area_size};
 
 use sheet_layout::Figures;
 
 // Each of n stations after m steps of silence.
 fn rest_all(area: &mut [u8], n: usize, m: u32, f: Figures)
-    requires { (n ≤ maxStations) × (areaSize ≤ length area.old) × (f.gap1 + f.gap2 < 65536)
-        × (f ≡ figuresAt area.old) }
-    ensures { area.new ≡ restedAll area.old m n area.old }
+    requires { (n ≤ max_stations) × (area_size ≤ length area.old) × (f.gap1 + f.gap2 < 65536)
+        × (f ≡ figures_at area.old) }
+    ensures { area.new ≡ rested_all area.old m n area.old }
 {
     let mut i: usize = 0;
     while i < n {
@@ -27,7 +27,7 @@ fn rest_all(area: &mut [u8], n: usize, m: u32, f: Figures)
 
 // m steps of a silence that lasts so long.
 fn jump(area: &mut [u8], m: u32)
-    requires { (areaSize ≤ length area.old) × (clockAt area.old + m ≤ lastClock) × Ready area.old }
+    requires { (area_size ≤ length area.old) × (clock_at area.old + m ≤ last_clock) × Ready area.old }
     ensures { area.new ≡ jumped m area.old }
 {
     let n = area::read_count(area) as usize;
@@ -39,8 +39,8 @@ fn jump(area: &mut [u8], m: u32)
 
 // Of the next m steps those that are silence, where they are worth a jump: says how many.
 pub fn skip(area: &mut [u8], m: u32) -> u32
-    requires { (areaSize ≤ length area.old) × (clockAt area.old + m ≤ lastClock) × Ready area.old }
-    ensures steps { result ≡ silentFor m area.old }
+    requires { (area_size ≤ length area.old) × (clock_at area.old + m ≤ last_clock) × Ready area.old }
+    ensures steps { result ≡ silent_for m area.old }
     ensures area { area.new ≡ skipped result area.old }
 {
     let r = fast_search::silent_for(area, m);

@@ -7,8 +7,8 @@ use Rattle.station_symbols.specs.declared.Heard.{Heard}
 use Rattle.station_symbols.specs.declared.Heard.TheVariants.{Nothing, Clean, Spoiled}
 use Rattle.station_symbols.specs.declared.Symbol.{Symbol}
 use Rattle.station_symbols.specs.declared.Symbol.TheVariants.{Bit, Jam}
-use Rattle.station_symbols.specs.Packet.{hearsAny, packetBit}
-use Rattle.area.specs.Area.{arrivalAt, heardCode, alone, withSymbol}
+use Rattle.station_symbols.specs.Packet.{hears_any, packet_bit}
+use Rattle.area.specs.Area.{arrival_at, heard_code, alone, with_symbol}
 use Rattle.fast_line.specs.declared.LineRun.{LineRun}
 use Rattle.area.specs.Offsets.{ring}
 
@@ -21,7 +21,7 @@ kind_of (Clean b) = 1
 kind_of Spoiled = 2
 
 unfoldable pub kind_at : List ℕ → (j u : ℕ) → ℕ
-kind_at a j u = kind_of (arrivalAt a j u)
+kind_at a j u = kind_of (arrival_at a j u)
 
 -- the least number below m that passes the test; m where none does
 unfoldable pub first_of : (ℕ → Bool) → ℕ → ℕ
@@ -29,12 +29,12 @@ first_of t zero = zero
 first_of t (suc m) = pick (some t m) (first_of t m) (pick (t m) m (suc m))
 
 -- whether place u + s is not of kind k
-unfoldable pub otherKind : List ℕ → (j u k s : ℕ) → Bool
-otherKind a j u k s = not (eqb (kind_at a j (u + s)) k)
+unfoldable pub other_kind : List ℕ → (j u k s : ℕ) → Bool
+other_kind a j u k s = not (eqb (kind_at a j (u + s)) k)
 
 -- how many of the m places from u on are of kind k, up to the first that is not
 unfoldable pub lasts : List ℕ → (j u k m : ℕ) → ℕ
-lasts a j u k m = first_of (otherKind a j u k) m
+lasts a j u k m = first_of (other_kind a j u k) m
 
 -- the kind of place u, and how many of the m places from there on have it
 unfoldable pub run_at : List ℕ → (j u m : ℕ) → LineRun
@@ -46,18 +46,18 @@ AllOf a j u k n = (i : ℕ) → i < n → kind_at a j (u + i) ≡ k
 
 -- ---- a whole line
 
-unfoldable pub inUse : List ℕ → (j u : ℕ) → Bool
-inUse a j u = hearsAny (arrivalAt a j u)
+unfoldable pub in_use : List ℕ → (j u : ℕ) → Bool
+in_use a j u = hears_any (arrival_at a j u)
 
 -- nothing is on its way to station j
-unfoldable pub isClear : List ℕ → ℕ → Bool
-isClear a j = not (some (inUse a j) ring)
+unfoldable pub is_clear : List ℕ → ℕ → Bool
+is_clear a j = not (some (in_use a j) ring)
 
 -- ---- what a sender emits
 
 -- the bits of the packet that carries frame f, from bit k on
-unfoldable pub bitsFrom : List ℕ → (k s : ℕ) → Symbol
-bitsFrom f k s = Bit (packetBit f (k + s))
+unfoldable pub bits_from : List ℕ → (k s : ℕ) → Symbol
+bits_from f k s = Bit (packet_bit f (k + s))
 
 -- jam
 unfoldable pub jams : ℕ → Symbol
@@ -69,12 +69,12 @@ jams s = Jam
 unfoldable pub Coded : (cs : List ℕ) (at K : ℕ) → (ℕ → Symbol) → Type 0
 Coded cs at K Q =
     (s : ℕ) → s < K → K ≤ s + ring
-    → (get_or cs (at + (ring + s - K)) 0 ≡ heardCode (alone (Q s))) × (heardCode (alone (Q s)) ≡ 0 → ⊥)
+    → (get_or cs (at + (ring + s - K)) 0 ≡ heard_code (alone (Q s))) × (heard_code (alone (Q s)) ≡ 0 → ⊥)
 
 -- the first `at` are as they were
 unfoldable pub Below : (at : ℕ) → (ds cs : List ℕ) → Type 0
 Below at ds cs = (p : ℕ) → p < at → get_or cs p 0 ≡ get_or ds p 0
 
 -- n codes from place `at` on are put on the line of station j, from step u on
-unfoldable pub codesPut : (j u : ℕ) → (cs : List ℕ) → (at n : ℕ) → List ℕ → List ℕ
-codesPut j u cs at n x = turns (λ s y. withSymbol y j (u + s) (get_or cs (at + s) 0)) n x
+unfoldable pub codes_put : (j u : ℕ) → (cs : List ℕ) → (at n : ℕ) → List ℕ → List ℕ
+codes_put j u cs at n x = turns (λ s y. with_symbol y j (u + s) (get_or cs (at + s) 0)) n x

@@ -4,13 +4,13 @@
 ghost use Rattle.std.specs.Prelude.{◌≡◌, true, ◌+◌, ◌-◌, ◌*◌, ◌%◌, ◌<◌, ◌≤◌, min, eqb, length};
 ghost use Rattle.octets.specs.Base.{pick};
 ghost use Rattle.station_symbols.specs.declared.Symbol.TheVariants.{Bit};
-ghost use Rattle.station_symbols.specs.Packet.{packetBit};
-ghost use Rattle.area.specs.Area.{heardOf, heardCode, symbol_at, alone, frame_at};
+ghost use Rattle.station_symbols.specs.Packet.{packet_bit};
+ghost use Rattle.area.specs.Area.{heard_of, heard_code, symbol_at, alone, frame_at};
 ghost use Rattle.fast_plan.specs.Push.{cleared};
-ghost use Rattle.fast_line.specs.Line.{kind_of, lasts, run_at, AllOf, isClear, bitsFrom, jams, Coded, Below};
-ghost use Rattle.fast_line.specs.Line.{codesPut};
-ghost use Rattle.area.specs.Offsets.{areaSize, ring, frameRoom};
-ghost use Rattle.sheet_layout.specs.Limits.{maxStations};
+ghost use Rattle.fast_line.specs.Line.{kind_of, lasts, run_at, AllOf, is_clear, bits_from, jams, Coded, Below};
+ghost use Rattle.fast_line.specs.Line.{codes_put};
+ghost use Rattle.area.specs.Offsets.{area_size, ring, frame_room};
+ghost use Rattle.sheet_layout.specs.Limits.{max_stations};
 
 use station_symbols::Heard;
 
@@ -23,8 +23,8 @@ pub struct LineRun {
 
 // Whether nothing is on its way to station j. The codes are put together without a branch: many are looked at at once.
 pub fn is_clear(area: &[u8], j: usize) -> bool
-    requires { (j < maxStations) × (areaSize ≤ length area.now) }
-    ensures { result ≡ isClear area.now j }
+    requires { (j < max_stations) × (area_size ≤ length area.now) }
+    ensures { result ≡ is_clear area.now j }
 {
     let mut all: u8 = 0;
     let mut u: usize = 0;
@@ -36,7 +36,7 @@ pub fn is_clear(area: &[u8], j: usize) -> bool
 }
 
 fn kind_of(code: u8) -> u8
-    ensures { result ≡ kind_of (heardOf code) }
+    ensures { result ≡ kind_of (heard_of code) }
 {
     if code == 0 {
         return 0;
@@ -49,7 +49,7 @@ fn kind_of(code: u8) -> u8
 
 // The code at place p of the line of station j.
 fn code_at(area: &[u8], j: usize, p: usize) -> u8
-    requires { (j < maxStations) × (areaSize ≤ length area.now) × (p < ring) }
+    requires { (j < max_stations) × (area_size ≤ length area.now) × (p < ring) }
     ensures { result ≡ symbol_at area.now j p }
 {
     area[area::LINES_AT + area::RING * j + p]
@@ -58,7 +58,7 @@ fn code_at(area: &[u8], j: usize, p: usize) -> u8
 // Whether the n places from p on are of this kind. Without a branch: they are looked at at once. Half of a code,
 // rounded up, is its kind.
 fn are_alike(area: &[u8], j: usize, p: usize, kind: u8, n: usize) -> bool
-    requires { (j < maxStations) × (areaSize ≤ length area.now) × (p + n ≤ ring) × (kind ≤ 2) }
+    requires { (j < max_stations) × (area_size ≤ length area.now) × (p + n ≤ ring) × (kind ≤ 2) }
     ensures { result ≡ true → AllOf area.now j p kind n }
 {
     let mut other: u8 = 0;
@@ -73,7 +73,7 @@ fn are_alike(area: &[u8], j: usize, p: usize, kind: u8, n: usize) -> bool
 
 // Of the m places from p on, the first s of which are of this kind, n more at a time as long as all of them are.
 fn go_on(area: &[u8], j: usize, p: usize, kind: u8, m: usize, s: usize, n: usize) -> usize
-    requires { (j < maxStations) × (areaSize ≤ length area.now) × (p + m ≤ ring) × (kind ≤ 2) × (s ≤ m) × (0 < n)
+    requires { (j < max_stations) × (area_size ≤ length area.now) × (p + m ≤ ring) × (kind ≤ 2) × (s ≤ m) × (0 < n)
         × (n ≤ 16) × AllOf area.now j p kind s }
     ensures alike { AllOf area.now j p kind result }
     ensures bound { result ≤ m }
@@ -90,7 +90,7 @@ fn go_on(area: &[u8], j: usize, p: usize, kind: u8, m: usize, s: usize, n: usize
 
 // How many of the m places from p on, which lie in a row, are of this kind, up to the first that is not.
 fn lasting_row(area: &[u8], j: usize, p: usize, kind: u8, m: usize) -> usize
-    requires { (j < maxStations) × (areaSize ≤ length area.now) × (p + m ≤ ring) × (kind ≤ 2) }
+    requires { (j < max_stations) × (area_size ≤ length area.now) × (p + m ≤ ring) × (kind ≤ 2) }
     ensures same { result ≡ lasts area.now j p kind m }
     ensures bound { result ≤ m }
 {
@@ -109,7 +109,7 @@ fn lasting_row(area: &[u8], j: usize, p: usize, kind: u8, m: usize) -> usize
 
 // How many of the m places from u on are of this kind, up to the first that is not.
 fn lasting(area: &[u8], j: usize, u: usize, kind: u8, m: usize) -> usize
-    requires { (j < maxStations) × (areaSize ≤ length area.now) × (m ≤ ring) × (kind ≤ 2) }
+    requires { (j < max_stations) × (area_size ≤ length area.now) × (m ≤ ring) × (kind ≤ 2) }
     ensures same { result ≡ lasts area.now j u kind m }
     ensures bound { result ≤ m }
 {
@@ -124,7 +124,7 @@ fn lasting(area: &[u8], j: usize, u: usize, kind: u8, m: usize) -> usize
 
 // The kind of place u, and how many of the m places from there on have it.
 pub fn line_run(area: &[u8], j: usize, u: usize, m: usize) -> LineRun
-    requires { (j < maxStations) × (areaSize ≤ length area.now) × (m ≤ ring) × (0 < m) }
+    requires { (j < max_stations) × (area_size ≤ length area.now) × (m ≤ ring) × (0 < m) }
     ensures run { result ≡ run_at area.now j u m }
     ensures bound { (0 < result.len) × (result.len ≤ m) }
 {
@@ -135,7 +135,7 @@ pub fn line_run(area: &[u8], j: usize, u: usize, m: usize) -> LineRun
 
 // The n places of station j from step u on, which lie in a row, become nothing.
 fn clear_row(area: &mut [u8], j: usize, u: usize, n: usize)
-    requires { (j < maxStations) × (areaSize ≤ length area.old) × (u % ring + n ≤ ring) }
+    requires { (j < max_stations) × (area_size ≤ length area.old) × (u % ring + n ≤ ring) }
     ensures { area.new ≡ cleared u j n area.old }
 {
     let first = area::LINES_AT + area::RING * j + u % area::RING;
@@ -148,7 +148,7 @@ fn clear_row(area: &mut [u8], j: usize, u: usize, n: usize)
 
 // The m places of station j from step t on become nothing.
 pub fn clear(area: &mut [u8], j: usize, t: usize, m: usize)
-    requires { (j < maxStations) × (areaSize ≤ length area.old) × (t + m < 4294967296) }
+    requires { (j < max_stations) × (area_size ≤ length area.old) × (t + m < 4294967296) }
     ensures { area.new ≡ cleared t j m area.old }
 {
     let mut s: usize = 0;
@@ -164,7 +164,7 @@ pub fn clear(area: &mut [u8], j: usize, t: usize, m: usize)
 // wrong half the time.
 fn bit_code(frame: &[u8], k: usize) -> u8
     requires { k < 65 + 8 * length frame.now }
-    ensures { result ≡ heardCode (alone (Bit (packetBit frame.now k))) }
+    ensures { result ≡ heard_code (alone (Bit (packet_bit frame.now k))) }
 {
     if k <= 62 {
         return (k % 2 + 1) as u8;
@@ -191,9 +191,9 @@ pub fn note_bits(
     codes: &mut [u8],
     at: usize,
 )
-    requires { (i < maxStations) × (octets ≤ frameRoom) × (areaSize ≤ length area.now)
+    requires { (i < max_stations) × (octets ≤ frame_room) × (area_size ≤ length area.now)
         × (at + ring ≤ length codes.old) × (k + steps ≤ 65 + 8 * octets) }
-    ensures coded { Coded codes.new at steps (bitsFrom (frame_at area.now i octets) k) }
+    ensures coded { Coded codes.new at steps (bits_from (frame_at area.now i octets) k) }
     ensures kept { Below at codes.old codes.new }
 {
     let frame = area_buffers::frame(area, i, octets);
@@ -224,9 +224,9 @@ pub fn note_jam(steps: usize, codes: &mut [u8], at: usize)
 
 // Puts n codes, from the one at `at` on, on the line of station j from step u on; the places lie in a row.
 fn put_row(area: &mut [u8], j: usize, u: usize, codes: &[u8], at: usize, n: usize)
-    requires { (j < maxStations) × (areaSize ≤ length area.old) × (u % ring + n ≤ ring)
+    requires { (j < max_stations) × (area_size ≤ length area.old) × (u % ring + n ≤ ring)
         × (at + n ≤ length codes.now) }
-    ensures { area.new ≡ codesPut j u codes.now at n area.old }
+    ensures { area.new ≡ codes_put j u codes.now at n area.old }
 {
     let first = area::LINES_AT + area::RING * j + u % area::RING;
     let mut s: usize = 0;
@@ -247,10 +247,10 @@ pub fn push_codes(
     codes: &[u8],
     at: usize,
 )
-    requires { (j < maxStations) × (areaSize ≤ length area.old) × (t + steps + d < 4294967296) × (d ≤ ring)
+    requires { (j < max_stations) × (area_size ≤ length area.old) × (t + steps + d < 4294967296) × (d ≤ ring)
         × (at + ring ≤ length codes.now) }
     ensures { area.new
-        ≡ codesPut j (t + (steps - d + d)) codes.now (at + (ring - min d steps)) (min d steps)
+        ≡ codes_put j (t + (steps - d + d)) codes.now (at + (ring - min d steps)) (min d steps)
         area.old }
 {
     let m = bus_quick::capped(d, steps);

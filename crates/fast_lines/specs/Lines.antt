@@ -8,13 +8,13 @@ use Rattle.station_symbols.specs.declared.Symbol.TheVariants.{Silence}
 use Rattle.station_state.specs.declared.Transmitter.{Transmitter}
 use Rattle.station_state.specs.declared.Transmitter.TheVariants.{NoFrame, Waiting, BackingOff, Sending, Heading}
 use Rattle.station_state.specs.declared.Transmitter.TheVariants.{Jamming}
-use Rattle.area.specs.Area.{clockAt, countAt, spaceAt, stationAt, frame_at, symbol_at, maxCode}
+use Rattle.area.specs.Area.{clock_at, count_at, space_at, station_at, frame_at, symbol_at, max_code}
 use Rattle.fast_plan.specs.Plan.{Plan}
-use Rattle.fast_plan.specs.Push.{onWay}
-use Rattle.fast_line.specs.Line.{bitsFrom, jams, Coded}
+use Rattle.fast_plan.specs.Push.{on_way}
+use Rattle.fast_line.specs.Line.{bits_from, jams, Coded}
 use Rattle.fast_lines.specs.declared.Emitter.{Emitter}
-use Rattle.sheet_layout.specs.Limits.{lastClock, maxStations}
-use Rattle.area.specs.Offsets.{areaSize, ring, frameRoom}
+use Rattle.sheet_layout.specs.Limits.{last_clock, max_stations}
+use Rattle.area.specs.Offsets.{area_size, ring, frame_room}
 
 -- ---- what a station emits
 
@@ -23,20 +23,20 @@ silent = record { kind = 0; bit = 0; octets = 0 }
 
 -- a transmitter that holds a frame of z octets: it sends its packet's bits from the next one on, or jams, or emits
 -- nothing
-abbrev pub emitterOf : Transmitter → ℕ → Emitter
-emitterOf NoFrame z = silent
-emitterOf Waiting z = silent
-emitterOf (BackingOff w) z = silent
-emitterOf (Sending k) z = record { kind = 1; bit = k; octets = z }
-emitterOf (Heading k) z = record { kind = 1; bit = k; octets = z }
-emitterOf (Jamming n ends) z = record { kind = 2; bit = 0; octets = 0 }
+abbrev pub emitter_of : Transmitter → ℕ → Emitter
+emitter_of NoFrame z = silent
+emitter_of Waiting z = silent
+emitter_of (BackingOff w) z = silent
+emitter_of (Sending k) z = record { kind = 1; bit = k; octets = z }
+emitter_of (Heading k) z = record { kind = 1; bit = k; octets = z }
+emitter_of (Jamming n ends) z = record { kind = 2; bit = 0; octets = 0 }
 
-unfoldable pub emitterAt : List ℕ → ℕ → Emitter
-emitterAt a i = emitterOf (stationAt a i).transmitter (stationAt a i).frame
+unfoldable pub emitter_at : List ℕ → ℕ → Emitter
+emitter_at a i = emitter_of (station_at a i).transmitter (station_at a i).frame
 
 -- the first n stations, and silent places after them
-unfoldable pub emittersOf : List ℕ → ℕ → List Emitter
-emittersOf a n = filled silent (emitterAt a) n
+unfoldable pub emitters_of : List ℕ → ℕ → List Emitter
+emitters_of a n = filled silent (emitter_at a) n
 
 -- no symbol
 unfoldable pub silence : ℕ → Symbol
@@ -44,15 +44,15 @@ silence s = Silence
 
 -- its symbols, where its frame is F
 unfoldable pub emitted : List ℕ → Emitter → ℕ → Symbol
-emitted F e = pick (eqb e.kind 0) silence (pick (eqb e.kind 1) (bitsFrom F e.bit) jams)
+emitted F e = pick (eqb e.kind 0) silence (pick (eqb e.kind 1) (bits_from F e.bit) jams)
 
 -- the plan that these emitters follow, with the frames in area x
-unfoldable pub planBy : List ℕ → List Emitter → Plan
-planBy x es i = emitted (frame_at x i (get_or es i silent).octets) (get_or es i silent)
+unfoldable pub plan_by : List ℕ → List Emitter → Plan
+plan_by x es i = emitted (frame_at x i (get_or es i silent).octets) (get_or es i silent)
 
 -- its frame has its place, and it has packet bits for K steps where it sends any
 pub record Enough (K : ℕ) (e : Emitter) : Type 0 where
-  pub frame : e.octets ≤ frameRoom
+  pub frame : e.octets ≤ frame_room
   pub bits : e.kind ≡ 1 → e.bit + K ≤ 65 + 8 * e.octets
 
 unfoldable pub AllEnough : (K : ℕ) → List Emitter → (n : ℕ) → Type 0
@@ -71,29 +71,29 @@ AllCoded cs K es x n = (i : ℕ) → i < n → CodedFrom cs K i (get_or es i sil
 
 -- what the code asks for
 pub record Pushes (j t K i : ℕ) (e : Emitter) (x : List ℕ) : Type 0 where
-  pub from : i < maxStations
-  pub to : j < maxStations
-  pub long : areaSize ≤ length x
-  pub near : spaceAt x i j < ring
-  pub early : t + K ≤ lastClock
-  pub codes : (u : ℕ) → symbol_at x j u ≤ maxCode
+  pub from : i < max_stations
+  pub to : j < max_stations
+  pub long : area_size ≤ length x
+  pub near : space_at x i j < ring
+  pub early : t + K ≤ last_clock
+  pub codes : (u : ℕ) → symbol_at x j u ≤ max_code
   pub enough : Enough K e
 
 -- the symbols of emitter e at station i that are on their way to station j after K steps from t on
-unfoldable pub pushedFrom : (j t K i : ℕ) → Emitter → List ℕ → List ℕ
-pushedFrom j t K i e x =
+unfoldable pub pushed_from : (j t K i : ℕ) → Emitter → List ℕ → List ℕ
+pushed_from j t K i e x =
     pick (eqb i j) x
-    (onWay t (spaceAt x i j) K (emitted (frame_at x i e.octets) e) j (min (spaceAt x i j) K) x)
+    (on_way t (space_at x i j) K (emitted (frame_at x i e.octets) e) j (min (space_at x i j) K) x)
 
 -- ---- all lines
 
 -- what the code asks of the area; it stays so while lines are written
 pub record Settles (n t K : ℕ) (es : List Emitter) (x : List ℕ) : Type 0 where
-  pub few : n ≤ maxStations
-  pub count : n ≡ countAt x
-  pub time : t ≡ clockAt x
-  pub long : areaSize ≤ length x
-  pub early : t + K ≤ lastClock
-  pub near : (i j : ℕ) → i < n → j < n → spaceAt x i j < ring
-  pub codes : (i u : ℕ) → i < n → symbol_at x i u ≤ maxCode
+  pub few : n ≤ max_stations
+  pub count : n ≡ count_at x
+  pub time : t ≡ clock_at x
+  pub long : area_size ≤ length x
+  pub early : t + K ≤ last_clock
+  pub near : (i j : ℕ) → i < n → j < n → space_at x i j < ring
+  pub codes : (i u : ℕ) → i < n → symbol_at x i u ≤ max_code
   pub enough : (i : ℕ) → i < n → Enough K (get_or es i silent)

@@ -2,14 +2,14 @@
 // still on their way are put.
 
 ghost use Rattle.std.specs.Prelude.{◌≡◌, ℕ, ◌+◌, ◌*◌, ◌<◌, ◌≤◌, min, length};
-ghost use Rattle.area.specs.Area.{symbol_at, maxCode};
-ghost use Rattle.fast_plan.specs.Push.{cleared, waysTo, lineDone};
-ghost use Rattle.fast_plan.specs.Placed.{linesDone};
+ghost use Rattle.area.specs.Area.{symbol_at, max_code};
+ghost use Rattle.fast_plan.specs.Push.{cleared, ways_to, line_done};
+ghost use Rattle.fast_plan.specs.Placed.{lines_done};
 ghost use Rattle.fast_line.specs.Line.{Below};
-ghost use Rattle.fast_lines.specs.Lines.{emitterAt, emittersOf, planBy, Enough, AllEnough, CodedFrom, AllCoded};
-ghost use Rattle.fast_lines.specs.Lines.{Pushes, pushedFrom, Settles};
-ghost use Rattle.sheet_layout.specs.Limits.{lastClock, maxStations};
-ghost use Rattle.area.specs.Offsets.{areaSize, ring};
+ghost use Rattle.fast_lines.specs.Lines.{emitter_at, emitters_of, plan_by, Enough, AllEnough, CodedFrom, AllCoded};
+ghost use Rattle.fast_lines.specs.Lines.{Pushes, pushed_from, Settles};
+ghost use Rattle.sheet_layout.specs.Limits.{last_clock, max_stations};
+ghost use Rattle.area.specs.Offsets.{area_size, ring};
 
 // What a station emits in a window. Kind 0: nothing. Kind 1: its packet's bits from `bit` on, of the frame of so many
 // octets. Kind 2: jam.
@@ -22,8 +22,8 @@ pub struct Emitter {
 
 // What station i is about to emit.
 fn read_emitter(area: &[u8], i: usize) -> Emitter
-    requires { (i < maxStations) × (areaSize ≤ length area.now) }
-    ensures { result ≡ emitterAt area.now i }
+    requires { (i < max_stations) × (area_size ≤ length area.now) }
+    ensures { result ≡ emitter_at area.now i }
 {
     let phase = area::read_word(area, i, area_record::words::PHASE);
     if phase < 3 {
@@ -51,8 +51,8 @@ fn read_emitter(area: &[u8], i: usize) -> Emitter
 
 // What the first n stations are about to emit: to be taken before the stations move on.
 pub fn emitters(area: &[u8], n: usize) -> [Emitter; 16]
-    requires { (n ≤ maxStations) × (areaSize ≤ length area.now) }
-    ensures { result ≡ emittersOf area.now n }
+    requires { (n ≤ max_stations) × (area_size ≤ length area.now) }
+    ensures { result ≡ emitters_of area.now n }
 {
     let silent = Emitter {
         kind: 0,
@@ -71,7 +71,7 @@ pub fn emitters(area: &[u8], n: usize) -> [Emitter; 16]
 
 // Notes the codes of what station i emits in so many steps, in its 256 places.
 fn note_from(area: &[u8], steps: usize, i: usize, e: Emitter, codes: &mut [u8])
-    requires { (i < maxStations) × (areaSize ≤ length area.now) × (256 * i + ring ≤ length codes.old)
+    requires { (i < max_stations) × (area_size ≤ length area.now) × (256 * i + ring ≤ length codes.old)
         × Enough steps e }
     ensures coded { CodedFrom codes.new steps i e area.now }
     ensures kept { Below (ring * i) codes.old codes.new }
@@ -89,7 +89,7 @@ fn note_from(area: &[u8], steps: usize, i: usize, e: Emitter, codes: &mut [u8])
 
 // The same of all n stations.
 fn note_all(area: &[u8], n: usize, steps: usize, from: [Emitter; 16], codes: &mut [u8])
-    requires { (n ≤ maxStations) × (areaSize ≤ length area.now) × (ring * n ≤ length codes.old)
+    requires { (n ≤ max_stations) × (area_size ≤ length area.now) × (ring * n ≤ length codes.old)
         × AllEnough steps from n }
     ensures { AllCoded codes.new steps from area.now n }
 {
@@ -105,7 +105,7 @@ fn note_all(area: &[u8], n: usize, steps: usize, from: [Emitter; 16], codes: &mu
 fn push_from(area: &mut [u8], j: usize, t: usize, steps: usize, i: usize, e: Emitter, codes: &[u8])
     requires { Pushes j t steps i e area.old × (256 * i + ring ≤ length codes.now)
         × CodedFrom codes.now steps i e area.old }
-    ensures { area.new ≡ pushedFrom j t steps i e area.old }
+    ensures { area.new ≡ pushed_from j t steps i e area.old }
 {
     if i == j {
         return;
@@ -121,8 +121,8 @@ fn push_from(area: &mut [u8], j: usize, t: usize, steps: usize, i: usize, e: Emi
 
 // Clears the places of so many steps from t on, all 256 at most. A line that holds nothing is left alone.
 fn clear_line(area: &mut [u8], j: usize, t: usize, steps: usize)
-    requires { (j < maxStations) × (areaSize ≤ length area.old) × (t ≤ lastClock)
-        × ((u : ℕ) → symbol_at area.old j u ≤ maxCode) }
+    requires { (j < max_stations) × (area_size ≤ length area.old) × (t ≤ last_clock)
+        × ((u : ℕ) → symbol_at area.old j u ≤ max_code) }
     ensures { area.new ≡ cleared t j (min steps ring) area.old }
 {
     if fast_line::is_clear(area, j) {
@@ -145,7 +145,7 @@ fn push_all(
     requires { (j < n) × Settles n t steps from area.old × (ring * n ≤ length codes.now)
         × AllCoded codes.now steps from area.old n }
     ensures { area.new
-        ≡ waysTo area.old (planBy area.old from) steps j n area.old }
+        ≡ ways_to area.old (plan_by area.old from) steps j n area.old }
 {
     let mut i: usize = 0;
     while i < n {
@@ -168,7 +168,7 @@ fn settle_line(
     requires { (j < n) × Settles n t steps from area.old × (ring * n ≤ length codes.now)
         × AllCoded codes.now steps from area.old n }
     ensures { area.new
-        ≡ lineDone area.old (planBy area.old from) steps j area.old }
+        ≡ line_done area.old (plan_by area.old from) steps j area.old }
 {
     clear_line(area, j, t, steps);
     push_all(area, n, j, t, steps, from, codes);
@@ -186,7 +186,7 @@ fn settle_with(
 )
     requires { Settles n t steps from area.old × (ring * n ≤ length codes.old) }
     ensures { area.new
-        ≡ linesDone area.old (planBy area.old from) steps n area.old }
+        ≡ lines_done area.old (plan_by area.old from) steps n area.old }
 {
     note_all(area, n, steps, from, codes);
     let mut j: usize = 0;
@@ -200,7 +200,7 @@ fn settle_with(
 pub fn settle_lines(area: &mut [u8], n: usize, t: usize, steps: usize, from: [Emitter; 16])
     requires { Settles n t steps from area.old }
     ensures { area.new
-        ≡ linesDone area.old (planBy area.old from) steps n area.old }
+        ≡ lines_done area.old (plan_by area.old from) steps n area.old }
 {
     if n <= 8 {
         let mut few = [0u8; 2048];

@@ -19,8 +19,8 @@ abbrev pub end_of : Stretch → ℕ
 end_of r = r.from + r.bits + r.jam
 
 -- what it emits in step s; B i k is packet bit k of station i
-unfoldable pub symbolIn : (ℕ → ℕ → Symbol) → Stretch → ℕ → Symbol
-symbolIn B r s =
+unfoldable pub symbol_in : (ℕ → ℕ → Symbol) → Stretch → ℕ → Symbol
+symbol_in B r s =
     pick (ltb s r.from) Silence
     (pick (ltb s (r.from + r.bits)) (B r.who (r.bit + (s - r.from))) (pick (ltb s (end_of r)) Jam Silence))
 
@@ -30,9 +30,9 @@ over (Bit b) y = Bit b
 over Jam y = Jam
 
 -- the plan of a list
-unfoldable pub planIn : (ℕ → ℕ → Symbol) → List Stretch → Plan
-planIn B [] i s = Silence
-planIn B (r ∷ l) i s = over (pick (eqb r.who i) (symbolIn B r s) Silence) (planIn B l i s)
+unfoldable pub plan_in : (ℕ → ℕ → Symbol) → List Stretch → Plan
+plan_in B [] i s = Silence
+plan_in B (r ∷ l) i s = over (pick (eqb r.who i) (symbol_in B r s) Silence) (plan_in B l i s)
 
 -- ---- what is heard of it
 
@@ -43,11 +43,11 @@ sounds d r j s =
     (pick (ltb s (r.from + d r.who j)) false (ltb s (end_of r + d r.who j)))
 
 -- whether one of station i's is
-unfoldable pub soundsOf : (d : ℕ → ℕ → ℕ) → List Stretch → (i j s : ℕ) → Bool
-soundsOf d [] i j s = false
-soundsOf d (r ∷ l) i j s = pick (eqb r.who i) (sounds d r j s) false || soundsOf d l i j s
+unfoldable pub sounds_of : (d : ℕ → ℕ → ℕ) → List Stretch → (i j s : ℕ) → Bool
+sounds_of d [] i j s = false
+sounds_of d (r ∷ l) i j s = pick (eqb r.who i) (sounds d r j s) false || sounds_of d l i j s
 
 -- whether any is
-unfoldable pub soundsAny : (d : ℕ → ℕ → ℕ) → List Stretch → (j s : ℕ) → Bool
-soundsAny d [] j s = false
-soundsAny d (r ∷ l) j s = sounds d r j s || soundsAny d l j s
+unfoldable pub sounds_any : (d : ℕ → ℕ → ℕ) → List Stretch → (j s : ℕ) → Bool
+sounds_any d [] j s = false
+sounds_any d (r ∷ l) j s = sounds d r j s || sounds_any d l j s

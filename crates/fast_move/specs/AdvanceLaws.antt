@@ -9,148 +9,148 @@ use Rattle.octets.specs.Turns.{turns}
 use Rattle.sheet_layout.specs.declared.Figures.{Figures}
 use Rattle.station_symbols.specs.declared.Heard.{Heard}
 use Rattle.station_symbols.specs.declared.Heard.TheVariants.{Nothing, Clean, Spoiled}
-use Rattle.station_symbols.specs.Packet.{packetBit}
+use Rattle.station_symbols.specs.Packet.{packet_bit}
 use Rattle.station_state.specs.declared.Transmitter.{Transmitter}
 use Rattle.station_state.specs.declared.Receiver.{Receiver}
 use Rattle.station_state.specs.declared.Station.{Station}
-use Rattle.station_spec.specs.Receive.{bitsIn}
-use Rattle.area.specs.Area.{addressAt, bufferAt, stationAt, arrivalAt}
+use Rattle.station_spec.specs.Receive.{bits_in}
+use Rattle.area.specs.Area.{address_at, buffer_at, station_at, arrival_at}
 use Rattle.bus_spec.specs.Ready.{Able}
-use Rattle.fast_plan.specs.Own.{ownTurn, byItself, by-itself-more, by-itself-none}
-use Rattle.fast_receive.specs.Received.{spoils, lineFrom, bitsFrom, AllHeard, mayReport}
-use Rattle.fast_receive.specs.ReceivedLaws.{spoils-heard, bits-heard}
+use Rattle.fast_plan.specs.Own.{own_turn, by_itself, by_itself_more, by_itself_none}
+use Rattle.fast_receive.specs.Received.{spoils, line_from, bits_from, AllHeard, may_report}
+use Rattle.fast_receive.specs.ReceivedLaws.{spoils_heard, bits_heard}
 use Rattle.fast_heard.specs.declared.Kind.{Kind}
 use Rattle.fast_heard.specs.declared.Kind.TheVariants.{Silent, Line, From, Mixed}
-use Rattle.fast_segment.specs.Alone.{Moves, moves-able}
-use Rattle.fast_stretch.specs.Stretch.{heardStretch, quietStretch, Movable}
-use Rattle.fast_stretch.specs.StretchLaws.{fine-movable, bits-room}
-use Rattle.fast_move.specs.Move.{heardIn, isHeard, emitting, restsAll, hearsAll, emitsAll, canMove, stretched}
+use Rattle.fast_segment.specs.Alone.{Moves, moves_able}
+use Rattle.fast_stretch.specs.Stretch.{heard_stretch, quiet_stretch, Movable}
+use Rattle.fast_stretch.specs.StretchLaws.{fine_movable, bits_room}
+use Rattle.fast_move.specs.Move.{heard_in, is_heard, emitting, rests_all, hears_all, emits_all, can_move, stretched}
 use Rattle.fast_move.specs.Move.{Moving, Audible, Held}
-use Rattle.fast_move.specs.MoveLaws.{frame_small, moves-once}
-use Rattle.sheet_layout.specs.Limits.{lastClock}
+use Rattle.fast_move.specs.MoveLaws.{frame_small, moves_once}
+use Rattle.sheet_layout.specs.Limits.{last_clock}
 
 -- ---- whether it can go over them at once
 
 module _ (f : Figures) (m : ℕ) (K : Kind) (x : List ℕ) (j : ℕ) (s : Station) (t : Transmitter) (h e r : Bool)
-    (es : s ≡ stationAt x j) (et : t ≡ s.transmitter) (eh : h ≡ isHeard K) (ee : e ≡ emitting t) where
-  here : e ≡ emitting (stationAt x j).transmitter
+    (es : s ≡ station_at x j) (et : t ≡ s.transmitter) (eh : h ≡ is_heard K) (ee : e ≡ emitting t) where
+  here : e ≡ emitting (station_at x j).transmitter
   here = ee ∙ ap emitting (et ∙ ap (λ (q : Station). q.transmitter) es)
 
-  pub can-emits : e ≡ true → r ≡ emitsAll m h s → r ≡ canMove f m K x j
-  unfolding canMove
-  can-emits p q = q ∙ rw (eh, es) (rw (sym here ∙ p))
+  pub can_emits : e ≡ true → r ≡ emits_all m h s → r ≡ can_move f m K x j
+  unfolding can_move
+  can_emits p q = q ∙ rw (eh, es) (rw (sym here ∙ p))
 
-  pub can-hears : e ≡ false → h ≡ true → r ≡ hearsAll f m s → r ≡ canMove f m K x j
-  unfolding canMove
-  can-hears p g q = q ∙ rw es (rw (sym here ∙ p, sym eh ∙ g))
+  pub can_hears : e ≡ false → h ≡ true → r ≡ hears_all f m s → r ≡ can_move f m K x j
+  unfolding can_move
+  can_hears p g q = q ∙ rw es (rw (sym here ∙ p, sym eh ∙ g))
 
-  pub can-rests : (c : Bool) (w : Receiver) → e ≡ false → h ≡ false → w ≡ s.receiver
-      → c ≡ mayReport (addressAt x j) (bufferAt x j) 0 w → r ≡ restsAll f m c s → r ≡ canMove f m K x j
-  unfolding canMove
-  can-rests c w p g ew ec q =
-      let z : w ≡ (stationAt x j).receiver = ew ∙ ap (λ (y : Station). y.receiver) es in
+  pub can_rests : (c : Bool) (w : Receiver) → e ≡ false → h ≡ false → w ≡ s.receiver
+      → c ≡ may_report (address_at x j) (buffer_at x j) 0 w → r ≡ rests_all f m c s → r ≡ can_move f m K x j
+  unfolding can_move
+  can_rests c w p g ew ec q =
+      let z : w ≡ (station_at x j).receiver = ew ∙ ap (λ (y : Station). y.receiver) es in
       q ∙ rw (ec, z, es) (rw (sym here ∙ p, sym eh ∙ g))
 
-pub held-here : (s : Station) (t : Transmitter) (e : Bool) → Held s → t ≡ s.transmitter → e ≡ emitting t → e ≡ true
+pub held_here : (s : Station) (t : Transmitter) (e : Bool) → Held s → t ≡ s.transmitter → e ≡ emitting t → e ≡ true
     → s.frame < 65536
 unfolding Held
-held-here s t e h et ee p = h (ap emitting (sym et) ∙ sym ee ∙ p)
+held_here s t e h et ee p = h (ap emitting (sym et) ∙ sym ee ∙ p)
 
-pub report-room : (f : Figures) (m j : ℕ) (x : List ℕ) (s : Station) (w : Receiver) → Movable f m x j
-    → s ≡ stationAt x j → w ≡ s.receiver → bitsIn w + 0 < 4294967296
-report-room f m j x s w v es ew =
-    subst (λ (q : Receiver). bitsIn q + 0 < 4294967296) (sym ew) (omega (arith, bits-room f m j x s v es))
+pub report_room : (f : Figures) (m j : ℕ) (x : List ℕ) (s : Station) (w : Receiver) → Movable f m x j
+    → s ≡ station_at x j → w ≡ s.receiver → bits_in w + 0 < 4294967296
+report_room f m j x s w v es ew =
+    subst (λ (q : Receiver). bits_in q + 0 < 4294967296) (sym ew) (omega (arith, bits_room f m j x s v es))
 
 -- ---- at once
 
 module _ (f : Figures) (e : Bool) (K : Kind) (m j : ℕ) (x y : List ℕ) (u : ℕ) (F : List ℕ) (b : ℕ) where
-  to-kind : (k : Kind) → K ≡ k → y ≡ stretched f e k m j x u F b → y ≡ stretched f e K m j x u F b
-  to-kind k p q = q ∙ sym (ap (λ (c : Kind). stretched f e c m j x u F b) p)
+  to_kind : (k : Kind) → K ≡ k → y ≡ stretched f e k m j x u F b → y ≡ stretched f e K m j x u F b
+  to_kind k p q = q ∙ sym (ap (λ (c : Kind). stretched f e c m j x u F b) p)
 
-  pub once-silent : K ≡ Silent → y ≡ quietStretch f e m j x → y ≡ stretched f e K m j x u F b
+  pub once_silent : K ≡ Silent → y ≡ quiet_stretch f e m j x → y ≡ stretched f e K m j x u F b
   unfolding stretched
-  once-silent p q = to-kind Silent p q
+  once_silent p q = to_kind Silent p q
 
-  pub once-line : K ≡ Line → y ≡ heardStretch f e (lineFrom x j u) m j x → y ≡ stretched f e K m j x u F b
+  pub once_line : K ≡ Line → y ≡ heard_stretch f e (line_from x j u) m j x → y ≡ stretched f e K m j x u F b
   unfolding stretched
-  once-line p q = to-kind Line p q
+  once_line p q = to_kind Line p q
 
-  pub once-from : K ≡ From → y ≡ heardStretch f e (bitsFrom F b) m j x → y ≡ stretched f e K m j x u F b
+  pub once_from : K ≡ From → y ≡ heard_stretch f e (bits_from F b) m j x → y ≡ stretched f e K m j x u F b
   unfolding stretched
-  once-from p q = to-kind From p q
+  once_from p q = to_kind From p q
 
-  pub once-spoiled : K ≡ Mixed → y ≡ heardStretch f e spoils m j x → y ≡ stretched f e K m j x u F b
+  pub once_spoiled : K ≡ Mixed → y ≡ heard_stretch f e spoils m j x → y ≡ stretched f e K m j x u F b
   unfolding stretched
-  once-spoiled p q = to-kind Mixed p q
+  once_spoiled p q = to_kind Mixed p q
 
-pub line-audible : (K : Kind) (x : List ℕ) (j u m : ℕ) → Audible K x j u m → K ≡ Line → AllHeard (lineFrom x j u) m
+pub line_audible : (K : Kind) (x : List ℕ) (j u m : ℕ) → Audible K x j u m → K ≡ Line → AllHeard (line_from x j u) m
 unfolding Audible
-line-audible K x j u m h p = h p
+line_audible K x j u m h p = h p
 
 -- ---- the first step
 
 module _ (K : Kind) (x : List ℕ) (j u : ℕ) (F : List ℕ) (b : ℕ) where
-  to-heard : (k : Kind) (h : Heard) → K ≡ k → h ≡ heardIn k x j u F b 0 → h ≡ heardIn K x j u F b 0
-  to-heard k h p q = q ∙ sym (ap (λ (c : Kind). heardIn c x j u F b 0) p)
+  to_heard : (k : Kind) (h : Heard) → K ≡ k → h ≡ heard_in k x j u F b 0 → h ≡ heard_in K x j u F b 0
+  to_heard k h p q = q ∙ sym (ap (λ (c : Kind). heard_in c x j u F b 0) p)
 
-  pub first-silent : K ≡ Silent → Nothing ≡ heardIn K x j u F b 0
-  first-silent p = to-heard Silent Nothing p refl
+  pub first_silent : K ≡ Silent → Nothing ≡ heard_in K x j u F b 0
+  first_silent p = to_heard Silent Nothing p refl
 
-  pub first-line : (h : Heard) → K ≡ Line → h ≡ arrivalAt x j u → h ≡ heardIn K x j u F b 0
-  unfolding lineFrom
-  first-line h p q = let z : u ≡ u + 0 = omega arith in to-heard Line h p (q ∙ ap (arrivalAt x j) z)
+  pub first_line_lem : (h : Heard) → K ≡ Line → h ≡ arrival_at x j u → h ≡ heard_in K x j u F b 0
+  unfolding line_from
+  first_line_lem h p q = let z : u ≡ u + 0 = omega arith in to_heard Line h p (q ∙ ap (arrival_at x j) z)
 
-  pub first-from : (one : Bool) → K ≡ From → one ≡ packetBit F b → Clean one ≡ heardIn K x j u F b 0
-  unfolding bitsFrom
-  first-from one p q =
-      let z : b ≡ b + 0 = omega arith in to-heard From (Clean one) p (ap Clean (q ∙ ap (packetBit F) z))
+  pub first_from_lem : (one : Bool) → K ≡ From → one ≡ packet_bit F b → Clean one ≡ heard_in K x j u F b 0
+  unfolding bits_from
+  first_from_lem one p q =
+      let z : b ≡ b + 0 = omega arith in to_heard From (Clean one) p (ap Clean (q ∙ ap (packet_bit F) z))
 
-  pub first-spoiled : K ≡ Mixed → Spoiled ≡ heardIn K x j u F b 0
+  pub first_spoiled : K ≡ Mixed → Spoiled ≡ heard_in K x j u F b 0
   unfolding spoils
-  first-spoiled p = to-heard Mixed Spoiled p refl
+  first_spoiled p = to_heard Mixed Spoiled p refl
 
 -- ---- over m steps, or over one
 
-all-heard : (K : Kind) (x : List ℕ) (j u : ℕ) (F : List ℕ) (b m : ℕ) → Audible K x j u m → isHeard K ≡ true
-    → AllHeard (heardIn K x j u F b) m
+all_heard : (K : Kind) (x : List ℕ) (j u : ℕ) (F : List ℕ) (b m : ℕ) → Audible K x j u m → is_heard K ≡ true
+    → AllHeard (heard_in K x j u F b) m
 unfolding Audible
-all-heard Silent x j u F b m a h = absurd (true≢false (sym h))
-all-heard Line x j u F b m a h = a refl
-all-heard From x j u F b m a h = bits-heard F b m
-all-heard Mixed x j u F b m a h = spoils-heard m
+all_heard Silent x j u F b m a h = absurd (true≢false (sym h))
+all_heard Line x j u F b m a h = a refl
+all_heard From x j u F b m a h = bits_heard F b m
+all_heard Mixed x j u F b m a h = spoils_heard m
 
 module _ (f : Figures) (D j u : ℕ) (x : List ℕ) (v : Moving f D j u x) where
-  pub moving-able : (m : ℕ) → 0 < m → u + m ≤ lastClock → Able f x j
+  pub moving_able : (m : ℕ) → 0 < m → u + m ≤ last_clock → Able f x j
   unfolding Moving
-  moving-able m pos early = moves-able f D j u x v (omega arith)
+  moving_able m pos early = moves_able f D j u x v (omega arith)
 
-  pub moving-movable : (m : ℕ) → u + m ≤ lastClock → Movable f m x j
+  pub moving_movable : (m : ℕ) → u + m ≤ last_clock → Movable f m x j
   unfolding Moving
-  moving-movable m early = fine-movable f D u m j x v.figured v.fine early
+  moving_movable m early = fine_movable f D u m j x v.figured v.fine early
 
-  pub moving-held : (s : Station) → s ≡ stationAt x j → Held s
+  pub moving_held : (s : Station) → s ≡ station_at x j → Held s
   unfolding Moving Held
-  moving-held s es on =
-      let z : (stationAt x j).frame ≡ s.frame = ap (λ (q : Station). q.frame) (sym es) in
-      let w : emitting (stationAt x j).transmitter ≡ true = ap (λ (q : Station). emitting q.transmitter) (sym es)
+  moving_held s es on =
+      let z : (station_at x j).frame ≡ s.frame = ap (λ (q : Station). q.frame) (sym es) in
+      let w : emitting (station_at x j).transmitter ≡ true = ap (λ (q : Station). emitting q.transmitter) (sym es)
       ∙ on in
-      omega (arith, z, frame_small (stationAt x j).transmitter (stationAt x j).frame w v.fine.frame)
+      omega (arith, z, frame_small (station_at x j).transmitter (station_at x j).frame w v.fine.frame)
 
   module _ (K : Kind) (F : List ℕ) (b : ℕ) (y : List ℕ) where
-    pub advance-all : (m : ℕ) (s : Station) (t : Transmitter) (c e : Bool) → 0 < m → u + m ≤ lastClock
-        → Audible K x j u m → s ≡ stationAt x j → t ≡ s.transmitter
-        → e ≡ emitting t → c ≡ canMove f m K x j → c ≡ true → y ≡ stretched f e K m j x u F b
-        → y ≡ byItself f D j (heardIn K x j u F b) m x
+    pub advance_all : (m : ℕ) (s : Station) (t : Transmitter) (c e : Bool) → 0 < m → u + m ≤ last_clock
+        → Audible K x j u m → s ≡ station_at x j → t ≡ s.transmitter
+        → e ≡ emitting t → c ≡ can_move f m K x j → c ≡ true → y ≡ stretched f e K m j x u F b
+        → y ≡ by_itself f D j (heard_in K x j u F b) m x
     unfolding Moving
-    advance-all m s t c e pos early a es et ee ec p ey =
-        let z : e ≡ emitting (stationAt x j).transmitter = ee
+    advance_all m s t c e pos early a es et ee ec p ey =
+        let z : e ≡ emitting (station_at x j).transmitter = ee
         ∙ ap emitting (et ∙ ap (λ (q : Station). q.transmitter) es) in
         ey ∙ ap (λ (w : Bool). stretched f w K m j x u F b) z
-        ∙ moves-once f D j u x v m pos early K F b (all-heard K x j u F b m a) (sym ec ∙ p)
+        ∙ moves_once f D j u x v m pos early K F b (all_heard K x j u F b m a) (sym ec ∙ p)
 
-    pub advance-one : (h : Heard) → h ≡ heardIn K x j u F b 0 → y ≡ ownTurn f D j h x
-        → y ≡ byItself f D j (heardIn K x j u F b) 1 x
-    advance-one h eh ey =
-        ey ∙ ap (λ (g : Heard). ownTurn f D j g x) eh
-        ∙ sym (by-itself-more f D j (heardIn K x j u F b) 0 x ∙ ap (ownTurn f D j (heardIn K x j u F b 0))
-        (by-itself-none f D j (heardIn K x j u F b) x))
+    pub advance_one : (h : Heard) → h ≡ heard_in K x j u F b 0 → y ≡ own_turn f D j h x
+        → y ≡ by_itself f D j (heard_in K x j u F b) 1 x
+    advance_one h eh ey =
+        ey ∙ ap (λ (g : Heard). own_turn f D j g x) eh
+        ∙ sym (by_itself_more f D j (heard_in K x j u F b) 0 x ∙ ap (own_turn f D j (heard_in K x j u F b 0))
+        (by_itself_none f D j (heard_in K x j u F b) x))

@@ -10,29 +10,29 @@ use Rattle.station_state.specs.declared.Transmitter.{Transmitter}
 use Rattle.station_state.specs.declared.Transmitter.TheVariants.{NoFrame, Waiting, BackingOff, Sending, Heading}
 use Rattle.station_state.specs.declared.Transmitter.TheVariants.{Jamming}
 use Rattle.station_state.specs.declared.Station.{Station}
-use Rattle.area.specs.Area.{addressAt, bufferAt, stationAt}
-use Rattle.fast_silence.specs.Bound.{framesRest, idle}
-use Rattle.fast_station.specs.Forms.{heardRest, emitsFor}
-use Rattle.fast_receive.specs.Received.{spoils, lineFrom, bitsFrom, AllHeard, mayReport}
+use Rattle.area.specs.Area.{address_at, buffer_at, station_at}
+use Rattle.fast_silence.specs.Bound.{frames_rest, idle}
+use Rattle.fast_station.specs.Forms.{heard_rest, emits_for}
+use Rattle.fast_receive.specs.Received.{spoils, line_from, bits_from, AllHeard, may_report}
 use Rattle.fast_heard.specs.declared.Kind.{Kind}
 use Rattle.fast_heard.specs.declared.Kind.TheVariants.{Silent, Line, From, Mixed}
-use Rattle.fast_stretch.specs.Stretch.{heardStretch, quietStretch}
+use Rattle.fast_stretch.specs.Stretch.{heard_stretch, quiet_stretch}
 use Rattle.fast_segment.specs.Alone.{Moves}
 
 -- steps of this kind: nothing; its line from step u on; bits of the packet that carries F from bit b on; spoiled
 -- symbols
-abbrev pub heardIn : Kind → List ℕ → (j u : ℕ) → (F : List ℕ) (b : ℕ) → ℕ → Heard
-heardIn Silent x j u F b = λ k. Nothing
-heardIn Line x j u F b = lineFrom x j u
-heardIn From x j u F b = bitsFrom F b
-heardIn Mixed x j u F b = spoils
+abbrev pub heard_in : Kind → List ℕ → (j u : ℕ) → (F : List ℕ) (b : ℕ) → ℕ → Heard
+heard_in Silent x j u F b = λ k. Nothing
+heard_in Line x j u F b = line_from x j u
+heard_in From x j u F b = bits_from F b
+heard_in Mixed x j u F b = spoils
 
 -- whether anything is heard
-abbrev pub isHeard : Kind → Bool
-isHeard Silent = false
-isHeard Line = true
-isHeard From = true
-isHeard Mixed = true
+abbrev pub is_heard : Kind → Bool
+is_heard Silent = false
+is_heard Line = true
+is_heard From = true
+is_heard Mixed = true
 
 -- whether it emits; whether it sends, and has no collision yet
 abbrev pub emitting : Transmitter → Bool
@@ -51,39 +51,39 @@ sending (Sending k) = true
 sending (Heading k) = false
 sending (Jamming l ends) = false
 
-abbrev pub isBusyOwn : Deference → Bool
-isBusyOwn Quiet = false
-isBusyOwn (Busy own) = own
-isBusyOwn (Gap n own) = false
+abbrev pub is_busy_own : Deference → Bool
+is_busy_own Quiet = false
+is_busy_own (Busy own) = own
+is_busy_own (Gap n own) = false
 
 -- ---- when m steps of a kind can be taken at once
 
 -- of a station that emits nothing: no frame starts, and a reception that ends reports nothing
-unfoldable pub restsAll : Figures → (m : ℕ) → (report : Bool) → Station → Bool
-restsAll f m report s = not s.emitted && (leb m (framesRest f m s.deference s.transmitter) && not report)
+unfoldable pub rests_all : Figures → (m : ℕ) → (report : Bool) → Station → Bool
+rests_all f m report s = not s.emitted && (leb m (frames_rest f m s.deference s.transmitter) && not report)
 
-unfoldable pub hearsAll : Figures → (m : ℕ) → Station → Bool
-hearsAll f m s = not s.emitted && leb m (heardRest f m s.deference s.transmitter)
+unfoldable pub hears_all : Figures → (m : ℕ) → Station → Bool
+hears_all f m s = not s.emitted && leb m (heard_rest f m s.deference s.transmitter)
 
 -- of an emitter: it goes on, and a sender hears nothing; where nothing is heard its receiver is idle
-unfoldable pub emitsAll : (m : ℕ) → (heard : Bool) → Station → Bool
-emitsAll m heard s =
+unfoldable pub emits_all : (m : ℕ) → (heard : Bool) → Station → Bool
+emits_all m heard s =
     s.emitted
-    && (isBusyOwn s.deference
-    && (leb m (emitsFor s.frame s.transmitter) && pick heard (not (sending s.transmitter))
+    && (is_busy_own s.deference
+    && (leb m (emits_for s.frame s.transmitter) && pick heard (not (sending s.transmitter))
     (idle s.receiver)))
 
 -- all of that
-unfoldable pub canMove : Figures → (m : ℕ) → Kind → List ℕ → (j : ℕ) → Bool
-canMove f m K x j =
-    pick (emitting (stationAt x j).transmitter) (emitsAll m (isHeard K) (stationAt x j))
-    (pick (isHeard K) (hearsAll f m (stationAt x j))
-    (restsAll f m (mayReport (addressAt x j) (bufferAt x j) 0 (stationAt x j).receiver) (stationAt x j)))
+unfoldable pub can_move : Figures → (m : ℕ) → Kind → List ℕ → (j : ℕ) → Bool
+can_move f m K x j =
+    pick (emitting (station_at x j).transmitter) (emits_all m (is_heard K) (station_at x j))
+    (pick (is_heard K) (hears_all f m (station_at x j))
+    (rests_all f m (may_report (address_at x j) (buffer_at x j) 0 (station_at x j).receiver) (station_at x j)))
 
 -- ---- what they leave
 
 unfoldable pub stretched : Figures → (e : Bool) → Kind → (m j : ℕ) → List ℕ → (u : ℕ) (F : List ℕ) (b : ℕ) → List ℕ
-stretched f e K m j x u F b = pick (isHeard K) (heardStretch f e (heardIn K x j u F b) m j x) (quietStretch f e m j x)
+stretched f e K m j x u F b = pick (is_heard K) (heard_stretch f e (heard_in K x j u F b) m j x) (quiet_stretch f e m j x)
 
 -- shut, so that a search does not enter it
 unfoldable pub Moving : Figures → (D j c : ℕ) → List ℕ → Type 0
@@ -91,7 +91,7 @@ Moving f D j c x = Moves f D j c x
 
 -- where clean bits of its line are heard, something is heard in each of m steps from u on
 unfoldable pub Audible : Kind → List ℕ → (j u m : ℕ) → Type 0
-Audible K x j u m = K ≡ Line → AllHeard (lineFrom x j u) m
+Audible K x j u m = K ≡ Line → AllHeard (line_from x j u) m
 
 -- an emitter's frame is one that may be sent
 unfoldable pub Held : Station → Type 0

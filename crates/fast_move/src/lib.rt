@@ -2,14 +2,14 @@
 
 ghost use Rattle.std.specs.Prelude.{◌≡◌, not, ◌+◌, ◌<◌, ◌≤◌, length};
 ghost use Rattle.octets.specs.Base.{pick};
-ghost use Rattle.fast_plan.specs.Own.{byItself};
+ghost use Rattle.fast_plan.specs.Own.{by_itself};
 ghost use Rattle.fast_silence.specs.Bound.{idle};
-ghost use Rattle.area.specs.Area.{stationAt};
+ghost use Rattle.area.specs.Area.{station_at};
 ghost use Rattle.fast_stretch.specs.Stretch.{Movable};
-ghost use Rattle.fast_move.specs.Move.{heardIn, isHeard, emitting, sending, isBusyOwn, restsAll, hearsAll};
-ghost use Rattle.fast_move.specs.Move.{emitsAll, canMove, stretched, Moving, Audible, Held};
-ghost use Rattle.sheet_layout.specs.Limits.{lastClock, maxStations};
-ghost use Rattle.area.specs.Offsets.{areaSize};
+ghost use Rattle.fast_move.specs.Move.{heard_in, is_heard, emitting, sending, is_busy_own, rests_all, hears_all};
+ghost use Rattle.fast_move.specs.Move.{emits_all, can_move, stretched, Moving, Audible, Held};
+ghost use Rattle.sheet_layout.specs.Limits.{last_clock, max_stations};
+ghost use Rattle.area.specs.Offsets.{area_size};
 
 use fast_heard::Kind;
 use sheet_layout::Figures;
@@ -17,7 +17,7 @@ use station_state::{Deference, Receiver, Station, Transmitter};
 use station_symbols::Heard;
 
 fn is_heard(kind: Kind) -> bool
-    ensures { result ≡ isHeard kind }
+    ensures { result ≡ is_heard kind }
 {
     match kind {
         Kind::Silent => false,
@@ -54,7 +54,7 @@ fn is_sending(x: Transmitter) -> bool
 }
 
 fn is_busy_own(d: Deference) -> bool
-    ensures { result ≡ isBusyOwn d }
+    ensures { result ≡ is_busy_own d }
 {
     match d {
         Deference::Quiet => false,
@@ -67,7 +67,7 @@ fn is_busy_own(d: Deference) -> bool
 // report.
 fn rests_all(f: Figures, m: u32, report: bool, s: Station) -> bool
     requires { f.gap1 + f.gap2 < 65536 }
-    ensures { result ≡ restsAll f m report s }
+    ensures { result ≡ rests_all f m report s }
 {
     let d = s.deference;
     let x = s.transmitter;
@@ -80,7 +80,7 @@ fn rests_all(f: Figures, m: u32, report: bool, s: Station) -> bool
 // One that emits nothing hears others for m steps: none starts.
 fn hears_all(f: Figures, m: u32, s: Station) -> bool
     requires { f.gap1 + f.gap2 < 65536 }
-    ensures { result ≡ hearsAll f m s }
+    ensures { result ≡ hears_all f m s }
 {
     let d = s.deference;
     let x = s.transmitter;
@@ -100,7 +100,7 @@ fn is_calm(heard: bool, x: Transmitter, r: Receiver) -> bool
 // An emitter goes on for m steps.
 fn emits_all(m: u32, heard: bool, s: Station) -> bool
     requires { s.frame < 65536 }
-    ensures { result ≡ emitsAll m heard s }
+    ensures { result ≡ emits_all m heard s }
 {
     let d = s.deference;
     let x = s.transmitter;
@@ -117,9 +117,9 @@ fn emits_all(m: u32, heard: bool, s: Station) -> bool
 
 // Whether station j, which is s, can go over m steps of a kind at once.
 fn can_move(area: &[u8], f: Figures, m: u32, kind: Kind, j: usize, s: Station) -> bool
-    requires { (j < maxStations) × (areaSize ≤ length area.now) × (f.gap1 + f.gap2 < 65536)
-        × Movable f m area.now j × Held s × (s ≡ stationAt area.now j) }
-    ensures { result ≡ canMove f m kind area.now j }
+    requires { (j < max_stations) × (area_size ≤ length area.now) × (f.gap1 + f.gap2 < 65536)
+        × Movable f m area.now j × Held s × (s ≡ station_at area.now j) }
+    ensures { result ≡ can_move f m kind area.now j }
 {
     let heard = is_heard(kind);
     let x = s.transmitter;
@@ -147,8 +147,8 @@ fn move_at_once(
     m: u32,
     s: Station,
 )
-    requires { (j < maxStations) × (areaSize ≤ length area.old) × Movable f m area.old j
-        × (s ≡ stationAt area.old j) × (u + m < 4294967296) × (b + m < 4294967296) × Audible kind area.old j u m }
+    requires { (j < max_stations) × (area_size ≤ length area.old) × Movable f m area.old j
+        × (s ≡ station_at area.old j) × (u + m < 4294967296) × (b + m < 4294967296) × Audible kind area.old j u m }
     ensures { area.new ≡ stretched f e kind m j area.old u frame.now b }
 {
     match kind {
@@ -161,8 +161,8 @@ fn move_at_once(
 
 // What station j hears in the first step of a kind.
 fn heard_first(area: &[u8], kind: Kind, j: usize, u: usize, frame: &[u8], b: u32) -> Heard
-    requires { (j < maxStations) × (areaSize ≤ length area.now) }
-    ensures { result ≡ heardIn kind area.now j u frame.now b 0 }
+    requires { (j < max_stations) × (area_size ≤ length area.now) }
+    ensures { result ≡ heard_in kind area.now j u frame.now b 0 }
 {
     match kind {
         Kind::Silent => Heard::Nothing,
@@ -188,11 +188,11 @@ pub fn advance(
     b: u32,
     m: u32,
 ) -> u32
-    requires { (j < maxStations) × (areaSize ≤ length area.old) × (0 < m) × (u + m ≤ lastClock)
+    requires { (j < max_stations) × (area_size ≤ length area.old) × (0 < m) × (u + m ≤ last_clock)
         × (b + m < 4294967296) × (f.gap1 + f.gap2 < 65536) × Moving f depth j u area.old
         × Audible kind area.old j u m }
     ensures moved { area.new
-        ≡ byItself f depth j (heardIn kind area.old j u frame.now b) result area.old }
+        ≡ by_itself f depth j (heard_in kind area.old j u frame.now b) result area.old }
     ensures bound { (0 < result) × (result ≤ m) }
 {
     let s = area::read_station(area, j);

@@ -7,27 +7,27 @@ use Rattle.station_symbols.specs.declared.Heard.{Heard}
 use Rattle.station_spec.specs.declared.Stepped.{Stepped}
 use Rattle.station_state.specs.declared.Station.{Station}
 use Rattle.station_spec.specs.Step.{stepped}
-use Rattle.area.specs.Area.{stationAt, drawAt, bufferAt, withStation}
+use Rattle.area.specs.Area.{station_at, draw_at, buffer_at, with_station}
 use Rattle.bus_spec.specs.declared.Act.{Act}
-use Rattle.bus_spec.specs.BitTime.{withStored, withCounted}
+use Rattle.bus_spec.specs.BitTime.{with_stored, with_counted}
 use Rattle.bus_spec.specs.InPlace.{Kept}
-use Rattle.fast_plan.specs.Own.{outcomeOn, actOn, ownLeft, ownTurn, on-kept}
+use Rattle.fast_plan.specs.Own.{outcome_on, act_on, own_left, own_turn, on_kept}
 
 module _ (f : Figures) (d i : ℕ) (h : Heard) (a : List ℕ) where
-  pub outcome-is : (s : Station) (w : ℕ) (b : List ℕ) (r : Stepped) → s ≡ stationAt a i → w ≡ drawAt a i s.draw
-      → b ≡ bufferAt a i → r ≡ stepped f s d w b h → r ≡ outcomeOn f d i h a
-  unfolding outcomeOn
-  outcome-is s w b r p q e g = g ∙ rw (q, e, p)
+  pub outcome_is : (s : Station) (w : ℕ) (b : List ℕ) (r : Stepped) → s ≡ station_at a i → w ≡ draw_at a i s.draw
+      → b ≡ buffer_at a i → r ≡ stepped f s d w b h → r ≡ outcome_on f d i h a
+  unfolding outcome_on
+  outcome_is s w b r p q e g = g ∙ rw (q, e, p)
 
-  pub outcome-kept : (o : Stepped) → o ≡ outcomeOn f d i h a → Kept o.stored
-  unfolding actOn
-  outcome-kept o e = subst (λ (x : Stepped). Kept x.stored) (sym e) (on-kept f d i h a)
+  pub outcome_kept : (o : Stepped) → o ≡ outcome_on f d i h a → Kept o.stored
+  unfolding act_on
+  outcome_kept o e = subst (λ (x : Stepped). Kept x.stored) (sym e) (on_kept f d i h a)
 
-  pub turn_is : (o : Stepped) (b : List ℕ) → o ≡ outcomeOn f d i h a → b ≡ ownLeft i o a → b ≡ ownTurn f d i h a
-  unfolding ownTurn actOn
-  turn_is o b e g = g ∙ ap (λ (x : Stepped). ownLeft i x a) e
+  pub turn_is : (o : Stepped) (b : List ℕ) → o ≡ outcome_on f d i h a → b ≡ own_left i o a → b ≡ own_turn f d i h a
+  unfolding own_turn act_on
+  turn_is o b e g = g ∙ ap (λ (x : Stepped). own_left i x a) e
 
-pub left_is : (i : ℕ) (o : Stepped) (a x y z : List ℕ) → z ≡ withStored i o.stored y → y ≡ withCounted i o x
-    → x ≡ withStation a i o.station → z ≡ ownLeft i o a
-unfolding ownLeft
+pub left_is : (i : ℕ) (o : Stepped) (a x y z : List ℕ) → z ≡ with_stored i o.stored y → y ≡ with_counted i o x
+    → x ≡ with_station a i o.station → z ≡ own_left i o a
+unfolding own_left
 left_is i o a x y z p q r = p ∙ rw (q, r)

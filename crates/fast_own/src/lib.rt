@@ -3,9 +3,9 @@
 ghost use Rattle.std.specs.Prelude.{◌≡◌, ◌<◌, ◌≤◌, length};
 ghost use Rattle.bus_spec.specs.InPlace.{Kept};
 ghost use Rattle.bus_spec.specs.Ready.{Able};
-ghost use Rattle.fast_plan.specs.Own.{outcomeOn, ownLeft, ownTurn};
-ghost use Rattle.area.specs.Offsets.{areaSize};
-ghost use Rattle.sheet_layout.specs.Limits.{maxStations};
+ghost use Rattle.fast_plan.specs.Own.{outcome_on, own_left, own_turn};
+ghost use Rattle.area.specs.Offsets.{area_size};
+ghost use Rattle.sheet_layout.specs.Limits.{max_stations};
 
 use sheet_layout::Figures;
 use station_spec::Stepped;
@@ -13,8 +13,8 @@ use station_symbols::Heard;
 
 // What station i does on hearing h.
 fn outcome(area: &[u8], f: Figures, depth: u32, i: usize, h: Heard) -> Stepped
-    requires { (i < maxStations) × (areaSize ≤ length area.now) × Able f area.now i }
-    ensures { result ≡ outcomeOn f depth i h area.now }
+    requires { (i < max_stations) × (area_size ≤ length area.now) × Able f area.now i }
+    ensures { result ≡ outcome_on f depth i h area.now }
 {
     let s = area::read_station(area, i);
     let draw = area::read_draw(area, i, s.draw as usize);
@@ -23,8 +23,8 @@ fn outcome(area: &[u8], f: Figures, depth: u32, i: usize, h: Heard) -> Stepped
 
 // What it leaves of its own: its record, its counters, the bit that it collected.
 fn leave(area: &mut [u8], i: usize, o: Stepped)
-    requires { (i < maxStations) × (areaSize ≤ length area.old) × Kept o.stored }
-    ensures { area.new ≡ ownLeft i o area.old }
+    requires { (i < max_stations) × (area_size ≤ length area.old) × Kept o.stored }
+    ensures { area.new ≡ own_left i o area.old }
 {
     let next = o.station;
     let stored = o.stored;
@@ -34,8 +34,8 @@ fn leave(area: &mut [u8], i: usize, o: Stepped)
 }
 
 pub fn turn_alone(area: &mut [u8], f: Figures, depth: u32, i: usize, h: Heard)
-    requires { (i < maxStations) × (areaSize ≤ length area.old) × Able f area.old i }
-    ensures { area.new ≡ ownTurn f depth i h area.old }
+    requires { (i < max_stations) × (area_size ≤ length area.old) × Able f area.old i }
+    ensures { area.new ≡ own_turn f depth i h area.old }
 {
     let o = outcome(area, f, depth, i, h);
     leave(area, i, o);

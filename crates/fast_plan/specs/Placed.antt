@@ -5,135 +5,135 @@ use Rattle.std.specs.Prelude.{◌≡◌, Bool, List, eqb, length, get_or}
 use Rattle.std.proofs.Math.Path.{refl}
 use Rattle.std.proofs.Common.{sym, ◌∙◌, subst, arith}
 use Rattle.octets.specs.Base.{pick}
-use Rattle.octets.specs.BaseLaws.{by-test, by-eq}
+use Rattle.octets.specs.BaseLaws.{by_test, by_eq}
 use Rattle.octets.specs.Turns.{turns}
 use Rattle.station_symbols.specs.declared.Heard.{Heard}
 use Rattle.station_symbols.specs.declared.Heard.TheVariants.{Nothing}
 use Rattle.station_symbols.specs.declared.Symbol.{Symbol}
 use Rattle.area.specs.Places.{Part, place, Off, Keeps}
-use Rattle.area.specs.Area.{clockAt, countAt, spaceAt, symbol_at, arrivalAt, withArrival, joined, maxCode}
-use Rattle.area.specs.Whole.{Still, arrival-still}
-use Rattle.area.specs.AreaLaws.{keeps-refl, keeps-trans, arrival-by, arrival-keeps, symbol-same, code-small}
-use Rattle.area.specs.AreaLaws.{length-arrival}
+use Rattle.area.specs.Area.{clock_at, count_at, space_at, symbol_at, arrival_at, with_arrival, joined, max_code}
+use Rattle.area.specs.Whole.{Still, arrival_still}
+use Rattle.area.specs.AreaLaws.{keeps_refl, keeps_trans, arrival_by, arrival_keeps, symbol_same, code_small}
+use Rattle.area.specs.AreaLaws.{length_arrival}
 use Rattle.bus_spec.specs.InPlace.{Spread}
-use Rattle.fast_plan.specs.Plan.{Plan, lineAfter}
-use Rattle.fast_plan.specs.Push.{cleared, joinedAt, onWay, waysTo, lineDone, pushed-line}
-use Rattle.area.specs.Offsets.{areaSize, ring}
-use Rattle.sheet_layout.specs.Limits.{maxStations}
+use Rattle.fast_plan.specs.Plan.{Plan, line_after}
+use Rattle.fast_plan.specs.Push.{cleared, joined_at, on_way, ways_to, line_done, pushed_line}
+use Rattle.area.specs.Offsets.{area_size, ring}
+use Rattle.sheet_layout.specs.Limits.{max_stations}
 
 -- U writes places of the line of station j, codes of symbols all of them
 pub record LineOnly (n j : ℕ) (U : List ℕ → List ℕ) : Type 0 where
   pub long : (x : List ℕ) → length (U x) ≡ length x
   pub off : (p : Part) (x : List ℕ) → ((u : ℕ) → Off p (place j u)) → Keeps p (U x) x
   pub still : (k : ℕ) (x : List ℕ) → Still n k → get_or (U x) k 0 ≡ get_or x k 0
-  pub codes : (x : List ℕ) → areaSize ≤ length x → ((i u : ℕ) → i < n → symbol_at x i u ≤ maxCode) → (i u : ℕ) → i < n
-      → symbol_at (U x) i u ≤ maxCode
+  pub codes : (x : List ℕ) → area_size ≤ length x → ((i u : ℕ) → i < n → symbol_at x i u ≤ max_code) → (i u : ℕ) → i < n
+      → symbol_at (U x) i u ≤ max_code
 
-module _ (n j : ℕ) (few : n ≤ maxStations) (hj : j < n) where
+module _ (n j : ℕ) (few : n ≤ max_stations) (hj : j < n) where
   none_only : LineOnly n j (λ x. x)
-  none_only = record { long = λ x. refl; off = λ p x o. keeps-refl p x; still = λ k x s. refl; codes = λ x room c. c }
+  none_only = record { long = λ x. refl; off = λ p x o. keeps_refl p x; still = λ k x s. refl; codes = λ x room c. c }
 
-  one_only : (u : ℕ) (h : List ℕ → Heard) → LineOnly n j (λ x. withArrival x j u (h x))
+  one_only : (u : ℕ) (h : List ℕ → Heard) → LineOnly n j (λ x. with_arrival x j u (h x))
   one_only u h =
       record {
-        long = λ x. length-arrival x j u (h x);
-        off = λ p x o. arrival-keeps p x j u (h x) (o u);
-        still = λ k x s. arrival-still n k s x j u (h x) hj;
+        long = λ x. length_arrival x j u (h x);
+        off = λ p x o. arrival_keeps p x j u (h x) (o u);
+        still = λ k x s. arrival_still n k s x j u (h x) hj;
         codes =
-            λ x room c i v hi. symbol-same x room j u i v (h x) maxCode (omega arith) (omega arith) (code-small (h x))
+            λ x room c i v hi. symbol_same x room j u i v (h x) max_code (omega arith) (omega arith) (code_small (h x))
             (c i v hi);
       }
 
-  both-only : (U E : List ℕ → List ℕ) → LineOnly n j U → LineOnly n j E → LineOnly n j (λ x. U (E x))
-  both-only U E p q =
+  both_only : (U E : List ℕ → List ℕ) → LineOnly n j U → LineOnly n j E → LineOnly n j (λ x. U (E x))
+  both_only U E p q =
       record {
         long = λ x. p.long (E x) ∙ q.long x;
-        off = λ r x o. keeps-trans r (U (E x)) (E x) x (p.off r (E x) o) (q.off r x o);
+        off = λ r x o. keeps_trans r (U (E x)) (E x) x (p.off r (E x) o) (q.off r x o);
         still = λ k x s. p.still k (E x) s ∙ q.still k x s;
         codes = λ x room c. p.codes (E x) (omega (arith, q.long x)) (q.codes x room c);
       }
 
-  turns-only : (F : ℕ → List ℕ → List ℕ) → ((s : ℕ) → LineOnly n j (F s)) → (m : ℕ) → LineOnly n j (λ x. turns F m x)
+  turns_only : (F : ℕ → List ℕ → List ℕ) → ((s : ℕ) → LineOnly n j (F s)) → (m : ℕ) → LineOnly n j (λ x. turns F m x)
   unfolding turns
-  turns-only F h zero = none_only
-  turns-only F h (suc m) = both-only (F m) (λ x. turns F m x) (h m) (turns-only F h m)
+  turns_only F h zero = none_only
+  turns_only F h (suc m) = both_only (F m) (λ x. turns F m x) (h m) (turns_only F h m)
 
-  pick-only : (b : Bool) (U : List ℕ → List ℕ) → LineOnly n j U → LineOnly n j (λ x. pick b x (U x))
-  pick-only b U h = by-test b (λ e. subst (λ (c : Bool). LineOnly n j (λ x. pick c x (U x))) (sym e) none_only)
+  pick_only : (b : Bool) (U : List ℕ → List ℕ) → LineOnly n j U → LineOnly n j (λ x. pick b x (U x))
+  pick_only b U h = by_test b (λ e. subst (λ (c : Bool). LineOnly n j (λ x. pick c x (U x))) (sym e) none_only)
       (λ e. subst (λ (c : Bool). LineOnly n j (λ x. pick c x (U x))) (sym e) h)
 
   -- places cleared; the symbols of one station; those of the first k; the whole of a line
-  pub clear-only : (t m : ℕ) → LineOnly n j (λ x. cleared t j m x)
+  pub clear_only : (t m : ℕ) → LineOnly n j (λ x. cleared t j m x)
   unfolding cleared
-  clear-only t m = turns-only _ (λ s. one_only (t + s) (λ x. Nothing)) m
+  clear_only t m = turns_only _ (λ s. one_only (t + s) (λ x. Nothing)) m
 
-  pub way-only : (t d K : ℕ) (Q : ℕ → Symbol) (m : ℕ) → LineOnly n j (λ x. onWay t d K Q j m x)
-  unfolding onWay joinedAt
-  way-only t d K Q m =
-      turns-only _ (λ u. one_only (t + (K - d + u + d))
-      (λ x. joined (arrivalAt x j (t + (K - d + u + d))) (Q (K - d + u)))) m
+  pub way_only : (t d K : ℕ) (Q : ℕ → Symbol) (m : ℕ) → LineOnly n j (λ x. on_way t d K Q j m x)
+  unfolding on_way joined_at
+  way_only t d K Q m =
+      turns_only _ (λ u. one_only (t + (K - d + u + d))
+      (λ x. joined (arrival_at x j (t + (K - d + u + d))) (Q (K - d + u)))) m
 
-  pub ways-only : (a : List ℕ) (P : Plan) (K k : ℕ) → LineOnly n j (λ x. waysTo a P K j k x)
-  unfolding waysTo
-  ways-only a P K k =
-      turns-only _ (λ i. pick-only (eqb i j)
-      (λ x. onWay (clockAt a) (spaceAt a i j) K (P i) j (min (spaceAt a i j) K) x)
-      (way-only (clockAt a) (spaceAt a i j) K (P i) (min (spaceAt a i j) K))) k
+  pub ways_only : (a : List ℕ) (P : Plan) (K k : ℕ) → LineOnly n j (λ x. ways_to a P K j k x)
+  unfolding ways_to
+  ways_only a P K k =
+      turns_only _ (λ i. pick_only (eqb i j)
+      (λ x. on_way (clock_at a) (space_at a i j) K (P i) j (min (space_at a i j) K) x)
+      (way_only (clock_at a) (space_at a i j) K (P i) (min (space_at a i j) K))) k
 
-  pub done-only : (a : List ℕ) (P : Plan) (K : ℕ) → LineOnly n j (λ x. lineDone a P K j x)
-  unfolding lineDone
-  done-only a P K =
-      both-only (λ x. waysTo a P K j (countAt a) x) (λ x. cleared (clockAt a) j (min K ring) x)
-      (ways-only a P K (countAt a)) (clear-only (clockAt a) (min K ring))
+  pub done_only : (a : List ℕ) (P : Plan) (K : ℕ) → LineOnly n j (λ x. line_done a P K j x)
+  unfolding line_done
+  done_only a P K =
+      both_only (λ x. ways_to a P K j (count_at a) x) (λ x. cleared (clock_at a) j (min K ring) x)
+      (ways_only a P K (count_at a)) (clear_only (clock_at a) (min K ring))
 
 -- ---- all lines
 
-unfoldable pub linesDone : List ℕ → Plan → (K k : ℕ) → List ℕ → List ℕ
-linesDone a P K k x = turns (λ j y. lineDone a P K j y) k x
+unfoldable pub lines_done : List ℕ → Plan → (K k : ℕ) → List ℕ → List ℕ
+lines_done a P K k x = turns (λ j y. line_done a P K j y) k x
 
-module _ (a : List ℕ) (P : Plan) (K : ℕ) (few : countAt a ≤ maxStations) where
-  only : (j : ℕ) → j < countAt a → LineOnly (countAt a) j (λ x. lineDone a P K j x)
-  only j hj = done-only (countAt a) j few hj a P K
+module _ (a : List ℕ) (P : Plan) (K : ℕ) (few : count_at a ≤ max_stations) where
+  only : (j : ℕ) → j < count_at a → LineOnly (count_at a) j (λ x. line_done a P K j x)
+  only j hj = done_only (count_at a) j few hj a P K
 
-  pub done-long : (k : ℕ) (x : List ℕ) → k ≤ countAt a → length (linesDone a P K k x) ≡ length x
-  unfolding linesDone turns
-  done-long zero x h = refl
-  done-long (suc k) x h = (only k h).long (linesDone a P K k x) ∙ done-long k x (omega arith)
+  pub done_long : (k : ℕ) (x : List ℕ) → k ≤ count_at a → length (lines_done a P K k x) ≡ length x
+  unfolding lines_done turns
+  done_long zero x h = refl
+  done_long (suc k) x h = (only k h).long (lines_done a P K k x) ∙ done_long k x (omega arith)
 
-  pub done-keeps : (p : Part) (k : ℕ) (x : List ℕ) → k ≤ countAt a → ((j u : ℕ) → j < k → Off p (place j u))
-      → Keeps p (linesDone a P K k x) x
-  unfolding linesDone turns
-  done-keeps p zero x h o = keeps-refl p x
-  done-keeps p (suc k) x h o =
-      keeps-trans p (linesDone a P K (suc k) x) (linesDone a P K k x) x
-      ((only k h).off p (linesDone a P K k x) (λ u. o k u (omega arith)))
-      (done-keeps p k x (omega arith) (λ j u l. o j u (omega arith)))
+  pub done_keeps : (p : Part) (k : ℕ) (x : List ℕ) → k ≤ count_at a → ((j u : ℕ) → j < k → Off p (place j u))
+      → Keeps p (lines_done a P K k x) x
+  unfolding lines_done turns
+  done_keeps p zero x h o = keeps_refl p x
+  done_keeps p (suc k) x h o =
+      keeps_trans p (lines_done a P K (suc k) x) (lines_done a P K k x) x
+      ((only k h).off p (lines_done a P K k x) (λ u. o k u (omega arith)))
+      (done_keeps p k x (omega arith) (λ j u l. o j u (omega arith)))
 
-  pub done-still : (m k : ℕ) (x : List ℕ) → k ≤ countAt a → Still (countAt a) m
-      → get_or (linesDone a P K k x) m 0 ≡ get_or x m 0
-  unfolding linesDone turns
-  done-still m zero x h s = refl
-  done-still m (suc k) x h s = (only k h).still m (linesDone a P K k x) s ∙ done-still m k x (omega arith) s
+  pub done_still : (m k : ℕ) (x : List ℕ) → k ≤ count_at a → Still (count_at a) m
+      → get_or (lines_done a P K k x) m 0 ≡ get_or x m 0
+  unfolding lines_done turns
+  done_still m zero x h s = refl
+  done_still m (suc k) x h s = (only k h).still m (lines_done a P K k x) s ∙ done_still m k x (omega arith) s
 
-  pub done-codes : (k : ℕ) (x : List ℕ) → k ≤ countAt a → areaSize ≤ length x
-      → ((i u : ℕ) → i < countAt a → symbol_at x i u ≤ maxCode) → (i u : ℕ) → i < countAt a
-      → symbol_at (linesDone a P K k x) i u ≤ maxCode
-  unfolding linesDone turns
-  done-codes zero x h room c = c
-  done-codes (suc k) x h room c = (only k h).codes (linesDone a P K k x) (omega (arith, done-long k x (omega arith)))
-      (done-codes k x (omega arith) room c)
+  pub done_codes : (k : ℕ) (x : List ℕ) → k ≤ count_at a → area_size ≤ length x
+      → ((i u : ℕ) → i < count_at a → symbol_at x i u ≤ max_code) → (i u : ℕ) → i < count_at a
+      → symbol_at (lines_done a P K k x) i u ≤ max_code
+  unfolding lines_done turns
+  done_codes zero x h room c = c
+  done_codes (suc k) x h room c = (only k h).codes (lines_done a P K k x) (omega (arith, done_long k x (omega arith)))
+      (done_codes k x (omega arith) room c)
 
-  pub done-line : (sp : Spread (countAt a) a) (k j v : ℕ) (x : List ℕ) → k ≤ countAt a → j < k → areaSize ≤ length x
-      → ((i u : ℕ) → i < countAt a → arrivalAt x i u ≡ arrivalAt a i u) → K ≤ v → v < K + ring
-      → arrivalAt (linesDone a P K k x) j (clockAt a + v) ≡ lineAfter a P K j v
-  unfolding linesDone turns
-  done-line sp zero j v x hk hj room same lo up = absurd (omega arith)
-  done-line sp (suc k) j v x hk hj room same lo up =
-      let y = linesDone a P K k x in
-      by-eq j k
-      (λ z. rw z (pushed-line a y P K k v sp hk (omega (arith, done-long k x (omega arith)))
-      (λ u. arrival-by y x k u (done-keeps (place k u) k x (omega arith) (λ i w l p q. omega arith)) ∙ same k u hk) lo
+  pub done_line : (sp : Spread (count_at a) a) (k j v : ℕ) (x : List ℕ) → k ≤ count_at a → j < k → area_size ≤ length x
+      → ((i u : ℕ) → i < count_at a → arrival_at x i u ≡ arrival_at a i u) → K ≤ v → v < K + ring
+      → arrival_at (lines_done a P K k x) j (clock_at a + v) ≡ line_after a P K j v
+  unfolding lines_done turns
+  done_line sp zero j v x hk hj room same lo up = absurd (omega arith)
+  done_line sp (suc k) j v x hk hj room same lo up =
+      let y = lines_done a P K k x in
+      by_eq j k
+      (λ z. rw z (pushed_line a y P K k v sp hk (omega (arith, done_long k x (omega arith)))
+      (λ u. arrival_by y x k u (done_keeps (place k u) k x (omega arith) (λ i w l p q. omega arith)) ∙ same k u hk) lo
       up))
-      (λ z. arrival-by (lineDone a P K k y) y j (clockAt a + v)
-      ((only k hk).off (place j (clockAt a + v)) y (λ u p q. z (omega arith))) ∙ done-line sp k j v x (omega arith)
+      (λ z. arrival_by (line_done a P K k y) y j (clock_at a + v)
+      ((only k hk).off (place j (clock_at a + v)) y (λ u p q. z (omega arith))) ∙ done_line sp k j v x (omega arith)
       (omega arith) room same lo up)

@@ -2,103 +2,103 @@
 use Rattle.std.specs.Prelude.{ℕ, zero, suc, ◌+◌, ◌-◌, ◌≤◌, ◌<◌, ◌≡◌, Bool, false, List, get_or, ltb}
 use Rattle.std.proofs.Common.{sym, ◌∙◌, ap, ap₂, arith, ltb-true, ltb-false}
 use Rattle.octets.specs.Base.{pick}
-use Rattle.octets.specs.BaseLaws.{by-test, below_none}
-use Rattle.octets.specs.Filled.{filled, filled-same, filled_at, filled-past}
+use Rattle.octets.specs.BaseLaws.{by_test, below_none}
+use Rattle.octets.specs.Filled.{filled, filled_same, filled_at, filled_past}
 use Rattle.octets.specs.Turns.{turns}
-use Rattle.area.specs.Area.{clockAt, countAt}
+use Rattle.area.specs.Area.{clock_at, count_at}
 use Rattle.area.specs.AreaLaws.{count_by}
 use Rattle.bus_spec.specs.declared.Events.{Events}
-use Rattle.bus_spec.specs.BitTime.{actAt, eventsOf, noEvents, eventsAt, stepArea}
+use Rattle.bus_spec.specs.BitTime.{act_at, events_of, no_events, events_at, step_area}
 use Rattle.bus_spec.specs.Ready.{Readiness}
-use Rattle.bus_spec.specs.Run.{tallied, lateAt, run_of, stops}
-use Rattle.bus_spec.specs.Until.{eventful, Stretched, oneMore, untilEvent}
-use Rattle.bus_spec.specs.UntilLaws.{plus, stretch-first}
-use Rattle.fast_plan.specs.Plan.{Plan, actAfter, Holds, steps, Planned}
-use Rattle.fast_plan.specs.Happens.{plan-happens, plan-acts}
-use Rattle.fast_plan.specs.Prefix.{Unhurt, holds-less}
-use Rattle.sheet_layout.specs.Limits.{lastClock}
-use Rattle.station_tally.specs.Words.{endsRun}
+use Rattle.bus_spec.specs.Run.{tallied, late_at, run_of, stops}
+use Rattle.bus_spec.specs.Until.{eventful, Stretched, one_more, until_event}
+use Rattle.bus_spec.specs.UntilLaws.{plus, stretch_first}
+use Rattle.fast_plan.specs.Plan.{Plan, act_after, Holds, steps, Planned}
+use Rattle.fast_plan.specs.Happens.{plan_happens, plan_acts}
+use Rattle.fast_plan.specs.Prefix.{Unhurt, holds_less}
+use Rattle.sheet_layout.specs.Limits.{last_clock}
+use Rattle.station_tally.specs.Words.{ends_run}
 
 -- those of step s, by the plan
-unfoldable pub eventsBy : List ℕ → Plan → ℕ → List Events
-eventsBy a P s = filled noEvents (λ i. eventsOf (actAfter a P i s)) (countAt a)
+unfoldable pub events_by : List ℕ → Plan → ℕ → List Events
+events_by a P s = filled no_events (λ i. events_of (act_after a P i s)) (count_at a)
 
-pub plan-events : (a : List ℕ) (P : Plan) (K s : ℕ) → Readiness a → clockAt a + K ≤ lastClock → Holds a P K → s ≤ K
-    → eventsAt (steps s a) ≡ eventsBy a P s
-unfolding eventsAt eventsBy
-plan-events a P K s r early h hs =
-    let w : Planned a P s (steps s a) = plan-happens a P s r (omega arith) (holds-less a P K s hs h) in
-    let n : countAt (steps s a) ≡ countAt a = count_by (steps s a) a (w.stays 0 (omega arith)).layout in
-    filled-same noEvents (λ i. eventsOf (actAt (steps s a) i)) (λ i. eventsOf (actAfter a P i s)) (countAt (steps s a))
-    (λ i hi. ap eventsOf (plan-acts a P K s i r early h hs (omega arith)))
-    ∙ ap (filled noEvents (λ i. eventsOf (actAfter a P i s))) n
+pub plan_events : (a : List ℕ) (P : Plan) (K s : ℕ) → Readiness a → clock_at a + K ≤ last_clock → Holds a P K → s ≤ K
+    → events_at (steps s a) ≡ events_by a P s
+unfolding events_at events_by
+plan_events a P K s r early h hs =
+    let w : Planned a P s (steps s a) = plan_happens a P s r (omega arith) (holds_less a P K s hs h) in
+    let n : count_at (steps s a) ≡ count_at a = count_by (steps s a) a (w.stays 0 (omega arith)).layout in
+    filled_same no_events (λ i. events_of (act_at (steps s a) i)) (λ i. events_of (act_after a P i s)) (count_at (steps s a))
+    (λ i hi. ap events_of (plan_acts a P K s i r early h hs (omega arith)))
+    ∙ ap (filled no_events (λ i. events_of (act_after a P i s))) n
 
-none-late : (a : List ℕ) (P : Plan) (K s : ℕ) → Unhurt a P K → s < K → stops (eventsBy a P s) ≡ false
-unfolding Unhurt lateAt eventsBy
-none-late a P K s u hs =
-    below_none (lateAt (eventsBy a P s)) 16
-    (λ i h. by-test (ltb i (countAt a))
-    (λ c. let l = ltb-true i (countAt a) c in
-    ap (λ (e : Events). endsRun e.sent)
-    (filled_at noEvents (λ j. eventsOf (actAfter a P j s)) (countAt a) i noEvents l)
+none_late : (a : List ℕ) (P : Plan) (K s : ℕ) → Unhurt a P K → s < K → stops (events_by a P s) ≡ false
+unfolding Unhurt late_at events_by
+none_late a P K s u hs =
+    below_none (late_at (events_by a P s)) 16
+    (λ i h. by_test (ltb i (count_at a))
+    (λ c. let l = ltb-true i (count_at a) c in
+    ap (λ (e : Events). ends_run e.sent)
+    (filled_at no_events (λ j. events_of (act_after a P j s)) (count_at a) i no_events l)
     ∙ u s i hs l)
-    (λ c. let l = ltb-false i (countAt a) c in
-    let z : i ≡ countAt a + (i - countAt a) = omega arith in
-    ap (λ (m : ℕ). endsRun (get_or (filled noEvents (λ j. eventsOf (actAfter a P j s)) (countAt a)) m noEvents).sent) z
-    ∙ ap (λ (e : Events). endsRun e.sent)
-    (filled-past noEvents (λ j. eventsOf (actAfter a P j s)) (countAt a) (i - countAt a))))
+    (λ c. let l = ltb-false i (count_at a) c in
+    let z : i ≡ count_at a + (i - count_at a) = omega arith in
+    ap (λ (m : ℕ). ends_run (get_or (filled no_events (λ j. events_of (act_after a P j s)) (count_at a)) m no_events).sent) z
+    ∙ ap (λ (e : Events). ends_run e.sent)
+    (filled_past no_events (λ j. events_of (act_after a P j s)) (count_at a) (i - count_at a))))
 
 -- the words of K steps
-unfoldable pub talliedBy : List ℕ → Plan → ℕ → List ℕ → List ℕ
-talliedBy a P K ws = turns (λ s w. tallied (eventsBy a P s) 16 w) K ws
+unfoldable pub tallied_by : List ℕ → Plan → ℕ → List ℕ → List ℕ
+tallied_by a P K ws = turns (λ s w. tallied (events_by a P s) 16 w) K ws
 
-run-one : (k m : ℕ) (ws a : List ℕ) → stops (eventsAt a) ≡ false
-    → run_of (suc k) m ws a ≡ run_of k (m + 1) (tallied (eventsAt a) 16 ws) (stepArea a)
+run_one : (k m : ℕ) (ws a : List ℕ) → stops (events_at a) ≡ false
+    → run_of (suc k) m ws a ≡ run_of k (m + 1) (tallied (events_at a) 16 ws) (step_area a)
 unfolding run_of
-run-one k m ws a e = rw e
+run_one k m ws a e = rw e
 
 -- K steps of a run
-pub run-steps : (a : List ℕ) (P : Plan) (K r m : ℕ) (ws : List ℕ) → Readiness a → clockAt a + K ≤ lastClock
+pub run_steps : (a : List ℕ) (P : Plan) (K r m : ℕ) (ws : List ℕ) → Readiness a → clock_at a + K ≤ last_clock
     → Holds a P K
     → Unhurt a P K
-    → run_of (K + r) m ws a ≡ run_of r (m + K) (talliedBy a P K ws) (steps K a)
-unfolding talliedBy turns steps Unhurt
-run-steps a P zero r m ws ready early h u =
+    → run_of (K + r) m ws a ≡ run_of r (m + K) (tallied_by a P K ws) (steps K a)
+unfolding tallied_by turns steps Unhurt
+run_steps a P zero r m ws ready early h u =
     let e : 0 + r ≡ r = omega arith in let z : m ≡ m + 0 = omega arith in ap₂ (λ (k l : ℕ). run_of k l ws a) e z
-run-steps a P (suc K) r m ws ready early h u =
+run_steps a P (suc K) r m ws ready early h u =
     let e : suc K + r ≡ K + suc r = omega arith in
     let z : m + K + 1 ≡ m + suc K = omega arith in
     let x = steps K a in
-    let vs = talliedBy a P K ws in
-    let q : eventsAt x ≡ eventsBy a P K = plan-events a P (suc K) K ready early h (omega arith) in
+    let vs = tallied_by a P K ws in
+    let q : events_at x ≡ events_by a P K = plan_events a P (suc K) K ready early h (omega arith) in
     ap (λ (k : ℕ). run_of k m ws a) e
-    ∙ run-steps a P K (suc r) m ws ready (omega arith) (holds-less a P (suc K) K (omega arith) h) (unhurt-less K u)
-    ∙ run-one r (m + K) vs x
-    (ap (λ (es : List Events). stops es) q ∙ none-late a P (suc K) K u (omega arith))
-    ∙ ap₂ (λ (l : ℕ) (es : List Events). run_of r l (tallied es 16 vs) (stepArea x)) z q
+    ∙ run_steps a P K (suc r) m ws ready (omega arith) (holds_less a P (suc K) K (omega arith) h) (unhurt_less K u)
+    ∙ run_one r (m + K) vs x
+    (ap (λ (es : List Events). stops es) q ∙ none_late a P (suc K) K u (omega arith))
+    ∙ ap₂ (λ (l : ℕ) (es : List Events). run_of r l (tallied es 16 vs) (step_area x)) z q
   where
-    unhurt-less : (K : ℕ) → Unhurt a P (suc K) → Unhurt a P K
-    unhurt-less K u = λ s i hs hi. u s i (omega arith) hi
+    unhurt_less : (K : ℕ) → Unhurt a P (suc K) → Unhurt a P K
+    unhurt_less K u = λ s i hs hi. u s i (omega arith) hi
 
 -- K steps without an event
-pub until-steps : (a : List ℕ) (K k : ℕ) → ((s : ℕ) → s < K → eventful (eventsAt (steps s a)) ≡ false)
-    → untilEvent (K + k) a ≡ plus K (untilEvent k (steps K a))
-unfolding steps turns untilEvent
-until-steps a zero k h =
+pub until_steps : (a : List ℕ) (K k : ℕ) → ((s : ℕ) → s < K → eventful (events_at (steps s a)) ≡ false)
+    → until_event (K + k) a ≡ plus K (until_event k (steps K a))
+unfolding steps turns until_event
+until_steps a zero k h =
     let e : 0 + k ≡ k = omega arith in
     let z : k ≡ k - 0 = omega arith in
-    ap (λ (m : ℕ). untilEvent m a) e ∙ sym (ap (λ (m : ℕ). plus 0 (untilEvent m a)) z ∙ stretch-first k a)
-until-steps a (suc K) k h =
+    ap (λ (m : ℕ). until_event m a) e ∙ sym (ap (λ (m : ℕ). plus 0 (until_event m a)) z ∙ stretch_first k a)
+until_steps a (suc K) k h =
     let e : suc K + k ≡ K + suc k = omega arith in
     let x = steps K a in
-    ap (λ (m : ℕ). untilEvent m a) e
-    ∙ until-steps a K (suc k) (λ s l. h s (omega arith))
+    ap (λ (m : ℕ). until_event m a) e
+    ∙ until_steps a K (suc k) (λ s l. h s (omega arith))
     ∙ ap (λ (b : Bool). plus K
-    (pick b (record { steps = 1; events = eventsAt x; octets = stepArea x }) (oneMore (untilEvent k (stepArea x)))))
+    (pick b (record { steps = 1; events = events_at x; octets = step_area x }) (one_more (until_event k (step_area x)))))
     (h K (omega arith))
-    ∙ one (untilEvent k (stepArea x))
+    ∙ one (until_event k (step_area x))
   where
-    one : (s : Stretched) → plus K (oneMore s) ≡ plus (suc K) s
+    one : (s : Stretched) → plus K (one_more s) ≡ plus (suc K) s
     one s = λ i. record { steps = z s.steps i; events = s.events; octets = s.octets }
       where
         z : (j : ℕ) → K + (j + 1) ≡ suc K + j

@@ -7,88 +7,88 @@ use Rattle.std.proofs.Math.Bool.{true}
 use mathlib.Core.List.{List, []}
 use native.Mathlib.Omega.{arith}
 use borrow.Author.Tests.{ne_eqb, ltb-true, lt-ltb, le-ltb, lt-leb}
-use Rattle.octets.specs.BaseLaws.{by-test}
+use Rattle.octets.specs.BaseLaws.{by_test}
 use Rattle.octets.specs.Store.{part, length_part}
-use Rattle.octets.specs.Turns.{turns-none, turns_more, turns-end}
+use Rattle.octets.specs.Turns.{turns_none, turns_more, turns_end}
 use Rattle.station_symbols.specs.declared.Heard.{Heard}
 use Rattle.station_symbols.specs.declared.Heard.TheVariants.{Clean}
-use Rattle.station_symbols.specs.Packet.{hearsAny, packetBit}
+use Rattle.station_symbols.specs.Packet.{hears_any, packet_bit}
 use Rattle.station_state.specs.declared.Receiver.{Receiver}
 use Rattle.station_state.specs.declared.Receiver.TheVariants.{Listening, Readable, Seeking, Collecting}
 use Rattle.station_spec.specs.declared.Received.{Received}
-use Rattle.station_spec.specs.Receive.{row_in, bitsIn, storedBit, seek, seekBit, collect, collectBit, hear, receive}
-use Rattle.station_spec.specs.Receive.{rowLimit}
+use Rattle.station_spec.specs.Receive.{row_in, bits_in, stored_bit, seek, seek_bit, collect, collect_bit, hear, receive}
+use Rattle.station_spec.specs.Receive.{row_limit}
 use Rattle.area.specs.Places.{place}
-use Rattle.area.specs.Area.{bufferAt, heardOf, symbol_at, arrivalAt, withOctet}
-use Rattle.area.specs.AreaLaws.{symbol-by}
-use Rattle.bus_spec.specs.BitTime.{withStored}
+use Rattle.area.specs.Area.{buffer_at, heard_of, symbol_at, arrival_at, with_octet}
+use Rattle.area.specs.AreaLaws.{symbol_by}
+use Rattle.bus_spec.specs.BitTime.{with_stored}
 use Rattle.bus_spec.specs.InPlace.{Kept}
-use Rattle.fast_plan.specs.Goes.{storedAll}
-use Rattle.fast_receive.specs.Received.{Taken, taken, stepTaken, heardAll, spoils, lineFrom, bitsFrom, AllHeard}
+use Rattle.fast_plan.specs.Goes.{stored_all}
+use Rattle.fast_receive.specs.Received.{Taken, taken, step_taken, heard_all, spoils, line_from, bits_from, AllHeard}
 use Rattle.fast_receive.specs.Received.{copied}
-use Rattle.fast_receive.specs.ReceivedLaws.{hear-range, heard-split, heard-keeps}
-use Rattle.fast_receive.specs.Copy.{octets-copied}
-use Rattle.fast_receive.specs.Zeros.{lowKept, blanks, zeroed, zeroedUpTo, zeros-stored, spoiled-seeking}
-use Rattle.fast_receive.specs.Zeros.{spoiled-listening, spoiled-readable, spoiled-collecting}
-use Rattle.area.specs.Offsets.{areaSize, from, theBuffer}
-use Rattle.frame_build.specs.Limits.{bufferOctets, bufferBits}
-use Rattle.sheet_layout.specs.Limits.{maxStations}
+use Rattle.fast_receive.specs.ReceivedLaws.{hear_range, heard_split, heard_keeps}
+use Rattle.fast_receive.specs.Copy.{octets_copied}
+use Rattle.fast_receive.specs.Zeros.{low_kept, blanks, zeroed, zeroed_up_to, zeros_stored, spoiled_seeking}
+use Rattle.fast_receive.specs.Zeros.{spoiled_listening, spoiled_readable, spoiled_collecting}
+use Rattle.area.specs.Offsets.{area_size, from, the_buffer}
+use Rattle.frame_build.specs.Limits.{buffer_octets, buffer_bits}
+use Rattle.sheet_layout.specs.Limits.{max_stations}
 
 -- ---- one step
 
-stored-kept : (n : ℕ) (b : Bool) → Kept (storedBit n b)
-unfolding storedBit
-stored-kept n b = by-test (ltb n bufferBits) (λ c. rw c (ltb-true n bufferBits c)) (λ c. rw c tt)
+stored_kept : (n : ℕ) (b : Bool) → Kept (stored_bit n b)
+unfolding stored_bit
+stored_kept n b = by_test (ltb n buffer_bits) (λ c. rw c (ltb-true n buffer_bits c)) (λ c. rw c tt)
 
-hear-kept : (r : Receiver) (clean b e : Bool) → Kept (hear r clean b e).stored
-unfolding hear seek seekBit collect collectBit
-hear-kept Listening true b e = tt
-hear-kept Listening false b e = tt
-hear-kept (Readable n) true b e = tt
-hear-kept (Readable n) false b e = tt
-hear-kept (Seeking row sp own) true b e = tt
-hear-kept (Seeking row sp own) false b e = tt
-hear-kept (Collecting n sp own) clean b e = stored-kept n b
+hear_kept : (r : Receiver) (clean b e : Bool) → Kept (hear r clean b e).stored
+unfolding hear seek seek_bit collect collect_bit
+hear_kept Listening true b e = tt
+hear_kept Listening false b e = tt
+hear_kept (Readable n) true b e = tt
+hear_kept (Readable n) false b e = tt
+hear_kept (Seeking row sp own) true b e = tt
+hear_kept (Seeking row sp own) false b e = tt
+hear_kept (Collecting n sp own) clean b e = stored_kept n b
 
 module _ (r : Receiver) (clean b e : Bool) (o : Received) (p : o ≡ hear r clean b e) where
   pub one_kept : Kept o.stored
-  one_kept = subst (λ (q : Received). Kept q.stored) (sym p) (hear-kept r clean b e)
+  one_kept = subst (λ (q : Received). Kept q.stored) (sym p) (hear_kept r clean b e)
 
-  pub one-heard : (j : ℕ) (x y : List ℕ) → y ≡ withStored j o.stored x
-      → taken o.receiver y ≡ stepTaken j (hear r clean b e) x
-  unfolding stepTaken
-  one-heard j x y q =
-      ap (taken o.receiver) q ∙ ap (λ (t : Received). taken t.receiver (withStored j t.stored x)) p
+  pub one_heard : (j : ℕ) (x y : List ℕ) → y ≡ with_stored j o.stored x
+      → taken o.receiver y ≡ step_taken j (hear r clean b e) x
+  unfolding step_taken
+  one_heard j x y q =
+      ap (taken o.receiver) q ∙ ap (λ (t : Received). taken t.receiver (with_stored j t.stored x)) p
 
-  pub one-range : (row_in o.receiver < rowLimit) × (bitsIn o.receiver ≤ bitsIn r + 1)
-  one-range =
-      subst (λ (q : Received). (row_in q.receiver < rowLimit) × (bitsIn q.receiver ≤ bitsIn r + 1)) (sym p)
-      (hear-range r clean b e)
+  pub one_range : (row_in o.receiver < row_limit) × (bits_in o.receiver ≤ bits_in r + 1)
+  one_range =
+      subst (λ (q : Received). (row_in q.receiver < row_limit) × (bits_in q.receiver ≤ bits_in r + 1)) (sym p)
+      (hear_range r clean b e)
 
 -- ---- one step after the other
 
 module _ (j : ℕ) (e : Bool) (H : ℕ → Heard) (r : Receiver) (x : List ℕ) where
-  pub all_none : taken r x ≡ heardAll j e H 0 (taken r x)
-  unfolding heardAll
-  all_none = turns-none _ (taken r x)
+  pub all_none : taken r x ≡ heard_all j e H 0 (taken r x)
+  unfolding heard_all
+  all_none = turns_none _ (taken r x)
 
-  all_more : (s : ℕ) (q q' : Receiver) (y y' : List ℕ) → taken q y ≡ heardAll j e H s (taken r x)
-      → taken q' y' ≡ stepTaken j (receive [] [] q (H s) e) y → taken q' y' ≡ heardAll j e H (s + 1) (taken r x)
-  unfolding heardAll
+  all_more : (s : ℕ) (q q' : Receiver) (y y' : List ℕ) → taken q y ≡ heard_all j e H s (taken r x)
+      → taken q' y' ≡ step_taken j (receive [] [] q (H s) e) y → taken q' y' ≡ heard_all j e H (s + 1) (taken r x)
+  unfolding heard_all
   all_more s q q' y y' p h = turns_more _ s (taken r x) (taken q y) (taken q' y') h p
 
-  pub all_end : (m s : ℕ) (q : Receiver) (y : List ℕ) → s ≤ m → m ≤ s → taken q y ≡ heardAll j e H s (taken r x)
-      → taken q y ≡ heardAll j e H m (taken r x)
-  all_end m s q y h g p = let z : s ≡ m = omega arith in p ∙ ap (λ (k : ℕ). heardAll j e H k (taken r x)) z
+  pub all_end : (m s : ℕ) (q : Receiver) (y : List ℕ) → s ≤ m → m ≤ s → taken q y ≡ heard_all j e H s (taken r x)
+      → taken q y ≡ heard_all j e H m (taken r x)
+  all_end m s q y h g p = let z : s ≡ m = omega arith in p ∙ ap (λ (k : ℕ). heard_all j e H k (taken r x)) z
 
 -- a symbol of the line, by its code
-code-heard : (c : ℕ) (q : Receiver) (e : Bool) → hearsAny (heardOf c) ≡ true
-    → hear q (leb c 2) (eqb c 2) e ≡ receive [] [] q (heardOf c) e
-unfolding heardOf receive
-code-heard zero q e h = absurd (true≢false (sym h))
-code-heard (suc zero) q e h = refl
-code-heard (suc (suc zero)) q e h = refl
-code-heard (suc (suc (suc n))) q e h =
+code_heard : (c : ℕ) (q : Receiver) (e : Bool) → hears_any (heard_of c) ≡ true
+    → hear q (leb c 2) (eqb c 2) e ≡ receive [] [] q (heard_of c) e
+unfolding heard_of receive
+code_heard zero q e h = absurd (true≢false (sym h))
+code_heard (suc zero) q e h = refl
+code_heard (suc (suc zero)) q e h = refl
+code_heard (suc (suc (suc n))) q e h =
     let c = suc (suc (suc n)) in
     rw (
       lt-leb c 2 (omega arith),
@@ -99,192 +99,192 @@ code-heard (suc (suc (suc n))) q e h =
     )
 
 module _ (j : ℕ) (e : Bool) (r q q' : Receiver) (x y y' : List ℕ) where
-  pub line-more : (u m s c : ℕ) → AllHeard (lineFrom x j u) m → s < m → j < maxStations → c ≡ symbol_at y j (u + s)
-      → taken q y ≡ heardAll j e (lineFrom x j u) s (taken r x)
-      → taken q' y' ≡ stepTaken j (hear q (leb c 2) (eqb c 2) e) y
-      → taken q' y' ≡ heardAll j e (lineFrom x j u) (s + 1) (taken r x)
-  unfolding AllHeard lineFrom arrivalAt
-  line-more u m s c a hs hj p t h =
-      let w : y ≡ (heardAll j e (lineFrom x j u) s (taken r x)).octets = ap (λ (k : Taken). k.octets) t in
+  pub line_more : (u m s c : ℕ) → AllHeard (line_from x j u) m → s < m → j < max_stations → c ≡ symbol_at y j (u + s)
+      → taken q y ≡ heard_all j e (line_from x j u) s (taken r x)
+      → taken q' y' ≡ step_taken j (hear q (leb c 2) (eqb c 2) e) y
+      → taken q' y' ≡ heard_all j e (line_from x j u) (s + 1) (taken r x)
+  unfolding AllHeard line_from arrival_at
+  line_more u m s c a hs hj p t h =
+      let w : y ≡ (heard_all j e (line_from x j u) s (taken r x)).octets = ap (λ (k : Taken). k.octets) t in
       let z : c ≡ symbol_at x j (u + s) =
       p ∙ ap (λ (l : List ℕ). symbol_at l j (u + s)) w
-      ∙ symbol-by (heardAll j e (lineFrom x j u) s (taken r x)).octets x j (u + s)
-      (heard-keeps (place j (u + s)) j e (lineFrom x j u) s (taken r x) (λ b d. omega arith)) in
-      all_more j e (lineFrom x j u) r x s q q' y y' t
-      (h ∙ ap (λ (o : Received). stepTaken j o y)
-      (code-heard c q e (ap (λ (k : ℕ). hearsAny (heardOf k)) z ∙ a s hs)
-      ∙ ap (λ (k : ℕ). receive [] [] q (heardOf k) e) z))
+      ∙ symbol_by (heard_all j e (line_from x j u) s (taken r x)).octets x j (u + s)
+      (heard_keeps (place j (u + s)) j e (line_from x j u) s (taken r x) (λ b d. omega arith)) in
+      all_more j e (line_from x j u) r x s q q' y y' t
+      (h ∙ ap (λ (o : Received). step_taken j o y)
+      (code_heard c q e (ap (λ (k : ℕ). hears_any (heard_of k)) z ∙ a s hs)
+      ∙ ap (λ (k : ℕ). receive [] [] q (heard_of k) e) z))
 
-  pub bits-more : (F : List ℕ) (a s : ℕ) (one : Bool) → one ≡ packetBit F (a + s)
-      → taken q y ≡ heardAll j e (bitsFrom F a) s (taken r x)
-      → taken q' y' ≡ stepTaken j (hear q true one e) y → taken q' y' ≡ heardAll j e (bitsFrom F a) (s + 1) (taken r x)
-  unfolding bitsFrom receive
-  bits-more F a s one p t h =
-      all_more j e (bitsFrom F a) r x s q q' y y' t (h ∙ ap (λ (b : Bool). stepTaken j (hear q true b e) y) p)
+  pub bits_more : (F : List ℕ) (a s : ℕ) (one : Bool) → one ≡ packet_bit F (a + s)
+      → taken q y ≡ heard_all j e (bits_from F a) s (taken r x)
+      → taken q' y' ≡ step_taken j (hear q true one e) y → taken q' y' ≡ heard_all j e (bits_from F a) (s + 1) (taken r x)
+  unfolding bits_from receive
+  bits_more F a s one p t h =
+      all_more j e (bits_from F a) r x s q q' y y' t (h ∙ ap (λ (b : Bool). step_taken j (hear q true b e) y) p)
 
 -- ---- whole octets
 
 module _ (j q p : ℕ) (F x : List ℕ) where
   pub copied_none : x ≡ copied j q p 0 F x
   unfolding copied
-  copied_none = turns-none _ x
+  copied_none = turns_none _ x
 
-  pub copied_more : (k v : ℕ) (y z : List ℕ) → z ≡ withOctet y j (q + k) v → v ≡ get_or F (p + k) 0
+  pub copied_more : (k v : ℕ) (y z : List ℕ) → z ≡ with_octet y j (q + k) v → v ≡ get_or F (p + k) 0
       → y ≡ copied j q p k F x → z ≡ copied j q p (k + 1) F x
   unfolding copied
-  copied_more k v y z h g e = turns_more _ k x y z (h ∙ ap (withOctet y j (q + k)) g) e
+  copied_more k v y z h g e = turns_more _ k x y z (h ∙ ap (with_octet y j (q + k)) g) e
 
-  pub copied-end : (n k : ℕ) (y : List ℕ) → k ≤ n → n ≤ k → y ≡ copied j q p k F x → y ≡ copied j q p n F x
+  pub copied_end : (n k : ℕ) (y : List ℕ) → k ≤ n → n ≤ k → y ≡ copied j q p k F x → y ≡ copied j q p n F x
   unfolding copied
-  copied-end n k y h g e = turns-end _ n k x y h g e
+  copied_end n k y h g e = turns_end _ n k x y h g e
 
 module _ (j : ℕ) (e : Bool) (F : List ℕ) (a bits : ℕ) (sp own : Bool) (x : List ℕ) (t : Receiver) (s : ℕ)
     (p : t ≡ Collecting bits sp own) (z : s ≡ 0) where
-  pub stay-heard : taken t x ≡ heardAll j e (bitsFrom F a) s (taken (Collecting bits sp own) x)
-  stay-heard =
-      ap (λ (r : Receiver). taken r x) p ∙ all_none j e (bitsFrom F a) (Collecting bits sp own) x
-      ∙ ap (λ (k : ℕ). heardAll j e (bitsFrom F a) k (taken (Collecting bits sp own) x)) (sym z)
+  pub stay_heard : taken t x ≡ heard_all j e (bits_from F a) s (taken (Collecting bits sp own) x)
+  stay_heard =
+      ap (λ (r : Receiver). taken r x) p ∙ all_none j e (bits_from F a) (Collecting bits sp own) x
+      ∙ ap (λ (k : ℕ). heard_all j e (bits_from F a) k (taken (Collecting bits sp own) x)) (sym z)
 
-pub stay-row : (t : Receiver) (bits : ℕ) (sp own : Bool) → t ≡ Collecting bits sp own → row_in t < rowLimit
-stay-row t bits sp own p = omega (arith, ap row_in p)
+pub stay_row : (t : Receiver) (bits : ℕ) (sp own : Bool) → t ≡ Collecting bits sp own → row_in t < row_limit
+stay_row t bits sp own p = omega (arith, ap row_in p)
 
-pub stay-bits : (t : Receiver) (bits s : ℕ) (sp own : Bool) → t ≡ Collecting bits sp own → bitsIn t ≤ bits + s
-stay-bits t bits s sp own p = omega (arith, ap bitsIn p)
+pub stay_bits : (t : Receiver) (bits s : ℕ) (sp own : Bool) → t ≡ Collecting bits sp own → bits_in t ≤ bits + s
+stay_bits t bits s sp own p = omega (arith, ap bits_in p)
 
-pub octets-heard : (j : ℕ) (e : Bool) (F : List ℕ) (a bits m n : ℕ) (sp own o : Bool) (x y : List ℕ) → j < maxStations
-    → areaSize ≤ length x → ((k : ℕ) → get_or F k 0 < 256) → 65 ≤ a
-    → (a - 65) % 8 ≡ 0 → bits % 8 ≡ 0 → (8 * n ≤ m) × (n ≤ length F - (a - 65) / 8) × (n ≤ bufferOctets - bits / 8)
+pub octets_heard : (j : ℕ) (e : Bool) (F : List ℕ) (a bits m n : ℕ) (sp own o : Bool) (x y : List ℕ) → j < max_stations
+    → area_size ≤ length x → ((k : ℕ) → get_or F k 0 < 256) → 65 ≤ a
+    → (a - 65) % 8 ≡ 0 → bits % 8 ≡ 0 → (8 * n ≤ m) × (n ≤ length F - (a - 65) / 8) × (n ≤ buffer_octets - bits / 8)
     → (n ≡ 0 → ⊥) → o ≡ (own || e) → y ≡ copied j (bits / 8) ((a - 65) / 8) n F x
-    → taken (Collecting (bits + 8 * n) sp o) y ≡ heardAll j e (bitsFrom F a) (8 * n) (taken (Collecting bits sp own) x)
-octets-heard j e F a bits m n sp own o x y hj room small ha u v b ne w g =
+    → taken (Collecting (bits + 8 * n) sp o) y ≡ heard_all j e (bits_from F a) (8 * n) (taken (Collecting bits sp own) x)
+octets_heard j e F a bits m n sp own o x y hj room small ha u v b ne w g =
     ap (taken (Collecting (bits + 8 * n) sp o)) g
     ∙ ap (λ (c : Bool). taken (Collecting (bits + 8 * n) sp c) (copied j (bits / 8) ((a - 65) / 8) n F x)) w
-    ∙ sym (octets-copied j e F bits a (bits / 8) ((a - 65) / 8) n sp own x hj room small (omega arith) (omega arith)
+    ∙ sym (octets_copied j e F bits a (bits / 8) ((a - 65) / 8) n sp own x hj room small (omega arith) (omega arith)
     (omega (arith, ne)) (omega (arith, b, ne)) (omega (arith, b, ne)))
 
 -- ---- in parts
 
 module _ (j : ℕ) (e : Bool) (F : List ℕ) (r : Receiver) (x : List ℕ) where
-  pub join : (a k n : ℕ) (q t : Receiver) (y z : List ℕ) → taken q y ≡ heardAll j e (bitsFrom F a) k (taken r x)
-      → taken t z ≡ heardAll j e (bitsFrom F (a + k)) n (taken q y)
-      → taken t z ≡ heardAll j e (bitsFrom F a) (k + n) (taken r x)
-  unfolding bitsFrom
+  pub join : (a k n : ℕ) (q t : Receiver) (y z : List ℕ) → taken q y ≡ heard_all j e (bits_from F a) k (taken r x)
+      → taken t z ≡ heard_all j e (bits_from F (a + k)) n (taken q y)
+      → taken t z ≡ heard_all j e (bits_from F a) (k + n) (taken r x)
+  unfolding bits_from
   join a k n q t y z p h =
       let w : (s : ℕ) → a + k + s ≡ a + (k + s) = λ s. omega arith in
-      h ∙ ap (heardAll j e (λ s. Clean (packetBit F (a + k + s))) n) p
-      ∙ ap (λ (f : ℕ → ℕ). heardAll j e (λ s. Clean (packetBit F (f s))) n
-      (heardAll j e (λ s. Clean (packetBit F (a + s))) k (taken r x))) (λ i s. w s i)
-      ∙ sym (heard-split j e (λ s. Clean (packetBit F (a + s))) k n (taken r x))
+      h ∙ ap (heard_all j e (λ s. Clean (packet_bit F (a + k + s))) n) p
+      ∙ ap (λ (f : ℕ → ℕ). heard_all j e (λ s. Clean (packet_bit F (f s))) n
+      (heard_all j e (λ s. Clean (packet_bit F (a + s))) k (taken r x))) (λ i s. w s i)
+      ∙ sym (heard_split j e (λ s. Clean (packet_bit F (a + s))) k n (taken r x))
 
-  pub packet-heard : (a k n m : ℕ) (q t v : Receiver) (y z w : List ℕ) → k ≤ m → n ≤ m - k
-      → taken q y ≡ heardAll j e (bitsFrom F a) k (taken r x)
-      → taken t z ≡ heardAll j e (bitsFrom F (a + k)) n (taken q y)
-      → taken v w ≡ heardAll j e (bitsFrom F (a + (k + n))) (m - (k + n)) (taken t z)
-      → taken v w ≡ heardAll j e (bitsFrom F a) m (taken r x)
-  packet-heard a k n m q t v y z w hk hn p g h =
+  pub packet_heard : (a k n m : ℕ) (q t v : Receiver) (y z w : List ℕ) → k ≤ m → n ≤ m - k
+      → taken q y ≡ heard_all j e (bits_from F a) k (taken r x)
+      → taken t z ≡ heard_all j e (bits_from F (a + k)) n (taken q y)
+      → taken v w ≡ heard_all j e (bits_from F (a + (k + n))) (m - (k + n)) (taken t z)
+      → taken v w ≡ heard_all j e (bits_from F a) m (taken r x)
+  packet_heard a k n m q t v y z w hk hn p g h =
       let l : k + n + (m - (k + n)) ≡ m = omega arith in
       join a (k + n) (m - (k + n)) t v z w (join a k n q t y z p g) h
-      ∙ ap (λ (i : ℕ). heardAll j e (bitsFrom F a) i (taken r x)) l
+      ∙ ap (λ (i : ℕ). heard_all j e (bits_from F a) i (taken r x)) l
 
 -- ---- spoiled symbols
 
-pub buffer-long : (x b : List ℕ) (j : ℕ) → b ≡ bufferAt x j → j < maxStations → areaSize ≤ length x
-    → length b ≡ bufferOctets
-unfolding bufferAt
-buffer-long x b j e hj room = ap length e ∙ length_part x (from (theBuffer j)) bufferOctets (omega arith)
+pub buffer_long : (x b : List ℕ) (j : ℕ) → b ≡ buffer_at x j → j < max_stations → area_size ≤ length x
+    → length b ≡ buffer_octets
+unfolding buffer_at
+buffer_long x b j e hj room = ap length e ∙ length_part x (from (the_buffer j)) buffer_octets (omega arith)
 
-pub low-kept : (j q p old unit low : ℕ) (x y b : List ℕ) → q < bufferOctets → y ≡ withOctet x j q low → low ≡ old % unit
-    → unit ≡ 2 ^ p → old ≡ get_or b q 0 → b ≡ bufferAt x j → y ≡ lowKept j q p x
-unfolding lowKept bufferAt
-low-kept j q p old unit low x y b h e l u o w =
-    let at = from (theBuffer j) in
-    let g : get_or (part x at bufferOctets) q 0 ≡ get_or x (at + q) 0 = get_or-take bufferOctets (drop at x) q 0 h
+pub low_kept_lem : (j q p old unit low : ℕ) (x y b : List ℕ) → q < buffer_octets → y ≡ with_octet x j q low → low ≡ old % unit
+    → unit ≡ 2 ^ p → old ≡ get_or b q 0 → b ≡ buffer_at x j → y ≡ low_kept j q p x
+unfolding low_kept buffer_at
+low_kept_lem j q p old unit low x y b h e l u o w =
+    let at = from (the_buffer j) in
+    let g : get_or (part x at buffer_octets) q 0 ≡ get_or x (at + q) 0 = get_or-take buffer_octets (drop at x) q 0 h
     ∙ get_or-drop at x q 0 in
-    e ∙ ap (withOctet x j q) (l ∙ ap (λ (k : ℕ). old % k) u ∙ ap (λ (k : ℕ). k % 2 ^ p)
+    e ∙ ap (with_octet x j q) (l ∙ ap (λ (k : ℕ). old % k) u ∙ ap (λ (k : ℕ). k % 2 ^ p)
     (o ∙ ap (λ (k : List ℕ). get_or k q 0) w ∙ g))
 
 module _ (j q : ℕ) (x : List ℕ) where
-  pub blanks-none : x ≡ blanks j q 0 x
+  pub blanks_none : x ≡ blanks j q 0 x
   unfolding blanks
-  blanks-none = turns-none _ x
+  blanks_none = turns_none _ x
 
-  pub blanks-more : (k : ℕ) (y z : List ℕ) → z ≡ withOctet y j (q + (k + 1)) 0 → y ≡ blanks j q k x
+  pub blanks_more : (k : ℕ) (y z : List ℕ) → z ≡ with_octet y j (q + (k + 1)) 0 → y ≡ blanks j q k x
       → z ≡ blanks j q (k + 1) x
   unfolding blanks
-  blanks-more k y z h e = turns_more _ k x y z (h ∙ ap (λ (i : ℕ). withOctet y j (q + i) 0) (add-one k)) e
+  blanks_more k y z h e = turns_more _ k x y z (h ∙ ap (λ (i : ℕ). with_octet y j (q + i) 0) (add-one k)) e
 
-  pub blanks-end : (n k : ℕ) (y : List ℕ) → k ≤ n → n ≤ k → y ≡ blanks j q k x → y ≡ blanks j q n x
+  pub blanks_end : (n k : ℕ) (y : List ℕ) → k ≤ n → n ≤ k → y ≡ blanks j q k x → y ≡ blanks j q n x
   unfolding blanks
-  blanks-end n k y h g e = turns-end _ n k x y h g e
+  blanks_end n k y h g e = turns_end _ n k x y h g e
 
 module _ (j c m : ℕ) (x : List ℕ) where
-  pub zeros-past : bufferBits ≤ c → x ≡ zeroedUpTo j c m x
-  unfolding zeroedUpTo
-  zeros-past h = rw (le-ltb c bufferBits h)
+  pub zeros_past : buffer_bits ≤ c → x ≡ zeroed_up_to j c m x
+  unfolding zeroed_up_to
+  zeros_past h = rw (le-ltb c buffer_bits h)
 
-  pub zeros-in : (n : ℕ) (y z : List ℕ) → c < bufferBits → 0 < m → n ≡ min m (bufferBits - c)
-      → y ≡ lowKept j (c / 8) (c % 8) x
-      → z ≡ blanks j (c / 8) ((c + n - 1) / 8 - c / 8) y → z ≡ zeroedUpTo j c m x
-  unfolding zeroedUpTo zeroed
-  zeros-in n y z h g e p q =
-      rw (lt-ltb c bufferBits h, lt-ltb 0 m g)
+  pub zeros_in : (n : ℕ) (y z : List ℕ) → c < buffer_bits → 0 < m → n ≡ min m (buffer_bits - c)
+      → y ≡ low_kept j (c / 8) (c % 8) x
+      → z ≡ blanks j (c / 8) ((c + n - 1) / 8 - c / 8) y → z ≡ zeroed_up_to j c m x
+  unfolding zeroed_up_to zeroed
+  zeros_in n y z h g e p q =
+      rw (lt-ltb c buffer_bits h, lt-ltb 0 m g)
       (q ∙ ap (blanks j (c / 8) ((c + n - 1) / 8 - c / 8)) p
-      ∙ ap (λ (k : ℕ). blanks j (c / 8) ((c + k - 1) / 8 - c / 8) (lowKept j (c / 8) (c % 8) x)) e)
+      ∙ ap (λ (k : ℕ). blanks j (c / 8) ((c + k - 1) / 8 - c / 8) (low_kept j (c / 8) (c % 8) x)) e)
 
 module _ (j : ℕ) (e : Bool) (m : ℕ) (r : Receiver) (x : List ℕ) where
-  pub spoiled-none : m ≡ 0 → taken r x ≡ heardAll j e spoils m (taken r x)
-  spoiled-none z = all_none j e spoils r x ∙ ap (λ (k : ℕ). heardAll j e spoils k (taken r x)) (sym z)
+  pub spoiled_none : m ≡ 0 → taken r x ≡ heard_all j e spoils m (taken r x)
+  spoiled_none z = all_none j e spoils r x ∙ ap (λ (k : ℕ). heard_all j e spoils k (taken r x)) (sym z)
 
   some : (m ≡ 0 → ⊥) → suc (m - 1) ≡ m
   some z = omega (arith, z)
 
-  heard-by : (z : m ≡ 0 → ⊥) (t : Taken) (g : Receiver) → r ≡ g → heardAll j e spoils (suc (m - 1)) (taken g x) ≡ t
-      → t ≡ heardAll j e spoils m (taken r x)
-  heard-by z t g p h =
-      sym h ∙ ap (λ (k : ℕ). heardAll j e spoils k (taken g x)) (some z)
-      ∙ ap (λ (q : Receiver). heardAll j e spoils m (taken q x)) (sym p)
+  heard_by_lem : (z : m ≡ 0 → ⊥) (t : Taken) (g : Receiver) → r ≡ g → heard_all j e spoils (suc (m - 1)) (taken g x) ≡ t
+      → t ≡ heard_all j e spoils m (taken r x)
+  heard_by_lem z t g p h =
+      sym h ∙ ap (λ (k : ℕ). heard_all j e spoils k (taken g x)) (some z)
+      ∙ ap (λ (q : Receiver). heard_all j e spoils m (taken q x)) (sym p)
 
-  pub spoiled-listens : r ≡ Listening → (m ≡ 0 → ⊥) → taken (Seeking 1 true e) x ≡ heardAll j e spoils m (taken r x)
-  spoiled-listens p z = heard-by z (taken (Seeking 1 true e) x) Listening p (spoiled-listening j e x (m - 1))
+  pub spoiled_listens : r ≡ Listening → (m ≡ 0 → ⊥) → taken (Seeking 1 true e) x ≡ heard_all j e spoils m (taken r x)
+  spoiled_listens p z = heard_by_lem z (taken (Seeking 1 true e) x) Listening p (spoiled_listening j e x (m - 1))
 
-  pub spoiled-reads : (n : ℕ) → r ≡ Readable n → (m ≡ 0 → ⊥)
-      → taken (Seeking 1 true e) x ≡ heardAll j e spoils m (taken r x)
-  spoiled-reads n p z = heard-by z (taken (Seeking 1 true e) x) (Readable n) p (spoiled-readable j e x n (m - 1))
+  pub spoiled_reads : (n : ℕ) → r ≡ Readable n → (m ≡ 0 → ⊥)
+      → taken (Seeking 1 true e) x ≡ heard_all j e spoils m (taken r x)
+  spoiled_reads n p z = heard_by_lem z (taken (Seeking 1 true e) x) (Readable n) p (spoiled_readable j e x n (m - 1))
 
-  pub spoiled-seeks : (row : ℕ) (sp own o : Bool) → r ≡ Seeking row sp own → (m ≡ 0 → ⊥) → o ≡ (own || e)
-      → taken (Seeking 1 true o) x ≡ heardAll j e spoils m (taken r x)
-  spoiled-seeks row sp own o p z w =
+  pub spoiled_seeks : (row : ℕ) (sp own o : Bool) → r ≡ Seeking row sp own → (m ≡ 0 → ⊥) → o ≡ (own || e)
+      → taken (Seeking 1 true o) x ≡ heard_all j e spoils m (taken r x)
+  spoiled_seeks row sp own o p z w =
       ap (λ (b : Bool). taken (Seeking 1 true b) x) w
-      ∙ heard-by z (taken (Seeking 1 true (own || e)) x) (Seeking row sp own) p
-      (spoiled-seeking j e x row sp own (m - 1))
+      ∙ heard_by_lem z (taken (Seeking 1 true (own || e)) x) (Seeking row sp own) p
+      (spoiled_seeking j e x row sp own (m - 1))
 
-  pub spoiled-collects : (c : ℕ) (sp own o : Bool) (y : List ℕ) → r ≡ Collecting c sp own → (m ≡ 0 → ⊥)
-      → j < maxStations
-      → areaSize ≤ length x → y ≡ zeroedUpTo j c m x → o ≡ (own || e)
-      → taken (Collecting (c + m) true o) y ≡ heardAll j e spoils m (taken r x)
-  spoiled-collects c sp own o y p z hj room h w =
+  pub spoiled_collects : (c : ℕ) (sp own o : Bool) (y : List ℕ) → r ≡ Collecting c sp own → (m ≡ 0 → ⊥)
+      → j < max_stations
+      → area_size ≤ length x → y ≡ zeroed_up_to j c m x → o ≡ (own || e)
+      → taken (Collecting (c + m) true o) y ≡ heard_all j e spoils m (taken r x)
+  spoiled_collects c sp own o y p z hj room h w =
       let k : suc (m - 1) ≡ m = some z in
       ap (λ (b : Bool). taken (Collecting (c + m) true b) y) w
-      ∙ ap (taken (Collecting (c + m) true (own || e))) (h ∙ sym (zeros-stored j c m x hj room))
-      ∙ ap (λ (i : ℕ). taken (Collecting (c + i) true (own || e)) (storedAll j (λ s. storedBit (c + s) false) i x))
+      ∙ ap (taken (Collecting (c + m) true (own || e))) (h ∙ sym (zeros_stored j c m x hj room))
+      ∙ ap (λ (i : ℕ). taken (Collecting (c + i) true (own || e)) (stored_all j (λ s. stored_bit (c + s) false) i x))
       (sym k)
-      ∙ heard-by z _ (Collecting c sp own) p (spoiled-collecting j e x c sp own (m - 1))
+      ∙ heard_by_lem z _ (Collecting c sp own) p (spoiled_collecting j e x c sp own (m - 1))
 
-  pub collects-bits : (c : ℕ) (sp own : Bool) → r ≡ Collecting c sp own → c + m ≤ bitsIn r + m
-  collects-bits c sp own p = omega (arith, ap bitsIn p)
+  pub collects_bits : (c : ℕ) (sp own : Bool) → r ≡ Collecting c sp own → c + m ≤ bits_in r + m
+  collects_bits c sp own p = omega (arith, ap bits_in p)
 
-  pub collects-room : (c : ℕ) (sp own : Bool) → r ≡ Collecting c sp own → bitsIn r + m < 4294967296 → c + m < 4294967296
-  collects-room c sp own p h = omega (arith, ap bitsIn p)
+  pub collects_room : (c : ℕ) (sp own : Bool) → r ≡ Collecting c sp own → bits_in r + m < 4294967296 → c + m < 4294967296
+  collects_room c sp own p h = omega (arith, ap bits_in p)
 
 -- a receiver that collects
 module _ (r : Receiver) (c : ℕ) (sp own : Bool) (p : r ≡ Collecting c sp own) where
-  pub collecting-room : (m : ℕ) → bitsIn r + m < 4294967296 → c + m < 4294967296
-  collecting-room m h = omega (arith, ap bitsIn p)
+  pub collecting_room : (m : ℕ) → bits_in r + m < 4294967296 → c + m < 4294967296
+  collecting_room m h = omega (arith, ap bits_in p)
 
-  pub collecting-most : (b s : ℕ) → b ≤ c + s → b ≤ bitsIn r + s
-  collecting-most b s h = omega (arith, ap bitsIn p)
+  pub collecting_most : (b s : ℕ) → b ≤ c + s → b ≤ bits_in r + s
+  collecting_most b s h = omega (arith, ap bits_in p)
 
-  pub collecting-heard : (j : ℕ) (e : Bool) (F : List ℕ) (a n : ℕ) (x y : List ℕ) (t : Receiver)
-      → taken t y ≡ heardAll j e (bitsFrom F a) n (taken (Collecting c sp own) x)
-      → taken t y ≡ heardAll j e (bitsFrom F a) n (taken r x)
-  collecting-heard j e F a n x y t h = h ∙ ap (λ (q : Receiver). heardAll j e (bitsFrom F a) n (taken q x)) (sym p)
+  pub collecting_heard : (j : ℕ) (e : Bool) (F : List ℕ) (a n : ℕ) (x y : List ℕ) (t : Receiver)
+      → taken t y ≡ heard_all j e (bits_from F a) n (taken (Collecting c sp own) x)
+      → taken t y ≡ heard_all j e (bits_from F a) n (taken r x)
+  collecting_heard j e F a n x y t h = h ∙ ap (λ (q : Receiver). heard_all j e (bits_from F a) n (taken q x)) (sym p)

@@ -6,15 +6,15 @@ use Rattle.octets.specs.Base.{pick}
 use Rattle.octets.specs.Turns.{turns}
 use Rattle.station_symbols.specs.declared.Heard.{Heard}
 use Rattle.station_symbols.specs.declared.Heard.TheVariants.{Clean, Spoiled}
-use Rattle.station_symbols.specs.Packet.{hearsAny, packetBit}
+use Rattle.station_symbols.specs.Packet.{hears_any, packet_bit}
 use Rattle.station_state.specs.declared.Receiver.{Receiver}
 use Rattle.station_state.specs.declared.Receiver.TheVariants.{Listening, Readable, Seeking, Collecting}
 use Rattle.station_spec.specs.declared.Received.{Received}
 use Rattle.station_spec.specs.declared.Stored.{Stored}
 use Rattle.station_spec.specs.Receive.{addressed, receive}
-use Rattle.area.specs.Area.{arrivalAt, withOctet}
-use Rattle.bus_spec.specs.BitTime.{withStored}
-use Rattle.frame_build.specs.Limits.{shortestFrame}
+use Rattle.area.specs.Area.{arrival_at, with_octet}
+use Rattle.bus_spec.specs.BitTime.{with_stored}
+use Rattle.frame_build.specs.Limits.{shortest_frame}
 
 -- ---- a receiver, and what it stores in the area
 
@@ -26,21 +26,21 @@ abbrev pub taken : Receiver → List ℕ → Taken
 taken r x = record { receiver = r; octets = x }
 
 -- what a step leaves of station j
-unfoldable pub stepTaken : ℕ → Received → List ℕ → Taken
-stepTaken j o x = taken o.receiver (withStored j o.stored x)
+unfoldable pub step_taken : ℕ → Received → List ℕ → Taken
+step_taken j o x = taken o.receiver (with_stored j o.stored x)
 
 -- m steps in which station j hears H 0, H 1, .., none of them nothing; e: whether it emits in them. What others are
--- heard to emit is all that the receiver's step looks at (`heard-alone` of ReceivedLaws), so it has no address and no
+-- heard to emit is all that the receiver's step looks at (`heard_alone` of ReceivedLaws), so it has no address and no
 -- octets here
-unfoldable pub heardAll : (j : ℕ) → (e : Bool) → (ℕ → Heard) → (m : ℕ) → Taken → Taken
-heardAll j e H m p = turns (λ s q. stepTaken j (receive [] [] q.receiver (H s) e) q.octets) m p
+unfoldable pub heard_all : (j : ℕ) → (e : Bool) → (ℕ → Heard) → (m : ℕ) → Taken → Taken
+heard_all j e H m p = turns (λ s q. step_taken j (receive [] [] q.receiver (H s) e) q.octets) m p
 
 -- the receiver alone, and what step s stores
-unfoldable pub receivedBy : (e : Bool) → (ℕ → Heard) → (m : ℕ) → Receiver → Receiver
-receivedBy e H m r = turns (λ s q. (receive [] [] q (H s) e).receiver) m r
+unfoldable pub received_by : (e : Bool) → (ℕ → Heard) → (m : ℕ) → Receiver → Receiver
+received_by e H m r = turns (λ s q. (receive [] [] q (H s) e).receiver) m r
 
-unfoldable pub keptBy : (e : Bool) → (ℕ → Heard) → Receiver → (s : ℕ) → Stored
-keptBy e H r s = (receive [] [] (receivedBy e H s r) (H s) e).stored
+unfoldable pub kept_by : (e : Bool) → (ℕ → Heard) → Receiver → (s : ℕ) → Stored
+kept_by e H r s = (receive [] [] (received_by e H s r) (H s) e).stored
 
 -- ---- what is heard
 
@@ -49,34 +49,34 @@ unfoldable pub spoils : ℕ → Heard
 spoils s = Spoiled
 
 -- what its own line holds for station j from step u on
-unfoldable pub lineFrom : List ℕ → (j u : ℕ) → ℕ → Heard
-lineFrom x j u s = arrivalAt x j (u + s)
+unfoldable pub line_from : List ℕ → (j u : ℕ) → ℕ → Heard
+line_from x j u s = arrival_at x j (u + s)
 
 -- the bits of a packet from bit a on
-unfoldable pub bitsFrom : List ℕ → (a : ℕ) → ℕ → Heard
-bitsFrom F a s = Clean (packetBit F (a + s))
+unfoldable pub bits_from : List ℕ → (a : ℕ) → ℕ → Heard
+bits_from F a s = Clean (packet_bit F (a + s))
 
 -- m steps in which something is heard
 unfoldable pub AllHeard : (ℕ → Heard) → (m : ℕ) → Type 0
-AllHeard H m = (s : ℕ) → s < m → hearsAny (H s) ≡ true
+AllHeard H m = (s : ℕ) → s < m → hears_any (H s) ≡ true
 
 -- ---- octets stored
 
 -- the octets of a frame from octet p on, m of them, as octets q, q + 1, .. of what station j collected
 unfoldable pub copied : (j q p m : ℕ) → List ℕ → List ℕ → List ℕ
-copied j q p m F x = turns (λ u y. withOctet y j (q + u) (get_or F (p + u) 0)) m x
+copied j q p m F x = turns (λ u y. with_octet y j (q + u) (get_or F (p + u) 0)) m x
 
 -- ---- the end of a reception
 
 -- "under 512 collected bits, or the station emitted during it, nothing; destination neither own nor broadcast, nothing;
 -- else the opening rules": whether a reception that others are heard in for at most `more` steps from now on could be
 -- opened when it ends. Its destination is known from 48 bits on
-unfoldable pub mayReport : (address buffer : List ℕ) → (more : ℕ) → Receiver → Bool
-mayReport address buffer more Listening = leb shortestFrame more
-mayReport address buffer more (Readable n) = leb shortestFrame more
-mayReport address buffer more (Seeking row spoiled own) = leb shortestFrame more && not own
-mayReport address buffer more (Collecting n spoiled own) =
-    leb shortestFrame (n + more) && (not own && (ltb n 48 || addressed address buffer))
+unfoldable pub may_report : (address buffer : List ℕ) → (more : ℕ) → Receiver → Bool
+may_report address buffer more Listening = leb shortest_frame more
+may_report address buffer more (Readable n) = leb shortest_frame more
+may_report address buffer more (Seeking row spoiled own) = leb shortest_frame more && not own
+may_report address buffer more (Collecting n spoiled own) =
+    leb shortest_frame (n + more) && (not own && (ltb n 48 || addressed address buffer))
 
 -- ---- nothing is heard
 

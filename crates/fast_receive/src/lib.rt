@@ -2,16 +2,16 @@
 // stored in the area.
 
 ghost use Rattle.std.specs.Prelude.{◌≡◌, ◌+◌, ◌-◌, ◌*◌, ◌/◌, ◌%◌, ◌<◌, ◌≤◌, length};
-ghost use Rattle.station_spec.specs.Receive.{row_in, bitsIn, hear, addressed, rowLimit};
-ghost use Rattle.area.specs.Area.{addressAt, bufferAt, symbol_at};
+ghost use Rattle.station_spec.specs.Receive.{row_in, bits_in, hear, addressed, row_limit};
+ghost use Rattle.area.specs.Area.{address_at, buffer_at, symbol_at};
 ghost use Rattle.station_state.specs.declared.Receiver.TheVariants.{Seeking, Collecting};
-ghost use Rattle.fast_receive.specs.Received.{taken, stepTaken, heardAll, spoils, lineFrom, bitsFrom, AllHeard};
-ghost use Rattle.fast_receive.specs.Received.{copied, mayReport};
+ghost use Rattle.fast_receive.specs.Received.{taken, step_taken, heard_all, spoils, line_from, bits_from, AllHeard};
+ghost use Rattle.fast_receive.specs.Received.{copied, may_report};
 ghost use Rattle.fast_receive.specs.Strides.{Passes, CleanBits};
-ghost use Rattle.fast_receive.specs.Zeros.{lowKept, blanks, zeroedUpTo};
-ghost use Rattle.area.specs.Offsets.{areaSize};
-ghost use Rattle.frame_build.specs.Limits.{bufferOctets};
-ghost use Rattle.sheet_layout.specs.Limits.{maxStations};
+ghost use Rattle.fast_receive.specs.Zeros.{low_kept, blanks, zeroed_up_to};
+ghost use Rattle.area.specs.Offsets.{area_size};
+ghost use Rattle.frame_build.specs.Limits.{buffer_octets};
+ghost use Rattle.sheet_layout.specs.Limits.{max_stations};
 
 use station_state::Receiver;
 
@@ -32,9 +32,9 @@ struct Part {
 
 // A step in which others are heard.
 fn hear_one(area: &mut [u8], j: usize, r: Receiver, clean: bool, one: bool, e: bool) -> Receiver
-    requires { (j < maxStations) × (areaSize ≤ length area.old) × (row_in r < rowLimit) × (bitsIn r < 4294967295) }
-    ensures heard { taken result area.new ≡ stepTaken j (hear r clean one e) area.old }
-    ensures range { (row_in result < rowLimit) × (bitsIn result ≤ bitsIn r + 1) }
+    requires { (j < max_stations) × (area_size ≤ length area.old) × (row_in r < row_limit) × (bits_in r < 4294967295) }
+    ensures heard { taken result area.new ≡ step_taken j (hear r clean one e) area.old }
+    ensures range { (row_in result < row_limit) × (bits_in result ≤ bits_in r + 1) }
 {
     let o = station_receive::hear(r, clean, one, e);
     let next = o.receiver;
@@ -47,7 +47,7 @@ fn hear_one(area: &mut [u8], j: usize, r: Receiver, clean: bool, one: bool, e: b
 
 // The code of what reaches station j in step u, as a wider number.
 fn code_at(area: &[u8], j: usize, u: usize) -> u32
-    requires { (j < maxStations) × (areaSize ≤ length area.now) }
+    requires { (j < max_stations) × (area_size ≤ length area.now) }
     ensures value { result ≡ symbol_at area.now j u }
     ensures small { result < 256 }
 {
@@ -57,8 +57,8 @@ fn code_at(area: &[u8], j: usize, u: usize) -> u32
 // Four clean bits of the line of station j from step u on, the first lowest; 16 or more where one of the symbols is
 // spoiled.
 fn four_bits(area: &[u8], j: usize, u: usize) -> u32
-    requires { (j < maxStations) × (areaSize ≤ length area.now) × (u + 4 ≤ 4294967296)
-        × AllHeard (lineFrom area.now j u) 4 }
+    requires { (j < max_stations) × (area_size ≤ length area.now) × (u + 4 ≤ 4294967296)
+        × AllHeard (line_from area.now j u) 4 }
     ensures clean_bits { result < 16 → CleanBits area.now j u 4 result }
     ensures small { result < 65536 }
 {
@@ -72,8 +72,8 @@ fn four_bits(area: &[u8], j: usize, u: usize) -> u32
 
 // Eight clean bits of it as an octet; 256 where one of the symbols is spoiled.
 fn line_octet(area: &[u8], j: usize, u: usize) -> u32
-    requires { (j < maxStations) × (areaSize ≤ length area.now) × (u + 8 ≤ 4294967296)
-        × AllHeard (lineFrom area.now j u) 8 }
+    requires { (j < max_stations) × (area_size ≤ length area.now) × (u + 8 ≤ 4294967296)
+        × AllHeard (line_from area.now j u) 8 }
     ensures { result < 256 → CleanBits area.now j u 8 result }
 {
     let low = four_bits(area, j, u);
@@ -98,13 +98,13 @@ fn collect_eight(
     own: bool,
     m: u32,
 ) -> Part
-    requires { (j < maxStations) × (areaSize ≤ length area.old) × (u + m < 4294967296) × (bits + m < 4294967296)
-        × AllHeard (lineFrom area.old j u) m }
+    requires { (j < max_stations) × (area_size ≤ length area.old) × (u + m < 4294967296) × (bits + m < 4294967296)
+        × AllHeard (line_from area.old j u) m }
     ensures heard { taken result.receiver area.new
-        ≡ heardAll j e (lineFrom area.old j u) result.steps
+        ≡ heard_all j e (line_from area.old j u) result.steps
         (taken (Collecting bits spoiled own) area.old) }
-    ensures range { (result.steps ≤ m) × (row_in result.receiver < rowLimit)
-        × (bitsIn result.receiver ≤ bits + result.steps) }
+    ensures range { (result.steps ≤ m) × (row_in result.receiver < row_limit)
+        × (bits_in result.receiver ≤ bits + result.steps) }
 {
     if m < 8 {
         return stay(bits, spoiled, own);
@@ -132,12 +132,12 @@ fn collect_eight(
 
 // The same for any receiver.
 fn hear_eight(area: &mut [u8], j: usize, u: usize, e: bool, r: Receiver, m: u32) -> Part
-    requires { (j < maxStations) × (areaSize ≤ length area.old) × (u + m < 4294967296) × (row_in r < rowLimit)
-        × (bitsIn r + m < 4294967296) × AllHeard (lineFrom area.old j u) m }
+    requires { (j < max_stations) × (area_size ≤ length area.old) × (u + m < 4294967296) × (row_in r < row_limit)
+        × (bits_in r + m < 4294967296) × AllHeard (line_from area.old j u) m }
     ensures heard { taken result.receiver area.new
-        ≡ heardAll j e (lineFrom area.old j u) result.steps (taken r area.old) }
-    ensures range { (result.steps ≤ m) × (row_in result.receiver < rowLimit)
-        × (bitsIn result.receiver ≤ bitsIn r + result.steps) }
+        ≡ heard_all j e (line_from area.old j u) result.steps (taken r area.old) }
+    ensures range { (result.steps ≤ m) × (row_in result.receiver < row_limit)
+        × (bits_in result.receiver ≤ bits_in r + result.steps) }
 {
     let Receiver::Collecting { bits, spoiled, own } = r else {
         return Part {
@@ -150,12 +150,12 @@ fn hear_eight(area: &mut [u8], j: usize, u: usize, e: bool, r: Receiver, m: u32)
 
 // Station j hears some of m steps, of which there are some: eight, or one.
 fn hear_some(area: &mut [u8], j: usize, u: usize, e: bool, r: Receiver, m: u32) -> Part
-    requires { (j < maxStations) × (areaSize ≤ length area.old) × (u + m < 4294967296) × (row_in r < rowLimit)
-        × (bitsIn r + m < 4294967296) × AllHeard (lineFrom area.old j u) m × (0 < m) }
+    requires { (j < max_stations) × (area_size ≤ length area.old) × (u + m < 4294967296) × (row_in r < row_limit)
+        × (bits_in r + m < 4294967296) × AllHeard (line_from area.old j u) m × (0 < m) }
     ensures heard { taken result.receiver area.new
-        ≡ heardAll j e (lineFrom area.old j u) result.steps (taken r area.old) }
-    ensures range { (0 < result.steps) × (result.steps ≤ m) × (row_in result.receiver < rowLimit)
-        × (bitsIn result.receiver ≤ bitsIn r + result.steps) }
+        ≡ heard_all j e (line_from area.old j u) result.steps (taken r area.old) }
+    ensures range { (0 < result.steps) × (result.steps ≤ m) × (row_in result.receiver < row_limit)
+        × (bits_in result.receiver ≤ bits_in r + result.steps) }
 {
     let o = hear_eight(area, j, u, e, r, m);
     if o.steps != 0 {
@@ -172,11 +172,11 @@ fn hear_some(area: &mut [u8], j: usize, u: usize, e: bool, r: Receiver, m: u32) 
 
 // Station j hears for m steps what its line holds from step u on; e: whether it emits in them.
 pub fn hear_line(area: &mut [u8], j: usize, u: usize, e: bool, r: Receiver, m: u32) -> Receiver
-    requires { (j < maxStations) × (areaSize ≤ length area.old) × (u + m < 4294967296) × (row_in r < rowLimit)
-        × (bitsIn r + m < 4294967296) × AllHeard (lineFrom area.old j u) m }
+    requires { (j < max_stations) × (area_size ≤ length area.old) × (u + m < 4294967296) × (row_in r < row_limit)
+        × (bits_in r + m < 4294967296) × AllHeard (line_from area.old j u) m }
     ensures heard { taken result area.new
-        ≡ heardAll j e (lineFrom area.old j u) m (taken r area.old) }
-    ensures range { (row_in result < rowLimit) × (bitsIn result ≤ bitsIn r + m) }
+        ≡ heard_all j e (line_from area.old j u) m (taken r area.old) }
+    ensures range { (row_in result < row_limit) × (bits_in result ≤ bits_in r + m) }
 {
     let mut q = r;
     let mut s: u32 = 0;
@@ -198,11 +198,11 @@ fn hear_bits(
     r: Receiver,
     m: u32,
 ) -> Receiver
-    requires { (j < maxStations) × (areaSize ≤ length area.old) × (a + m < 4294967296) × (row_in r < rowLimit)
-        × (bitsIn r + m < 4294967296) }
+    requires { (j < max_stations) × (area_size ≤ length area.old) × (a + m < 4294967296) × (row_in r < row_limit)
+        × (bits_in r + m < 4294967296) }
     ensures heard { taken result area.new
-        ≡ heardAll j e (bitsFrom frame.now a) m (taken r area.old) }
-    ensures range { (row_in result < rowLimit) × (bitsIn result ≤ bitsIn r + m) }
+        ≡ heard_all j e (bits_from frame.now a) m (taken r area.old) }
+    ensures range { (row_in result < row_limit) × (bits_in result ≤ bits_in r + m) }
 {
     let mut q = r;
     let mut s: u32 = 0;
@@ -231,9 +231,9 @@ fn preamble_left(row: u32, a: u32, m: u32) -> u32
 
 // A receiver that seeks passes bits of a preamble at once: only the last eight matter.
 fn pass_row(row: u32, spoiled: bool, own: bool, a: u32, e: bool, m: u32) -> Part
-    requires { (a + m < 4294967296) × (row < rowLimit) }
+    requires { (a + m < 4294967296) × (row < row_limit) }
     ensures passed { Passes a e (Seeking row spoiled own) result.receiver result.steps }
-    ensures range { (result.steps ≤ m) × (row_in result.receiver < rowLimit) × (bitsIn result.receiver ≤ 0) }
+    ensures range { (result.steps ≤ m) × (row_in result.receiver < row_limit) × (bits_in result.receiver ≤ 0) }
 {
     let n = preamble_left(row, a, m);
     if n == 0 {
@@ -254,9 +254,9 @@ fn pass_row(row: u32, spoiled: bool, own: bool, a: u32, e: bool, m: u32) -> Part
 
 // The same for any receiver.
 fn pass_preamble(r: Receiver, a: u32, e: bool, m: u32) -> Part
-    requires { (a + m < 4294967296) × (row_in r < rowLimit) }
+    requires { (a + m < 4294967296) × (row_in r < row_limit) }
     ensures passed { Passes a e r result.receiver result.steps }
-    ensures range { (result.steps ≤ m) × (row_in result.receiver < rowLimit) × (bitsIn result.receiver ≤ bitsIn r) }
+    ensures range { (result.steps ≤ m) × (row_in result.receiver < row_limit) × (bits_in result.receiver ≤ bits_in r) }
 {
     let Receiver::Seeking { row, spoiled, own } = r else {
         return Part {
@@ -269,12 +269,12 @@ fn pass_preamble(r: Receiver, a: u32, e: bool, m: u32) -> Part
 
 // Station j hears some of m bits of a packet from its bit a on: those of the preamble, or one.
 fn hear_next(area: &mut [u8], j: usize, frame: &[u8], a: u32, e: bool, r: Receiver, m: u32) -> Part
-    requires { (j < maxStations) × (areaSize ≤ length area.old) × (a + m < 4294967296) × (row_in r < rowLimit)
-        × (bitsIn r + m < 4294967296) × (0 < m) }
+    requires { (j < max_stations) × (area_size ≤ length area.old) × (a + m < 4294967296) × (row_in r < row_limit)
+        × (bits_in r + m < 4294967296) × (0 < m) }
     ensures heard { taken result.receiver area.new
-        ≡ heardAll j e (bitsFrom frame.now a) result.steps (taken r area.old) }
-    ensures range { (0 < result.steps) × (result.steps ≤ m) × (row_in result.receiver < rowLimit)
-        × (bitsIn result.receiver ≤ bitsIn r + result.steps) }
+        ≡ heard_all j e (bits_from frame.now a) result.steps (taken r area.old) }
+    ensures range { (0 < result.steps) × (result.steps ≤ m) × (row_in result.receiver < row_limit)
+        × (bits_in result.receiver ≤ bits_in r + result.steps) }
 {
     let p = pass_preamble(r, a, e, m);
     if p.steps != 0 {
@@ -316,12 +316,12 @@ fn hear_to_octet(
     r: Receiver,
     m: u32,
 ) -> Part
-    requires { (j < maxStations) × (areaSize ≤ length area.old) × (a + m < 4294967296) × (row_in r < rowLimit)
-        × (bitsIn r + m < 4294967296) }
+    requires { (j < max_stations) × (area_size ≤ length area.old) × (a + m < 4294967296) × (row_in r < row_limit)
+        × (bits_in r + m < 4294967296) }
     ensures heard { taken result.receiver area.new
-        ≡ heardAll j e (bitsFrom frame.now a) result.steps (taken r area.old) }
-    ensures range { (result.steps ≤ m) × (row_in result.receiver < rowLimit)
-        × (bitsIn result.receiver ≤ bitsIn r + result.steps) }
+        ≡ heard_all j e (bits_from frame.now a) result.steps (taken r area.old) }
+    ensures range { (result.steps ≤ m) × (row_in result.receiver < row_limit)
+        × (bits_in result.receiver ≤ bits_in r + result.steps) }
 {
     let mut q = r;
     let mut s: u32 = 0;
@@ -344,7 +344,7 @@ fn hear_to_octet(
 
 // Octets q, q + 1, .. of what station j collected are n octets of the frame, from octet p on.
 fn copy_octets(area: &mut [u8], j: usize, frame: &[u8], q: usize, p: usize, n: usize)
-    requires { (j < maxStations) × (areaSize ≤ length area.old) × (q + n ≤ bufferOctets)
+    requires { (j < max_stations) × (area_size ≤ length area.old) × (q + n ≤ buffer_octets)
         × (p + n ≤ length frame.now) }
     ensures { area.new ≡ copied j q p n frame.now area.old }
 {
@@ -358,7 +358,7 @@ fn copy_octets(area: &mut [u8], j: usize, frame: &[u8], q: usize, p: usize, n: u
 // The least of the octets that m bits have, that the frame has from octet p on, and that the buffer has from octet q
 // on.
 fn octets_left(size: usize, q: usize, p: usize, m: u32) -> usize
-    ensures { (8 * result ≤ m) × (result ≤ size - p) × (result ≤ bufferOctets - q) }
+    ensures { (8 * result ≤ m) × (result ≤ size - p) × (result ≤ buffer_octets - q) }
 {
     if size <= p {
         return 0;
@@ -394,12 +394,12 @@ fn collect_octets(
     own: bool,
     m: u32,
 ) -> Part
-    requires { (j < maxStations) × (areaSize ≤ length area.old) × (a + m < 4294967296) × (bits + m < 4294967296) }
+    requires { (j < max_stations) × (area_size ≤ length area.old) × (a + m < 4294967296) × (bits + m < 4294967296) }
     ensures heard { taken result.receiver area.new
-        ≡ heardAll j e (bitsFrom frame.now a) result.steps
+        ≡ heard_all j e (bits_from frame.now a) result.steps
         (taken (Collecting bits spoiled own) area.old) }
-    ensures range { (result.steps ≤ m) × (row_in result.receiver < rowLimit)
-        × (bitsIn result.receiver ≤ bits + result.steps) }
+    ensures range { (result.steps ≤ m) × (row_in result.receiver < row_limit)
+        × (bits_in result.receiver ≤ bits + result.steps) }
 {
     if a < 65 {
         return stay(bits, spoiled, own);
@@ -438,12 +438,12 @@ fn hear_octets(
     r: Receiver,
     m: u32,
 ) -> Part
-    requires { (j < maxStations) × (areaSize ≤ length area.old) × (a + m < 4294967296) × (row_in r < rowLimit)
-        × (bitsIn r + m < 4294967296) }
+    requires { (j < max_stations) × (area_size ≤ length area.old) × (a + m < 4294967296) × (row_in r < row_limit)
+        × (bits_in r + m < 4294967296) }
     ensures heard { taken result.receiver area.new
-        ≡ heardAll j e (bitsFrom frame.now a) result.steps (taken r area.old) }
-    ensures range { (result.steps ≤ m) × (row_in result.receiver < rowLimit)
-        × (bitsIn result.receiver ≤ bitsIn r + result.steps) }
+        ≡ heard_all j e (bits_from frame.now a) result.steps (taken r area.old) }
+    ensures range { (result.steps ≤ m) × (row_in result.receiver < row_limit)
+        × (bits_in result.receiver ≤ bits_in r + result.steps) }
 {
     let Receiver::Collecting { bits, spoiled, own } = r else {
         return Part {
@@ -464,11 +464,11 @@ pub fn hear_packet(
     r: Receiver,
     m: u32,
 ) -> Receiver
-    requires { (j < maxStations) × (areaSize ≤ length area.old) × (a + m < 4294967296) × (row_in r < rowLimit)
-        × (bitsIn r + m < 4294967296) }
+    requires { (j < max_stations) × (area_size ≤ length area.old) × (a + m < 4294967296) × (row_in r < row_limit)
+        × (bits_in r + m < 4294967296) }
     ensures heard { taken result area.new
-        ≡ heardAll j e (bitsFrom frame.now a) m (taken r area.old) }
-    ensures range { (row_in result < rowLimit) × (bitsIn result ≤ bitsIn r + m) }
+        ≡ heard_all j e (bits_from frame.now a) m (taken r area.old) }
+    ensures range { (row_in result < row_limit) × (bits_in result ≤ bits_in r + m) }
 {
     let h = hear_to_octet(area, j, frame, a, e, r, m);
     let k = h.steps;
@@ -483,8 +483,8 @@ pub fn hear_packet(
 
 // The low p bits of octet q of what station j collected stay, the others are 0.
 fn keep_low(area: &mut [u8], j: usize, q: usize, p: usize)
-    requires { (j < maxStations) × (areaSize ≤ length area.old) × (q < bufferOctets) × (p < 8) }
-    ensures { area.new ≡ lowKept j q p area.old }
+    requires { (j < max_stations) × (area_size ≤ length area.old) × (q < buffer_octets) × (p < 8) }
+    ensures { area.new ≡ low_kept j q p area.old }
 {
     let b = area_buffers::buffer(area, j);
     let old = octets::wide(b[q]);
@@ -495,7 +495,7 @@ fn keep_low(area: &mut [u8], j: usize, q: usize, p: usize)
 
 // The n octets behind octet q of what station j collected become 0.
 fn blank_octets(area: &mut [u8], j: usize, q: usize, n: usize)
-    requires { (j < maxStations) × (areaSize ≤ length area.old) × (q + n < bufferOctets) }
+    requires { (j < max_stations) × (area_size ≤ length area.old) × (q + n < buffer_octets) }
     ensures { area.new ≡ blanks j q n area.old }
 {
     let mut k: usize = 0;
@@ -507,8 +507,8 @@ fn blank_octets(area: &mut [u8], j: usize, q: usize, n: usize)
 
 // Collected bits c, c + 1, .. of station j are m zeros; those past what the buffer holds are not kept.
 fn store_zeros(area: &mut [u8], j: usize, c: usize, m: usize)
-    requires { (j < maxStations) × (areaSize ≤ length area.old) × (0 < m) }
-    ensures { area.new ≡ zeroedUpTo j c m area.old }
+    requires { (j < max_stations) × (area_size ≤ length area.old) × (0 < m) }
+    ensures { area.new ≡ zeroed_up_to j c m area.old }
 {
     if frame_build::limits::BUFFER_BITS <= c {
         return;
@@ -520,10 +520,10 @@ fn store_zeros(area: &mut [u8], j: usize, c: usize, m: usize)
 
 // Station j hears m symbols that are spoiled; e: whether it emits in these steps.
 pub fn hear_spoiled(area: &mut [u8], j: usize, e: bool, r: Receiver, m: u32) -> Receiver
-    requires { (j < maxStations) × (areaSize ≤ length area.old) × (row_in r < rowLimit)
-        × (bitsIn r + m < 4294967296) }
-    ensures heard { taken result area.new ≡ heardAll j e spoils m (taken r area.old) }
-    ensures range { (row_in result < rowLimit) × (bitsIn result ≤ bitsIn r + m) }
+    requires { (j < max_stations) × (area_size ≤ length area.old) × (row_in r < row_limit)
+        × (bits_in r + m < 4294967296) }
+    ensures heard { taken result area.new ≡ heard_all j e spoils m (taken r area.old) }
+    ensures range { (row_in result < row_limit) × (bits_in result ≤ bits_in r + m) }
 {
     if m == 0 {
         return r;
@@ -567,8 +567,8 @@ pub fn hear_spoiled(area: &mut [u8], j: usize, e: bool, r: Receiver, m: u32) -> 
 
 // Whether the destination that station j collected is its own address or broadcast.
 fn has_destination(area: &[u8], j: usize) -> bool
-    requires { (j < maxStations) × (areaSize ≤ length area.now) }
-    ensures { result ≡ addressed (addressAt area.now j) (bufferAt area.now j) }
+    requires { (j < max_stations) × (area_size ≤ length area.now) }
+    ensures { result ≡ addressed (address_at area.now j) (buffer_at area.now j) }
 {
     let address = area::read_address(area, j);
     let b = area_buffers::buffer(area, j);
@@ -578,8 +578,8 @@ fn has_destination(area: &[u8], j: usize) -> bool
 // Whether the reception of station j, in which others are heard for at most `more` steps from now on, could be opened
 // when it ends.
 pub fn may_report(area: &[u8], j: usize, r: Receiver, more: u32) -> bool
-    requires { (j < maxStations) × (areaSize ≤ length area.now) × (bitsIn r + more < 4294967296) }
-    ensures { result ≡ mayReport (addressAt area.now j) (bufferAt area.now j) more r }
+    requires { (j < max_stations) × (area_size ≤ length area.now) × (bits_in r + more < 4294967296) }
+    ensures { result ≡ may_report (address_at area.now j) (buffer_at area.now j) more r }
 {
     match r {
         Receiver::Listening => frame_build::limits::SHORTEST_FRAME <= more,

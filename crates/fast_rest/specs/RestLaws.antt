@@ -14,174 +14,174 @@ use Rattle.station_state.specs.declared.Receiver.{Receiver}
 use Rattle.station_state.specs.declared.Receiver.TheVariants.{Listening, Readable, Seeking, Collecting}
 use Rattle.station_state.specs.declared.Station.{Station}
 use borrow.Author.Tests.{eq-eqb, ne_eqb, lt-ltb, le-ltb, le-leb, lt-leb}
-use Rattle.fast_silence.specs.Rested.{restsFor, gapTo, restedDeference, restedTransmitter, hasWaited, rested}
-use Rattle.fast_silence.specs.Bound.{framesRest, idle, stationRests}
+use Rattle.fast_silence.specs.Rested.{rests_for, gap_to, rested_deference, rested_transmitter, has_waited, rested}
+use Rattle.fast_silence.specs.Bound.{frames_rest, idle, station_rests}
 
 module _ (f : Figures) (d : Deference) where
-  pub rest-quiet : d ≡ Quiet → 0 ≡ restsFor f d
-  unfolding restsFor
-  rest-quiet e = rw e
+  pub rest_quiet : d ≡ Quiet → 0 ≡ rests_for f d
+  unfolding rests_for
+  rest_quiet e = rw e
 
-  pub rest-busy : (own : Bool) → d ≡ Busy own → f.gap1 + f.gap2 ≡ restsFor f d
-  unfolding restsFor gap_of
-  rest-busy own e = rw e
+  pub rest_busy : (own : Bool) → d ≡ Busy own → f.gap1 + f.gap2 ≡ rests_for f d
+  unfolding rests_for gap_of
+  rest_busy own e = rw e
 
-  pub rest_over : (c : ℕ) (own : Bool) → d ≡ Gap c own → f.gap1 + f.gap2 < c → 0 ≡ restsFor f d
-  unfolding restsFor gap_of
+  pub rest_over : (c : ℕ) (own : Bool) → d ≡ Gap c own → f.gap1 + f.gap2 < c → 0 ≡ rests_for f d
+  unfolding rests_for gap_of
   rest_over c own e h = rw e (omega arith)
 
-  pub rest-gap : (c : ℕ) (own : Bool) → d ≡ Gap c own → f.gap1 + f.gap2 - c ≡ restsFor f d
-  unfolding restsFor gap_of
-  rest-gap c own e = rw e
+  pub rest_gap : (c : ℕ) (own : Bool) → d ≡ Gap c own → f.gap1 + f.gap2 - c ≡ rests_for f d
+  unfolding rests_for gap_of
+  rest_gap c own e = rw e
 
 module _ (f : Figures) (m : ℕ) (d : Deference) (x : Transmitter) where
-  pub frame-none : x ≡ NoFrame → m ≡ framesRest f m d x
-  unfolding framesRest
-  frame-none e = rw e
+  pub frame_none : x ≡ NoFrame → m ≡ frames_rest f m d x
+  unfolding frames_rest
+  frame_none e = rw e
 
-  pub frame-waits : (r : ℕ) → x ≡ Waiting → r ≡ restsFor f d → r ≡ framesRest f m d x
-  unfolding framesRest
-  frame-waits r e p = rw e p
+  pub frame_waits : (r : ℕ) → x ≡ Waiting → r ≡ rests_for f d → r ≡ frames_rest f m d x
+  unfolding frames_rest
+  frame_waits r e p = rw e p
 
-  pub frame-backs : (w r s : ℕ) → x ≡ BackingOff w → r ≡ restsFor f d → s ≡ max w r → s ≡ framesRest f m d x
-  unfolding framesRest
-  frame-backs w r s e p q = rw e (q ∙ ap (max w) p)
+  pub frame_backs : (w r s : ℕ) → x ≡ BackingOff w → r ≡ rests_for f d → s ≡ max w r → s ≡ frames_rest f m d x
+  unfolding frames_rest
+  frame_backs w r s e p q = rw e (q ∙ ap (max w) p)
 
-  pub frame-sends : (k : ℕ) → x ≡ Sending k → 0 ≡ framesRest f m d x
-  unfolding framesRest
-  frame-sends k e = rw e
+  pub frame_sends : (k : ℕ) → x ≡ Sending k → 0 ≡ frames_rest f m d x
+  unfolding frames_rest
+  frame_sends k e = rw e
 
-  pub frame-heads : (k : ℕ) → x ≡ Heading k → 0 ≡ framesRest f m d x
-  unfolding framesRest
-  frame-heads k e = rw e
+  pub frame_heads : (k : ℕ) → x ≡ Heading k → 0 ≡ frames_rest f m d x
+  unfolding frames_rest
+  frame_heads k e = rw e
 
-  pub frame-jams : (k : ℕ) (ends : Bool) → x ≡ Jamming k ends → 0 ≡ framesRest f m d x
-  unfolding framesRest
-  frame-jams k ends e = rw e
+  pub frame_jams : (k : ℕ) (ends : Bool) → x ≡ Jamming k ends → 0 ≡ frames_rest f m d x
+  unfolding frames_rest
+  frame_jams k ends e = rw e
 
 -- ---- a station
 
 module _ (x : Receiver) where
-  pub idle-listening : x ≡ Listening → true ≡ idle x
+  pub idle_listening : x ≡ Listening → true ≡ idle x
   unfolding idle
-  idle-listening e = rw e
+  idle_listening e = rw e
 
-  pub idle-readable : (n : ℕ) → x ≡ Readable n → true ≡ idle x
+  pub idle_readable : (n : ℕ) → x ≡ Readable n → true ≡ idle x
   unfolding idle
-  idle-readable n e = rw e
+  idle_readable n e = rw e
 
-  pub idle-seeking : (n : ℕ) (sp own : Bool) → x ≡ Seeking n sp own → false ≡ idle x
+  pub idle_seeking : (n : ℕ) (sp own : Bool) → x ≡ Seeking n sp own → false ≡ idle x
   unfolding idle
-  idle-seeking n sp own e = rw e
+  idle_seeking n sp own e = rw e
 
-  pub idle-collecting : (n : ℕ) (sp own : Bool) → x ≡ Collecting n sp own → false ≡ idle x
+  pub idle_collecting : (n : ℕ) (sp own : Bool) → x ≡ Collecting n sp own → false ≡ idle x
   unfolding idle
-  idle-collecting n sp own e = rw e
+  idle_collecting n sp own e = rw e
 
 module _ (f : Figures) (m : ℕ) (s : Station) where
-  pub station-emitted : s.emitted ≡ true → 0 ≡ stationRests f m s
-  unfolding stationRests
-  station-emitted e = rw e
+  pub station_emitted : s.emitted ≡ true → 0 ≡ station_rests f m s
+  unfolding station_rests
+  station_emitted e = rw e
 
-  pub station-frames : (b : Bool) (r : ℕ) → s.emitted ≡ false → b ≡ idle s.receiver → b ≡ true
-      → r ≡ framesRest f m s.deference s.transmitter → r ≡ stationRests f m s
-  unfolding stationRests
-  station-frames b r e p q w = rw (e, ← p, q) w
+  pub station_frames : (b : Bool) (r : ℕ) → s.emitted ≡ false → b ≡ idle s.receiver → b ≡ true
+      → r ≡ frames_rest f m s.deference s.transmitter → r ≡ station_rests f m s
+  unfolding station_rests
+  station_frames b r e p q w = rw (e, ← p, q) w
 
-  pub station-receives : (b : Bool) → s.emitted ≡ false → b ≡ idle s.receiver → b ≡ false → 0 ≡ stationRests f m s
-  unfolding stationRests
-  station-receives b e p q = rw (e, ← p, q)
+  pub station_receives : (b : Bool) → s.emitted ≡ false → b ≡ idle s.receiver → b ≡ false → 0 ≡ station_rests f m s
+  unfolding station_rests
+  station_receives b e p q = rw (e, ← p, q)
 
 -- ---- the closed form
 
 module _ (f : Figures) (own : Bool) (n m : ℕ) where
-  pub to-quiet : f.gap1 + f.gap2 < n → Quiet ≡ gapTo f own (n + m)
-  unfolding gapTo gap_of
-  to-quiet h = rw (lt-leb (n + m) (f.gap1 + f.gap2) (omega arith))
+  pub to_quiet : f.gap1 + f.gap2 < n → Quiet ≡ gap_to f own (n + m)
+  unfolding gap_to gap_of
+  to_quiet h = rw (lt-leb (n + m) (f.gap1 + f.gap2) (omega arith))
 
-  pub to-over : n ≤ f.gap1 + f.gap2 → f.gap1 + f.gap2 - n < m → Quiet ≡ gapTo f own (n + m)
-  unfolding gapTo gap_of
-  to-over g h = rw (lt-leb (n + m) (f.gap1 + f.gap2) (omega arith))
+  pub to_over : n ≤ f.gap1 + f.gap2 → f.gap1 + f.gap2 - n < m → Quiet ≡ gap_to f own (n + m)
+  unfolding gap_to gap_of
+  to_over g h = rw (lt-leb (n + m) (f.gap1 + f.gap2) (omega arith))
 
-  pub to-gap : n ≤ f.gap1 + f.gap2 → m ≤ f.gap1 + f.gap2 - n → Gap (n + m) own ≡ gapTo f own (n + m)
-  unfolding gapTo gap_of
-  to-gap g h = rw (le-leb (n + m) (f.gap1 + f.gap2) (omega arith))
+  pub to_gap : n ≤ f.gap1 + f.gap2 → m ≤ f.gap1 + f.gap2 - n → Gap (n + m) own ≡ gap_to f own (n + m)
+  unfolding gap_to gap_of
+  to_gap g h = rw (le-leb (n + m) (f.gap1 + f.gap2) (omega arith))
 
 module _ (f : Figures) (m : ℕ) (d : Deference) where
-  pub quiet-stays : d ≡ Quiet → Quiet ≡ restedDeference f m d
-  unfolding restedDeference
-  quiet-stays e = rw e
+  pub quiet_stays : d ≡ Quiet → Quiet ≡ rested_deference f m d
+  unfolding rested_deference
+  quiet_stays e = rw e
 
-  pub busy-stays : (own : Bool) → d ≡ Busy own → m ≡ 0 → Busy own ≡ restedDeference f m d
-  unfolding restedDeference
-  busy-stays own e z = rw (e, eq-eqb m 0 z)
+  pub busy_stays : (own : Bool) → d ≡ Busy own → m ≡ 0 → Busy own ≡ rested_deference f m d
+  unfolding rested_deference
+  busy_stays own e z = rw (e, eq-eqb m 0 z)
 
-  pub busy-gap : (own : Bool) (r : Deference) → d ≡ Busy own → (m ≡ 0 → ⊥) → r ≡ gapTo f own (0 + m)
-      → r ≡ restedDeference f m d
-  unfolding restedDeference
-  busy-gap own r e z p = let q : 0 + m ≡ m = omega arith in rw (e, ne_eqb m 0 z) (p ∙ ap (gapTo f own) q)
+  pub busy_gap : (own : Bool) (r : Deference) → d ≡ Busy own → (m ≡ 0 → ⊥) → r ≡ gap_to f own (0 + m)
+      → r ≡ rested_deference f m d
+  unfolding rested_deference
+  busy_gap own r e z p = let q : 0 + m ≡ m = omega arith in rw (e, ne_eqb m 0 z) (p ∙ ap (gap_to f own) q)
 
-  pub gap-goes-on : (n : ℕ) (own : Bool) (r : Deference) → d ≡ Gap n own → r ≡ gapTo f own (n + m)
-      → r ≡ restedDeference f m d
-  unfolding restedDeference
-  gap-goes-on n own r e p = rw e p
+  pub gap_goes_on : (n : ℕ) (own : Bool) (r : Deference) → d ≡ Gap n own → r ≡ gap_to f own (n + m)
+      → r ≡ rested_deference f m d
+  unfolding rested_deference
+  gap_goes_on n own r e p = rw e p
 
 module _ (m : ℕ) (x : Transmitter) where
-  pub tx-none : x ≡ NoFrame → NoFrame ≡ restedTransmitter m x
-  unfolding restedTransmitter
-  tx-none e = rw e
+  pub tx_none : x ≡ NoFrame → NoFrame ≡ rested_transmitter m x
+  unfolding rested_transmitter
+  tx_none e = rw e
 
-  pub tx-waits : x ≡ Waiting → Waiting ≡ restedTransmitter m x
-  unfolding restedTransmitter
-  tx-waits e = rw e
+  pub tx_waits : x ≡ Waiting → Waiting ≡ rested_transmitter m x
+  unfolding rested_transmitter
+  tx_waits e = rw e
 
-  pub tx-backs : (w : ℕ) → x ≡ BackingOff w → m < w → BackingOff (w - m) ≡ restedTransmitter m x
-  unfolding restedTransmitter
-  tx-backs w e h = rw (e, lt-ltb m w h)
+  pub tx_backs : (w : ℕ) → x ≡ BackingOff w → m < w → BackingOff (w - m) ≡ rested_transmitter m x
+  unfolding rested_transmitter
+  tx_backs w e h = rw (e, lt-ltb m w h)
 
-  pub tx-over : (w : ℕ) → x ≡ BackingOff w → w ≤ m → Waiting ≡ restedTransmitter m x
-  unfolding restedTransmitter
-  tx-over w e h = rw (e, le-ltb m w h)
+  pub tx_over : (w : ℕ) → x ≡ BackingOff w → w ≤ m → Waiting ≡ rested_transmitter m x
+  unfolding rested_transmitter
+  tx_over w e h = rw (e, le-ltb m w h)
 
-  pub tx-sends : (k : ℕ) → x ≡ Sending k → Sending k ≡ restedTransmitter m x
-  unfolding restedTransmitter
-  tx-sends k e = rw e
+  pub tx_sends : (k : ℕ) → x ≡ Sending k → Sending k ≡ rested_transmitter m x
+  unfolding rested_transmitter
+  tx_sends k e = rw e
 
-  pub tx-heads : (k : ℕ) → x ≡ Heading k → Heading k ≡ restedTransmitter m x
-  unfolding restedTransmitter
-  tx-heads k e = rw e
+  pub tx_heads : (k : ℕ) → x ≡ Heading k → Heading k ≡ rested_transmitter m x
+  unfolding rested_transmitter
+  tx_heads k e = rw e
 
-  pub tx-jams : (k : ℕ) (ends : Bool) → x ≡ Jamming k ends → Jamming k ends ≡ restedTransmitter m x
-  unfolding restedTransmitter
-  tx-jams k ends e = rw e
+  pub tx_jams : (k : ℕ) (ends : Bool) → x ≡ Jamming k ends → Jamming k ends ≡ rested_transmitter m x
+  unfolding rested_transmitter
+  tx_jams k ends e = rw e
 
-  pub wait-none : x ≡ NoFrame → false ≡ hasWaited m x
-  unfolding hasWaited
-  wait-none e = rw e
+  pub wait_none : x ≡ NoFrame → false ≡ has_waited m x
+  unfolding has_waited
+  wait_none e = rw e
 
-  pub wait-waits : x ≡ Waiting → ltb 0 m ≡ hasWaited m x
-  unfolding hasWaited
-  wait-waits e = rw e
+  pub wait_waits : x ≡ Waiting → ltb 0 m ≡ has_waited m x
+  unfolding has_waited
+  wait_waits e = rw e
 
-  pub wait-backs : (w : ℕ) → x ≡ BackingOff w → ltb w m ≡ hasWaited m x
-  unfolding hasWaited
-  wait-backs w e = rw e
+  pub wait_backs : (w : ℕ) → x ≡ BackingOff w → ltb w m ≡ has_waited m x
+  unfolding has_waited
+  wait_backs w e = rw e
 
-  pub wait-sends : (k : ℕ) → x ≡ Sending k → false ≡ hasWaited m x
-  unfolding hasWaited
-  wait-sends k e = rw e
+  pub wait_sends : (k : ℕ) → x ≡ Sending k → false ≡ has_waited m x
+  unfolding has_waited
+  wait_sends k e = rw e
 
-  pub wait-heads : (k : ℕ) → x ≡ Heading k → false ≡ hasWaited m x
-  unfolding hasWaited
-  wait-heads k e = rw e
+  pub wait_heads : (k : ℕ) → x ≡ Heading k → false ≡ has_waited m x
+  unfolding has_waited
+  wait_heads k e = rw e
 
-  pub wait-jams : (k : ℕ) (ends : Bool) → x ≡ Jamming k ends → false ≡ hasWaited m x
-  unfolding hasWaited
-  wait-jams k ends e = rw e
+  pub wait_jams : (k : ℕ) (ends : Bool) → x ≡ Jamming k ends → false ≡ has_waited m x
+  unfolding has_waited
+  wait_jams k ends e = rw e
 
-pub rested-is : (f : Figures) (m : ℕ) (s : Station) (d : Deference) (x : Transmitter) (w b df : Bool)
-    → d ≡ restedDeference f m s.deference → x ≡ restedTransmitter m s.transmitter
-    → w ≡ hasWaited m s.transmitter
+pub rested_is : (f : Figures) (m : ℕ) (s : Station) (d : Deference) (x : Transmitter) (w b df : Bool)
+    → d ≡ rested_deference f m s.deference → x ≡ rested_transmitter m s.transmitter
+    → w ≡ has_waited m s.transmitter
     → b ≡ (eqb s.attempts 0 && w) → df ≡ (s.deferred || b)
     → record {
       address = s.address;
@@ -195,4 +195,4 @@ pub rested-is : (f : Figures) (m : ℕ) (s : Station) (d : Deference) (x : Trans
       emitted = false;
     } ≡ rested f m s
 unfolding rested
-rested-is f m s d x w b df p q r u v = rw (p, q, v, u, r)
+rested_is f m s d x w b df p q r u v = rw (p, q, v, u, r)

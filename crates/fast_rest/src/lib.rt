@@ -1,8 +1,8 @@
 // How long a station rests in a silence.
 
 ghost use Rattle.std.specs.Prelude.{◌≡◌, ◌+◌, ◌<◌, min, max};
-ghost use Rattle.fast_silence.specs.Rested.{restsFor, gapTo, restedDeference, restedTransmitter, hasWaited, rested};
-ghost use Rattle.fast_silence.specs.Bound.{framesRest, idle, stationRests};
+ghost use Rattle.fast_silence.specs.Rested.{rests_for, gap_to, rested_deference, rested_transmitter, has_waited, rested};
+ghost use Rattle.fast_silence.specs.Bound.{frames_rest, idle, station_rests};
 
 use sheet_layout::Figures;
 use station_state::{Deference, Receiver, Station, Transmitter};
@@ -10,7 +10,7 @@ use station_state::{Deference, Receiver, Station, Transmitter};
 // The steps in which a frame that waits does not start.
 fn rests_for(f: Figures, d: Deference) -> u32
     requires { f.gap1 + f.gap2 < 65536 }
-    ensures { result ≡ restsFor f d }
+    ensures { result ≡ rests_for f d }
 {
     match d {
         Deference::Quiet => 0,
@@ -34,7 +34,7 @@ pub fn larger(x: u32, y: u32) -> u32
 // The steps in which no frame starts, of m asked.
 pub fn frames_rest(f: Figures, m: u32, d: Deference, x: Transmitter) -> u32
     requires { f.gap1 + f.gap2 < 65536 }
-    ensures { result ≡ framesRest f m d x }
+    ensures { result ≡ frames_rest f m d x }
 {
     match x {
         Transmitter::NoFrame => m,
@@ -69,7 +69,7 @@ pub fn is_idle(x: Receiver) -> bool
 // What a station allows of m steps.
 fn station_rests(f: Figures, m: u32, s: Station) -> u32
     requires { f.gap1 + f.gap2 < 65536 }
-    ensures { result ≡ stationRests f m s }
+    ensures { result ≡ station_rests f m s }
 {
     if s.emitted {
         return 0;
@@ -92,7 +92,7 @@ pub fn smaller(x: u32, y: u32) -> u32
 // The same, and no more than m.
 pub fn least_rest(f: Figures, m: u32, s: Station) -> u32
     requires { f.gap1 + f.gap2 < 65536 }
-    ensures { result ≡ min (stationRests f m s) m }
+    ensures { result ≡ min (station_rests f m s) m }
 {
     smaller(station_rests(f, m, s), m)
 }
@@ -100,7 +100,7 @@ pub fn least_rest(f: Figures, m: u32, s: Station) -> u32
 // A gap that has come to `count` + m bit times, or is over.
 fn gap_to(f: Figures, own: bool, count: u32, m: u32) -> Deference
     requires { f.gap1 + f.gap2 < 65536 }
-    ensures { result ≡ gapTo f own (count + m) }
+    ensures { result ≡ gap_to f own (count + m) }
 {
     let g = f.gap1 + f.gap2;
     if g < count {
@@ -118,7 +118,7 @@ fn gap_to(f: Figures, own: bool, count: u32, m: u32) -> Deference
 // A deference after m steps in which nothing is heard.
 pub fn rest_deference(f: Figures, m: u32, d: Deference) -> Deference
     requires { f.gap1 + f.gap2 < 65536 }
-    ensures { result ≡ restedDeference f m d }
+    ensures { result ≡ rested_deference f m d }
 {
     match d {
         Deference::Quiet => Deference::Quiet,
@@ -134,7 +134,7 @@ pub fn rest_deference(f: Figures, m: u32, d: Deference) -> Deference
 
 // A transmitter after m steps without a start: its backoff runs down.
 pub fn rest_transmitter(m: u32, x: Transmitter) -> Transmitter
-    ensures { result ≡ restedTransmitter m x }
+    ensures { result ≡ rested_transmitter m x }
 {
     match x {
         Transmitter::NoFrame => Transmitter::NoFrame,
@@ -153,7 +153,7 @@ pub fn rest_transmitter(m: u32, x: Transmitter) -> Transmitter
 
 // Whether a frame waited in one of m steps.
 pub fn has_waited(m: u32, x: Transmitter) -> bool
-    ensures { result ≡ hasWaited m x }
+    ensures { result ≡ has_waited m x }
 {
     match x {
         Transmitter::NoFrame => false,

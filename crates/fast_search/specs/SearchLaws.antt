@@ -9,92 +9,92 @@ use native.Mathlib.Omega.{arith}
 use borrow.Author.Tests.{eq-eqb, ne_eqb, lt-ltb, le-ltb}
 use Rattle.std.proofs.Math.Dec.{eqb}
 use Rattle.octets.specs.Base.{some}
-use Rattle.octets.specs.BaseLaws.{by-test, by-eq, below_none, some-none, some_more, some-hit, some_end}
+use Rattle.octets.specs.BaseLaws.{by_test, by_eq, below_none, some_none, some_more, some_hit, some_end}
 use Rattle.sheet_layout.specs.declared.Figures.{Figures}
 use Rattle.station_state.specs.declared.Station.{Station}
 use Rattle.area_record.specs.Codec.{decoded}
-use Rattle.area.specs.Area.{clockAt, figuresAt, countAt, recordAt, stationAt, symbol_at}
-use Rattle.area.specs.AreaLaws.{symbol-turn}
+use Rattle.area.specs.Area.{clock_at, figures_at, count_at, record_at, station_at, symbol_at}
+use Rattle.area.specs.AreaLaws.{symbol_turn}
 use Rattle.bus_spec.specs.Ready.{Ready}
-use Rattle.bus_spec.specs.RunLaws.{first-hit}
-use Rattle.fast_silence.specs.Bound.{stationRests, used, lineRests, stationsRest, linesRest, worth, silentFor}
-use Rattle.fast_silence.specs.Bound.{worth-most, stations-fall, lines-fall}
-use Rattle.sheet_layout.specs.Limits.{lastClock}
+use Rattle.bus_spec.specs.RunLaws.{first_hit}
+use Rattle.fast_silence.specs.Bound.{station_rests, used, line_rests, stations_rest, lines_rest, worth, silent_for}
+use Rattle.fast_silence.specs.Bound.{worth_most, stations_fall, lines_fall}
+use Rattle.sheet_layout.specs.Limits.{last_clock}
 use Rattle.area.specs.Offsets.{ring}
-use Rattle.area_record.specs.Words.{emittedWord}
+use Rattle.area_record.specs.Words.{emitted_word}
 
 -- ---- who emitted
 
-unfoldable pub emittedAt : List ℕ → ℕ → Bool
-emittedAt a i = (stationAt a i).emitted
+unfoldable pub emitted_at : List ℕ → ℕ → Bool
+emitted_at a i = (station_at a i).emitted
 
-pub emitted-is : (a : List ℕ) (i c : ℕ) → c ≡ get_or (recordAt a i) emittedWord 0 → eqb c 1 ≡ emittedAt a i
-unfolding emittedAt stationAt decoded
-emitted-is a i c p = rw p
+pub emitted_is : (a : List ℕ) (i c : ℕ) → c ≡ get_or (record_at a i) emitted_word 0 → eqb c 1 ≡ emitted_at a i
+unfolding emitted_at station_at decoded
+emitted_is a i c p = rw p
 
 -- none of the first i. Shut, so that a search does not enter it
 unfoldable pub NoneEmitted : List ℕ → ℕ → Type 0
-NoneEmitted a i = some (emittedAt a) i ≡ false
+NoneEmitted a i = some (emitted_at a) i ≡ false
 
-pub emitted-none : (a : List ℕ) → NoneEmitted a 0
+pub emitted_none : (a : List ℕ) → NoneEmitted a 0
 unfolding NoneEmitted
-emitted-none a = some-none (emittedAt a)
+emitted_none a = some_none (emitted_at a)
 
 module _ (a : List ℕ) (i : ℕ) where
-  pub emitted-more : (b : Bool) → b ≡ emittedAt a i → b ≡ false → NoneEmitted a i → NoneEmitted a (i + 1)
+  pub emitted_more : (b : Bool) → b ≡ emitted_at a i → b ≡ false → NoneEmitted a i → NoneEmitted a (i + 1)
   unfolding NoneEmitted
-  emitted-more b p q h = some_more (emittedAt a) i b p q h
+  emitted_more b p q h = some_more (emitted_at a) i b p q h
 
-  pub emitted-hit : (n : ℕ) (b : Bool) → b ≡ emittedAt a i → b ≡ true → i < n → true ≡ some (emittedAt a) n
-  emitted-hit n b p q h = some-hit (emittedAt a) n i b p q h
+  pub emitted_hit : (n : ℕ) (b : Bool) → b ≡ emitted_at a i → b ≡ true → i < n → true ≡ some (emitted_at a) n
+  emitted_hit n b p q h = some_hit (emitted_at a) n i b p q h
 
-  pub emitted-end : (n : ℕ) → i ≤ n → n ≤ i → NoneEmitted a i → false ≡ some (emittedAt a) n
+  pub emitted_end : (n : ℕ) → i ≤ n → n ≤ i → NoneEmitted a i → false ≡ some (emitted_at a) n
   unfolding NoneEmitted
-  emitted-end n p q h = some_end (emittedAt a) n i p q h
+  emitted_end n p q h = some_end (emitted_at a) n i p q h
 
 -- ---- the stations
 
-few-worth : (m k : ℕ) → k ≤ m → m < 5 → 0 ≡ worth k
+few_worth : (m k : ℕ) → k ≤ m → m < 5 → 0 ≡ worth k
 unfolding worth
-few-worth m k h g = rw (lt-ltb k 5 (omega arith))
+few_worth m k h g = rw (lt-ltb k 5 (omega arith))
 
 module _ (a : List ℕ) (m : ℕ) where
-  pub stations-none : m ≡ stationsRest a m 0
-  unfolding stationsRest
-  stations-none = refl
+  pub stations_none : m ≡ stations_rest a m 0
+  unfolding stations_rest
+  stations_none = refl
 
-  pub stations-more : (f : Figures) (i k r : ℕ) (s : Station) → f ≡ figuresAt a → s ≡ stationAt a i
-      → r ≡ min (stationRests f k s) k → k ≡ stationsRest a m i → r ≡ stationsRest a m (i + 1)
-  unfolding stationsRest
-  stations-more f i k r s ef es p q = p ∙ rw (ef, es, q, add-one i)
+  pub stations_more : (f : Figures) (i k r : ℕ) (s : Station) → f ≡ figures_at a → s ≡ station_at a i
+      → r ≡ min (station_rests f k s) k → k ≡ stations_rest a m i → r ≡ stations_rest a m (i + 1)
+  unfolding stations_rest
+  stations_more f i k r s ef es p q = p ∙ rw (ef, es, q, add-one i)
 
-  pub stations-few : (n i k : ℕ) → k ≡ stationsRest a m i → k < 5 → i ≤ n → 0 ≡ worth (stationsRest a m n)
-  stations-few n i k p h g = few-worth k (stationsRest a m n) (omega (arith, stations-fall a m i n g)) h
+  pub stations_few : (n i k : ℕ) → k ≡ stations_rest a m i → k < 5 → i ≤ n → 0 ≡ worth (stations_rest a m n)
+  stations_few n i k p h g = few_worth k (stations_rest a m n) (omega (arith, stations_fall a m i n g)) h
 
-  pub stations-end : (n i k : ℕ) → k ≡ stationsRest a m i → 5 ≤ k → i ≤ n → n ≤ i → k ≡ worth (stationsRest a m n)
+  pub stations_end : (n i k : ℕ) → k ≡ stations_rest a m i → 5 ≤ k → i ≤ n → n ≤ i → k ≡ worth (stations_rest a m n)
   unfolding worth
-  stations-end n i k p h lo up = let e : i ≡ n = omega arith in rw (← e, ← p, le-ltb k 5 h)
+  stations_end n i k p h lo up = let e : i ≡ n = omega arith in rw (← e, ← p, le-ltb k 5 h)
 
   -- ---- the lines
 
-  pub lines_none : m ≡ linesRest a m 0
-  unfolding linesRest
+  pub lines_none : m ≡ lines_rest a m 0
+  unfolding lines_rest
   lines_none = refl
 
-  pub lines_more : (i k r : ℕ) → r ≡ lineRests a k i → k ≡ linesRest a m i → r ≡ linesRest a m (i + 1)
-  unfolding linesRest
+  pub lines_more : (i k r : ℕ) → r ≡ line_rests a k i → k ≡ lines_rest a m i → r ≡ lines_rest a m (i + 1)
+  unfolding lines_rest
   lines_more i k r p q = p ∙ rw (q, add-one i)
 
-  pub lines-few : (n i k : ℕ) → k ≡ linesRest a m i → k < 5 → i ≤ n → 0 ≡ worth (linesRest a m n)
-  lines-few n i k p h g = few-worth k (linesRest a m n) (omega (arith, lines-fall a m i n g)) h
+  pub lines_few : (n i k : ℕ) → k ≡ lines_rest a m i → k < 5 → i ≤ n → 0 ≡ worth (lines_rest a m n)
+  lines_few n i k p h g = few_worth k (lines_rest a m n) (omega (arith, lines_fall a m i n g)) h
 
-  pub lines_end : (n i k : ℕ) → k ≡ linesRest a m i → 5 ≤ k → i ≤ n → n ≤ i → k ≡ worth (linesRest a m n)
+  pub lines_end : (n i k : ℕ) → k ≡ lines_rest a m i → 5 ≤ k → i ≤ n → n ≤ i → k ≡ worth (lines_rest a m n)
   unfolding worth
   lines_end n i k p h lo up = let e : i ≡ n = omega arith in rw (← e, ← p, le-ltb k 5 h)
 
-  pub lines-within : (t i k : ℕ) → k ≡ linesRest a m i → t + m ≤ lastClock → t + k ≤ lastClock
-  unfolding linesRest
-  lines-within t i k p h = omega (arith, lines-fall a m 0 i (omega arith))
+  pub lines_within : (t i k : ℕ) → k ≡ lines_rest a m i → t + m ≤ last_clock → t + k ≤ last_clock
+  unfolding lines_rest
+  lines_within t i k p h = omega (arith, lines_fall a m 0 i (omega arith))
 
 -- ---- a line
 
@@ -102,106 +102,106 @@ module _ (a : List ℕ) (m : ℕ) where
 unfoldable pub AtMost : (top : ℕ) → List ℕ → (i u : ℕ) → Type 0
 AtMost top a i u = (v : ℕ) → v < u → symbol_at a i v ≤ top
 
-pub most-none : (a : List ℕ) (i : ℕ) → AtMost 0 a i 0
+pub most_none : (a : List ℕ) (i : ℕ) → AtMost 0 a i 0
 unfolding AtMost
-most-none a i v h = absurd (omega arith)
+most_none a i v h = absurd (omega arith)
 
-pub most-more : (a : List ℕ) (i u c w p q : ℕ) → c ≡ symbol_at a i u → w ≡ c → q ≡ max w p → AtMost p a i u
+pub most_more : (a : List ℕ) (i u c w p q : ℕ) → c ≡ symbol_at a i u → w ≡ c → q ≡ max w p → AtMost p a i u
     → AtMost q a i (u + 1)
 unfolding AtMost
-most-more a i u c w p q ec ew eq h v g =
-    by-eq v u (λ e. let z : symbol_at a i v ≡ c = ap (symbol_at a i) e ∙ sym ec in omega (arith, z))
+most_more a i u c w p q ec ew eq h v g =
+    by_eq v u (λ e. let z : symbol_at a i v ≡ c = ap (symbol_at a i) e ∙ sym ec in omega (arith, z))
     (λ ne. omega (arith, h v (omega arith)))
 
-pub most-end : (a : List ℕ) (i u p : ℕ) → AtMost p a i u → ring ≤ u → AtMost p a i ring
+pub most_end : (a : List ℕ) (i u p : ℕ) → AtMost p a i u → ring ≤ u → AtMost p a i ring
 unfolding AtMost
-most-end a i u p h le v g = h v (omega arith)
+most_end a i u p h le v g = h v (omega arith)
 
-pub line_clear : (a : List ℕ) (i m p : ℕ) → AtMost p a i ring → p ≡ 0 → m ≡ lineRests a m i
-unfolding AtMost lineRests used
+pub line_clear : (a : List ℕ) (i m p : ℕ) → AtMost p a i ring → p ≡ 0 → m ≡ line_rests a m i
+unfolding AtMost line_rests used
 line_clear a i m p h e =
-    rw (below_none (used a i) (min m ring) (λ s g. ap (λ (z : ℕ). not (eqb z 0)) (zero-at s)))
+    rw (below_none (used a i) (min m ring) (λ s g. ap (λ (z : ℕ). not (eqb z 0)) (zero_at s)))
   where
-    zero-at : (s : ℕ) → symbol_at a i (clockAt a + s) ≡ 0
-    zero-at s =
-        let u = (clockAt a + s) % ring in
-        let q : symbol_at a i (clockAt a + s) ≡ symbol_at a i u = symbol-turn a i (clockAt a + s) u (omega arith) in
+    zero_at : (s : ℕ) → symbol_at a i (clock_at a + s) ≡ 0
+    zero_at s =
+        let u = (clock_at a + s) % ring in
+        let q : symbol_at a i (clock_at a + s) ≡ symbol_at a i u = symbol_turn a i (clock_at a + s) u (omega arith) in
         omega (arith, q, h u (omega arith))
 
 -- none of its next s places is in use. Shut, so that a search does not enter it
 unfoldable pub NoneUsed : List ℕ → (i s : ℕ) → Type 0
 NoneUsed a i s = some (used a i) s ≡ false
 
-pub used-none : (a : List ℕ) (i : ℕ) → NoneUsed a i 0
+pub used_none : (a : List ℕ) (i : ℕ) → NoneUsed a i 0
 unfolding NoneUsed
-used-none a i = some-none (used a i)
+used_none a i = some_none (used a i)
 
-module _ (a : List ℕ) (i s t c : ℕ) (et : t ≡ clockAt a) (p : c ≡ symbol_at a i (t + s)) where
-  used-is : (b : Bool) → eqb c 0 ≡ b → not b ≡ used a i s
+module _ (a : List ℕ) (i s t c : ℕ) (et : t ≡ clock_at a) (p : c ≡ symbol_at a i (t + s)) where
+  used_is : (b : Bool) → eqb c 0 ≡ b → not b ≡ used a i s
   unfolding used
-  used-is b e = sym (ap not (ap (λ (z : ℕ). eqb z 0) (sym (p ∙ ap (λ (u : ℕ). symbol_at a i (u + s)) et)) ∙ e))
+  used_is b e = sym (ap not (ap (λ (z : ℕ). eqb z 0) (sym (p ∙ ap (λ (u : ℕ). symbol_at a i (u + s)) et)) ∙ e))
 
-  pub used-more : c ≡ 0 → NoneUsed a i s → NoneUsed a i (s + 1)
+  pub used_more : c ≡ 0 → NoneUsed a i s → NoneUsed a i (s + 1)
   unfolding NoneUsed
-  used-more z h = some_more (used a i) s false (used-is true (eq-eqb c 0 z)) refl h
+  used_more z h = some_more (used a i) s false (used_is true (eq-eqb c 0 z)) refl h
 
-  pub used-hit : (m k : ℕ) → (c ≡ 0 → ⊥) → NoneUsed a i s → k ≡ min m ring → s < k → s ≡ lineRests a m i
-  unfolding NoneUsed lineRests
-  used-hit m k ne h e lt =
-      let u : true ≡ used a i s = used-is false (ne_eqb c 0 ne) in
+  pub used_hit : (m k : ℕ) → (c ≡ 0 → ⊥) → NoneUsed a i s → k ≡ min m ring → s < k → s ≡ line_rests a m i
+  unfolding NoneUsed line_rests
+  used_hit m k ne h e lt =
+      let u : true ≡ used a i s = used_is false (ne_eqb c 0 ne) in
       let g : s < min m ring = omega arith in
-      rw (← some-hit (used a i) (min m ring) s true u refl g)
-      (sym (first-hit (used a i) (min m ring) s true u refl h g))
+      rw (← some_hit (used a i) (min m ring) s true u refl g)
+      (sym (first_hit (used a i) (min m ring) s true u refl h g))
 
-pub used-end : (a : List ℕ) (i s m k : ℕ) → NoneUsed a i s → k ≡ min m ring → s ≤ k → k ≤ s → m ≡ lineRests a m i
-unfolding NoneUsed lineRests
-used-end a i s m k h e lo up = let z : s ≡ min m ring = omega arith in rw (← z, h)
+pub used_end : (a : List ℕ) (i s m k : ℕ) → NoneUsed a i s → k ≡ min m ring → s ≤ k → k ≤ s → m ≡ line_rests a m i
+unfolding NoneUsed line_rests
+used_end a i s m k h e lo up = let z : s ≡ min m ring = omega arith in rw (← z, h)
 
 -- ---- all
 
 module _ (a : List ℕ) (m : ℕ) where
-  first-few : (k : ℕ) → 0 ≡ worth k → 0 ≡ worth (linesRest a (worth k) (countAt a))
-  unfolding linesRest
-  first-few k e =
-      rw (← e) (few-worth 0 (linesRest a 0 (countAt a)) (lines-fall a 0 0 (countAt a) (omega arith)) (omega arith))
+  first_few : (k : ℕ) → 0 ≡ worth k → 0 ≡ worth (lines_rest a (worth k) (count_at a))
+  unfolding lines_rest
+  first_few k e =
+      rw (← e) (few_worth 0 (lines_rest a 0 (count_at a)) (lines_fall a 0 0 (count_at a) (omega arith)) (omega arith))
 
-  pub silent-few : m < 5 → 0 ≡ silentFor m a
-  unfolding silentFor stationsRest
-  silent-few h = first-few (stationsRest a m (countAt a))
-      (few-worth m (stationsRest a m (countAt a)) (stations-fall a m 0 (countAt a) (omega arith)) h)
+  pub silent_few : m < 5 → 0 ≡ silent_for m a
+  unfolding silent_for stations_rest
+  silent_few h = first_few (stations_rest a m (count_at a))
+      (few_worth m (stations_rest a m (count_at a)) (stations_fall a m 0 (count_at a) (omega arith)) h)
 
-  pub silent-is : (n k r : ℕ) → n ≡ countAt a → k ≡ worth (stationsRest a m n) → r ≡ worth (linesRest a k n)
-      → r ≡ silentFor m a
-  unfolding silentFor
-  silent-is n k r e p q = q ∙ rw (p, e)
+  pub silent_is : (n k r : ℕ) → n ≡ count_at a → k ≡ worth (stations_rest a m n) → r ≡ worth (lines_rest a k n)
+      → r ≡ silent_for m a
+  unfolding silent_for
+  silent_is n k r e p q = q ∙ rw (p, e)
 
-  pub silent-within : (t n k : ℕ) → t ≡ clockAt a → k ≡ worth (stationsRest a m n) → clockAt a + m ≤ lastClock
-      → t + k ≤ lastClock
-  unfolding stationsRest
-  silent-within t n k e p h = omega (arith, worth-most (stationsRest a m n), stations-fall a m 0 n (omega arith))
+  pub silent_within : (t n k : ℕ) → t ≡ clock_at a → k ≡ worth (stations_rest a m n) → clock_at a + m ≤ last_clock
+      → t + k ≤ last_clock
+  unfolding stations_rest
+  silent_within t n k e p h = omega (arith, worth_most (stations_rest a m n), stations_fall a m 0 n (omega arith))
 
   -- one that emitted allows none
-  one-emitted : (i : ℕ) → emittedAt a i ≡ true → stationsRest a m (suc i) ≡ 0
-  unfolding emittedAt stationsRest stationRests
-  one-emitted i e = rw e (omega arith)
+  one_emitted : (i : ℕ) → emitted_at a i ≡ true → stations_rest a m (suc i) ≡ 0
+  unfolding emitted_at stations_rest station_rests
+  one_emitted i e = rw e (omega arith)
 
-  emitted-found : (n : ℕ) → some (emittedAt a) n ≡ true → stationsRest a m n ≡ 0
+  emitted_found : (n : ℕ) → some (emitted_at a) n ≡ true → stations_rest a m n ≡ 0
   unfolding some
-  emitted-found zero e = absurd (true≢false (sym e))
-  emitted-found (suc n) e =
-      by-test (some (emittedAt a) n)
-      (λ b. omega (arith, emitted-found n b, stations-fall a m n (suc n) (omega arith)))
-      (λ b. one-emitted n (rw b at e))
+  emitted_found zero e = absurd (true≢false (sym e))
+  emitted_found (suc n) e =
+      by_test (some (emitted_at a) n)
+      (λ b. omega (arith, emitted_found n b, stations_fall a m n (suc n) (omega arith)))
+      (λ b. one_emitted n (rw b at e))
 
-  pub silent-emitted : (n : ℕ) (b : Bool) → n ≡ countAt a → b ≡ some (emittedAt a) n → b ≡ true → 0 ≡ silentFor m a
-  unfolding silentFor
-  silent-emitted n b e p q =
-      let z : stationsRest a m (countAt a) ≡ 0 = emitted-found (countAt a)
-      (ap (some (emittedAt a)) (sym e) ∙ sym p ∙ q) in
-      first-few (stationsRest a m (countAt a))
-      (few-worth 0 (stationsRest a m (countAt a)) (omega (arith, z)) (omega arith))
+  pub silent_emitted : (n : ℕ) (b : Bool) → n ≡ count_at a → b ≡ some (emitted_at a) n → b ≡ true → 0 ≡ silent_for m a
+  unfolding silent_for
+  silent_emitted n b e p q =
+      let z : stations_rest a m (count_at a) ≡ 0 = emitted_found (count_at a)
+      (ap (some (emitted_at a)) (sym e) ∙ sym p ∙ q) in
+      first_few (stations_rest a m (count_at a))
+      (few_worth 0 (stations_rest a m (count_at a)) (omega (arith, z)) (omega arith))
 
-pub ready-gap : (a : List ℕ) (f : Figures) → f ≡ figuresAt a → Ready a → f.gap1 + f.gap2 < 65536
+pub ready_gap : (a : List ℕ) (f : Figures) → f ≡ figures_at a → Ready a → f.gap1 + f.gap2 < 65536
 unfolding Ready
-ready-gap a f e r =
+ready_gap a f e r =
     subst (λ (g : Figures). g.gap1 + g.gap2 < 65536) (sym e) (omega (arith, r.figures.gap1, r.figures.gap2))

@@ -2,27 +2,27 @@
 
 ghost use Rattle.std.specs.Prelude.{◌≡◌, ◌+◌, ◌<◌, ◌≤◌, length};
 ghost use Rattle.octets.specs.Base.{some};
-ghost use Rattle.area.specs.Area.{clockAt, figuresAt};
+ghost use Rattle.area.specs.Area.{clock_at, figures_at};
 ghost use Rattle.bus_spec.specs.Ready.{Ready};
-ghost use Rattle.fast_silence.specs.Bound.{stationsRest, linesRest, lineRests, worth, silentFor};
-ghost use Rattle.fast_search.specs.SearchLaws.{emittedAt, AtMost};
-ghost use Rattle.sheet_layout.specs.Limits.{lastClock, maxStations};
-ghost use Rattle.area.specs.Offsets.{areaSize, ring};
+ghost use Rattle.fast_silence.specs.Bound.{stations_rest, lines_rest, line_rests, worth, silent_for};
+ghost use Rattle.fast_search.specs.SearchLaws.{emitted_at, AtMost};
+ghost use Rattle.sheet_layout.specs.Limits.{last_clock, max_stations};
+ghost use Rattle.area.specs.Offsets.{area_size, ring};
 
 use sheet_layout::Figures;
 
 // Whether station i emitted in the step before.
 fn emitted(area: &[u8], i: usize) -> bool
-    requires { (i < maxStations) × (areaSize ≤ length area.now) }
-    ensures { result ≡ emittedAt area.now i }
+    requires { (i < max_stations) × (area_size ≤ length area.now) }
+    ensures { result ≡ emitted_at area.now i }
 {
     area::read_word(area, i, area_record::words::EMITTED) == 1
 }
 
 // Whether one of n stations did.
 fn any_emitted(area: &[u8], n: usize) -> bool
-    requires { (n ≤ maxStations) × (areaSize ≤ length area.now) }
-    ensures { result ≡ some (emittedAt area.now) n }
+    requires { (n ≤ max_stations) × (area_size ≤ length area.now) }
+    ensures { result ≡ some (emitted_at area.now) n }
 {
     let mut i: usize = 0;
     while i < n {
@@ -36,9 +36,9 @@ fn any_emitted(area: &[u8], n: usize) -> bool
 
 // What n stations allow of m steps.
 fn stations_rest(area: &[u8], n: usize, f: Figures, m: u32) -> u32
-    requires { (n ≤ maxStations) × (areaSize ≤ length area.now) × (f.gap1 + f.gap2 < 65536)
-        × (f ≡ figuresAt area.now) }
-    ensures { result ≡ worth (stationsRest area.now m n) }
+    requires { (n ≤ max_stations) × (area_size ≤ length area.now) × (f.gap1 + f.gap2 < 65536)
+        × (f ≡ figures_at area.now) }
+    ensures { result ≡ worth (stations_rest area.now m n) }
 {
     let mut left = m;
     let mut i: usize = 0;
@@ -58,7 +58,7 @@ fn stations_rest(area: &[u8], n: usize, f: Figures, m: u32) -> u32
 
 // No less than any code in the line of station i: found without a branch.
 fn line_top(area: &[u8], i: usize) -> u32
-    requires { (i < maxStations) × (areaSize ≤ length area.now) }
+    requires { (i < max_stations) × (area_size ≤ length area.now) }
     ensures { AtMost result area.now i ring }
 {
     let mut top: u32 = 0;
@@ -73,8 +73,8 @@ fn line_top(area: &[u8], i: usize) -> u32
 
 // The steps of m before something reaches station i.
 fn line_rests(area: &[u8], i: usize, t: u32, m: u32) -> u32
-    requires { (i < maxStations) × (areaSize ≤ length area.now) × (t + m ≤ lastClock) × (t ≡ clockAt area.now) }
-    ensures { result ≡ lineRests area.now m i }
+    requires { (i < max_stations) × (area_size ≤ length area.now) × (t + m ≤ last_clock) × (t ≡ clock_at area.now) }
+    ensures { result ≡ line_rests area.now m i }
 {
     if line_top(area, i) == 0 {
         return m;
@@ -92,8 +92,8 @@ fn line_rests(area: &[u8], i: usize, t: u32, m: u32) -> u32
 
 // What the lines to n stations allow of m steps.
 fn lines_rest(area: &[u8], n: usize, t: u32, m: u32) -> u32
-    requires { (n ≤ maxStations) × (areaSize ≤ length area.now) × (t + m ≤ lastClock) × (t ≡ clockAt area.now) }
-    ensures { result ≡ worth (linesRest area.now m n) }
+    requires { (n ≤ max_stations) × (area_size ≤ length area.now) × (t + m ≤ last_clock) × (t ≡ clock_at area.now) }
+    ensures { result ≡ worth (lines_rest area.now m n) }
 {
     let mut left = m;
     let mut i: usize = 0;
@@ -112,8 +112,8 @@ fn lines_rest(area: &[u8], n: usize, t: u32, m: u32) -> u32
 
 // How many of the next m steps may be made as one jump; 0 where none.
 pub fn silent_for(area: &[u8], m: u32) -> u32
-    requires { (areaSize ≤ length area.now) × (clockAt area.now + m ≤ lastClock) × Ready area.now }
-    ensures { result ≡ silentFor m area.now }
+    requires { (area_size ≤ length area.now) × (clock_at area.now + m ≤ last_clock) × Ready area.now }
+    ensures { result ≡ silent_for m area.now }
 {
     if m < 5 {
         return 0;

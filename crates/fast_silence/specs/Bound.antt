@@ -3,7 +3,7 @@
 use Rattle.std.specs.Prelude.{ℕ, zero, suc, ◌+◌, ◌-◌, ◌≤◌, ◌<◌, min, max, ◌≡◌, refl, Bool, true, false, not, List, eqb, ltb}
 use Rattle.std.proofs.Common.{sym, ◌∙◌, ap, true≢false, arith, eqb-true}
 use Rattle.octets.specs.Base.{pick, some}
-use Rattle.octets.specs.BaseLaws.{by-test, by-eq, none_below}
+use Rattle.octets.specs.BaseLaws.{by_test, by_eq, none_below}
 use Rattle.sheet_layout.specs.declared.Figures.{Figures}
 use Rattle.station_state.specs.declared.Deference.{Deference}
 use Rattle.station_state.specs.declared.Transmitter.{Transmitter}
@@ -12,28 +12,28 @@ use Rattle.station_state.specs.declared.Transmitter.TheVariants.{Jamming}
 use Rattle.station_state.specs.declared.Receiver.{Receiver}
 use Rattle.station_state.specs.declared.Receiver.TheVariants.{Listening, Readable, Seeking, Collecting}
 use Rattle.station_state.specs.declared.Station.{Station}
-use Rattle.area.specs.Area.{clockAt, figuresAt, countAt, stationAt, symbol_at}
+use Rattle.area.specs.Area.{clock_at, figures_at, count_at, station_at, symbol_at}
 use Rattle.bus_spec.specs.Ready.{Readiness}
 use Rattle.bus_spec.specs.Run.{first, run_of}
-use Rattle.bus_spec.specs.RunLaws.{first-most, below-first}
-use Rattle.bus_spec.specs.Until.{untilEvent}
+use Rattle.bus_spec.specs.RunLaws.{first_most, below_first}
+use Rattle.bus_spec.specs.Until.{until_event}
 use Rattle.bus_spec.specs.UntilLaws.{plus}
 use Rattle.fast_plan.specs.Plan.{Holds, Planned, steps}
-use Rattle.fast_silence.specs.Rested.{restsFor, Lasts, Idle, Rests}
-use Rattle.fast_silence.specs.Jump.{Silent, silentPlan, jumped, silence-holds, silence-jumps, jump-planned}
-use Rattle.fast_silence.specs.Jump.{run-jumps, until-jumps}
-use Rattle.sheet_layout.specs.Limits.{lastClock}
+use Rattle.fast_silence.specs.Rested.{rests_for, Lasts, Idle, Rests}
+use Rattle.fast_silence.specs.Jump.{Silent, silent_plan, jumped, silence_holds, silence_jumps, jump_planned}
+use Rattle.fast_silence.specs.Jump.{run_jumps, until_jumps}
+use Rattle.sheet_layout.specs.Limits.{last_clock}
 use Rattle.area.specs.Offsets.{ring}
 
 -- ---- a station, of m steps asked
 
-unfoldable pub framesRest : Figures → (m : ℕ) → Deference → Transmitter → ℕ
-framesRest f m d NoFrame = m
-framesRest f m d Waiting = restsFor f d
-framesRest f m d (BackingOff w) = max w (restsFor f d)
-framesRest f m d (Sending k) = 0
-framesRest f m d (Heading k) = 0
-framesRest f m d (Jamming k ends) = 0
+unfoldable pub frames_rest : Figures → (m : ℕ) → Deference → Transmitter → ℕ
+frames_rest f m d NoFrame = m
+frames_rest f m d Waiting = rests_for f d
+frames_rest f m d (BackingOff w) = max w (rests_for f d)
+frames_rest f m d (Sending k) = 0
+frames_rest f m d (Heading k) = 0
+frames_rest f m d (Jamming k ends) = 0
 
 unfoldable pub idle : Receiver → Bool
 idle Listening = true
@@ -41,175 +41,175 @@ idle (Readable n) = true
 idle (Seeking row sp own) = false
 idle (Collecting n sp own) = false
 
-unfoldable pub stationRests : Figures → (m : ℕ) → Station → ℕ
-stationRests f m s = pick s.emitted 0 (pick (idle s.receiver) (framesRest f m s.deference s.transmitter) 0)
+unfoldable pub station_rests : Figures → (m : ℕ) → Station → ℕ
+station_rests f m s = pick s.emitted 0 (pick (idle s.receiver) (frames_rest f m s.deference s.transmitter) 0)
 
-pub frames-last : (f : Figures) (m K : ℕ) (d : Deference) (x : Transmitter) → 0 < K → K ≤ framesRest f m d x
+pub frames_last : (f : Figures) (m K : ℕ) (d : Deference) (x : Transmitter) → 0 < K → K ≤ frames_rest f m d x
     → Lasts f K d x
-unfolding framesRest
-frames-last f m K d NoFrame p h = tt
-frames-last f m K d Waiting p h = h
-frames-last f m K d (BackingOff w) p h = h
-frames-last f m K d (Sending k) p h = absurd (omega arith)
-frames-last f m K d (Heading k) p h = absurd (omega arith)
-frames-last f m K d (Jamming k ends) p h = absurd (omega arith)
+unfolding frames_rest
+frames_last f m K d NoFrame p h = tt
+frames_last f m K d Waiting p h = h
+frames_last f m K d (BackingOff w) p h = h
+frames_last f m K d (Sending k) p h = absurd (omega arith)
+frames_last f m K d (Heading k) p h = absurd (omega arith)
+frames_last f m K d (Jamming k ends) p h = absurd (omega arith)
 
-pub is-idle : (r : Receiver) → idle r ≡ true → Idle r
+pub is_idle : (r : Receiver) → idle r ≡ true → Idle r
 unfolding idle
-is-idle Listening e = tt
-is-idle (Readable n) e = tt
-is-idle (Seeking row sp own) e = absurd (true≢false (sym e))
-is-idle (Collecting n sp own) e = absurd (true≢false (sym e))
+is_idle Listening e = tt
+is_idle (Readable n) e = tt
+is_idle (Seeking row sp own) e = absurd (true≢false (sym e))
+is_idle (Collecting n sp own) e = absurd (true≢false (sym e))
 
-pub rested-for : (f : Figures) (m K : ℕ) (s : Station) → 0 < K → K ≤ stationRests f m s → Rests f K s
-unfolding stationRests
-rested-for f m K s p h =
-    by-test s.emitted
-    (λ e. absurd (zero-none K p
-    (ap (λ (b : Bool). pick b 0 (pick (idle s.receiver) (framesRest f m s.deference s.transmitter) 0)) e)
+pub rested_for : (f : Figures) (m K : ℕ) (s : Station) → 0 < K → K ≤ station_rests f m s → Rests f K s
+unfolding station_rests
+rested_for f m K s p h =
+    by_test s.emitted
+    (λ e. absurd (zero_none K p
+    (ap (λ (b : Bool). pick b 0 (pick (idle s.receiver) (frames_rest f m s.deference s.transmitter) 0)) e)
     h))
-    (λ e. by-test (idle s.receiver)
+    (λ e. by_test (idle s.receiver)
     (λ i. record {
-      lasts = frames-last f m K s.deference s.transmitter p (below K (value e i) h);
-      idle = is-idle
+      lasts = frames_last f m K s.deference s.transmitter p (below K (value e i) h);
+      idle = is_idle
           s.receiver i;
       silent = e;
     })
-    (λ i. absurd (zero-none K p (value e i) h)))
+    (λ i. absurd (zero_none K p (value e i) h)))
   where
-    zero-none : (K : ℕ) {v : ℕ} → 0 < K → v ≡ 0 → K ≤ v → ⊥
-    zero-none K {v} p e h = omega (arith, e, h)
+    zero_none : (K : ℕ) {v : ℕ} → 0 < K → v ≡ 0 → K ≤ v → ⊥
+    zero_none K {v} p e h = omega (arith, e, h)
 
     below : (K : ℕ) {v w : ℕ} → v ≡ w → K ≤ v → K ≤ w
     below K {v} {w} e h = omega (arith, e, h)
 
     value : {b c : Bool} → s.emitted ≡ b → idle s.receiver ≡ c
-        → pick s.emitted 0 (pick (idle s.receiver) (framesRest f m s.deference s.transmitter) 0) ≡ pick b 0
-        (pick c (framesRest f m s.deference s.transmitter) 0)
+        → pick s.emitted 0 (pick (idle s.receiver) (frames_rest f m s.deference s.transmitter) 0) ≡ pick b 0
+        (pick c (frames_rest f m s.deference s.transmitter) 0)
     value {b} {c} e i =
-        ap (λ (u : Bool). pick u 0 (pick (idle s.receiver) (framesRest f m s.deference s.transmitter) 0)) e
-        ∙ ap (λ (u : Bool). pick b 0 (pick u (framesRest f m s.deference s.transmitter) 0)) i
+        ap (λ (u : Bool). pick u 0 (pick (idle s.receiver) (frames_rest f m s.deference s.transmitter) 0)) e
+        ∙ ap (λ (u : Bool). pick b 0 (pick u (frames_rest f m s.deference s.transmitter) 0)) i
 
 -- ---- a line: to its first place in use, of m steps asked
 
 unfoldable pub used : List ℕ → (j s : ℕ) → Bool
-used a j s = not (eqb (symbol_at a j (clockAt a + s)) 0)
+used a j s = not (eqb (symbol_at a j (clock_at a + s)) 0)
 
-unfoldable pub lineRests : List ℕ → (m j : ℕ) → ℕ
-lineRests a m j = pick (some (used a j) (min m ring)) (first (used a j) (min m ring)) m
+unfoldable pub line_rests : List ℕ → (m j : ℕ) → ℕ
+line_rests a m j = pick (some (used a j) (min m ring)) (first (used a j) (min m ring)) m
 
-not-used : (c : ℕ) → not (eqb c 0) ≡ false → c ≡ 0
-not-used c h = by-test (eqb c 0) (λ e. eqb-true c 0 e) (λ e. absurd (true≢false (sym (ap not e) ∙ h)))
+not_used : (c : ℕ) → not (eqb c 0) ≡ false → c ≡ 0
+not_used c h = by_test (eqb c 0) (λ e. eqb-true c 0 e) (λ e. absurd (true≢false (sym (ap not e) ∙ h)))
 
-pub line-most : (a : List ℕ) (m j : ℕ) → lineRests a m j ≤ m
-unfolding lineRests
-line-most a m j =
-    by-test (some (used a j) (min m ring))
-    (λ e. rw e (omega (arith, first-most (used a j) (min m ring))))
+pub line_most : (a : List ℕ) (m j : ℕ) → line_rests a m j ≤ m
+unfolding line_rests
+line_most a m j =
+    by_test (some (used a j) (min m ring))
+    (λ e. rw e (omega (arith, first_most (used a j) (min m ring))))
     (λ e. rw e (omega arith))
 
-pub line-rests : (a : List ℕ) (m j s : ℕ) → s < lineRests a m j → s < ring → symbol_at a j (clockAt a + s) ≡ 0
-unfolding lineRests used
-line-rests a m j s h g =
-    by-test (some (used a j) (min m ring))
-    (λ e. not-used (symbol_at a j (clockAt a + s)) (below-first (used a j) (min m ring) s (rw e at h)))
+pub line_rests_lem : (a : List ℕ) (m j s : ℕ) → s < line_rests a m j → s < ring → symbol_at a j (clock_at a + s) ≡ 0
+unfolding line_rests used
+line_rests_lem a m j s h g =
+    by_test (some (used a j) (min m ring))
+    (λ e. not_used (symbol_at a j (clock_at a + s)) (below_first (used a j) (min m ring) s (rw e at h)))
     (λ e. let l : s < m = rw e at h in
-    not-used (symbol_at a j (clockAt a + s)) (none_below (used a j) (min m ring) s e (omega arith)))
+    not_used (symbol_at a j (clock_at a + s)) (none_below (used a j) (min m ring) s e (omega arith)))
 
 -- ---- all of them: the least, found one after the other
 
 -- what the first i stations allow of m steps
-unfoldable pub stationsRest : List ℕ → (m i : ℕ) → ℕ
-stationsRest a m zero = m
-stationsRest a m (suc i) = min (stationRests (figuresAt a) (stationsRest a m i) (stationAt a i)) (stationsRest a m i)
+unfoldable pub stations_rest : List ℕ → (m i : ℕ) → ℕ
+stations_rest a m zero = m
+stations_rest a m (suc i) = min (station_rests (figures_at a) (stations_rest a m i) (station_at a i)) (stations_rest a m i)
 
 -- and the first i lines
-unfoldable pub linesRest : List ℕ → (m i : ℕ) → ℕ
-linesRest a m zero = m
-linesRest a m (suc i) = lineRests a (linesRest a m i) i
+unfoldable pub lines_rest : List ℕ → (m i : ℕ) → ℕ
+lines_rest a m zero = m
+lines_rest a m (suc i) = line_rests a (lines_rest a m i) i
 
 -- fewer than five steps are not worth a jump
 unfoldable pub worth : ℕ → ℕ
 worth m = pick (ltb m 5) 0 m
 
 -- how many of the next m steps are made as one jump; 0 where none is
-unfoldable pub silentFor : (m : ℕ) → List ℕ → ℕ
-silentFor m a = worth (linesRest a (worth (stationsRest a m (countAt a))) (countAt a))
+unfoldable pub silent_for : (m : ℕ) → List ℕ → ℕ
+silent_for m a = worth (lines_rest a (worth (stations_rest a m (count_at a))) (count_at a))
 
 -- what a jump of r steps leaves, none for 0
 unfoldable pub skipped : (r : ℕ) → List ℕ → List ℕ
 skipped r a = pick (eqb r 0) a (jumped r a)
 
-pub worth-most : (m : ℕ) → worth m ≤ m
+pub worth_most : (m : ℕ) → worth m ≤ m
 unfolding worth
-worth-most m = by-test (ltb m 5) (λ e. rw e (omega arith)) (λ e. rw e (omega arith))
+worth_most m = by_test (ltb m 5) (λ e. rw e (omega arith)) (λ e. rw e (omega arith))
 
 -- they fall
-pub stations-fall : (a : List ℕ) (m i n : ℕ) → i ≤ n → stationsRest a m n ≤ stationsRest a m i
-unfolding stationsRest
-stations-fall a m i zero h = let e : i ≡ 0 = omega arith in rw e (omega arith)
-stations-fall a m i (suc n) h =
-    by-eq i (suc n) (λ e. rw e (omega arith)) (λ ne. omega (arith, stations-fall a m i n (omega arith)))
+pub stations_fall : (a : List ℕ) (m i n : ℕ) → i ≤ n → stations_rest a m n ≤ stations_rest a m i
+unfolding stations_rest
+stations_fall a m i zero h = let e : i ≡ 0 = omega arith in rw e (omega arith)
+stations_fall a m i (suc n) h =
+    by_eq i (suc n) (λ e. rw e (omega arith)) (λ ne. omega (arith, stations_fall a m i n (omega arith)))
 
-pub lines-fall : (a : List ℕ) (m i n : ℕ) → i ≤ n → linesRest a m n ≤ linesRest a m i
-unfolding linesRest
-lines-fall a m i zero h = let e : i ≡ 0 = omega arith in rw e (omega arith)
-lines-fall a m i (suc n) h =
-    by-eq i (suc n) (λ e. rw e (omega arith))
-    (λ ne. omega (arith, line-most a (linesRest a m n) n, lines-fall a m i n (omega arith)))
+pub lines_fall : (a : List ℕ) (m i n : ℕ) → i ≤ n → lines_rest a m n ≤ lines_rest a m i
+unfolding lines_rest
+lines_fall a m i zero h = let e : i ≡ 0 = omega arith in rw e (omega arith)
+lines_fall a m i (suc n) h =
+    by_eq i (suc n) (λ e. rw e (omega arith))
+    (λ ne. omega (arith, line_most a (lines_rest a m n) n, lines_fall a m i n (omega arith)))
 
-stations-one : (a : List ℕ) (m i : ℕ)
-    → stationsRest a m (suc i) ≤ stationRests (figuresAt a) (stationsRest a m i) (stationAt a i)
-unfolding stationsRest
-stations-one a m i = omega arith
+stations_one : (a : List ℕ) (m i : ℕ)
+    → stations_rest a m (suc i) ≤ station_rests (figures_at a) (stations_rest a m i) (station_at a i)
+unfolding stations_rest
+stations_one a m i = omega arith
 
-lines-one : (a : List ℕ) (m i : ℕ) → linesRest a m (suc i) ≡ lineRests a (linesRest a m i) i
-unfolding linesRest
-lines-one a m i = refl
+lines_one : (a : List ℕ) (m i : ℕ) → lines_rest a m (suc i) ≡ line_rests a (lines_rest a m i) i
+unfolding lines_rest
+lines_one a m i = refl
 
 module _ (a : List ℕ) (m : ℕ) where
   n : ℕ
-  n = countAt a
+  n = count_at a
 
   fewer : ℕ
-  fewer = worth (stationsRest a m n)
+  fewer = worth (stations_rest a m n)
 
-  most-lines : silentFor m a ≤ linesRest a fewer n
-  unfolding silentFor fewer n
-  most-lines = worth-most (linesRest a (worth (stationsRest a m (countAt a))) (countAt a))
+  most_lines : silent_for m a ≤ lines_rest a fewer n
+  unfolding silent_for fewer n
+  most_lines = worth_most (lines_rest a (worth (stations_rest a m (count_at a))) (count_at a))
 
-  most-stations : silentFor m a ≤ stationsRest a m n
-  unfolding fewer linesRest
-  most-stations = omega (arith, most-lines, lines-fall a fewer 0 n (omega arith), worth-most (stationsRest a m n))
+  most_stations : silent_for m a ≤ stations_rest a m n
+  unfolding fewer lines_rest
+  most_stations = omega (arith, most_lines, lines_fall a fewer 0 n (omega arith), worth_most (stations_rest a m n))
 
-  pub silent-most : silentFor m a ≤ m
-  unfolding stationsRest
-  silent-most = omega (arith, most-stations, stations-fall a m 0 n (omega arith))
+  pub silent_most : silent_for m a ≤ m
+  unfolding stations_rest
+  silent_most = omega (arith, most_stations, stations_fall a m 0 n (omega arith))
 
-  pub silent-for : (K : ℕ) → 0 < K → K ≤ silentFor m a → Silent a K
+  pub silent_for_lem : (K : ℕ) → 0 < K → K ≤ silent_for m a → Silent a K
   unfolding n
-  silent-for K pos h =
+  silent_for_lem K pos h =
       record {
-        empty = λ j s hj hs near. line-rests a (linesRest a fewer j) j s
-            (omega (arith, most-lines, lines-fall a fewer (suc j) n hj, lines-one a fewer j)) near;
-        calm = λ i hi. rested-for (figuresAt a) (stationsRest a m i) K (stationAt a i) pos
-            (omega (arith, most-stations, stations-fall a m (suc i) n hi, stations-one a m i));
+        empty = λ j s hj hs near. line_rests_lem a (lines_rest a fewer j) j s
+            (omega (arith, most_lines, lines_fall a fewer (suc j) n hj, lines_one a fewer j)) near;
+        calm = λ i hi. rested_for (figures_at a) (stations_rest a m i) K (station_at a i) pos
+            (omega (arith, most_stations, stations_fall a m (suc i) n hi, stations_one a m i));
       }
 
   -- Stage 1 with its length
-  pub silence-run : (K k r : ℕ) (ws : List ℕ) → Readiness a → 0 < K → K ≤ silentFor m a → clockAt a + K ≤ lastClock
+  pub silence_run : (K k r : ℕ) (ws : List ℕ) → Readiness a → 0 < K → K ≤ silent_for m a → clock_at a + K ≤ last_clock
       → run_of (K + k) r ws a ≡ run_of k (r + K) ws (jumped K a)
-  silence-run K k r ws ready pos h early = run-jumps a K ready (silent-for K pos h) k r ws pos early
+  silence_run K k r ws ready pos h early = run_jumps a K ready (silent_for_lem K pos h) k r ws pos early
 
-  pub silence-until : (K k : ℕ) → Readiness a → 0 < K → K ≤ silentFor m a → clockAt a + K ≤ lastClock
-      → untilEvent (K + k) a ≡ plus K (untilEvent k (jumped K a))
-  silence-until K k ready pos h early = until-jumps a K ready (silent-for K pos h) k pos early
+  pub silence_until : (K k : ℕ) → Readiness a → 0 < K → K ≤ silent_for m a → clock_at a + K ≤ last_clock
+      → until_event (K + k) a ≡ plus K (until_event k (jumped K a))
+  silence_until K k ready pos h early = until_jumps a K ready (silent_for_lem K pos h) k pos early
 
-  pub silence-plans : (K : ℕ) → Readiness a → 0 < K → K ≤ silentFor m a → clockAt a + K ≤ lastClock
-      → Planned a silentPlan K (jumped K a)
-  silence-plans K ready pos h early = jump-planned a K ready (silent-for K pos h) pos early
+  pub silence_plans : (K : ℕ) → Readiness a → 0 < K → K ≤ silent_for m a → clock_at a + K ≤ last_clock
+      → Planned a silent_plan K (jumped K a)
+  silence_plans K ready pos h early = jump_planned a K ready (silent_for_lem K pos h) pos early
 
-  pub silence-steps : (K : ℕ) → Readiness a → 0 < K → K ≤ silentFor m a → clockAt a + K ≤ lastClock
-      → (steps K a ≡ jumped K a) × Holds a silentPlan K
-  silence-steps K ready pos h early =
-      (silence-jumps a K ready (silent-for K pos h) pos early, silence-holds a K ready (silent-for K pos h))
+  pub silence_steps : (K : ℕ) → Readiness a → 0 < K → K ≤ silent_for m a → clock_at a + K ≤ last_clock
+      → (steps K a ≡ jumped K a) × Holds a silent_plan K
+  silence_steps K ready pos h early =
+      (silence_jumps a K ready (silent_for_lem K pos h) pos early, silence_holds a K ready (silent_for_lem K pos h))

@@ -3,8 +3,8 @@
 
 ghost use Rattle.std.specs.Prelude.{◌≡◌, ◌+◌, ◌-◌, ◌<◌};
 ghost use Rattle.station_state.specs.State.{number_in};
-ghost use Rattle.fast_station.specs.Forms.{heardGap, heardDeference, heardFor, heardRest, hearOn, restOn};
-ghost use Rattle.fast_station.specs.Forms.{emitsOn, emitsFor, emitOn};
+ghost use Rattle.fast_station.specs.Forms.{heard_gap, heard_deference, heard_for, heard_rest, hear_on, rest_on};
+ghost use Rattle.fast_station.specs.Forms.{emits_on, emits_for, emit_on};
 ghost use Rattle.fast_receive.specs.Received.{calmed};
 
 use sheet_layout::Figures;
@@ -15,7 +15,7 @@ use station_state::{Deference, Receiver, Station, Transmitter};
 // The steps, of m, in which a frame that waits does not start.
 fn heard_for(f: Figures, m: u32, d: Deference) -> u32
     requires { f.gap1 + f.gap2 < 65536 }
-    ensures { result ≡ heardFor f m d }
+    ensures { result ≡ heard_for f m d }
 {
     match d {
         Deference::Quiet => m,
@@ -35,7 +35,7 @@ fn heard_for(f: Figures, m: u32, d: Deference) -> u32
 // The steps, of m, in which no frame starts and none goes out.
 pub fn heard_rest(f: Figures, m: u32, d: Deference, x: Transmitter) -> u32
     requires { f.gap1 + f.gap2 < 65536 }
-    ensures { result ≡ heardRest f m d x }
+    ensures { result ≡ heard_rest f m d x }
 {
     match x {
         Transmitter::NoFrame => m,
@@ -50,7 +50,7 @@ pub fn heard_rest(f: Figures, m: u32, d: Deference, x: Transmitter) -> u32
 // A gap in which others were heard for m steps.
 fn hear_gap(f: Figures, m: u32, count: u32, own: bool) -> Deference
     requires { f.gap1 + f.gap2 < 65536 }
-    ensures { result ≡ heardGap f m count own }
+    ensures { result ≡ heard_gap f m count own }
 {
     let g = f.gap1 + f.gap2;
     if station_defer::goes_back(f.gap1, count, own, true) {
@@ -71,7 +71,7 @@ fn hear_gap(f: Figures, m: u32, count: u32, own: bool) -> Deference
 // A deference after m steps in which others are heard.
 pub fn hear_deference(f: Figures, m: u32, d: Deference) -> Deference
     requires { f.gap1 + f.gap2 < 65536 }
-    ensures { result ≡ heardDeference f m d }
+    ensures { result ≡ heard_deference f m d }
 {
     match d {
         Deference::Quiet => {
@@ -93,7 +93,7 @@ pub fn hear_deference(f: Figures, m: u32, d: Deference) -> Deference
 // A station that heard others for m steps; its receiver is r then.
 pub fn hear_on(f: Figures, m: u32, r: Receiver, s: Station) -> Station
     requires { f.gap1 + f.gap2 < 65536 }
-    ensures { result ≡ hearOn f m r s }
+    ensures { result ≡ hear_on f m r s }
 {
     let address = s.address;
     let d = s.deference;
@@ -142,7 +142,7 @@ pub fn calm(m: u32, r: Receiver) -> Receiver
 // A station that heard nothing for m steps, and whose reception, if there was one, reported nothing.
 pub fn rest_on(f: Figures, m: u32, s: Station) -> Station
     requires { f.gap1 + f.gap2 < 65536 }
-    ensures { result ≡ restOn f m s }
+    ensures { result ≡ rest_on f m s }
 {
     let r = s.receiver;
     let t = fast_rest::rest(f, m, s);
@@ -169,7 +169,7 @@ pub fn rest_on(f: Figures, m: u32, s: Station) -> Station
 // frame.
 pub fn emits_for(octets: u32, x: Transmitter) -> u32
     requires { octets < 65536 }
-    ensures { result ≡ emitsFor octets x }
+    ensures { result ≡ emits_for octets x }
 {
     match x {
         Transmitter::NoFrame => 0,
@@ -193,7 +193,7 @@ fn less(x: u32, y: u32) -> u32
 
 fn emit_transmitter(f: Figures, m: u32, x: Transmitter) -> Transmitter
     requires { number_in x + m < 4294967296 }
-    ensures { result ≡ emitsOn f m x }
+    ensures { result ≡ emits_on f m x }
 {
     match x {
         Transmitter::NoFrame => Transmitter::NoFrame,
@@ -219,7 +219,7 @@ fn emit_transmitter(f: Figures, m: u32, x: Transmitter) -> Transmitter
 // A station that emitted for m steps; its receiver is r then.
 pub fn emit_on(f: Figures, m: u32, r: Receiver, s: Station) -> Station
     requires { number_in s.transmitter + m < 4294967296 }
-    ensures { result ≡ emitOn f m r s }
+    ensures { result ≡ emit_on f m r s }
 {
     let address = s.address;
     let x = s.transmitter;

@@ -15,138 +15,138 @@ use Rattle.station_state.specs.declared.Receiver.TheVariants.{Listening, Readabl
 use Rattle.station_state.specs.declared.Station.{Station}
 use Rattle.station_state.specs.State.{number_in}
 use Rattle.station_spec.specs.declared.Stored.TheVariants.{NoStore}
-use Rattle.station_spec.specs.Receive.{row_in, bitsIn, rowLimit}
-use Rattle.area.specs.Area.{stationAt, withStation}
+use Rattle.station_spec.specs.Receive.{row_in, bits_in, row_limit}
+use Rattle.area.specs.Area.{station_at, with_station}
 use Rattle.bus_spec.specs.Range.{Fine, NumberIn, FrameIn, ReceiverIn}
-use Rattle.fast_plan.specs.Goes.{storedAll, wentTo, station-all}
-use Rattle.fast_station.specs.Forms.{hearOn, restOn, emitOn}
-use Rattle.fast_receive.specs.Received.{taken, heardAll, receivedBy, keptBy, calmed}
-use Rattle.fast_receive.specs.ReceivedLaws.{heard-receiver, heard-octets}
-use Rattle.fast_stretch.specs.Stretch.{movedOn, heardStretch, quietOn, quietStretch, Room, Movable}
-use Rattle.sheet_layout.specs.Limits.{lastClock, maxStations}
+use Rattle.fast_plan.specs.Goes.{stored_all, went_to, station_all}
+use Rattle.fast_station.specs.Forms.{hear_on, rest_on, emit_on}
+use Rattle.fast_receive.specs.Received.{taken, heard_all, received_by, kept_by, calmed}
+use Rattle.fast_receive.specs.ReceivedLaws.{heard_receiver, heard_octets}
+use Rattle.fast_stretch.specs.Stretch.{moved_on, heard_stretch, quiet_on, quiet_stretch, Room, Movable}
+use Rattle.sheet_layout.specs.Limits.{last_clock, max_stations}
 
 -- ---- the code
 
 module _ (f : Figures) (m : ℕ) (s : Station) where
-  pub moved-emits : (e : Bool) (r : Receiver) (q : Station) → e ≡ true → q ≡ emitOn f m r s → q ≡ movedOn f e m r s
-  unfolding movedOn
-  moved-emits e r q p h = h ∙ sym (ap (λ (b : Bool). pick b (emitOn f m r s) (hearOn f m r s)) p)
+  pub moved_emits : (e : Bool) (r : Receiver) (q : Station) → e ≡ true → q ≡ emit_on f m r s → q ≡ moved_on f e m r s
+  unfolding moved_on
+  moved_emits e r q p h = h ∙ sym (ap (λ (b : Bool). pick b (emit_on f m r s) (hear_on f m r s)) p)
 
-  pub moved-hears : (e : Bool) (r : Receiver) (q : Station) → e ≡ false → q ≡ hearOn f m r s → q ≡ movedOn f e m r s
-  unfolding movedOn
-  moved-hears e r q p h = h ∙ sym (ap (λ (b : Bool). pick b (emitOn f m r s) (hearOn f m r s)) p)
+  pub moved_hears : (e : Bool) (r : Receiver) (q : Station) → e ≡ false → q ≡ hear_on f m r s → q ≡ moved_on f e m r s
+  unfolding moved_on
+  moved_hears e r q p h = h ∙ sym (ap (λ (b : Bool). pick b (emit_on f m r s) (hear_on f m r s)) p)
 
-  pub quiet-emits : (e : Bool) (r : Receiver) (q : Station) → e ≡ true → r ≡ calmed m s.receiver
-      → q ≡ emitOn f m r s → q ≡ quietOn f e m s
-  unfolding quietOn
-  quiet-emits e r q p c h =
-      h ∙ ap (λ (t : Receiver). emitOn f m t s) c
-      ∙ sym (ap (λ (b : Bool). pick b (emitOn f m (calmed m s.receiver) s) (restOn f m s)) p)
+  pub quiet_emits : (e : Bool) (r : Receiver) (q : Station) → e ≡ true → r ≡ calmed m s.receiver
+      → q ≡ emit_on f m r s → q ≡ quiet_on f e m s
+  unfolding quiet_on
+  quiet_emits e r q p c h =
+      h ∙ ap (λ (t : Receiver). emit_on f m t s) c
+      ∙ sym (ap (λ (b : Bool). pick b (emit_on f m (calmed m s.receiver) s) (rest_on f m s)) p)
 
-  pub quiet-rests : (e : Bool) (q : Station) → e ≡ false → q ≡ restOn f m s → q ≡ quietOn f e m s
-  unfolding quietOn
-  quiet-rests e q p h = h ∙ sym (ap (λ (b : Bool). pick b (emitOn f m (calmed m s.receiver) s) (restOn f m s)) p)
+  pub quiet_rests : (e : Bool) (q : Station) → e ≡ false → q ≡ rest_on f m s → q ≡ quiet_on f e m s
+  unfolding quiet_on
+  quiet_rests e q p h = h ∙ sym (ap (λ (b : Bool). pick b (emit_on f m (calmed m s.receiver) s) (rest_on f m s)) p)
 
 -- the bits first, then the record
-pub stretch-heard : (f : Figures) (e : Bool) (H : ℕ → Heard) (m j : ℕ) (x y z : List ℕ) (s t : Station) (q : Receiver)
-    → j < maxStations → s ≡ stationAt x j → taken q y ≡ heardAll j e H m (taken s.receiver x)
-    → t ≡ movedOn f e m q s → z ≡ withStation y j t → z ≡ heardStretch f e H m j x
-unfolding heardStretch wentTo
-stretch-heard f e H m j x y z s t q hj a h b c =
-    let r = (stationAt x j).receiver in
-    let k : taken q y ≡ heardAll j e H m (taken r x) = h
-    ∙ ap (λ (w : Station). heardAll j e H m (taken w.receiver x)) a in
-    let d : t ≡ movedOn f e m (receivedBy e H m r) (stationAt x j) = b
-    ∙ ap₂ (movedOn f e m) (heard-receiver j e H m r q x y k) a in
-    c ∙ ap₂ (λ (l : List ℕ) (w : Station). withStation l j w) (heard-octets j e H m r q x y k) d
-    ∙ station-all j (keptBy e H r) m (movedOn f e m (receivedBy e H m r) (stationAt x j)) x hj
+pub stretch_heard : (f : Figures) (e : Bool) (H : ℕ → Heard) (m j : ℕ) (x y z : List ℕ) (s t : Station) (q : Receiver)
+    → j < max_stations → s ≡ station_at x j → taken q y ≡ heard_all j e H m (taken s.receiver x)
+    → t ≡ moved_on f e m q s → z ≡ with_station y j t → z ≡ heard_stretch f e H m j x
+unfolding heard_stretch went_to
+stretch_heard f e H m j x y z s t q hj a h b c =
+    let r = (station_at x j).receiver in
+    let k : taken q y ≡ heard_all j e H m (taken r x) = h
+    ∙ ap (λ (w : Station). heard_all j e H m (taken w.receiver x)) a in
+    let d : t ≡ moved_on f e m (received_by e H m r) (station_at x j) = b
+    ∙ ap₂ (moved_on f e m) (heard_receiver j e H m r q x y k) a in
+    c ∙ ap₂ (λ (l : List ℕ) (w : Station). with_station l j w) (heard_octets j e H m r q x y k) d
+    ∙ station_all j (kept_by e H r) m (moved_on f e m (received_by e H m r) (station_at x j)) x hj
 
 -- nothing is stored
-none-stored : (j m : ℕ) (x : List ℕ) → storedAll j (λ s. NoStore) m x ≡ x
-unfolding storedAll turns
-none-stored j zero x = refl
-none-stored j (suc m) x = none-stored j m x
+none_stored : (j m : ℕ) (x : List ℕ) → stored_all j (λ s. NoStore) m x ≡ x
+unfolding stored_all turns
+none_stored j zero x = refl
+none_stored j (suc m) x = none_stored j m x
 
-pub stretch-quiet : (f : Figures) (e : Bool) (m j : ℕ) (x z : List ℕ) (s t : Station) → s ≡ stationAt x j
-    → t ≡ quietOn f e m s → z ≡ withStation x j t → z ≡ quietStretch f e m j x
-unfolding quietStretch wentTo
-stretch-quiet f e m j x z s t a b c =
-    c ∙ ap (withStation x j) (b ∙ ap (quietOn f e m) a)
-    ∙ sym (none-stored j m (withStation x j (quietOn f e m (stationAt x j))))
+pub stretch_quiet : (f : Figures) (e : Bool) (m j : ℕ) (x z : List ℕ) (s t : Station) → s ≡ station_at x j
+    → t ≡ quiet_on f e m s → z ≡ with_station x j t → z ≡ quiet_stretch f e m j x
+unfolding quiet_stretch went_to
+stretch_quiet f e m j x z s t a b c =
+    c ∙ ap (with_station x j) (b ∙ ap (quiet_on f e m) a)
+    ∙ sym (none_stored j m (with_station x j (quiet_on f e m (station_at x j))))
 
 -- each as a closed form that fast_plan/Goes speaks of
 module _ (f : Figures) (H : ℕ → Heard) (m j : ℕ) (x : List ℕ) where
-  pub stretch-hears : heardStretch f false H m j x
-      ≡ wentTo j (keptBy false H (stationAt x j).receiver) m
-      (hearOn f m (receivedBy false H m (stationAt x j).receiver) (stationAt x j)) x
-  unfolding heardStretch movedOn
-  stretch-hears = refl
+  pub stretch_hears : heard_stretch f false H m j x
+      ≡ went_to j (kept_by false H (station_at x j).receiver) m
+      (hear_on f m (received_by false H m (station_at x j).receiver) (station_at x j)) x
+  unfolding heard_stretch moved_on
+  stretch_hears = refl
 
-  pub stretch-emits : heardStretch f true H m j x
-      ≡ wentTo j (keptBy true H (stationAt x j).receiver) m
-      (emitOn f m (receivedBy true H m (stationAt x j).receiver) (stationAt x j)) x
-  unfolding heardStretch movedOn
-  stretch-emits = refl
+  pub stretch_emits : heard_stretch f true H m j x
+      ≡ went_to j (kept_by true H (station_at x j).receiver) m
+      (emit_on f m (received_by true H m (station_at x j).receiver) (station_at x j)) x
+  unfolding heard_stretch moved_on
+  stretch_emits = refl
 
-pub stretch-rests : (f : Figures) (m j : ℕ) (x : List ℕ)
-    → quietStretch f false m j x ≡ wentTo j (λ s. NoStore) m (restOn f m (stationAt x j)) x
-unfolding quietStretch quietOn
-stretch-rests f m j x = refl
+pub stretch_rests : (f : Figures) (m j : ℕ) (x : List ℕ)
+    → quiet_stretch f false m j x ≡ went_to j (λ s. NoStore) m (rest_on f m (station_at x j)) x
+unfolding quiet_stretch quiet_on
+stretch_rests f m j x = refl
 
-pub stretch-alone : (f : Figures) (m j : ℕ) (x : List ℕ)
-    → quietStretch f true m j x ≡ wentTo j (λ s. NoStore) m
-    (emitOn f m (calmed m (stationAt x j).receiver) (stationAt x j)) x
-unfolding quietStretch quietOn
-stretch-alone f m j x = refl
+pub stretch_alone : (f : Figures) (m j : ℕ) (x : List ℕ)
+    → quiet_stretch f true m j x ≡ went_to j (λ s. NoStore) m
+    (emit_on f m (calmed m (station_at x j).receiver) (station_at x j)) x
+unfolding quiet_stretch quiet_on
+stretch_alone f m j x = refl
 
 -- ---- room
 
-module _ (f : Figures) (m j : ℕ) (x : List ℕ) (s : Station) (v : Movable f m x j) (a : s ≡ stationAt x j) where
+module _ (f : Figures) (m j : ℕ) (x : List ℕ) (s : Station) (v : Movable f m x j) (a : s ≡ station_at x j) where
   room : Room f m s
   unfolding Movable
   room = subst (Room f m) (sym a) v
 
-  pub gap-room : f.gap1 + f.gap2 < 65536
-  gap-room = room.gap
+  pub gap_room : f.gap1 + f.gap2 < 65536
+  gap_room = room.gap
 
-  pub number-room : number_in s.transmitter + m < 4294967296
-  number-room = room.number
+  pub number_room : number_in s.transmitter + m < 4294967296
+  number_room = room.number
 
-  pub row_room : row_in s.receiver < rowLimit
+  pub row_room : row_in s.receiver < row_limit
   row_room = room.row
 
-  pub bits-room : bitsIn s.receiver + m < 4294967296
-  bits-room = room.bits
+  pub bits_room : bits_in s.receiver + m < 4294967296
+  bits_room = room.bits
 
-number-fine : (f : Figures) (z : ℕ) (x : Transmitter) → Figured f → NumberIn f z x → FrameIn x z → number_in x < 1048576
-number-fine f z NoFrame g n w = omega arith
-number-fine f z Waiting g n w = omega arith
-number-fine f z (BackingOff k) g n w = omega (arith, g.slot, n.1)
-number-fine f z (Sending k) g n w = omega arith
-number-fine f z (Heading k) g n w = omega arith
-number-fine f z (Jamming k ends) g n w = omega (arith, g.jam, n.1)
+number_fine : (f : Figures) (z : ℕ) (x : Transmitter) → Figured f → NumberIn f z x → FrameIn x z → number_in x < 1048576
+number_fine f z NoFrame g n w = omega arith
+number_fine f z Waiting g n w = omega arith
+number_fine f z (BackingOff k) g n w = omega (arith, g.slot, n.1)
+number_fine f z (Sending k) g n w = omega arith
+number_fine f z (Heading k) g n w = omega arith
+number_fine f z (Jamming k ends) g n w = omega (arith, g.jam, n.1)
 
-row_fine : (t : ℕ) (r : Receiver) → ReceiverIn t r → row_in r < rowLimit
+row_fine : (t : ℕ) (r : Receiver) → ReceiverIn t r → row_in r < row_limit
 row_fine t Listening v = omega arith
 row_fine t (Readable n) v = omega arith
 row_fine t (Seeking row sp own) v = omega arith
 row_fine t (Collecting n sp own) v = omega arith
 
-bits-fine : (t : ℕ) (r : Receiver) → ReceiverIn t r → bitsIn r ≤ t
-bits-fine t Listening v = omega arith
-bits-fine t (Readable n) v = omega arith
-bits-fine t (Seeking row sp own) v = omega arith
-bits-fine t (Collecting n sp own) v = v
+bits_fine : (t : ℕ) (r : Receiver) → ReceiverIn t r → bits_in r ≤ t
+bits_fine t Listening v = omega arith
+bits_fine t (Readable n) v = omega arith
+bits_fine t (Seeking row sp own) v = omega arith
+bits_fine t (Collecting n sp own) v = v
 
 -- a station whose record is in range can move
-pub fine-movable : (f : Figures) (d t m j : ℕ) (x : List ℕ) → Figured f → Fine f d t (stationAt x j)
-    → t + m ≤ lastClock → Movable f m x j
+pub fine_movable : (f : Figures) (d t m j : ℕ) (x : List ℕ) → Figured f → Fine f d t (station_at x j)
+    → t + m ≤ last_clock → Movable f m x j
 unfolding Movable
-fine-movable f d t m j x g v early =
+fine_movable f d t m j x g v early =
     record {
       gap = omega (arith, g.gap1, g.gap2);
       number =
-          omega (arith, number-fine f (stationAt x j).frame (stationAt x j).transmitter g v.number v.frame);
-      row = row_fine t (stationAt x j).receiver v.receiver;
-      bits = omega (arith, bits-fine t (stationAt x j).receiver v.receiver);
+          omega (arith, number_fine f (station_at x j).frame (station_at x j).transmitter g v.number v.frame);
+      row = row_fine t (station_at x j).receiver v.receiver;
+      bits = omega (arith, bits_fine t (station_at x j).receiver v.receiver);
     }

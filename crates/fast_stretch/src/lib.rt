@@ -2,11 +2,11 @@
 
 ghost use Rattle.std.specs.Prelude.{◌≡◌, ◌+◌, ◌<◌, ◌≤◌, length};
 ghost use Rattle.station_state.specs.State.{number_in};
-ghost use Rattle.area.specs.Area.{stationAt};
-ghost use Rattle.fast_receive.specs.Received.{spoils, lineFrom, bitsFrom, AllHeard};
-ghost use Rattle.fast_stretch.specs.Stretch.{Movable, movedOn, heardStretch, quietOn, quietStretch};
-ghost use Rattle.area.specs.Offsets.{areaSize};
-ghost use Rattle.sheet_layout.specs.Limits.{maxStations};
+ghost use Rattle.area.specs.Area.{station_at};
+ghost use Rattle.fast_receive.specs.Received.{spoils, line_from, bits_from, AllHeard};
+ghost use Rattle.fast_stretch.specs.Stretch.{Movable, moved_on, heard_stretch, quiet_on, quiet_stretch};
+ghost use Rattle.area.specs.Offsets.{area_size};
+ghost use Rattle.sheet_layout.specs.Limits.{max_stations};
 
 use sheet_layout::Figures;
 use station_state::{Receiver, Station};
@@ -14,7 +14,7 @@ use station_state::{Receiver, Station};
 // A station that heard others for m steps; e: whether it emitted in them; its receiver is r then.
 fn move_on(f: Figures, e: bool, m: u32, r: Receiver, s: Station) -> Station
     requires { (f.gap1 + f.gap2 < 65536) × (number_in s.transmitter + m < 4294967296) }
-    ensures { result ≡ movedOn f e m r s }
+    ensures { result ≡ moved_on f e m r s }
 {
     if e {
         return fast_station::emit_on(f, m, r, s);
@@ -24,9 +24,9 @@ fn move_on(f: Figures, e: bool, m: u32, r: Receiver, s: Station) -> Station
 
 // Station j, which is s, hears spoiled symbols for m steps.
 pub fn hear_spoiled(area: &mut [u8], j: usize, f: Figures, e: bool, m: u32, s: Station)
-    requires { (j < maxStations) × (areaSize ≤ length area.old) × Movable f m area.old j
-        × (s ≡ stationAt area.old j) }
-    ensures { area.new ≡ heardStretch f e spoils m j area.old }
+    requires { (j < max_stations) × (area_size ≤ length area.old) × Movable f m area.old j
+        × (s ≡ station_at area.old j) }
+    ensures { area.new ≡ heard_stretch f e spoils m j area.old }
 {
     let r = s.receiver;
     let q = fast_receive::hear_spoiled(area, j, e, r, m);
@@ -36,9 +36,9 @@ pub fn hear_spoiled(area: &mut [u8], j: usize, f: Figures, e: bool, m: u32, s: S
 
 // Station j, which is s, hears for m steps what its line holds from step u on.
 pub fn hear_line(area: &mut [u8], j: usize, f: Figures, e: bool, u: usize, m: u32, s: Station)
-    requires { (j < maxStations) × (areaSize ≤ length area.old) × Movable f m area.old j
-        × (s ≡ stationAt area.old j) × (u + m < 4294967296) × AllHeard (lineFrom area.old j u) m }
-    ensures { area.new ≡ heardStretch f e (lineFrom area.old j u) m j area.old }
+    requires { (j < max_stations) × (area_size ≤ length area.old) × Movable f m area.old j
+        × (s ≡ station_at area.old j) × (u + m < 4294967296) × AllHeard (line_from area.old j u) m }
+    ensures { area.new ≡ heard_stretch f e (line_from area.old j u) m j area.old }
 {
     let r = s.receiver;
     let q = fast_receive::hear_line(area, j, u, e, r, m);
@@ -57,9 +57,9 @@ pub fn hear_packet(
     m: u32,
     s: Station,
 )
-    requires { (j < maxStations) × (areaSize ≤ length area.old) × Movable f m area.old j
-        × (s ≡ stationAt area.old j) × (a + m < 4294967296) }
-    ensures { area.new ≡ heardStretch f e (bitsFrom frame.now a) m j area.old }
+    requires { (j < max_stations) × (area_size ≤ length area.old) × Movable f m area.old j
+        × (s ≡ station_at area.old j) × (a + m < 4294967296) }
+    ensures { area.new ≡ heard_stretch f e (bits_from frame.now a) m j area.old }
 {
     let r = s.receiver;
     let q = fast_receive::hear_packet(area, j, frame, a, e, r, m);
@@ -70,7 +70,7 @@ pub fn hear_packet(
 // A station that heard nothing for m steps; e: whether it emitted in them.
 fn keep_on(f: Figures, e: bool, m: u32, s: Station) -> Station
     requires { (f.gap1 + f.gap2 < 65536) × (number_in s.transmitter + m < 4294967296) }
-    ensures { result ≡ quietOn f e m s }
+    ensures { result ≡ quiet_on f e m s }
 {
     if e {
         let r = s.receiver;
@@ -81,9 +81,9 @@ fn keep_on(f: Figures, e: bool, m: u32, s: Station) -> Station
 
 // Station j, which is s, hears nothing for m steps.
 pub fn hear_nothing(area: &mut [u8], j: usize, f: Figures, e: bool, m: u32, s: Station)
-    requires { (j < maxStations) × (areaSize ≤ length area.old) × Movable f m area.old j
-        × (s ≡ stationAt area.old j) }
-    ensures { area.new ≡ quietStretch f e m j area.old }
+    requires { (j < max_stations) × (area_size ≤ length area.old) × Movable f m area.old j
+        × (s ≡ station_at area.old j) }
+    ensures { area.new ≡ quiet_stretch f e m j area.old }
 {
     let next = keep_on(f, e, m, s);
     area::write_station(area, j, next);

@@ -5,7 +5,7 @@ use Rattle.octets.specs.Turns.{turns}
 use Rattle.sheet_layout.specs.declared.Figures.{Figures}
 use Rattle.station_symbols.specs.declared.Symbol.{Symbol}
 use Rattle.station_symbols.specs.declared.Emission.{Emission}
-use Rattle.station_symbols.specs.Packet.{hearsAny, isEmission, symbol_of}
+use Rattle.station_symbols.specs.Packet.{hears_any, is_emission, symbol_of}
 use Rattle.station_state.specs.declared.Deference.{Deference}
 use Rattle.station_state.specs.declared.Transmitter.{Transmitter}
 use Rattle.station_state.specs.declared.Station.{Station}
@@ -13,9 +13,9 @@ use Rattle.station_spec.specs.declared.Deferred.{Deferred}
 use Rattle.station_spec.specs.declared.Transmitted.{Transmitted}
 use Rattle.station_spec.specs.declared.TransmitEvent.{TransmitEvent}
 use Rattle.station_spec.specs.Defer.{defer}
-use Rattle.station_spec.specs.Transmit.{waits, octetsHeld, transmit}
-use Rattle.station_spec.specs.Step.{triesAfter, drawAfter, deferredAfter}
-use Rattle.area.specs.Area.{depthAt, drawAt, figuresAt, stationAt, frame_at}
+use Rattle.station_spec.specs.Transmit.{waits, octets_held, transmit}
+use Rattle.station_spec.specs.Step.{tries_after, draw_after, deferred_after}
+use Rattle.area.specs.Area.{depth_at, draw_at, figures_at, station_at, frame_at}
 use Rattle.fast_plan.specs.Plan.{Plan, hears}
 
 pub record Talker : Type 0 where
@@ -27,8 +27,8 @@ pub record Talker : Type 0 where
   pub deferred : Bool
   pub emitted : Bool
 
-unfoldable pub talkerOf : Station → Talker
-talkerOf s =
+unfoldable pub talker_of : Station → Talker
+talker_of s =
     record {
       deference = s.deference;
       transmitter = s.transmitter;
@@ -41,46 +41,46 @@ talkerOf s =
 
 -- ---- a step, on whether anything is heard
 
-abbrev pub deferringOn : Figures → Talker → (on : Bool) → Deferred
-deferringOn f t on = defer f t.deference on t.emitted (waits t.transmitter)
+abbrev pub deferring_on : Figures → Talker → (on : Bool) → Deferred
+deferring_on f t on = defer f t.deference on t.emitted (waits t.transmitter)
 
-abbrev pub sendingOn : Figures → Talker → (draw : ℕ) → (on : Bool) → Transmitted
-sendingOn f t draw on =
-    transmit f t.transmitter t.frame (triesAfter t.attempts (deferringOn f t on).start) draw
-    (deferringOn f t on).start on
+abbrev pub sending_on : Figures → Talker → (draw : ℕ) → (on : Bool) → Transmitted
+sending_on f t draw on =
+    transmit f t.transmitter t.frame (tries_after t.attempts (deferring_on f t on).start) draw
+    (deferring_on f t on).start on
 
 unfoldable pub talked : Figures → (draws draw : ℕ) → (on : Bool) → Talker → Talker
 talked f draws draw on t =
     record {
-      deference = (deferringOn f t on).phase;
-      transmitter = (sendingOn f t draw on).phase;
+      deference = (deferring_on f t on).phase;
+      transmitter = (sending_on f t draw on).phase;
       frame = t.frame;
-      attempts = triesAfter t.attempts (deferringOn f t on).start;
-      draw = drawAfter t.draw draws (sendingOn f t draw on).drew;
-      deferred = deferredAfter t.deferred (waits t.transmitter) t.attempts (deferringOn f t on).start;
-      emitted = isEmission (sendingOn f t draw on).emission;
+      attempts = tries_after t.attempts (deferring_on f t on).start;
+      draw = draw_after t.draw draws (sending_on f t draw on).drew;
+      deferred = deferred_after t.deferred (waits t.transmitter) t.attempts (deferring_on f t on).start;
+      emitted = is_emission (sending_on f t draw on).emission;
     }
 
 -- m steps, in which something is heard where C says so; g k is draw k
-unfoldable pub talkedBy : Figures → (draws : ℕ) → (g : ℕ → ℕ) → (C : ℕ → Bool) → (m : ℕ) → Talker → Talker
-talkedBy f draws g C m t = turns (λ s u. talked f draws (g u.draw) (C s) u) m t
+unfoldable pub talked_by : Figures → (draws : ℕ) → (g : ℕ → ℕ) → (C : ℕ → Bool) → (m : ℕ) → Talker → Talker
+talked_by f draws g C m t = turns (λ s u. talked f draws (g u.draw) (C s) u) m t
 
 -- ---- in an area, by a plan
 
 -- the carrier
-unfoldable pub carrierAt : List ℕ → Plan → (i s : ℕ) → Bool
-carrierAt a P i s = hearsAny (hears a P i s)
+unfoldable pub carrier_at : List ℕ → Plan → (i s : ℕ) → Bool
+carrier_at a P i s = hears_any (hears a P i s)
 
-unfoldable pub talkerAt : List ℕ → Plan → (i s : ℕ) → Talker
-talkerAt a P i s =
-    talkedBy (figuresAt a) (depthAt a) (drawAt a i) (carrierAt a P i) s (talkerOf (stationAt a i))
+unfoldable pub talker_at : List ℕ → Plan → (i s : ℕ) → Talker
+talker_at a P i s =
+    talked_by (figures_at a) (depth_at a) (draw_at a i) (carrier_at a P i) s (talker_of (station_at a i))
 
 -- what it emits, and its event
-unfoldable pub saidAt : List ℕ → Plan → (i s : ℕ) → Transmitted
-saidAt a P i s =
-    sendingOn (figuresAt a) (talkerAt a P i s) (drawAt a i (talkerAt a P i s).draw) (carrierAt a P i s)
+unfoldable pub said_at : List ℕ → Plan → (i s : ℕ) → Transmitted
+said_at a P i s =
+    sending_on (figures_at a) (talker_at a P i s) (draw_at a i (talker_at a P i s).draw) (carrier_at a P i s)
 
-unfoldable pub symbolSaid : List ℕ → Plan → (i s : ℕ) → Symbol
-symbolSaid a P i s =
-    symbol_of (frame_at a i (octetsHeld (talkerAt a P i s).transmitter (talkerAt a P i s).frame))
-    (saidAt a P i s).emission
+unfoldable pub symbol_said : List ℕ → Plan → (i s : ℕ) → Symbol
+symbol_said a P i s =
+    symbol_of (frame_at a i (octets_held (talker_at a P i s).transmitter (talker_at a P i s).frame))
+    (said_at a P i s).emission

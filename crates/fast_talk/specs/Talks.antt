@@ -9,143 +9,143 @@ use Rattle.octets.specs.Turns.{turns}
 use Rattle.sheet_layout.specs.declared.Figures.{Figures}
 use Rattle.station_symbols.specs.declared.Heard.{Heard}
 use Rattle.station_symbols.specs.declared.Emission.{Emission}
-use Rattle.station_symbols.specs.Packet.{hearsAny, symbol_of}
+use Rattle.station_symbols.specs.Packet.{hears_any, symbol_of}
 use Rattle.station_state.specs.declared.Station.{Station}
 use Rattle.station_spec.specs.declared.Stepped.{Stepped}
 use Rattle.station_spec.specs.declared.Transmitted.{Transmitted}
-use Rattle.station_spec.specs.Transmit.{octetsHeld}
-use Rattle.station_spec.specs.Step.{nextStation, stepped}
-use Rattle.area.specs.Area.{clockAt, depthAt, drawAt, figuresAt, countAt, stationAt, frame_at, bufferAt}
-use Rattle.area.specs.AreaLaws.{draw-by, frame-by}
+use Rattle.station_spec.specs.Transmit.{octets_held}
+use Rattle.station_spec.specs.Step.{next_station, stepped}
+use Rattle.area.specs.Area.{clock_at, depth_at, draw_at, figures_at, count_at, station_at, frame_at, buffer_at}
+use Rattle.area.specs.AreaLaws.{draw_by, frame_by}
 use Rattle.bus_spec.specs.declared.Act.{Act}
 use Rattle.bus_spec.specs.Range.{held_small}
 use Rattle.bus_spec.specs.Ready.{Readiness}
-use Rattle.fast_plan.specs.Own.{outcomeOn, actOn, byItself, by-itself-more, by-itself-none, length-itself, itself-stays}
-use Rattle.fast_plan.specs.Plan.{Plan, hears, ownAfter, actAfter, Holds}
+use Rattle.fast_plan.specs.Own.{outcome_on, act_on, by_itself, by_itself_more, by_itself_none, length_itself, itself_stays}
+use Rattle.fast_plan.specs.Plan.{Plan, hears, own_after, act_after, Holds}
 use Rattle.fast_plan.specs.Prefix.{Unhurt}
-use Rattle.fast_segment.specs.Alone.{Moves, turn-station, itself-moves}
-use Rattle.fast_talk.specs.Talk.{Talker, talkerOf, sendingOn, talked, talkedBy, carrierAt, talkerAt, saidAt}
-use Rattle.fast_talk.specs.Talk.{symbolSaid}
-use Rattle.station_tally.specs.Words.{endsRun}
-use Rattle.area.specs.Offsets.{areaSize, frameRoom}
-use Rattle.sheet_layout.specs.Limits.{lastClock, maxDraws, maxStations}
+use Rattle.fast_segment.specs.Alone.{Moves, turn_station, itself_moves}
+use Rattle.fast_talk.specs.Talk.{Talker, talker_of, sending_on, talked, talked_by, carrier_at, talker_at, said_at}
+use Rattle.fast_talk.specs.Talk.{symbol_said}
+use Rattle.station_tally.specs.Words.{ends_run}
+use Rattle.area.specs.Offsets.{area_size, frame_room}
+use Rattle.sheet_layout.specs.Limits.{last_clock, max_draws, max_stations}
 
 -- ---- a step
 
-pub talked-step : (f : Figures) (s : Station) (draws draw : ℕ) (buffer : List ℕ) (h : Heard)
-    → talkerOf (stepped f s draws draw buffer h).station ≡ talked f draws draw (hearsAny h) (talkerOf s)
-unfolding talkerOf talked stepped nextStation
-talked-step f s draws draw buffer h = refl
+pub talked_step : (f : Figures) (s : Station) (draws draw : ℕ) (buffer : List ℕ) (h : Heard)
+    → talker_of (stepped f s draws draw buffer h).station ≡ talked f draws draw (hears_any h) (talker_of s)
+unfolding talker_of talked stepped next_station
+talked_step f s draws draw buffer h = refl
 
-pub said-step : (f : Figures) (s : Station) (draws draw : ℕ) (buffer : List ℕ) (h : Heard)
-    → (stepped f s draws draw buffer h).emission ≡ (sendingOn f (talkerOf s) draw (hearsAny h)).emission
-unfolding talkerOf stepped
-said-step f s draws draw buffer h = refl
+pub said_step : (f : Figures) (s : Station) (draws draw : ℕ) (buffer : List ℕ) (h : Heard)
+    → (stepped f s draws draw buffer h).emission ≡ (sending_on f (talker_of s) draw (hears_any h)).emission
+unfolding talker_of stepped
+said_step f s draws draw buffer h = refl
 
-pub event-step : (f : Figures) (s : Station) (draws draw : ℕ) (buffer : List ℕ) (h : Heard)
-    → (stepped f s draws draw buffer h).sent ≡ (sendingOn f (talkerOf s) draw (hearsAny h)).event
-unfolding talkerOf stepped
-event-step f s draws draw buffer h = refl
+pub event_step : (f : Figures) (s : Station) (draws draw : ℕ) (buffer : List ℕ) (h : Heard)
+    → (stepped f s draws draw buffer h).sent ≡ (sending_on f (talker_of s) draw (hears_any h)).event
+unfolding talker_of stepped
+event_step f s draws draw buffer h = refl
 
-draw-of : (s : Station) → s.draw ≡ (talkerOf s).draw
-unfolding talkerOf
-draw-of s = refl
+draw_of_lem : (s : Station) → s.draw ≡ (talker_of s).draw
+unfolding talker_of
+draw_of_lem s = refl
 
-held_of : (s : Station) → octetsHeld s.transmitter s.frame ≡ octetsHeld (talkerOf s).transmitter
-    (talkerOf s).frame
-unfolding talkerOf
+held_of : (s : Station) → octets_held s.transmitter s.frame ≡ octets_held (talker_of s).transmitter
+    (talker_of s).frame
+unfolding talker_of
 held_of s = refl
 
 -- ---- many steps
 
 module _ (f : Figures) (D i t : ℕ) (a : List ℕ) (v : Moves f D i t a) (H : ℕ → Heard) where
   C : ℕ → Bool
-  C s = hearsAny (H s)
+  C s = hears_any (H s)
 
   after : ℕ → List ℕ
-  after m = byItself f D i H m a
+  after m = by_itself f D i H m a
 
   -- its draws and its frame stay
-  drawn : (m k : ℕ) → k < maxDraws → drawAt (after m) i k ≡ drawAt a i k
+  drawn : (m k : ℕ) → k < max_draws → draw_at (after m) i k ≡ draw_at a i k
   unfolding after
-  drawn m k h = draw-by (after m) a i k v.index h (itself-stays f D i H m a v.index).draws
+  drawn m k h = draw_by (after m) a i k v.index h (itself_stays f D i H m a v.index).draws
 
-  framed : (m z : ℕ) → z ≤ frameRoom → frame_at (after m) i z ≡ frame_at a i z
+  framed : (m z : ℕ) → z ≤ frame_room → frame_at (after m) i z ≡ frame_at a i z
   unfolding after
   framed m z h =
-      frame-by (after m) a i z v.index h (omega (arith, length-itself f D i H m a, v.room)) v.room
-      (itself-stays f D i H m a v.index).frame
+      frame_by (after m) a i z v.index h (omega (arith, length_itself f D i H m a, v.room)) v.room
+      (itself_stays f D i H m a v.index).frame
 
   there : ℕ → Station
-  there m = stationAt (after m) i
+  there m = station_at (after m) i
 
   module _ (m : ℕ) (early : t + m < 4294967294) where
     moves : Moves f D i (t + m) (after m)
     unfolding after
-    moves = itself-moves f D i H m t a (omega arith) v
+    moves = itself_moves f D i H m t a (omega arith) v
 
-    small : (there m).draw < maxDraws
+    small : (there m).draw < max_draws
     unfolding there
     small = omega (arith, moves.fine.draw, v.depth)
 
-    step-draw : drawAt (after m) i (there m).draw ≡ drawAt a i (talkerOf (there m)).draw
-    step-draw = drawn m (there m).draw small ∙ ap (drawAt a i) (draw-of (there m))
+    step_draw : draw_at (after m) i (there m).draw ≡ draw_at a i (talker_of (there m)).draw
+    step_draw = drawn m (there m).draw small ∙ ap (draw_at a i) (draw_of_lem (there m))
 
     -- one turn more
-    turned : there (suc m) ≡ (actOn f D i (H m) (after m)).outcome.station
+    turned : there (suc m) ≡ (act_on f D i (H m) (after m)).outcome.station
     unfolding there after
     turned =
-        ap (λ (x : List ℕ). stationAt x i) (by-itself-more f D i H m a)
-        ∙ turn-station f D i (H m) (t + m) (after m) moves (omega arith)
+        ap (λ (x : List ℕ). station_at x i) (by_itself_more f D i H m a)
+        ∙ turn_station f D i (H m) (t + m) (after m) moves (omega arith)
 
-    talk-step : talkerOf (there (suc m))
-        ≡ talked f D (drawAt a i (talkerOf (there m)).draw) (C m) (talkerOf (there m))
-    unfolding there actOn outcomeOn C
-    talk-step =
-        ap talkerOf turned
-        ∙ talked-step f (there m) D (drawAt (after m) i (there m).draw) (bufferAt (after m) i) (H m)
-        ∙ ap (λ (w : ℕ). talked f D w (C m) (talkerOf (there m))) step-draw
+    talk_step : talker_of (there (suc m))
+        ≡ talked f D (draw_at a i (talker_of (there m)).draw) (C m) (talker_of (there m))
+    unfolding there act_on outcome_on C
+    talk_step =
+        ap talker_of turned
+        ∙ talked_step f (there m) D (draw_at (after m) i (there m).draw) (buffer_at (after m) i) (H m)
+        ∙ ap (λ (w : ℕ). talked f D w (C m) (talker_of (there m))) step_draw
 
-    talk-emission : (actOn f D i (H m) (after m)).outcome.emission
-        ≡ (sendingOn f (talkerOf (there m)) (drawAt a i (talkerOf (there m)).draw) (C m)).emission
-    unfolding there actOn outcomeOn C
-    talk-emission =
-        said-step f (there m) D (drawAt (after m) i (there m).draw) (bufferAt (after m) i) (H m)
-        ∙ ap (λ (w : ℕ). (sendingOn f (talkerOf (there m)) w (C m)).emission) step-draw
+    talk_emission : (act_on f D i (H m) (after m)).outcome.emission
+        ≡ (sending_on f (talker_of (there m)) (draw_at a i (talker_of (there m)).draw) (C m)).emission
+    unfolding there act_on outcome_on C
+    talk_emission =
+        said_step f (there m) D (draw_at (after m) i (there m).draw) (buffer_at (after m) i) (H m)
+        ∙ ap (λ (w : ℕ). (sending_on f (talker_of (there m)) w (C m)).emission) step_draw
 
-    talk-event : (actOn f D i (H m) (after m)).outcome.sent
-        ≡ (sendingOn f (talkerOf (there m)) (drawAt a i (talkerOf (there m)).draw) (C m)).event
-    unfolding there actOn outcomeOn C
-    talk-event =
-        event-step f (there m) D (drawAt (after m) i (there m).draw) (bufferAt (after m) i) (H m)
-        ∙ ap (λ (w : ℕ). (sendingOn f (talkerOf (there m)) w (C m)).event) step-draw
+    talk_event : (act_on f D i (H m) (after m)).outcome.sent
+        ≡ (sending_on f (talker_of (there m)) (draw_at a i (talker_of (there m)).draw) (C m)).event
+    unfolding there act_on outcome_on C
+    talk_event =
+        event_step f (there m) D (draw_at (after m) i (there m).draw) (buffer_at (after m) i) (H m)
+        ∙ ap (λ (w : ℕ). (sending_on f (talker_of (there m)) w (C m)).event) step_draw
 
-    held : octetsHeld (there m).transmitter (there m).frame ≤ frameRoom
+    held : octets_held (there m).transmitter (there m).frame ≤ frame_room
     unfolding there
     held = omega (arith, held_small (there m).frame (there m).transmitter moves.fine.frame)
 
-    talk-symbol : (actOn f D i (H m) (after m)).symbol
-        ≡ symbol_of (frame_at a i (octetsHeld (talkerOf (there m)).transmitter (talkerOf (there m)).frame))
-        (actOn f D i (H m) (after m)).outcome.emission
-    unfolding there actOn outcomeOn
-    talk-symbol =
-        ap (λ (l : List ℕ). symbol_of l (actOn f D i (H m) (after m)).outcome.emission)
-        (framed m (octetsHeld (there m).transmitter (there m).frame) held
+    talk_symbol : (act_on f D i (H m) (after m)).symbol
+        ≡ symbol_of (frame_at a i (octets_held (talker_of (there m)).transmitter (talker_of (there m)).frame))
+        (act_on f D i (H m) (after m)).outcome.emission
+    unfolding there act_on outcome_on
+    talk_symbol =
+        ap (λ (l : List ℕ). symbol_of l (act_on f D i (H m) (after m)).outcome.emission)
+        (framed m (octets_held (there m).transmitter (there m).frame) held
         ∙ ap (frame_at a i) (held_of (there m)))
 
-  talk-by : (m : ℕ) → t + m < 4294967295
-      → talkerOf (there m) ≡ talkedBy f D (drawAt a i) C m (talkerOf (stationAt a i))
-  unfolding talkedBy turns there after
-  talk-by zero h = ap (λ (x : List ℕ). talkerOf (stationAt x i)) (by-itself-none f D i H a)
-  talk-by (suc m) h =
-      talk-step m (omega arith)
-      ∙ ap (λ (u : Talker). talked f D (drawAt a i u.draw) (C m) u) (talk-by m (omega arith))
+  talk_by : (m : ℕ) → t + m < 4294967295
+      → talker_of (there m) ≡ talked_by f D (draw_at a i) C m (talker_of (station_at a i))
+  unfolding talked_by turns there after
+  talk_by zero h = ap (λ (x : List ℕ). talker_of (station_at x i)) (by_itself_none f D i H a)
+  talk_by (suc m) h =
+      talk_step m (omega arith)
+      ∙ ap (λ (u : Talker). talked f D (draw_at a i u.draw) (C m) u) (talk_by m (omega arith))
 
 -- ---- by a plan
 
-module _ (a : List ℕ) (P : Plan) (r : Readiness a) (i s : ℕ) (hi : i < countAt a)
-    (early : clockAt a + s ≤ lastClock) where
-  moving : Moves (figuresAt a) (depthAt a) i (clockAt a) a
+module _ (a : List ℕ) (P : Plan) (r : Readiness a) (i s : ℕ) (hi : i < count_at a)
+    (early : clock_at a + s ≤ last_clock) where
+  moving : Moves (figures_at a) (depth_at a) i (clock_at a) a
   moving =
       record {
         figured = r.figures;
@@ -155,34 +155,34 @@ module _ (a : List ℕ) (P : Plan) (r : Readiness a) (i s : ℕ) (hi : i < count
         fine = r.fine i hi;
       }
 
-  is-talker : talkerOf (stationAt (ownAfter a P i s) i) ≡ talkerAt a P i s
-  unfolding talkerAt ownAfter carrierAt there after C
-  is-talker = talk-by (figuresAt a) (depthAt a) i (clockAt a) a moving (hears a P i) s (omega arith)
+  is_talker : talker_of (station_at (own_after a P i s) i) ≡ talker_at a P i s
+  unfolding talker_at own_after carrier_at there after C
+  is_talker = talk_by (figures_at a) (depth_at a) i (clock_at a) a moving (hears a P i) s (omega arith)
 
   -- Theorem 8: what it emits, and its transmit event
-  pub said-symbol : (actAfter a P i s).symbol ≡ symbolSaid a P i s
-  unfolding actAfter ownAfter symbolSaid saidAt carrierAt there after C
-  said-symbol =
-      talk-symbol (figuresAt a) (depthAt a) i (clockAt a) a moving (hears a P i) s (omega arith)
-      ∙ ap₂ (λ (u : Talker) (e : Emission). symbol_of (frame_at a i (octetsHeld u.transmitter u.frame)) e)
-      is-talker
-      (talk-emission (figuresAt a) (depthAt a) i (clockAt a) a moving (hears a P i) s (omega arith)
-      ∙ ap (λ (u : Talker). (sendingOn (figuresAt a) u (drawAt a i u.draw) (carrierAt a P i s)).emission) is-talker)
+  pub said_symbol : (act_after a P i s).symbol ≡ symbol_said a P i s
+  unfolding act_after own_after symbol_said said_at carrier_at there after C
+  said_symbol =
+      talk_symbol (figures_at a) (depth_at a) i (clock_at a) a moving (hears a P i) s (omega arith)
+      ∙ ap₂ (λ (u : Talker) (e : Emission). symbol_of (frame_at a i (octets_held u.transmitter u.frame)) e)
+      is_talker
+      (talk_emission (figures_at a) (depth_at a) i (clock_at a) a moving (hears a P i) s (omega arith)
+      ∙ ap (λ (u : Talker). (sending_on (figures_at a) u (draw_at a i u.draw) (carrier_at a P i s)).emission) is_talker)
 
-  pub said-event : (actAfter a P i s).outcome.sent ≡ (saidAt a P i s).event
-  unfolding actAfter ownAfter saidAt carrierAt there after C
-  said-event =
-      talk-event (figuresAt a) (depthAt a) i (clockAt a) a moving (hears a P i) s (omega arith)
-      ∙ ap (λ (u : Talker). (sendingOn (figuresAt a) u (drawAt a i u.draw) (carrierAt a P i s)).event) is-talker
+  pub said_event : (act_after a P i s).outcome.sent ≡ (said_at a P i s).event
+  unfolding act_after own_after said_at carrier_at there after C
+  said_event =
+      talk_event (figures_at a) (depth_at a) i (clock_at a) a moving (hears a P i) s (omega arith)
+      ∙ ap (λ (u : Talker). (sending_on (figures_at a) u (draw_at a i u.draw) (carrier_at a P i s)).event) is_talker
 
 -- a plan holds where each says what it has
-pub talk-holds : (a : List ℕ) (P : Plan) (K : ℕ) → Readiness a → clockAt a + K ≤ lastClock
-    → ((i s : ℕ) → i < countAt a → s < K → symbolSaid a P i s ≡ P i s) → Holds a P K
+pub talk_holds : (a : List ℕ) (P : Plan) (K : ℕ) → Readiness a → clock_at a + K ≤ last_clock
+    → ((i s : ℕ) → i < count_at a → s < K → symbol_said a P i s ≡ P i s) → Holds a P K
 unfolding Holds
-talk-holds a P K r early h s i hs hi = said-symbol a P r i s hi (omega arith) ∙ h i s hi hs
+talk_holds a P K r early h s i hs hi = said_symbol a P r i s hi (omega arith) ∙ h i s hi hs
 
-pub talk-unhurt : (a : List ℕ) (P : Plan) (K : ℕ) → Readiness a → clockAt a + K ≤ lastClock
-    → ((i s : ℕ) → i < countAt a → s < K → endsRun (saidAt a P i s).event ≡ false) → Unhurt a P K
+pub talk_unhurt : (a : List ℕ) (P : Plan) (K : ℕ) → Readiness a → clock_at a + K ≤ last_clock
+    → ((i s : ℕ) → i < count_at a → s < K → ends_run (said_at a P i s).event ≡ false) → Unhurt a P K
 unfolding Unhurt
-talk-unhurt a P K r early h s i hs hi =
-    ap endsRun (said-event a P r i s hi (omega arith)) ∙ h i s hi hs
+talk_unhurt a P K r early h s i hs hi =
+    ap ends_run (said_event a P r i s hi (omega arith)) ∙ h i s hi hs

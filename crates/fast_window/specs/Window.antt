@@ -2,14 +2,14 @@
 use Rattle.std.specs.Prelude.{ℕ, ◌+◌, ◌-◌, ◌≤◌, ◌<◌, ◌≡◌, List}
 use Rattle.sheet_layout.specs.declared.Figures.{Figures}
 use Rattle.station_symbols.specs.declared.Heard.{Heard}
-use Rattle.area.specs.Area.{clockAt, depthAt, figuresAt, countAt}
+use Rattle.area.specs.Area.{clock_at, depth_at, figures_at, count_at}
 use Rattle.bus_spec.specs.Ready.{Readiness}
 use Rattle.fast_plan.specs.Plan.{steps}
 use Rattle.fast_plan.specs.Calm.{AllCalm}
-use Rattle.fast_plan.specs.Exact.{ownAll}
-use Rattle.fast_plan.specs.Placed.{linesDone}
+use Rattle.fast_plan.specs.Exact.{own_all}
+use Rattle.fast_plan.specs.Placed.{lines_done}
 use Rattle.fast_heard.specs.declared.Near.{Near}
-use Rattle.fast_heard.specs.Hearing.{plan_of, lineFrom, mixed, sends}
+use Rattle.fast_heard.specs.Hearing.{plan_of, line_from, mixed, sends}
 use Rattle.fast_bound.specs.Bound.{AllLast}
 
 -- ---- one station
@@ -20,22 +20,22 @@ bit_at k d s = k + (s - d)
 
 -- what was on its way to station j of area x at clock t, joined with what the nearest emitters bring, where the nearest
 -- sends the frame F from its packet bit k on; k is 0 where it jams
-unfoldable pub heardBy : List ℕ → (j t : ℕ) → Near → (F : List ℕ) (k : ℕ) → ℕ → Heard
-heardBy x j t w F k = mixed (lineFrom x j t) w (sends F k)
+unfoldable pub heard_by : List ℕ → (j t : ℕ) → Near → (F : List ℕ) (k : ℕ) → ℕ → Heard
+heard_by x j t w F k = mixed (line_from x j t) w (sends F k)
 
 -- from step s on
-unfoldable pub heardFrom : List ℕ → (j t : ℕ) → Near → (F : List ℕ) (k s : ℕ) → ℕ → Heard
-heardFrom x j t w F k s v = heardBy x j t w F k (s + v)
+unfoldable pub heard_from : List ℕ → (j t : ℕ) → Near → (F : List ℕ) (k s : ℕ) → ℕ → Heard
+heard_from x j t w F k s v = heard_by x j t w F k (s + v)
 
 -- ---- all stations
 
 -- what is read of a ready area before a window
 pub record Start (a : List ℕ) (f : Figures) (d n t : ℕ) : Type 0 where
   pub ready : Readiness a
-  pub figures : f ≡ figuresAt a
-  pub depth : d ≡ depthAt a
-  pub count : n ≡ countAt a
-  pub clock : t ≡ clockAt a
+  pub figures : f ≡ figures_at a
+  pub depth : d ≡ depth_at a
+  pub count : n ≡ count_at a
+  pub clock : t ≡ clock_at a
 
 -- shut, so that a search does not enter it
 unfoldable pub Begins : List ℕ → Figures → (d n t : ℕ) → Type 0
@@ -43,7 +43,7 @@ Begins a f d n t = Start a f d n t
 
 -- the stations after r steps, and then the lines
 unfoldable pub settled_of : List ℕ → (r : ℕ) → List ℕ
-settled_of a r = linesDone a (plan_of a) r (countAt a) (ownAll a (plan_of a) r (countAt a) a)
+settled_of a r = lines_done a (plan_of a) r (count_at a) (own_all a (plan_of a) r (count_at a) a)
 
 -- each emitter emits through all of r steps, of which there are some
 pub record Lasts (a : List ℕ) (r : ℕ) : Type 0 where

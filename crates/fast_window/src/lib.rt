@@ -2,19 +2,19 @@
 // itself, then the lines and the clock are set.
 
 ghost use Rattle.std.specs.Prelude.{◌≡◌, ◌+◌, ◌-◌, ◌<◌, ◌≤◌, length, take};
-ghost use Rattle.area.specs.Area.{clockAt, frame_at};
+ghost use Rattle.area.specs.Area.{clock_at, frame_at};
 ghost use Rattle.bus_spec.specs.Ready.{Ready};
 ghost use Rattle.bus_spec.specs.RunLaws.{Runnable};
 ghost use Rattle.fast_plan.specs.Plan.{steps};
-ghost use Rattle.fast_plan.specs.Own.{byItself};
-ghost use Rattle.fast_plan.specs.Exact.{ownAll};
-ghost use Rattle.fast_plan.specs.Turned.{turnedOf};
+ghost use Rattle.fast_plan.specs.Own.{by_itself};
+ghost use Rattle.fast_plan.specs.Exact.{own_all};
+ghost use Rattle.fast_plan.specs.Turned.{turned_of};
 ghost use Rattle.fast_heard.specs.Hearing.{plan_of};
 ghost use Rattle.fast_heard.specs.Sights.{sights_of};
 ghost use Rattle.fast_move.specs.Move.{Moving};
-ghost use Rattle.fast_window.specs.Window.{bit_at, heardBy, heardFrom, Begins, settled_of, Lasting, Passed};
-ghost use Rattle.sheet_layout.specs.Limits.{lastClock, maxStations};
-ghost use Rattle.area.specs.Offsets.{areaSize, frameRoom};
+ghost use Rattle.fast_window.specs.Window.{bit_at, heard_by, heard_from, Begins, settled_of, Lasting, Passed};
+ghost use Rattle.sheet_layout.specs.Limits.{last_clock, max_stations};
+ghost use Rattle.area.specs.Offsets.{area_size, frame_room};
 
 use fast_heard::{Near, Sight};
 use sheet_layout::Figures;
@@ -48,10 +48,10 @@ fn move_run(
     s: u32,
     m: u32,
 ) -> u32
-    requires { (j < maxStations) × (areaSize ≤ length area.old) × (s < m) × (t + m ≤ lastClock)
+    requires { (j < max_stations) × (area_size ≤ length area.old) × (s < m) × (t + m ≤ last_clock)
         × (bit + m < 4294967296) × (f.gap1 + f.gap2 < 65536) × Moving f depth j (t + s) area.old }
     ensures moved { area.new
-        ≡ byItself f depth j (heardFrom area.old j t near frame.now bit s) result
+        ≡ by_itself f depth j (heard_from area.old j t near frame.now bit s) result
         area.old }
     ensures bound { (0 < result) × (s + result ≤ m) }
 {
@@ -75,11 +75,11 @@ fn move_runs(
     frame: &[u8],
     m: u32,
 )
-    requires { (j < maxStations) × (areaSize ≤ length area.old) × (t + m ≤ lastClock) × (bit + m < 4294967296)
+    requires { (j < max_stations) × (area_size ≤ length area.old) × (t + m ≤ last_clock) × (bit + m < 4294967296)
         × (f.gap1 + f.gap2 < 65536)
         × Moving f depth j t area.old }
     ensures { area.new
-        ≡ byItself f depth j (heardBy area.old j t near frame.now bit) m area.old }
+        ≡ by_itself f depth j (heard_by area.old j t near frame.now bit) m area.old }
 {
     let mut s: u32 = 0;
     while s < m {
@@ -89,7 +89,7 @@ fn move_runs(
 
 // The first n octets are the frame of station i.
 fn hold_frame(area: &[u8], i: usize, n: usize) -> [u8; area::FRAME_ROOM]
-    requires { (i < maxStations) × (n ≤ frameRoom) × (areaSize ≤ length area.now) }
+    requires { (i < max_stations) × (n ≤ frame_room) × (area_size ≤ length area.now) }
     ensures { take n result ≡ frame_at area.now i n }
 {
     let mut held = [0u8; area::FRAME_ROOM];
@@ -99,12 +99,12 @@ fn hold_frame(area: &[u8], i: usize, n: usize) -> [u8; area::FRAME_ROOM]
 
 // Station j moves on over m steps from clock t on.
 fn move_station(area: &mut [u8], f: Figures, depth: u32, j: usize, t: u32, w: Sight, m: u32)
-    requires { (j < maxStations) × (areaSize ≤ length area.old) × (t + m ≤ lastClock) × (w.bit + m < 4294967296)
-        × (w.from < maxStations) × (w.octets ≤ frameRoom) × (f.gap1 + f.gap2 < 65536)
+    requires { (j < max_stations) × (area_size ≤ length area.old) × (t + m ≤ last_clock) × (w.bit + m < 4294967296)
+        × (w.from < max_stations) × (w.octets ≤ frame_room) × (f.gap1 + f.gap2 < 65536)
         × Moving f depth j t area.old }
     ensures { area.new
-        ≡ byItself f depth j
-        (heardBy area.old j t w.near (frame_at area.old w.from w.octets) w.bit) m
+        ≡ by_itself f depth j
+        (heard_by area.old j t w.near (frame_at area.old w.from w.octets) w.bit) m
         area.old }
 {
     let near = w.near;
@@ -117,10 +117,10 @@ fn move_station(area: &mut [u8], f: Figures, depth: u32, j: usize, t: u32, w: Si
 
 // Each of n stations moves on over m steps from clock t on, by what it heard of before.
 fn move_all(area: &mut [u8], f: Figures, depth: u32, n: usize, t: u32, seen: [Sight; 16], m: u32)
-    requires { (n ≤ maxStations) × (areaSize ≤ length area.old) × (t + m ≤ lastClock)
+    requires { (n ≤ max_stations) × (area_size ≤ length area.old) × (t + m ≤ last_clock)
         × Begins area.old f depth n t × (seen ≡ sights_of area.old n) }
     ensures { area.new
-        ≡ ownAll area.old (plan_of area.old) m n area.old }
+        ≡ own_all area.old (plan_of area.old) m n area.old }
 {
     let mut j: usize = 0;
     while j < n {
@@ -132,7 +132,7 @@ fn move_all(area: &mut [u8], f: Figures, depth: u32, n: usize, t: u32, seen: [Si
 
 // A window of r steps from clock t on, but for the clock: the stations, and then the lines.
 fn make_steps(area: &mut [u8], f: Figures, depth: u32, n: usize, t: u32, seen: [Sight; 16], r: u32)
-    requires { (n ≤ maxStations) × (areaSize ≤ length area.old) × (t + r ≤ lastClock)
+    requires { (n ≤ max_stations) × (area_size ≤ length area.old) × (t + r ≤ last_clock)
         × Begins area.old f depth n t × (seen ≡ sights_of area.old n) × Lasting area.old r }
     ensures { area.new ≡ settled_of area.old r }
 {
@@ -143,9 +143,9 @@ fn make_steps(area: &mut [u8], f: Figures, depth: u32, n: usize, t: u32, seen: [
 
 // A window of r steps from clock t on.
 fn make(area: &mut [u8], f: Figures, depth: u32, n: usize, t: u32, seen: [Sight; 16], r: u32)
-    requires { (n ≤ maxStations) × (areaSize ≤ length area.old) × (t + r ≤ lastClock)
+    requires { (n ≤ max_stations) × (area_size ≤ length area.old) × (t + r ≤ last_clock)
         × Begins area.old f depth n t × (seen ≡ sights_of area.old n) × Lasting area.old r }
-    ensures { area.new ≡ turnedOf area.old (plan_of area.old) r }
+    ensures { area.new ≡ turned_of area.old (plan_of area.old) r }
 {
     make_steps(area, f, depth, n, t, seen, r);
     area::write_clock(area, t + r);
@@ -155,7 +155,7 @@ fn make(area: &mut [u8], f: Figures, depth: u32, n: usize, t: u32, seen: [Sight;
 
 // Whether a station that emits nothing, by its record, emitted nothing before and does not start now.
 fn is_still(area: &[u8], f: Figures, i: usize, phase: u32) -> bool
-    requires { (i < maxStations) × (areaSize ≤ length area.now) × (f.gap1 + f.gap2 < 65536) }
+    requires { (i < max_stations) × (area_size ≤ length area.now) × (f.gap1 + f.gap2 < 65536) }
 {
     if area::read_word(area, i, area_record::words::EMITTED) != 0 {
         return false;
@@ -172,7 +172,7 @@ fn is_still(area: &[u8], f: Figures, i: usize, phase: u32) -> bool
 
 // Whether a station that emits did so before, and is not hit now while it sends.
 fn goes_on(area: &[u8], i: usize, phase: u32, t: u32) -> bool
-    requires { (i < maxStations) × (areaSize ≤ length area.now) }
+    requires { (i < max_stations) × (area_size ≤ length area.now) }
 {
     if phase == 3 {
         if area_line::read_symbol(area, i, t as usize) != 0 {
@@ -187,7 +187,7 @@ fn goes_on(area: &[u8], i: usize, phase: u32, t: u32) -> bool
 
 // Whether station i may allow a window at clock t.
 fn may_last(area: &[u8], f: Figures, i: usize, t: u32) -> bool
-    requires { (i < maxStations) × (areaSize ≤ length area.now) × (f.gap1 + f.gap2 < 65536) }
+    requires { (i < max_stations) × (area_size ≤ length area.now) × (f.gap1 + f.gap2 < 65536) }
 {
     let phase = area::read_word(area, i, area_record::words::PHASE);
     if phase < 3 {
@@ -198,7 +198,7 @@ fn may_last(area: &[u8], f: Figures, i: usize, t: u32) -> bool
 
 // Whether each of n stations may.
 fn is_worth(area: &[u8], f: Figures, n: usize, t: u32) -> bool
-    requires { (n ≤ maxStations) × (areaSize ≤ length area.now) × (f.gap1 + f.gap2 < 65536) }
+    requires { (n ≤ max_stations) × (area_size ≤ length area.now) × (f.gap1 + f.gap2 < 65536) }
 {
     let mut i: usize = 0;
     while i < n {
@@ -214,7 +214,7 @@ fn is_worth(area: &[u8], f: Figures, n: usize, t: u32) -> bool
 
 // r steps, one after the other.
 fn make_singly(area: &mut [u8], r: u32)
-    requires { (areaSize ≤ length area.old) × Runnable r area.old }
+    requires { (area_size ≤ length area.old) × Runnable r area.old }
     ensures { area.new ≡ steps r area.old }
 {
     let mut s: u32 = 0;
@@ -226,7 +226,7 @@ fn make_singly(area: &mut [u8], r: u32)
 
 // Of the next m steps, from clock t on, those that are a window.
 fn pass_from(area: &mut [u8], f: Figures, depth: u32, n: usize, t: u32, m: u32) -> u32
-    requires { (n ≤ maxStations) × (areaSize ≤ length area.old) × (t + m ≤ lastClock)
+    requires { (n ≤ max_stations) × (area_size ≤ length area.old) × (t + m ≤ last_clock)
         × Begins area.old f depth n t }
     ensures { Passed m result area.old area.new }
 {
@@ -248,7 +248,7 @@ fn pass_from(area: &mut [u8], f: Figures, depth: u32, n: usize, t: u32, m: u32) 
 
 // Of the next m steps those that are a window, where they are worth one: says how many.
 pub fn pass(area: &mut [u8], m: u32) -> u32
-    requires { (areaSize ≤ length area.old) × (clockAt area.old + m ≤ lastClock) × Ready area.old }
+    requires { (area_size ≤ length area.old) × (clock_at area.old + m ≤ last_clock) × Ready area.old }
     ensures { Passed m result area.old area.new }
 {
     let n = area::read_count(area) as usize;

@@ -4,8 +4,8 @@ use Rattle.std.specs.Prelude.{ℕ, ◌-◌, Bool, true, false, List, [], ◌∷�
 use Rattle.std.proofs.lemmas.List.Edits.{sets}
 use Rattle.octets.specs.Base.{pick, Answer, refused, accepted, Outcome, outcome}
 use Rattle.octets.specs.Number.{spelled}
-use Rattle.frame_crc.specs.Crc.{checkSequence}
-use Rattle.frame_build.specs.Limits.{minData, refusesData}
+use Rattle.frame_crc.specs.Crc.{check_sequence}
+use Rattle.frame_build.specs.Limits.{min_data, refuses_data}
 use Rattle.frame_build.specs.declared.builder.Built.{Built}
 use Rattle.frame_build.specs.declared.builder.Built.TheVariants.{Refused, Made}
 
@@ -15,7 +15,7 @@ header d s v = d ++ s ++ spelled 2 v
 
 -- "data padded with zeros to 46 octets"
 unfoldable pub padded : List ℕ → List ℕ
-padded x = x ++ replicate (minData - length x) 0
+padded x = x ++ replicate (min_data - length x) 0
 
 -- what the check sequence covers: all before it
 unfoldable pub covered : (d s : List ℕ) (v : ℕ) (x : List ℕ) → List ℕ
@@ -23,16 +23,16 @@ covered d s v x = header d s v ++ padded x
 
 -- "check sequence 4 (802.3's CRC-32)"
 unfoldable pub frame_of : (d s : List ℕ) (v : ℕ) (x : List ℕ) → List ℕ
-frame_of d s v x = covered d s v x ++ checkSequence (covered d s v x)
+frame_of d s v x = covered d s v x ++ check_sequence (covered d s v x)
 
 -- The builder, into the lent octets l: refusals 11 and 15, or the frame's length. "Octets past what is written stay."
 unfoldable pub built : (l d s : List ℕ) (v : ℕ) (x : List ℕ) → Outcome
 built l d s v x =
-    pick (refusesData v (length x)) (outcome (refused 11) l)
+    pick (refuses_data v (length x)) (outcome (refused 11) l)
     (pick (ltb (length l) (length (frame_of d s v x))) (outcome (refused 15) l)
     (outcome (accepted (length (frame_of d s v x) ∷ [])) (sets l 0 (frame_of d s v x))))
 
 -- what each case of the code's answer stands for
-abbrev pub builtAnswer : Built → Answer
-builtAnswer (Refused n) = refused n
-builtAnswer (Made n) = accepted (n ∷ [])
+abbrev pub built_answer : Built → Answer
+built_answer (Refused n) = refused n
+built_answer (Made n) = accepted (n ∷ [])

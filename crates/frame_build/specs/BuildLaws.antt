@@ -7,43 +7,43 @@ use Rattle.std.proofs.Math.ListN.{length, length-append}
 use Rattle.std.proofs.lemmas.List.{length-replicate}
 use Rattle.std.proofs.Math.Seq.{sets}
 use Rattle.octets.specs.Base.{pick, refused, accepted, outcome}
-use Rattle.octets.specs.BaseLaws.{by-test}
+use Rattle.octets.specs.BaseLaws.{by_test}
 use Rattle.octets.specs.Number.{spelled, put}
-use Rattle.octets.specs.NumberLaws.{length-spelled}
-use Rattle.octets.specs.Store.{sets-append, take-sets}
-use Rattle.frame_crc.specs.Crc.{checkSequence}
-use Rattle.frame_crc.specs.Division.{length-sequence}
-use Rattle.frame_build.specs.Limits.{tagValue, maxData, maxFrame, bufferOctets, refusesValue, refusesData}
+use Rattle.octets.specs.NumberLaws.{length_spelled}
+use Rattle.octets.specs.Store.{sets_append, take_sets}
+use Rattle.frame_crc.specs.Crc.{check_sequence}
+use Rattle.frame_crc.specs.Division.{length_sequence}
+use Rattle.frame_build.specs.Limits.{tag_value, max_data, max_frame, buffer_octets, refuses_value, refuses_data}
 use Rattle.frame_build.specs.Build.{header, padded, covered, frame_of, built}
 
 -- ---- refusal 11
 
-pub refuses-length : (v n : ℕ) → v ≤ 1500 → not (eqb v n) ≡ refusesValue v n
-unfolding refusesValue
-refuses-length v n h = rw (le-leb v 1500 h)
+pub refuses_length : (v n : ℕ) → v ≤ 1500 → not (eqb v n) ≡ refuses_value v n
+unfolding refuses_value
+refuses_length v n h = rw (le-leb v 1500 h)
 
-pub refuses-type : (v n : ℕ) → 1500 < v → ltb v 1536 ≡ refusesValue v n
-unfolding refusesValue
-refuses-type v n h = rw (lt-leb v 1500 h)
+pub refuses_type : (v n : ℕ) → 1500 < v → ltb v 1536 ≡ refuses_value v n
+unfolding refuses_value
+refuses_type v n h = rw (lt-leb v 1500 h)
 
-pub refuses-over : (v n k : ℕ) → k ≡ maxData v → k < n → true ≡ refusesData v n
-unfolding refusesData
-refuses-over v n k p h = rw (← p, lt-ltb k n h)
+pub refuses_over : (v n k : ℕ) → k ≡ max_data v → k < n → true ≡ refuses_data v n
+unfolding refuses_data
+refuses_over v n k p h = rw (← p, lt-ltb k n h)
 
-pub refuses-rest : (v n k : ℕ) (b : Bool) → k ≡ maxData v → n ≤ k → b ≡ refusesValue v n → b ≡ refusesData v n
-unfolding refusesData
-refuses-rest v n k b p h q = q ∙ rw (← p, le-ltb k n h)
+pub refuses_rest : (v n k : ℕ) (b : Bool) → k ≡ max_data v → n ≤ k → b ≡ refuses_value v n → b ≡ refuses_data v n
+unfolding refuses_data
+refuses_rest v n k b p h q = q ∙ rw (← p, le-ltb k n h)
 
 -- ---- sizes
 
-pub length-header : (d s : List ℕ) (v : ℕ) → length d ≡ 6 → length s ≡ 6 → length (header d s v) ≡ 14
+pub length_header : (d s : List ℕ) (v : ℕ) → length d ≡ 6 → length s ≡ 6 → length (header d s v) ≡ 14
 unfolding header
-length-header d s v p q =
-    length-append (d ++ s) (spelled 2 v) ∙ omega (arith, length-append d s, length-spelled 2 v)
+length_header d s v p q =
+    length-append (d ++ s) (spelled 2 v) ∙ omega (arith, length-append d s, length_spelled 2 v)
 
-pub length-padded : (x : List ℕ) → length (padded x) ≡ length x + (46 - length x)
+pub length_padded : (x : List ℕ) → length (padded x) ≡ length x + (46 - length x)
 unfolding padded
-length-padded x =
+length_padded x =
     length-append x (replicate (46 - length x) 0) ∙ omega (arith, length-replicate {A = ℕ} (46 - length x) 0)
 
 -- ---- the stores
@@ -54,13 +54,13 @@ pub header_is : (l a b c d s : List ℕ) (v : ℕ) → c ≡ put 2 b 12 v → b 
     → c ≡ sets l 0 (header d s v)
 unfolding header put
 header_is l a b c d s v p q r m n =
-    let two : b ≡ sets l 0 (d ++ s) = q ∙ rw r (sets-append d s l 0 6 (omega arith)) in
-    p ∙ rw two (sets-append (d ++ s) (spelled 2 v) l 0 12 (omega (arith, length-append d s)))
+    let two : b ≡ sets l 0 (d ++ s) = q ∙ rw r (sets_append d s l 0 6 (omega arith)) in
+    p ∙ rw two (sets_append (d ++ s) (spelled 2 v) l 0 12 (omega (arith, length-append d s)))
 
-take-zeros : (p m : ℕ) → p ≤ m → take p (replicate {A = ℕ} m 0) ≡ replicate p 0
-take-zeros zero m h = refl
-take-zeros (suc p) zero h = absurd (omega arith)
-take-zeros (suc p) (suc m) h = ap (λ (r : List ℕ). 0 ∷ r) (take-zeros p m (omega arith))
+take_zeros : (p m : ℕ) → p ≤ m → take p (replicate {A = ℕ} m 0) ≡ replicate p 0
+take_zeros zero m h = refl
+take_zeros (suc p) zero h = absurd (omega arith)
+take_zeros (suc p) (suc m) h = ap (λ (r : List ℕ). 0 ∷ r) (take_zeros p m (omega arith))
 
 -- data and padding
 pub data_is : (l a b x : List ℕ) (p : ℕ) → b ≡ sets a (14 + length x) (take (p - 0) (replicate 46 0))
@@ -69,61 +69,61 @@ pub data_is : (l a b x : List ℕ) (p : ℕ) → b ≡ sets a (14 + length x) (t
 unfolding padded
 data_is l a b x p q e r =
     let w : p - 0 ≡ 46 - length x = omega arith in
-    q ∙ rw (w, take-zeros (46 - length x) 46 (omega arith), r)
-    (sets-append x (replicate (46 - length x) 0) l 14 (14 + length x) refl)
+    q ∙ rw (w, take_zeros (46 - length x) 46 (omega arith), r)
+    (sets_append x (replicate (46 - length x) 0) l 14 (14 + length x) refl)
 
-pub covered-is : (l a b d s : List ℕ) (v : ℕ) (x : List ℕ) → b ≡ sets a 14 (padded x) → a ≡ sets l 0 (header d s v)
+pub covered_is : (l a b d s : List ℕ) (v : ℕ) (x : List ℕ) → b ≡ sets a 14 (padded x) → a ≡ sets l 0 (header d s v)
     → length d ≡ 6 → length s ≡ 6
     → b ≡ sets l 0 (covered d s v x)
 unfolding covered
-covered-is l a b d s v x p q m n =
-    p ∙ rw q (sets-append (header d s v) (padded x) l 0 14 (omega (arith, length-header d s v m n)))
+covered_is l a b d s v x p q m n =
+    p ∙ rw q (sets_append (header d s v) (padded x) l 0 14 (omega (arith, length_header d s v m n)))
 
 -- the check sequence of the first `end` octets stored after them
 unfoldable pub sealed : List ℕ → ℕ → List ℕ
-sealed l end = sets l end (checkSequence (take end l))
+sealed l end = sets l end (check_sequence (take end l))
 
-pub seal-is : (l a c : List ℕ) (end : ℕ) → a ≡ sets l end c → c ≡ checkSequence (take (end - 0) l) → a ≡ sealed l end
+pub seal_is : (l a c : List ℕ) (end : ℕ) → a ≡ sets l end c → c ≡ check_sequence (take (end - 0) l) → a ≡ sealed l end
 unfolding sealed
-seal-is l a c end p q = let z : end - 0 ≡ end = omega arith in rw (p, q, z)
+seal_is l a c end p q = let z : end - 0 ≡ end = omega arith in rw (p, q, z)
 
 -- ---- the whole frame
 
 module _ (l d s : List ℕ) (v : ℕ) (x : List ℕ) where
-  pub length-covered : length d ≡ 6 → length s ≡ 6 → length (covered d s v x) ≡ 14 + (length x + (46 - length x))
+  pub length_covered : length d ≡ 6 → length s ≡ 6 → length (covered d s v x) ≡ 14 + (length x + (46 - length x))
   unfolding covered
-  length-covered m n = length-append (header d s v) (padded x) ∙ omega (arith, length-header d s v m n, length-padded x)
+  length_covered m n = length-append (header d s v) (padded x) ∙ omega (arith, length_header d s v m n, length_padded x)
 
-  pub length-frame : length d ≡ 6 → length s ≡ 6 → length (frame_of d s v x) ≡ 14 + (length x + (46 - length x)) + 4
+  pub length_frame : length d ≡ 6 → length s ≡ 6 → length (frame_of d s v x) ≡ 14 + (length x + (46 - length x)) + 4
   unfolding frame_of
-  length-frame m n =
-      length-append (covered d s v x) (checkSequence (covered d s v x))
-      ∙ omega (arith, length-covered m n, length-sequence (covered d s v x))
+  length_frame m n =
+      length-append (covered d s v x) (check_sequence (covered d s v x))
+      ∙ omega (arith, length_covered m n, length_sequence (covered d s v x))
 
   -- "data over 1504 with the tag value, and over 1500 otherwise"
-  pub built-over : (k : ℕ) → k ≡ maxData v → k < length x → outcome (refused 11) l ≡ built l d s v x
-  unfolding built refusesData
-  built-over k p h = rw (← p, lt-ltb k (length x) h)
+  pub built_over : (k : ℕ) → k ≡ max_data v → k < length x → outcome (refused 11) l ≡ built l d s v x
+  unfolding built refuses_data
+  built_over k p h = rw (← p, lt-ltb k (length x) h)
 
   -- "a value up to 1500 other than the data's size, or a value 1501..1535"
-  pub built-value : (k : ℕ) (b : Bool) → k ≡ maxData v → length x ≤ k → b ≡ refusesValue v (length x) → b ≡ true
+  pub built_value : (k : ℕ) (b : Bool) → k ≡ max_data v → length x ≤ k → b ≡ refuses_value v (length x) → b ≡ true
       → outcome (refused 11) l ≡ built l d s v x
-  unfolding built refusesData
-  built-value k b p h q t = rw (← p, le-ltb k (length x) h, ← q, t)
+  unfolding built refuses_data
+  built_value k b p h q t = rw (← p, le-ltb k (length x) h, ← q, t)
 
-  pub built-short : (k : ℕ) (b : Bool) (p : ℕ) → k ≡ maxData v → length x ≤ k → b ≡ refusesValue v (length x)
+  pub built_short : (k : ℕ) (b : Bool) (p : ℕ) → k ≡ max_data v → length x ≤ k → b ≡ refuses_value v (length x)
       → b ≡ false
       → p ≡ 46 - length x → length l < 14 + (length x + p) + 4 → length d ≡ 6 → length s ≡ 6
       → outcome (refused 15) l ≡ built l d s v x
-  unfolding built refusesData
-  built-short k b p e h q f w g m n =
+  unfolding built refuses_data
+  built_short k b p e h q f w g m n =
       rw (
         ← e,
         le-ltb k (length x) h,
         ← q,
         f,
         lt-ltb (length l) (length (frame_of d s v x))
-            (omega (arith, length-frame m n)),
+            (omega (arith, length_frame m n)),
       )
 
   -- the two stores of the builder make the frame
@@ -132,71 +132,71 @@ module _ (l d s : List ℕ) (v : ℕ) (x : List ℕ) where
       → c ≡ sets l 0 (frame_of d s v x)
   unfolding sealed frame_of
   frame_is a c e p q n h =
-      p ∙ rw (q, take-sets (covered d s v x) l e n (omega arith))
-      (sets-append (covered d s v x) (checkSequence (covered d s v x)) l 0 e (omega arith))
+      p ∙ rw (q, take_sets (covered d s v x) l e n (omega arith))
+      (sets_append (covered d s v x) (check_sequence (covered d s v x)) l 0 e (omega arith))
 
-  pub built-made : (a c : List ℕ) (k : ℕ) (b : Bool) (p : ℕ) → c ≡ sealed a (14 + (length x + p))
+  pub built_made : (a c : List ℕ) (k : ℕ) (b : Bool) (p : ℕ) → c ≡ sealed a (14 + (length x + p))
       → a ≡ sets l 0 (covered d s v x)
-      → k ≡ maxData v → length x ≤ k → b ≡ refusesValue v (length x) → b ≡ false
+      → k ≡ max_data v → length x ≤ k → b ≡ refuses_value v (length x) → b ≡ false
       → p ≡ 46 - length x → 14 + (length x + p) + 4 ≤ length l → length d ≡ 6 → length s ≡ 6
       → outcome (accepted ((14 + (length x + p) + 4) ∷ [])) c ≡ built l d s v x
-  unfolding built refusesData
-  built-made a c k b p r t e h q f w g m n =
-      let size : 14 + (length x + p) + 4 ≡ length (frame_of d s v x) = omega (arith, length-frame m n) in
+  unfolding built refuses_data
+  built_made a c k b p r t e h q f w g m n =
+      let size : 14 + (length x + p) + 4 ≡ length (frame_of d s v x) = omega (arith, length_frame m n) in
       let octets : c ≡ sets l 0 (frame_of d s v x) =
-      frame_is a c (14 + (length x + p)) r t (omega (arith, length-covered m n)) (omega arith) in
+      frame_is a c (14 + (length x + p)) r t (omega (arith, length_covered m n)) (omega arith) in
       rw (← e, le-ltb k (length x) h, ← q, f, le-ltb (length l) (length (frame_of d s v x)) (omega arith), size, octets)
 
 -- ---- sizes
 
-pub within : (v n : ℕ) → refusesData v n ≡ false → n ≤ maxData v
-unfolding refusesData
-within v n h = go (ltb (maxData v) n) refl h
+pub within : (v n : ℕ) → refuses_data v n ≡ false → n ≤ max_data v
+unfolding refuses_data
+within v n h = go (ltb (max_data v) n) refl h
   where
-    go : (t : Bool) → ltb (maxData v) n ≡ t → pick t true (refusesValue v n) ≡ false → n ≤ maxData v
+    go : (t : Bool) → ltb (max_data v) n ≡ t → pick t true (refuses_value v n) ≡ false → n ≤ max_data v
     go true p q = absurd (true≢false q)
-    go false p q = ltb-false (maxData v) n p
+    go false p q = ltb-false (max_data v) n p
 
 -- a law for each way through the code of the two sizes
 module _ (v : ℕ) where
-  pub data-tag : v ≡ tagValue → 1504 ≡ maxData v
-  unfolding maxData
-  data-tag h = rw (eq-eqb v tagValue h)
+  pub data_tag : v ≡ tag_value → 1504 ≡ max_data v
+  unfolding max_data
+  data_tag h = rw (eq-eqb v tag_value h)
 
-  pub data-plain : (v ≡ tagValue → ⊥) → 1500 ≡ maxData v
-  unfolding maxData
-  data-plain h = rw (ne_eqb v tagValue h)
+  pub data_plain : (v ≡ tag_value → ⊥) → 1500 ≡ max_data v
+  unfolding max_data
+  data_plain h = rw (ne_eqb v tag_value h)
 
-  pub frame-tag : v ≡ tagValue → 1522 ≡ maxFrame v
-  unfolding maxFrame
-  frame-tag h = rw (eq-eqb v tagValue h)
+  pub frame_tag : v ≡ tag_value → 1522 ≡ max_frame v
+  unfolding max_frame
+  frame_tag h = rw (eq-eqb v tag_value h)
 
-  pub frame-plain : (v ≡ tagValue → ⊥) → 1518 ≡ maxFrame v
-  unfolding maxFrame
-  frame-plain h = rw (ne_eqb v tagValue h)
+  pub frame_plain : (v ≡ tag_value → ⊥) → 1518 ≡ max_frame v
+  unfolding max_frame
+  frame_plain h = rw (ne_eqb v tag_value h)
 
   -- the largest data make the largest frame; every value allows 1518 octets and none more than the buffer holds
-  pub frame-room : maxFrame v ≡ maxData v + 18
-  unfolding maxData maxFrame
-  frame-room = by-test (eqb v tagValue) (λ c. rw c) (λ c. rw c)
+  pub frame_room_lem : max_frame v ≡ max_data v + 18
+  unfolding max_data max_frame
+  frame_room_lem = by_test (eqb v tag_value) (λ c. rw c) (λ c. rw c)
 
-  pub frame-most : (1518 ≤ maxFrame v) × (maxFrame v ≤ bufferOctets)
-  unfolding maxFrame
-  frame-most = by-test (eqb v tagValue) (λ c. rw c (omega arith, omega arith)) (λ c. rw c (omega arith, omega arith))
+  pub frame_most : (1518 ≤ max_frame v) × (max_frame v ≤ buffer_octets)
+  unfolding max_frame
+  frame_most = by_test (eqb v tag_value) (λ c. rw c (omega arith, omega arith)) (λ c. rw c (omega arith, omega arith))
 
-pub data-within : (v n : ℕ) → refusesData v n ≡ false → n + 18 ≤ bufferOctets
-data-within v n h = omega (arith, within v n h, frame-room v, frame-most v)
+pub data_within : (v n : ℕ) → refuses_data v n ≡ false → n + 18 ≤ buffer_octets
+data_within v n h = omega (arith, within v n h, frame_room_lem v, frame_most v)
 
-pub length-padded-max : (x : List ℕ) → length (padded x) ≡ max 46 (length x)
-length-padded-max x = omega (arith, length-padded x)
+pub length_padded_max : (x : List ℕ) → length (padded x) ≡ max 46 (length x)
+length_padded_max x = omega (arith, length_padded x)
 
 -- a frame is the data with their padding and eighteen octets more
-pub frame-size : (d s : List ℕ) (v : ℕ) (x : List ℕ) → length d ≡ 6 → length s ≡ 6
+pub frame_size_lem : (d s : List ℕ) (v : ℕ) (x : List ℕ) → length d ≡ 6 → length s ≡ 6
     → length (frame_of d s v x) ≡ max 46 (length x) + 18
-frame-size d s v x hd hs = omega (arith, length-frame [] d s v x hd hs, length-padded x)
+frame_size_lem d s v x hd hs = omega (arith, length_frame [] d s v x hd hs, length_padded x)
 
 -- the frame of data that are not refused is no longer than its value allows
-pub frame-within : (d s : List ℕ) (v : ℕ) (x : List ℕ) → length d ≡ 6 → length s ≡ 6 → refusesData v (length x) ≡ false
-    → length (frame_of d s v x) ≤ maxFrame v
-frame-within d s v x hd hs h =
-    omega (arith, frame-size d s v x hd hs, within v (length x) h, frame-room v, frame-most v)
+pub frame_within : (d s : List ℕ) (v : ℕ) (x : List ℕ) → length d ≡ 6 → length s ≡ 6 → refuses_data v (length x) ≡ false
+    → length (frame_of d s v x) ≤ max_frame v
+frame_within d s v x hd hs h =
+    omega (arith, frame_size_lem d s v x hd hs, within v (length x) h, frame_room_lem v, frame_most v)

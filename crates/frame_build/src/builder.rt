@@ -3,8 +3,8 @@
 ghost use Rattle.std.specs.Prelude.{◌≡◌, ◌+◌, ◌-◌, ◌≤◌, max, length};
 ghost use Rattle.std.proofs.lemmas.List.Edits.{sets};
 ghost use Rattle.octets.specs.Base.{outcome};
-ghost use Rattle.frame_build.specs.Limits.{minData, refusesData};
-ghost use Rattle.frame_build.specs.Build.{header, padded, covered, built, builtAnswer};
+ghost use Rattle.frame_build.specs.Limits.{min_data, refuses_data};
+ghost use Rattle.frame_build.specs.Build.{header, padded, covered, built, built_answer};
 ghost use Rattle.frame_build.specs.BuildLaws.{sealed};
 
 use super::limits;
@@ -59,7 +59,7 @@ fn seal(out: &mut [u8], end: usize)
 
 // Whether refusal 11 stands against a length/type value and data.
 pub fn refuses(value: u16, payload: &[u8]) -> bool
-    ensures { result ≡ refusesData value (length payload.now) }
+    ensures { result ≡ refuses_data value (length payload.now) }
 {
     let v = value as usize;
     let n = payload.len();
@@ -72,7 +72,7 @@ pub fn refuses(value: u16, payload: &[u8]) -> bool
 // The octets of a frame with such data, of which there are not too many.
 pub fn frame_size(payload: &[u8]) -> u32
     requires { length payload.now ≤ 65535 }
-    ensures { result ≡ max minData (length payload.now) + 18 }
+    ensures { result ≡ max min_data (length payload.now) + 18 }
 {
     let n = payload.len();
     (n + limits::pad_size(n) + 18) as u32
@@ -86,7 +86,7 @@ pub fn build(
     value: u16,
     payload: &[u8],
 ) -> Built
-    ensures { outcome (builtAnswer result) out.new
+    ensures { outcome (built_answer result) out.new
         ≡ built out.old destination source value payload.now }
 {
     let v = value as usize;

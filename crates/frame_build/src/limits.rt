@@ -1,7 +1,7 @@
 // The sizes of frames. What each number stands for is said in specs/Limits.antt.
 
 ghost use Rattle.std.specs.Prelude.{◌≡◌, ◌-◌, ◌≤◌};
-ghost use Rattle.frame_build.specs.Limits.{maxData, maxFrame, refusesValue, minData};
+ghost use Rattle.frame_build.specs.Limits.{max_data, max_frame, refuses_value, min_data};
 
 pub const MIN_DATA: usize = 46;
 
@@ -23,7 +23,7 @@ pub const TAG: usize = 33024;
 
 // The largest data under a length/type value.
 pub(crate) fn max_data(value: usize) -> usize
-    ensures size { result ≡ maxData value }
+    ensures size { result ≡ max_data value }
     ensures small { result ≤ 65535 }
 {
     if value == TAG { 1504 } else { 1500 }
@@ -31,21 +31,21 @@ pub(crate) fn max_data(value: usize) -> usize
 
 // The largest frame under a length/type value.
 pub fn max_frame(value: usize) -> usize
-    ensures { result ≡ maxFrame value }
+    ensures { result ≡ max_frame value }
 {
     if value == TAG { 1522 } else { 1518 }
 }
 
 // The octets of padding that n octets of data want.
 pub(crate) fn pad_size(n: usize) -> usize
-    ensures { result ≡ minData - n }
+    ensures { result ≡ min_data - n }
 {
     if n < MIN_DATA { MIN_DATA - n } else { 0 }
 }
 
 // Whether n octets of data, few enough, are refused under a length/type value.
 pub(crate) fn refuses_value(value: usize, n: usize) -> bool
-    ensures { result ≡ refusesValue value n }
+    ensures { result ≡ refuses_value value n }
 {
     if value <= MAX_LENGTH {
         return value != n;

@@ -2,9 +2,9 @@
 use Rattle.std.specs.Prelude.{ℕ, ◌≡◌, refl, List, [], ◌∷◌}
 use Rattle.std.proofs.Math.Bool.{xor}
 use Rattle.octets.specs.Bits.{low_bits, bits_of, low_first, packed}
-use Rattle.frame_crc.specs.Crc.{generator, add, complementFirst, remainder, dividend, crcBits, crcOf}
+use Rattle.frame_crc.specs.Crc.{generator, add, complement_first, remainder, dividend, crc_bits, crc_of}
 
 -- the check value of CRC-32: that of "123456789"
-check-value : crcOf (49 ∷ 50 ∷ 51 ∷ 52 ∷ 53 ∷ 54 ∷ 55 ∷ 56 ∷ 57 ∷ []) ≡ 0xcbf4_3926
-unfolding low_bits bits_of low_first generator add complementFirst remainder dividend crcBits crcOf xor
-check-value = refl
+check_value : crc_of (49 ∷ 50 ∷ 51 ∷ 52 ∷ 53 ∷ 54 ∷ 55 ∷ 56 ∷ 57 ∷ []) ≡ 0xcbf4_3926
+unfolding low_bits bits_of low_first generator add complement_first remainder dividend crc_bits crc_of xor
+check_value = refl

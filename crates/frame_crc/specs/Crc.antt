@@ -26,10 +26,10 @@ add (a ∷ m) [] = a ∷ m
 add (a ∷ m) (b ∷ g) = xor a b ∷ add m g
 
 -- "(1) The first 32 bits of the frame are complemented."
-unfoldable pub complementFirst : ℕ → List Bool → List Bool
-complementFirst zero m = m
-complementFirst (suc n) [] = []
-complementFirst (suc n) (a ∷ m) = not a ∷ complementFirst n m
+unfoldable pub complement_first : ℕ → List Bool → List Bool
+complement_first zero m = m
+complement_first (suc n) [] = []
+complement_first (suc n) (a ∷ m) = not a ∷ complement_first n m
 
 -- "(3) .. divided by G(x), producing a remainder R(x)": long division of a polynomial that has n coefficients more than
 -- the remainder. Where the first is 1, G(x) is subtracted there, which makes it 0; then the first, now 0, is dropped.
@@ -44,17 +44,17 @@ remainder (suc n) (true ∷ m) = remainder n (add m generator)
 -- order. Of fewer than 32 bits, of which the page does not speak, the complement reaches into these zeros, as in every
 -- published CRC-32.
 unfoldable pub dividend : List ℕ → List Bool
-dividend s = complementFirst 32 (bits_of s ++ replicate 32 false)
+dividend s = complement_first 32 (bits_of s ++ replicate 32 false)
 
 -- "(4) The coefficients of R(x) are considered to be a 32-bit sequence. (5) The bit sequence is complemented and the
 -- result is the CRC."
-unfoldable pub crcBits : List ℕ → List Bool
-crcBits s = map not (remainder (length (bits_of s)) (dividend s))
+unfoldable pub crc_bits : List ℕ → List Bool
+crc_bits s = map not (remainder (length (bits_of s)) (dividend s))
 
 -- The CRC as a number, as CRC-32 values are published: the coefficient of x^31 is its lowest bit.
-unfoldable pub crcOf : List ℕ → ℕ
-crcOf s = low_first (crcBits s)
+unfoldable pub crc_of : List ℕ → ℕ
+crc_of s = low_first (crc_bits s)
 
 -- "The bits of the CRC are thus transmitted in the order x^31, x^30, .., x^1, x^0": the four octets that travel so.
-unfoldable pub checkSequence : List ℕ → List ℕ
-checkSequence s = packed 4 (crcBits s)
+unfoldable pub check_sequence : List ℕ → List ℕ
+check_sequence s = packed 4 (crc_bits s)

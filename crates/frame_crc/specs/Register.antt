@@ -5,51 +5,51 @@ use Rattle.std.proofs.Math.Bool.{xor}
 use Rattle.std.specs.Int.Bits.{bit_xor, xor_self, xor_zero_l, xor_zero_r, xor_shifted, shifted_half, shifted_even}
 use Rattle.std.proofs.lemmas.Nat.{xor_shr, xor_mod, xor_comm}
 use Rattle.octets.specs.Bits.{low_bits, bits_of}
-use Rattle.octets.specs.BitsLaws.{length-bits-of}
-use Rattle.frame_crc.specs.Crc.{crcOf}
-use Rattle.frame_crc.specs.Division.{polynomial, shifted, advance, register, odd-xor, false-xor, ones, crc-is}
+use Rattle.octets.specs.BitsLaws.{length_bits_of}
+use Rattle.frame_crc.specs.Crc.{crc_of}
+use Rattle.frame_crc.specs.Division.{polynomial, shifted, advance, register, odd_xor, false_xor, ones, crc_is}
 
 -- ---- exclusive or of three numbers, which lib.Bits lacks
 
-assoc-digits : (p q r : ℕ) → p < 2 → q < 2 → r < 2 → bit_xor (bit_xor p q) r ≡ bit_xor p (bit_xor q r)
-assoc-digits zero q r hp hq hr = refl
-assoc-digits (suc zero) zero r hp hq hr = refl
-assoc-digits (suc zero) (suc zero) zero hp hq hr = refl
-assoc-digits (suc zero) (suc zero) (suc zero) hp hq hr = refl
-assoc-digits (suc zero) (suc zero) (suc (suc r)) hp hq hr = absurd (omega arith)
-assoc-digits (suc zero) (suc (suc q)) r hp hq hr = absurd (omega arith)
-assoc-digits (suc (suc p)) q r hp hq hr = absurd (omega arith)
+assoc_digits : (p q r : ℕ) → p < 2 → q < 2 → r < 2 → bit_xor (bit_xor p q) r ≡ bit_xor p (bit_xor q r)
+assoc_digits zero q r hp hq hr = refl
+assoc_digits (suc zero) zero r hp hq hr = refl
+assoc_digits (suc zero) (suc zero) zero hp hq hr = refl
+assoc_digits (suc zero) (suc zero) (suc zero) hp hq hr = refl
+assoc_digits (suc zero) (suc zero) (suc (suc r)) hp hq hr = absurd (omega arith)
+assoc_digits (suc zero) (suc (suc q)) r hp hq hr = absurd (omega arith)
+assoc_digits (suc (suc p)) q r hp hq hr = absurd (omega arith)
 
-assoc-below : (k a b c : ℕ) → a < 2 ^ k → b < 2 ^ k → c < 2 ^ k → bit_xor (bit_xor a b) c ≡ bit_xor a (bit_xor b c)
-assoc-below zero a b c ha hb hc =
+assoc_below : (k a b c : ℕ) → a < 2 ^ k → b < 2 ^ k → c < 2 ^ k → bit_xor (bit_xor a b) c ≡ bit_xor a (bit_xor b c)
+assoc_below zero a b c ha hb hc =
     let ea : a ≡ 0 = omega arith in
     let eb : b ≡ 0 = omega arith in
     rw (ea, eb)
-assoc-below (suc k) a b c ha hb hc =
+assoc_below (suc k) a b c ha hb hc =
     let half : bit_xor (bit_xor a b) c / 2 ≡ bit_xor a (bit_xor b c) / 2 =
     xor_shr (bit_xor a b) c 1 ∙ ap (λ (x : ℕ). bit_xor x (c / 2)) (xor_shr a b 1)
-    ∙ assoc-below k (a / 2) (b / 2) (c / 2) (omega (arith, pow-suc 2 k)) (omega (arith, pow-suc 2 k))
+    ∙ assoc_below k (a / 2) (b / 2) (c / 2) (omega (arith, pow-suc 2 k)) (omega (arith, pow-suc 2 k))
     (omega (arith, pow-suc 2 k))
     ∙ sym (xor_shr a (bit_xor b c) 1 ∙ ap (λ (x : ℕ). bit_xor (a / 2) x) (xor_shr b c 1)) in
     let low : bit_xor (bit_xor a b) c % 2 ≡ bit_xor a (bit_xor b c) % 2 =
     xor_mod (bit_xor a b) c 1 ∙ ap (λ (x : ℕ). bit_xor x (c % 2)) (xor_mod a b 1)
-    ∙ assoc-digits (a % 2) (b % 2) (c % 2) (omega arith) (omega arith) (omega arith)
+    ∙ assoc_digits (a % 2) (b % 2) (c % 2) (omega arith) (omega arith) (omega arith)
     ∙ sym (xor_mod a (bit_xor b c) 1 ∙ ap (λ (x : ℕ). bit_xor (a % 2) x) (xor_mod b c 1)) in
     omega arith
 
 -- a number is below its own power of two
-below-pow : (n : ℕ) → n < 2 ^ n
-below-pow zero = omega arith
-below-pow (suc n) = omega (arith, below-pow n, pow-suc 2 n)
+below_pow : (n : ℕ) → n < 2 ^ n
+below_pow zero = omega arith
+below_pow (suc n) = omega (arith, below_pow n, pow-suc 2 n)
 
 xor_assoc : (a b c : ℕ) → bit_xor (bit_xor a b) c ≡ bit_xor a (bit_xor b c)
 xor_assoc a b c =
-    let up : (n : ℕ) → n ≤ a + b + c → n < 2 ^ (a + b + c) = λ n h. lt_of_lt_of_le (below-pow n) (pow_mono h) in
-    assoc-below (a + b + c) a b c (up a (omega arith)) (up b (omega arith)) (up c (omega arith))
+    let up : (n : ℕ) → n ≤ a + b + c → n < 2 ^ (a + b + c) = λ n h. lt_of_lt_of_le (below_pow n) (pow_mono h) in
+    assoc_below (a + b + c) a b c (up a (omega arith)) (up b (omega arith)) (up c (omega arith))
 
 -- the last of three may come second
-xor-swap : (a b c : ℕ) → bit_xor (bit_xor a b) c ≡ bit_xor (bit_xor a c) b
-xor-swap a b c = xor_assoc a b c ∙ ap (bit_xor a) (xor_comm b c) ∙ sym (xor_assoc a c b)
+xor_swap : (a b c : ℕ) → bit_xor (bit_xor a b) c ≡ bit_xor (bit_xor a c) b
+xor_swap a b c = xor_assoc a b c ∙ ap (bit_xor a) (xor_comm b c) ∙ sym (xor_assoc a c b)
 
 -- ---- a shift, of which the register's lowest bit alone says whether G(x) is subtracted
 
@@ -63,7 +63,7 @@ shifts (suc n) c = shifts n (shift c)
 -- a number added after the shift might have been added twice as large before; P is a variable, so that nothing computes
 -- with it
 shifted_sum : (P c x : ℕ) (t : Bool) → shifted P t (bit_xor c x) ≡ bit_xor (shifted P t c) (x / 2)
-shifted_sum P c x true = ap (λ (z : ℕ). bit_xor z P) (xor_shr c x 1) ∙ xor-swap (c / 2) (x / 2) P
+shifted_sum P c x true = ap (λ (z : ℕ). bit_xor z P) (xor_shr c x 1) ∙ xor_swap (c / 2) (x / 2) P
 shifted_sum P c x false = xor_shr c x 1
 
 xor_commutes : (a b : Bool) → xor a b ≡ xor b a
@@ -73,91 +73,91 @@ xor_commutes true false = refl
 xor_commutes false true = refl
 xor_commutes false false = refl
 
-shift-sum : (c x : ℕ) → shift (bit_xor c x) ≡ bit_xor (advance (eqb (x % 2) 1) c) (x / 2)
+shift_sum : (c x : ℕ) → shift (bit_xor c x) ≡ bit_xor (advance (eqb (x % 2) 1) c) (x / 2)
 unfolding shift advance
-shift-sum c x =
-    ap (λ (t : Bool). shifted polynomial t (bit_xor c x)) (odd-xor c x ∙ xor_commutes (eqb (c % 2) 1) (eqb (x % 2) 1))
+shift_sum c x =
+    ap (λ (t : Bool). shifted polynomial t (bit_xor c x)) (odd_xor c x ∙ xor_commutes (eqb (c % 2) 1) (eqb (x % 2) 1))
     ∙ shifted_sum polynomial c x (xor (eqb (x % 2) 1) (eqb (c % 2) 1))
 
 -- the bits of x, one by one, do what x added at once and as many shifts do
-register-shifts : (n x c : ℕ) → x < 2 ^ n → register (low_bits n x) c ≡ shifts n (bit_xor c x)
+register_shifts : (n x c : ℕ) → x < 2 ^ n → register (low_bits n x) c ≡ shifts n (bit_xor c x)
 unfolding register low_bits shifts
-register-shifts zero x c h = let e : x ≡ 0 = omega arith in rw (e, xor_zero_r c)
-register-shifts (suc n) x c h =
-    register-shifts n (x / 2) (advance (eqb (x % 2) 1) c) (omega (arith, pow-suc 2 n))
-    ∙ ap (shifts n) (sym (shift-sum c x))
+register_shifts zero x c h = let e : x ≡ 0 = omega arith in rw (e, xor_zero_r c)
+register_shifts (suc n) x c h =
+    register_shifts n (x / 2) (advance (eqb (x % 2) 1) c) (omega (arith, pow-suc 2 n))
+    ∙ ap (shifts n) (sym (shift_sum c x))
 
 -- ---- shifts of what stands above the low end
 
-advance-zero : (c : ℕ) → advance false c ≡ shift c
+advance_zero : (c : ℕ) → advance false c ≡ shift c
 unfolding advance shift
-advance-zero c = ap (λ (t : Bool). shifted polynomial t c) (false-xor (eqb (c % 2) 1))
+advance_zero c = ap (λ (t : Bool). shifted polynomial t c) (false_xor (eqb (c % 2) 1))
 
 -- what stands n places above the register's low end only moves down
-shifts-high : (n c h : ℕ) → shifts n (bit_xor c (h * 2 ^ n)) ≡ bit_xor (shifts n c) h
+shifts_high : (n c h : ℕ) → shifts n (bit_xor c (h * 2 ^ n)) ≡ bit_xor (shifts n c) h
 unfolding shifts
-shifts-high zero c h = let e : h * 2 ^ 0 ≡ h = omega arith in rw e
-shifts-high (suc n) c h =
+shifts_high zero c h = let e : h * 2 ^ 0 ≡ h = omega arith in rw e
+shifts_high (suc n) c h =
     let even : eqb (h * 2 ^ suc n % 2) 1 ≡ false = rw (shifted_even h n) in
-    ap (shifts n) (shift-sum c (h * 2 ^ suc n) ∙ rw (even, advance-zero c, shifted_half h n))
-    ∙ shifts-high n (shift c) h
+    ap (shifts n) (shift_sum c (h * 2 ^ suc n) ∙ rw (even, advance_zero c, shifted_half h n))
+    ∙ shifts_high n (shift c) h
 
 -- ---- sums: to add registers and advance is to advance and add
 
-xor-past : (b p q : Bool) → xor b (xor p q) ≡ xor p (xor b q)
+xor_past : (b p q : Bool) → xor b (xor p q) ≡ xor p (xor b q)
 unfolding xor
-xor-past true true q = refl
-xor-past true false true = refl
-xor-past true false false = refl
-xor-past false true true = refl
-xor-past false true false = refl
-xor-past false false q = refl
+xor_past true true q = refl
+xor_past true false true = refl
+xor_past true false false = refl
+xor_past false true true = refl
+xor_past false true false = refl
+xor_past false false q = refl
 
-xor-back : (c p : ℕ) → bit_xor (bit_xor c p) p ≡ c
-xor-back c p = xor_assoc c p p ∙ ap (bit_xor c) (xor_self p) ∙ xor_zero_r c
+xor_back : (c p : ℕ) → bit_xor (bit_xor c p) p ≡ c
+xor_back c p = xor_assoc c p p ∙ ap (bit_xor c) (xor_self p) ∙ xor_zero_r c
 
-shifted-both : (P a c : ℕ) (t u : Bool) → shifted P (xor t u) (bit_xor a c) ≡ bit_xor (shifted P t a) (shifted P u c)
+shifted_both : (P a c : ℕ) (t u : Bool) → shifted P (xor t u) (bit_xor a c) ≡ bit_xor (shifted P t a) (shifted P u c)
 unfolding xor
-shifted-both P a c true true =
+shifted_both P a c true true =
     xor_shr a c 1
-    ∙ sym (xor-swap (a / 2) P (bit_xor (c / 2) P) ∙ xor_assoc (a / 2) (bit_xor (c / 2) P) P ∙ ap (bit_xor (a / 2))
-    (xor-back (c / 2) P))
-shifted-both P a c true false = ap (λ (z : ℕ). bit_xor z P) (xor_shr a c 1) ∙ xor-swap (a / 2) (c / 2) P
-shifted-both P a c false true = ap (λ (z : ℕ). bit_xor z P) (xor_shr a c 1) ∙ xor_assoc (a / 2) (c / 2) P
-shifted-both P a c false false = xor_shr a c 1
+    ∙ sym (xor_swap (a / 2) P (bit_xor (c / 2) P) ∙ xor_assoc (a / 2) (bit_xor (c / 2) P) P ∙ ap (bit_xor (a / 2))
+    (xor_back (c / 2) P))
+shifted_both P a c true false = ap (λ (z : ℕ). bit_xor z P) (xor_shr a c 1) ∙ xor_swap (a / 2) (c / 2) P
+shifted_both P a c false true = ap (λ (z : ℕ). bit_xor z P) (xor_shr a c 1) ∙ xor_assoc (a / 2) (c / 2) P
+shifted_both P a c false false = xor_shr a c 1
 
-advance-both : (b : Bool) (a c : ℕ) → advance b (bit_xor a c) ≡ bit_xor (shift a) (advance b c)
+advance_both : (b : Bool) (a c : ℕ) → advance b (bit_xor a c) ≡ bit_xor (shift a) (advance b c)
 unfolding shift advance
-advance-both b a c =
+advance_both b a c =
     ap (λ (t : Bool). shifted polynomial t (bit_xor a c))
-    (ap (xor b) (odd-xor a c) ∙ xor-past b (eqb (a % 2) 1) (eqb (c % 2) 1))
-    ∙ shifted-both polynomial a c (eqb (a % 2) 1) (xor b (eqb (c % 2) 1))
+    (ap (xor b) (odd_xor a c) ∙ xor_past b (eqb (a % 2) 1) (eqb (c % 2) 1))
+    ∙ shifted_both polynomial a c (eqb (a % 2) 1) (xor b (eqb (c % 2) 1))
 
-register-both : (bs : List Bool) (a c : ℕ) → register bs (bit_xor a c) ≡ bit_xor (shifts (length bs) a) (register bs c)
+register_both : (bs : List Bool) (a c : ℕ) → register bs (bit_xor a c) ≡ bit_xor (shifts (length bs) a) (register bs c)
 unfolding register shifts
-register-both [] a c = refl
-register-both (b ∷ bs) a c = ap (register bs) (advance-both b a c) ∙ register-both bs (shift a) (advance b c)
+register_both [] a c = refl
+register_both (b ∷ bs) a c = ap (register bs) (advance_both b a c) ∙ register_both bs (shift a) (advance b c)
 
-shifts-both : (n a c : ℕ) → shifts n (bit_xor a c) ≡ bit_xor (shifts n a) (shifts n c)
+shifts_both : (n a c : ℕ) → shifts n (bit_xor a c) ≡ bit_xor (shifts n a) (shifts n c)
 unfolding shifts
-shifts-both zero a c = refl
-shifts-both (suc n) a c =
-    ap (shifts n) (sym (advance-zero (bit_xor a c)) ∙ advance-both false a c ∙ ap (bit_xor (shift a)) (advance-zero c))
-    ∙ shifts-both n (shift a) (shift c)
+shifts_both zero a c = refl
+shifts_both (suc n) a c =
+    ap (shifts n) (sym (advance_zero (bit_xor a c)) ∙ advance_both false a c ∙ ap (bit_xor (shift a)) (advance_zero c))
+    ∙ shifts_both n (shift a) (shift c)
 
-shifts-add : (k n x : ℕ) → shifts (k + n) x ≡ shifts k (shifts n x)
+shifts_add : (k n x : ℕ) → shifts (k + n) x ≡ shifts k (shifts n x)
 unfolding shifts
-shifts-add k zero x = let e : k + 0 ≡ k = omega arith in rw e
-shifts-add k (suc n) x = let e : k + suc n ≡ suc (k + n) = omega arith in rw e (shifts-add k n (shift x))
+shifts_add k zero x = let e : k + 0 ≡ k = omega arith in rw e
+shifts_add k (suc n) x = let e : k + suc n ≡ suc (k + n) = omega arith in rw e (shifts_add k n (shift x))
 
 -- a number's n low bits and the rest h, which these n shifts only move down
 pub split : (k n x l h : ℕ) → l < 2 ^ n → x ≡ h * 2 ^ n + l → shifts (k + n) x ≡ bit_xor (shifts (k + n) l) (shifts k h)
 split k n x l h b e =
-    shifts-add k n x
+    shifts_add k n x
     ∙ ap (λ (z : ℕ). shifts k (shifts n z)) (e ∙ sym (xor_shifted h n l b) ∙ xor_comm (h * 2 ^ n) l)
-    ∙ ap (shifts k) (shifts-high n l h)
-    ∙ shifts-both k (shifts n l) h
-    ∙ ap (λ (z : ℕ). bit_xor z (shifts k h)) (sym (shifts-add k n l))
+    ∙ ap (shifts k) (shifts_high n l h)
+    ∙ shifts_both k (shifts n l) h
+    ∙ ap (λ (z : ℕ). bit_xor z (shifts k h)) (sym (shifts_add k n l))
 
 -- ---- octets
 
@@ -165,40 +165,40 @@ octet : (x c : ℕ) → x < 256 → register (low_bits 8 x) c ≡ bit_xor (shift
 unfolding shifts
 octet x c h =
     let e : x / 256 ≡ 0 = omega arith in
-    register-shifts 8 x c h
+    register_shifts 8 x c h
     ∙ split 0 8 (bit_xor c x) (bit_xor c x % 256) (bit_xor c x / 256) (omega arith) (omega arith)
     ∙ ap (bit_xor (shifts 8 (bit_xor c x % 256))) (xor_shr c x 8 ∙ ap (bit_xor (c / 256)) e ∙ xor_zero_r (c / 256))
 
-register-append : (a b : List Bool) (c : ℕ) → register (a ++ b) c ≡ register b (register a c)
+register_append : (a b : List Bool) (c : ℕ) → register (a ++ b) c ≡ register b (register a c)
 unfolding register
-register-append [] b c = refl
-register-append (x ∷ a) b c = register-append a b (advance x c)
+register_append [] b c = refl
+register_append (x ∷ a) b c = register_append a b (advance x c)
 
 -- an octet before others: what the others do to the rest of the register, and what it does with the register's low
 -- octet
-octet-before : (l : List ℕ) (x c : ℕ) → x < 256
+octet_before : (l : List ℕ) (x c : ℕ) → x < 256
     → register (bits_of (x ∷ l)) c ≡ bit_xor (register (bits_of l) (c / 256))
     (shifts (8 * length l + 8) (bit_xor c x % 256))
 unfolding bits_of
-octet-before l x c h =
+octet_before l x c h =
     let m : ℕ = bit_xor c x % 256 in
-    register-append (low_bits 8 x) (bits_of l) c
+    register_append (low_bits 8 x) (bits_of l) c
     ∙ ap (register (bits_of l)) (octet x c h)
-    ∙ register-both (bits_of l) (shifts 8 m) (c / 256)
+    ∙ register_both (bits_of l) (shifts 8 m) (c / 256)
     ∙ xor_comm (shifts (length (bits_of l)) (shifts 8 m)) (register (bits_of l) (c / 256))
     ∙ ap (bit_xor (register (bits_of l) (c / 256)))
-    (ap (λ (n : ℕ). shifts n (shifts 8 m)) (length-bits-of l) ∙ sym (shifts-add (8 * length l) 8 m))
+    (ap (λ (n : ℕ). shifts n (shifts 8 m)) (length_bits_of l) ∙ sym (shifts_add (8 * length l) 8 m))
 
 -- ---- the code
 
 -- the same of an octet of s and the n from j on that follow it, with d and q what the code has for them
-octet-of : (s : List ℕ) (i j n c d q : ℕ) → j ≡ suc i → j + n ≤ length s → get_or s i 0 < 256
+octet_of : (s : List ℕ) (i j n c d q : ℕ) → j ≡ suc i → j + n ≤ length s → get_or s i 0 < 256
     → d ≡ shifts (8 * n + 8) (bit_xor c (get_or s i 0) % 256) → q ≡ register (bits_of (take n (drop j s))) (c / 256)
     → bit_xor q d ≡ register (bits_of (take (suc n) (drop i s))) c
-octet-of s i j n c d q f h b p e =
+octet_of s i j n c d q f h b p e =
     let l : List ℕ = take n (drop (suc i) s) in
     let len : length l ≡ n = length-take-le n (drop (suc i) s) (omega (arith, length-drop (suc i) s)) in
-    rw (p, e, f, drop-cons s i 0 (omega arith)) (sym (octet-before l (get_or s i 0) c b ∙ rw len))
+    rw (p, e, f, drop-cons s i 0 (omega arith)) (sym (octet_before l (get_or s i 0) c b ∙ rw len))
 
 -- eight octets of s, the last first; of the register nothing is left after four
 pub eight_is : (s : List ℕ) (i c d0 d1 d2 d3 d4 d5 d6 d7 : ℕ) → c < 2 ^ 32 → i + 8 ≤ length s
@@ -216,42 +216,42 @@ unfolding register bits_of
 eight_is s i c d0 d1 d2 d3 d4 d5 d6 d7 hc h p0 b0 p1 b1 p2 b2 p3 b3 p4 b4 p5 b5 p6 b6 p7 b7 =
     let over : 0 ≡ c / 256 / 256 / 256 / 256 = omega arith in
     let last : d0 ≡ register (bits_of (take 1 (drop (i + 7) s))) 0 =
-    sym (xor_zero_l d0) ∙ octet-of s (i + 7) (i + 8) 0 0 d0 0 (omega arith) (omega arith) b0 p0 refl in
-    octet-of s i (i + 1) 7 c d7 _ (omega arith) (omega arith) b7 p7
-    (octet-of s (i + 1) (i + 2) 6 (c / 256) d6 _ (omega arith) (omega arith) b6 p6
-    (octet-of s (i + 2) (i + 3) 5 (c / 256 / 256) d5 _ (omega arith) (omega arith) b5 p5
-    (octet-of s (i + 3) (i + 4) 4 (c / 256 / 256 / 256) d4 _ (omega arith) (omega arith) b4 p4
-    (octet-of s (i + 4) (i + 5) 3 0 d3 _ (omega arith) (omega arith) b3 p3
-    (octet-of s (i + 5) (i + 6) 2 0 d2 _ (omega arith) (omega arith) b2 p2
-    (octet-of s (i + 6) (i + 7) 1 0 d1 _ (omega arith) (omega arith) b1 p1 last))
+    sym (xor_zero_l d0) ∙ octet_of s (i + 7) (i + 8) 0 0 d0 0 (omega arith) (omega arith) b0 p0 refl in
+    octet_of s i (i + 1) 7 c d7 _ (omega arith) (omega arith) b7 p7
+    (octet_of s (i + 1) (i + 2) 6 (c / 256) d6 _ (omega arith) (omega arith) b6 p6
+    (octet_of s (i + 2) (i + 3) 5 (c / 256 / 256) d5 _ (omega arith) (omega arith) b5 p5
+    (octet_of s (i + 3) (i + 4) 4 (c / 256 / 256 / 256) d4 _ (omega arith) (omega arith) b4 p4
+    (octet_of s (i + 4) (i + 5) 3 0 d3 _ (omega arith) (omega arith) b3 p3
+    (octet_of s (i + 5) (i + 6) 2 0 d2 _ (omega arith) (omega arith) b2 p2
+    (octet_of s (i + 6) (i + 7) 1 0 d1 _ (omega arith) (omega arith) b1 p1 last))
     ∙ ap (register (bits_of (take 4 (drop (i + 4) s)))) over))))
 
-registers-append : (a b : List ℕ) (c : ℕ) → register (bits_of (a ++ b)) c ≡ register (bits_of b) (register (bits_of a) c)
+registers_append : (a b : List ℕ) (c : ℕ) → register (bits_of (a ++ b)) c ≡ register (bits_of b) (register (bits_of a) c)
 unfolding register bits_of
-registers-append [] b c = refl
-registers-append (x ∷ a) b c =
-    register-append (low_bits 8 x) (bits_of (a ++ b)) c
-    ∙ registers-append a b (register (low_bits 8 x) c)
-    ∙ ap (register (bits_of b)) (sym (register-append (low_bits 8 x) (bits_of a) c))
+registers_append [] b c = refl
+registers_append (x ∷ a) b c =
+    register_append (low_bits 8 x) (bits_of (a ++ b)) c
+    ∙ registers_append a b (register (low_bits 8 x) c)
+    ∙ ap (register (bits_of b)) (sym (register_append (low_bits 8 x) (bits_of a) c))
 
 -- the loop by eight octets: what is left to do gives what all of it gives
-pub eight-more : (s : List ℕ) (i c d r : ℕ) → d ≡ register (bits_of (take 8 (drop i s))) c
+pub eight_more : (s : List ℕ) (i c d r : ℕ) → d ≡ register (bits_of (take 8 (drop i s))) c
     → register (bits_of (drop i s)) c ≡ r → register (bits_of (drop (i + 8) s)) d ≡ r
-eight-more s i c d r p q =
+eight_more s i c d r p q =
     rw (p, ← drop-drop 8 i s)
-    (sym (registers-append (take 8 (drop i s)) (drop 8 (drop i s)) c)
+    (sym (registers_append (take 8 (drop i s)) (drop 8 (drop i s)) c)
     ∙ ap (λ (l : List ℕ). register (bits_of l) c) (take-append-drop 8 (drop i s)) ∙ q)
 
 -- and the loop over the octets that are left
-pub octets-more : (s : List ℕ) (i c d r : ℕ) → i < length s → get_or s i 0 < 256
+pub octets_more : (s : List ℕ) (i c d r : ℕ) → i < length s → get_or s i 0 < 256
     → d ≡ shifts 8 (bit_xor c (get_or s i 0) % 256)
     → register (bits_of (drop i s)) c ≡ r → register (bits_of (drop (i + 1) s)) (bit_xor d (c / 256)) ≡ r
 unfolding bits_of
-octets-more s i c d r h b p q =
+octets_more s i c d r h b p q =
     rw (add-one i, p, ← octet (get_or s i 0) c b)
-    (sym (register-append (low_bits 8 (get_or s i 0)) (bits_of (drop (suc i) s)) c) ∙ rw (drop-cons s i 0 h) at q)
+    (sym (register_append (low_bits 8 (get_or s i 0)) (bits_of (drop (suc i) s)) c) ∙ rw (drop-cons s i 0 h) at q)
 
-pub octets-end : (s : List ℕ) (i c : ℕ) → length s ≤ i → register (bits_of (drop i s)) c ≡ register (bits_of s) ones
-    → bit_xor c ones ≡ crcOf s
+pub octets_end : (s : List ℕ) (i c : ℕ) → length s ≤ i → register (bits_of (drop i s)) c ≡ register (bits_of s) ones
+    → bit_xor c ones ≡ crc_of s
 unfolding register bits_of
-octets-end s i c h q = crc-is s c (rw (drop_of_length-le s h) at q)
+octets_end s i c h q = crc_is s c (rw (drop_of_length-le s h) at q)

@@ -6,7 +6,7 @@ mod table;
 ghost use Rattle.std.specs.Prelude.{◌≡◌, ◌+◌, ◌*◌, ◌%◌, ◌<◌, ◌≤◌, length, take, drop};
 ghost use Rattle.std.specs.Int.Bits.{bit_xor};
 ghost use Rattle.octets.specs.Bits.{bits_of};
-ghost use Rattle.frame_crc.specs.Crc.{crcOf, checkSequence};
+ghost use Rattle.frame_crc.specs.Crc.{crc_of, check_sequence};
 ghost use Rattle.frame_crc.specs.Division.{register};
 ghost use Rattle.frame_crc.specs.Register.{shifts};
 ghost use Rattle.frame_crc.specs.Table.{table};
@@ -45,7 +45,7 @@ fn after_eight(t: &[u32; 256], s: &[u8], at: usize, c: u32) -> u32
 
 // The CRC-32 of the octets of s.
 pub fn crc_of(s: &[u8]) -> u32
-    ensures { result ≡ crcOf s.now }
+    ensures { result ≡ crc_of s.now }
 {
     let t = table::rows();
     let mut c: u32 = 0xffff_ffff;
@@ -63,7 +63,7 @@ pub fn crc_of(s: &[u8]) -> u32
 
 // The four octets of the check sequence of s, in the order in which they travel.
 pub fn check_sequence(s: &[u8]) -> [u8; 4]
-    ensures { result ≡ checkSequence s.now }
+    ensures { result ≡ check_sequence s.now }
 {
     let c = crc_of(s);
     [

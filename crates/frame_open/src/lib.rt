@@ -1,8 +1,8 @@
 // Opening frames (document 01, "Frames").
 
 ghost use Rattle.std.specs.Prelude.{◌≡◌, false, ◌+◌, ◌≤◌, max, length};
-ghost use Rattle.frame_build.specs.Limits.{minData};
-ghost use Rattle.frame_open.specs.Open.{statusAnswer, checkWrong, checkError, unpadded, opened};
+ghost use Rattle.frame_build.specs.Limits.{min_data};
+ghost use Rattle.frame_open.specs.Open.{status_answer, check_wrong, check_error, unpadded, opened};
 
 use frame_build::limits;
 
@@ -23,7 +23,7 @@ pub enum ReceiveStatus {
 // octets.
 fn check_wrong(frame: &[u8], spoiled: bool) -> bool
     requires { 4 ≤ length frame.now }
-    ensures { result ≡ checkWrong spoiled frame.now }
+    ensures { result ≡ check_wrong spoiled frame.now }
 {
     if spoiled {
         return true;
@@ -34,7 +34,7 @@ fn check_wrong(frame: &[u8], spoiled: bool) -> bool
 }
 
 fn check_error(excess: u32) -> ReceiveStatus
-    ensures { statusAnswer result ≡ checkError excess }
+    ensures { status_answer result ≡ check_error excess }
 {
     if excess == 0 {
         return ReceiveStatus::FrameCheckError;
@@ -44,7 +44,7 @@ fn check_error(excess: u32) -> ReceiveStatus
 
 // The octets of a data field that holds n octets of client data.
 fn padded_size(n: usize) -> usize
-    ensures { result ≡ max minData n }
+    ensures { result ≡ max min_data n }
 {
     if n < limits::MIN_DATA {
         limits::MIN_DATA
@@ -55,7 +55,7 @@ fn padded_size(n: usize) -> usize
 
 // The length and padding rules, on the part of a frame from octet 14 on, up to its check sequence.
 fn unpad(field: &[u8], value: usize) -> ReceiveStatus
-    ensures { statusAnswer result ≡ (unpadded value field.now).status }
+    ensures { status_answer result ≡ (unpadded value field.now).status }
 {
     let n = field.len();
     if limits::MIN_TYPE <= value {
@@ -73,7 +73,7 @@ fn unpad(field: &[u8], value: usize) -> ReceiveStatus
 // The status of a frame's octets and excess bits, in document 01's order. A receiver says whether its check is known to
 // be spoiled.
 pub fn reception_status(frame: &[u8], excess: u32, spoiled: bool) -> ReceiveStatus
-    ensures { statusAnswer result ≡ (opened spoiled frame.now excess).status }
+    ensures { status_answer result ≡ (opened spoiled frame.now excess).status }
 {
     if 7 < excess {
         return ReceiveStatus::Refused(5);
@@ -95,14 +95,14 @@ pub fn reception_status(frame: &[u8], excess: u32, spoiled: bool) -> ReceiveStat
 
 // The status of a frame's octets and excess bits.
 pub fn status(frame: &[u8], excess: u32) -> ReceiveStatus
-    ensures { statusAnswer result ≡ (opened false frame.now excess).status }
+    ensures { status_answer result ≡ (opened false frame.now excess).status }
 {
     reception_status(frame, excess, false)
 }
 
 // The client data of a frame that opens with receiveOK, as a part of the frame itself; of any other, none of it.
 pub fn client_data(frame: &[u8], excess: u32) -> &[u8]
-    ensures { result.now ≡ (opened false frame.now excess).clientData }
+    ensures { result.now ≡ (opened false frame.now excess).client_data }
 {
     let ReceiveStatus::ReceiveOk(n) = status(frame, excess) else {
         return &frame[..0];

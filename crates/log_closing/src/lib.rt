@@ -2,16 +2,16 @@
 
 ghost use Rattle.std.specs.Prelude.{◌≡◌, ◌≤◌, length, take};
 ghost use Rattle.std.proofs.lemmas.List.Edits.{sets};
-ghost use Rattle.octets.specs.Base.{pick, some, doneAnswer, outcome};
-ghost use Rattle.log_entry.specs.Log.{cellCount, windowCount, astrayWindow, reversedWindow, refusalIn};
-ghost use Rattle.log_closing.specs.Close.{closedOf};
+ghost use Rattle.octets.specs.Base.{pick, some, done_answer, outcome};
+ghost use Rattle.log_entry.specs.Log.{cell_count, window_count, astray_window, reversed_window, refusal_in};
+ghost use Rattle.log_closing.specs.Close.{closed_of};
 
 use log_entry::State;
 use octets::Done;
 
 // Whether some window's station is n or more.
 fn any_astray(windows: &[u32], n: u32) -> bool
-    ensures { result ≡ some (astrayWindow n windows.now) (windowCount windows.now) }
+    ensures { result ≡ some (astray_window n windows.now) (window_count windows.now) }
 {
     let m = windows.len() / 3;
     for w in 0..m {
@@ -24,7 +24,7 @@ fn any_astray(windows: &[u32], n: u32) -> bool
 
 // Whether some window's second time is below its first.
 fn any_reversed(windows: &[u32]) -> bool
-    ensures { result ≡ some (reversedWindow windows.now) (windowCount windows.now) }
+    ensures { result ≡ some (reversed_window windows.now) (window_count windows.now) }
 {
     let m = windows.len() / 3;
     for w in 0..m {
@@ -44,7 +44,7 @@ fn number(test: bool, x: u32, other: u32) -> u32
 
 // The number of the refusal, 0 where there is none. `astray` and `falls` are what is known of the entries.
 fn refusal(windows: &[u32], n: u32, astray: bool, falls: bool, room: usize) -> u32
-    ensures { result ≡ refusalIn windows.now n astray falls room }
+    ensures { result ≡ refusal_in windows.now n astray falls room }
 {
     let m = windows.len() / 3;
     let strays = octets::either(any_astray(windows, n), astray);
@@ -69,7 +69,7 @@ fn put(out: &mut [u32], src: &[u32])
 
 // Stores the first n counts at the front of the output.
 fn put_first(out: &mut [u32], counts: [u32; 640], n: usize)
-    requires { (n ≤ cellCount) × (n ≤ length out.old) }
+    requires { (n ≤ cell_count) × (n ≤ length out.old) }
     ensures { out.new ≡ sets out.old 0 (take n counts) }
 {
     put(out, &counts[0..n]);
@@ -77,7 +77,7 @@ fn put_first(out: &mut [u32], counts: [u32; 640], n: usize)
 
 // The answer after the last entry, and the counts in the output.
 pub fn closed(s: State, windows: &[u32], out: &mut [u32]) -> Done
-    ensures { outcome (doneAnswer result) out.new ≡ closedOf windows.now s out.old }
+    ensures { outcome (done_answer result) out.new ≡ closed_of windows.now s out.old }
 {
     let x = refusal(windows, s.stations, s.astray, s.falls, out.len());
     if x != 0 {

@@ -2,7 +2,7 @@
 // windows that are looked up in a log are numbers, three to a window: station, first time, time past the last.
 
 ghost use Rattle.std.specs.Prelude.{◌≡◌, ◌<◌};
-ghost use Rattle.station_tally.specs.Words.{wordCount};
+ghost use Rattle.station_tally.specs.Words.{word_count};
 ghost use Rattle.log_entry.specs.Log.{word_of};
 
 // What a station reported, as document 01 prints it: a transmit event with its bit or its attempts, a receive event
@@ -42,7 +42,7 @@ pub struct State {
 // The place of an event's word among those that are counted, from 0 on.
 pub fn word_of(event: Event) -> usize
     ensures value { result ≡ word_of event }
-    ensures small { result < wordCount }
+    ensures small { result < word_count }
 {
     match event {
         Event::Collision(_) => 0,

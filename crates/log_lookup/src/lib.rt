@@ -1,8 +1,8 @@
 // The one function that reads a log: its proof is a walk through its MIR, by hand.
 
 ghost use Rattle.std.specs.Prelude.{◌≡◌};
-ghost use Rattle.octets.specs.Base.{doneAnswer, outcome};
-ghost use Rattle.log_lookup.specs.Lookup.{lookedUp};
+ghost use Rattle.octets.specs.Base.{done_answer, outcome};
+ghost use Rattle.log_lookup.specs.Lookup.{looked_up};
 
 use log_entry::Entry;
 use octets::Done;
@@ -12,8 +12,8 @@ use octets::Done;
 // windows), 20 (a window's second time is below its first), 21 (the times of the entries fall), 15 (the output has room
 // for fewer counts); then the output is as it was.
 pub fn look_up(log: &[Entry], n: u32, windows: &[u32], out: &mut [u32]) -> Done
-    ensures { outcome (doneAnswer result) out.new
-        ≡ lookedUp n windows.now log.now out.old }
+    ensures { outcome (done_answer result) out.new
+        ≡ looked_up n windows.now log.now out.old }
 {
     let mut s = log_windows::opened(n);
     let mut k = 0;

@@ -3,18 +3,18 @@ use Rattle.std.specs.Prelude.{ℕ, ◌+◌, ◌*◌, ◌/◌, Bool, List, eqb, l
 use Rattle.octets.specs.Base.{pick, some, outside, refused, Outcome, outcome}
 use Rattle.octets.specs.Number.{get}
 use Rattle.octets.specs.Table.{tabulated}
-use Rattle.station_tally.specs.Words.{wordCount}
+use Rattle.station_tally.specs.Words.{word_count}
 use Rattle.log_entry.specs.declared.Entry.{Entry}
 use Rattle.log_entry.specs.declared.Event.{Event}
 use Rattle.log_entry.specs.declared.Event.TheVariants.{Collision, Late, Sent, GivenUp, LateEnd, GotOk, GotTooLong}
 use Rattle.log_entry.specs.declared.Event.TheVariants.{GotAlignment, GotCheck, GotLength}
 use Rattle.log_entry.specs.Log.{word_of}
-use Rattle.log_windows.specs.Grow.{addedAll}
-use Rattle.log_lookup.specs.Lookup.{lookedUp}
+use Rattle.log_windows.specs.Grow.{added_all}
+use Rattle.log_lookup.specs.Lookup.{looked_up}
 
 -- the event of a number, as station_tally/Words numbers the words
-unfoldable pub eventOf : ℕ → Event
-eventOf c =
+unfoldable pub event_of : ℕ → Event
+event_of c =
     pick (eqb c 1) (Collision 0)
     (pick (eqb c 2) (Late 0)
     (pick (eqb c 3) (Sent 0)
@@ -27,19 +27,19 @@ eventOf c =
 
 -- entry k, and whether its event stands for nothing
 unfoldable pub entry_at : List ℕ → ℕ → Entry
-entry_at l k = record { time = get 4 l (6 * k); station = get_or l (6 * k + 4) 0; event = eventOf (get_or l (6 * k + 5) 0) }
+entry_at l k = record { time = get 4 l (6 * k); station = get_or l (6 * k + 4) 0; event = event_of (get_or l (6 * k + 5) 0) }
 
 -- the counts c after entry k
-abbrev pub addedAt : (ws l : List ℕ) (k : ℕ) (c : List ℕ) → List ℕ
-addedAt ws l k c = addedAll ws (entry_at l k).time (entry_at l k).station (word_of (entry_at l k).event) c
+abbrev pub added_at : (ws l : List ℕ) (k : ℕ) (c : List ℕ) → List ℕ
+added_at ws l k c = added_all ws (entry_at l k).time (entry_at l k).station (word_of (entry_at l k).event) c
 
-abbrev pub unknownAt : List ℕ → ℕ → Bool
-unknownAt l k = outside (get_or l (6 * k + 5) 0) 1 wordCount
+abbrev pub unknown_at : List ℕ → ℕ → Bool
+unknown_at l k = outside (get_or l (6 * k + 5) 0) 1 word_count
 
-abbrev pub entriesOf : List ℕ → List Entry
-entriesOf l = tabulated (entry_at l) 0 (length l / 6)
+abbrev pub entries_of : List ℕ → List Entry
+entries_of l = tabulated (entry_at l) 0 (length l / 6)
 
 -- the answer, and the lent output afterwards. "A field is outside its range": 5, before all others
-unfoldable pub octetsLookedUp : (n : ℕ) (ws : List ℕ) (l : List ℕ) (out : List ℕ) → Outcome
-octetsLookedUp n ws l out =
-    pick (some (unknownAt l) (length l / 6)) (outcome (refused 5) out) (lookedUp n ws (entriesOf l) out)
+unfoldable pub octets_looked_up : (n : ℕ) (ws : List ℕ) (l : List ℕ) (out : List ℕ) → Outcome
+octets_looked_up n ws l out =
+    pick (some (unknown_at l) (length l / 6)) (outcome (refused 5) out) (looked_up n ws (entries_of l) out)

@@ -2,68 +2,68 @@
 use Rattle.std.specs.Prelude.{ℕ, zero, suc, ◌+◌, ◌-◌, ◌*◌, ◌/◌, ◌≤◌, ◌<◌, ◌≡◌, refl, Bool, true, false, ◌||◌, List, [], ◌∷◌, ltb, leb, length, get_or, drop}
 use Rattle.std.proofs.Common.{sym, ◌∙◌, ap, arith}
 use borrow.Author.Tests.{ne_eqb}
-use Rattle.octets.specs.Base.{some, outside, doneAnswer, outcome}
-use Rattle.octets.specs.BaseLaws.{some_more, some-hit}
+use Rattle.octets.specs.Base.{some, outside, done_answer, outcome}
+use Rattle.octets.specs.BaseLaws.{some_more, some_hit}
 use Rattle.octets.specs.Number.{get}
 use Rattle.octets.specs.Table.{tabulated}
 use Rattle.octets.specs.declared.Done.{Done}
 use Rattle.octets.specs.declared.Done.TheVariants.{Refused}
-use Rattle.station_tally.specs.Words.{wordCount}
+use Rattle.station_tally.specs.Words.{word_count}
 use Rattle.log_entry.specs.declared.Entry.{Entry}
 use Rattle.log_entry.specs.declared.Event.{Event}
 use Rattle.log_entry.specs.declared.Event.TheVariants.{Collision, Late, Sent, GivenUp, LateEnd, GotOk, GotTooLong}
 use Rattle.log_entry.specs.declared.Event.TheVariants.{GotAlignment, GotCheck, GotLength}
 use Rattle.log_entry.specs.declared.State.{State}
 use Rattle.log_entry.specs.Log.{word_of}
-use Rattle.log_windows.specs.Grow.{addedAll, opened_of, entered_of, over}
-use Rattle.log_closing.specs.Close.{closedOf}
-use Rattle.log_lookup.specs.Lookup.{lookedUp}
+use Rattle.log_windows.specs.Grow.{added_all, opened_of, entered_of, over}
+use Rattle.log_closing.specs.Close.{closed_of}
+use Rattle.log_lookup.specs.Lookup.{looked_up}
 use Rattle.log_lookup.specs.Looked.{looked}
-use Rattle.log_octets.specs.Octets.{eventOf, entry_at, addedAt, unknownAt, entriesOf, octetsLookedUp}
+use Rattle.log_octets.specs.Octets.{event_of, entry_at, added_at, unknown_at, entries_of, octets_looked_up}
 
 -- ---- the event of a number
 
 module _ (c : ℕ) where
-  pub event-1 : c ≡ 1 → Collision 0 ≡ eventOf c
-  unfolding eventOf
-  event-1 p = rw p
+  pub event_1 : c ≡ 1 → Collision 0 ≡ event_of c
+  unfolding event_of
+  event_1 p = rw p
 
-  pub event-2 : c ≡ 2 → Late 0 ≡ eventOf c
-  unfolding eventOf
-  event-2 p = rw p
+  pub event_2 : c ≡ 2 → Late 0 ≡ event_of c
+  unfolding event_of
+  event_2 p = rw p
 
-  pub event-3 : c ≡ 3 → Sent 0 ≡ eventOf c
-  unfolding eventOf
-  event-3 p = rw p
+  pub event_3 : c ≡ 3 → Sent 0 ≡ event_of c
+  unfolding event_of
+  event_3 p = rw p
 
-  pub event-4 : c ≡ 4 → GivenUp 0 ≡ eventOf c
-  unfolding eventOf
-  event-4 p = rw p
+  pub event_4 : c ≡ 4 → GivenUp 0 ≡ event_of c
+  unfolding event_of
+  event_4 p = rw p
 
-  pub event-5 : c ≡ 5 → LateEnd 0 ≡ eventOf c
-  unfolding eventOf
-  event-5 p = rw p
+  pub event_5 : c ≡ 5 → LateEnd 0 ≡ event_of c
+  unfolding event_of
+  event_5 p = rw p
 
-  pub event-6 : c ≡ 6 → GotOk 0 ≡ eventOf c
-  unfolding eventOf
-  event-6 p = rw p
+  pub event_6 : c ≡ 6 → GotOk 0 ≡ event_of c
+  unfolding event_of
+  event_6 p = rw p
 
-  pub event-7 : c ≡ 7 → GotTooLong 0 ≡ eventOf c
-  unfolding eventOf
-  event-7 p = rw p
+  pub event_7 : c ≡ 7 → GotTooLong 0 ≡ event_of c
+  unfolding event_of
+  event_7 p = rw p
 
-  pub event-8 : c ≡ 8 → GotAlignment 0 ≡ eventOf c
-  unfolding eventOf
-  event-8 p = rw p
+  pub event_8 : c ≡ 8 → GotAlignment 0 ≡ event_of c
+  unfolding event_of
+  event_8 p = rw p
 
-  pub event-9 : c ≡ 9 → GotCheck 0 ≡ eventOf c
-  unfolding eventOf
-  event-9 p = rw p
+  pub event_9 : c ≡ 9 → GotCheck 0 ≡ event_of c
+  unfolding event_of
+  event_9 p = rw p
 
-  pub event-10 : (c ≡ 1 → ⊥) → (c ≡ 2 → ⊥) → (c ≡ 3 → ⊥) → (c ≡ 4 → ⊥) → (c ≡ 5 → ⊥) → (c ≡ 6 → ⊥) → (c ≡ 7 → ⊥)
-      → (c ≡ 8 → ⊥) → (c ≡ 9 → ⊥) → GotLength 0 ≡ eventOf c
-  unfolding eventOf
-  event-10 a₁ a₂ a₃ a₄ a₅ a₆ a₇ a₈ a₉ =
+  pub event_10 : (c ≡ 1 → ⊥) → (c ≡ 2 → ⊥) → (c ≡ 3 → ⊥) → (c ≡ 4 → ⊥) → (c ≡ 5 → ⊥) → (c ≡ 6 → ⊥) → (c ≡ 7 → ⊥)
+      → (c ≡ 8 → ⊥) → (c ≡ 9 → ⊥) → GotLength 0 ≡ event_of c
+  unfolding event_of
+  event_10 a₁ a₂ a₃ a₄ a₅ a₆ a₇ a₈ a₉ =
       rw (
         ne_eqb c 1 a₁,
         ne_eqb c 2 a₂,
@@ -78,27 +78,27 @@ module _ (c : ℕ) where
 
 -- ---- the search
 
-module _ (l : List ℕ) (m k : ℕ) (c : ℕ) (t : Bool) (p : c ≡ get_or l (6 * k + 5) 0) (q : t ≡ outside c 1 wordCount) where
-  pub unknown-more : t ≡ false → some (unknownAt l) k ≡ false → some (unknownAt l) (k + 1) ≡ false
-  unknown-more e s = some_more (unknownAt l) k t (q ∙ ap (λ x. outside x 1 wordCount) p) e s
+module _ (l : List ℕ) (m k : ℕ) (c : ℕ) (t : Bool) (p : c ≡ get_or l (6 * k + 5) 0) (q : t ≡ outside c 1 word_count) where
+  pub unknown_more : t ≡ false → some (unknown_at l) k ≡ false → some (unknown_at l) (k + 1) ≡ false
+  unknown_more e s = some_more (unknown_at l) k t (q ∙ ap (λ x. outside x 1 word_count) p) e s
 
-  pub unknown-hit : k < m → t ≡ true → true ≡ some (unknownAt l) m
-  unknown-hit b e = some-hit (unknownAt l) m k t (q ∙ ap (λ x. outside x 1 wordCount) p) e b
+  pub unknown_hit : k < m → t ≡ true → true ≡ some (unknown_at l) m
+  unknown_hit b e = some_hit (unknown_at l) m k t (q ∙ ap (λ x. outside x 1 word_count) p) e b
 
 -- ---- one entry more
 
 pub add_at : (ws l c d : List ℕ) (k t i x w : ℕ) (v : Event) → t ≡ get 4 l (6 * k) → i ≡ get_or l (6 * k + 4) 0
-    → x ≡ get_or l (6 * k + 5) 0 → v ≡ eventOf x → w ≡ word_of v → d ≡ addedAll ws t i w c → d ≡ addedAt ws l k c
+    → x ≡ get_or l (6 * k + 5) 0 → v ≡ event_of x → w ≡ word_of v → d ≡ added_all ws t i w c → d ≡ added_at ws l k c
 unfolding entry_at
 add_at ws l c d k t i x w v p q g h u e =
-    e ∙ (λ j. addedAll ws (p j) (q j) ((u ∙ ap word_of (h ∙ ap eventOf g)) j) c)
+    e ∙ (λ j. added_all ws (p j) (q j) ((u ∙ ap word_of (h ∙ ap event_of g)) j) c)
 
 -- the state of these numbers
 abbrev pub state_of : (n last : ℕ) (strays fall : Bool) (c : List ℕ) → State
 state_of n last a f c = record { stations = n; astray = a; falls = f; last = last; counts = c }
 
 entered_at : (ws l c d : List ℕ) (k n last t i : ℕ) (a f b g : Bool) → t ≡ get 4 l (6 * k) → i ≡ get_or l (6 * k + 4) 0
-    → b ≡ (a || leb n i) → g ≡ (f || ltb t last) → d ≡ addedAt ws l k c
+    → b ≡ (a || leb n i) → g ≡ (f || ltb t last) → d ≡ added_at ws l k c
     → state_of n t b g d ≡ entered_of ws (state_of n last a f c) (entry_at l k)
 unfolding entered_of entry_at
 entered_at ws l c d k n last t i a f b g p q r u e =
@@ -109,14 +109,14 @@ entered_at ws l c d k n last t i a f b g p q r u e =
 abbrev pub left_of : List ℕ → State → List ℕ → ℕ → ℕ → State
 left_of ws s l m k = over ws s (tabulated (entry_at l) k (m - k))
 
-pub left-first : (ws l : List ℕ) (s : State) → left_of ws s l (length l / 6) 0 ≡ over ws s (entriesOf l)
-left-first ws l s =
+pub left_first : (ws l : List ℕ) (s : State) → left_of ws s l (length l / 6) 0 ≡ over ws s (entries_of l)
+left_first ws l s =
     let e : length l / 6 - 0 ≡ length l / 6 = omega arith in ap (λ j. over ws s (tabulated (entry_at l) 0 j)) e
 
-left-more : (ws l : List ℕ) (s r x : State) (m k : ℕ) → k < m → r ≡ entered_of ws s (entry_at l k)
+left_more : (ws l : List ℕ) (s r x : State) (m k : ℕ) → k < m → r ≡ entered_of ws s (entry_at l k)
     → left_of ws s l m k ≡ x → left_of ws r l m (k + 1) ≡ x
 unfolding over
-left-more ws l s r x m k h e p =
+left_more ws l s r x m k h e p =
     let a : m - k ≡ suc (m - (k + 1)) = omega arith in
     let b : k + 1 ≡ suc k = omega arith in
     ap (λ y. left_of ws y l m (k + 1)) e
@@ -124,12 +124,12 @@ left-more ws l s r x m k h e p =
     ∙ sym (ap (λ j. over ws s (tabulated (entry_at l) k j)) a)
     ∙ p
 
-pub left-entered : (ws l c d : List ℕ) (m k n last t i : ℕ) (a f b g : Bool) (x : State) → k < m
+pub left_entered : (ws l c d : List ℕ) (m k n last t i : ℕ) (a f b g : Bool) (x : State) → k < m
     → t ≡ get 4 l (6 * k) → i ≡ get_or l (6 * k + 4) 0 → b ≡ (a || leb n i) → g ≡ (f || ltb t last)
-    → d ≡ addedAt ws l k c → left_of ws (state_of n last a f c) l m k ≡ x
+    → d ≡ added_at ws l k c → left_of ws (state_of n last a f c) l m k ≡ x
     → left_of ws (state_of n t b g d) l m (k + 1) ≡ x
-left-entered ws l c d m k n last t i a f b g x h p q r u e =
-    left-more ws l (state_of n last a f c) (state_of n t b g d) x m k h
+left_entered ws l c d m k n last t i a f b g x h p q r u e =
+    left_more ws l (state_of n last a f c) (state_of n t b g d) x m k h
     (entered_at ws l c d k n last t i a f b g p q r u e)
 
 pub left_end : (ws l : List ℕ) (s x : State) (m k : ℕ) → left_of ws s l m k ≡ x → m ≤ k → s ≡ x
@@ -139,24 +139,24 @@ left_end ws l s x m k p h =
 
 -- ---- the answers
 
-pub octets-refused : (n : ℕ) (ws l out : List ℕ) (b : Bool) → b ≡ some (unknownAt l) (length l / 6) → b ≡ true
-    → outcome (doneAnswer (Refused 5)) out ≡ octetsLookedUp n ws l out
-unfolding octetsLookedUp
-octets-refused n ws l out b p e = rw (sym p, e)
+pub octets_refused : (n : ℕ) (ws l out : List ℕ) (b : Bool) → b ≡ some (unknown_at l) (length l / 6) → b ≡ true
+    → outcome (done_answer (Refused 5)) out ≡ octets_looked_up n ws l out
+unfolding octets_looked_up
+octets_refused n ws l out b p e = rw (sym p, e)
 
-length-tabulated : (f : ℕ → Entry) (i n : ℕ) → length (tabulated f i n) ≡ n
-length-tabulated f i zero = refl
-length-tabulated f i (suc n) = ap suc (length-tabulated f (suc i) n)
+length_tabulated : (f : ℕ → Entry) (i n : ℕ) → length (tabulated f i n) ≡ n
+length_tabulated f i zero = refl
+length_tabulated f i (suc n) = ap suc (length_tabulated f (suc i) n)
 
-all-dropped : (es : List Entry) → drop (length es) es ≡ []
-all-dropped [] = refl
-all-dropped (e ∷ es) = all-dropped es
+all_dropped : (es : List Entry) → drop (length es) es ≡ []
+all_dropped [] = refl
+all_dropped (e ∷ es) = all_dropped es
 
-pub octets-made : (n : ℕ) (ws l out new : List ℕ) (o s : State) (b : Bool) (r : Done)
-    → outcome (doneAnswer r) new ≡ closedOf ws s out → b ≡ some (unknownAt l) (length l / 6) → b ≡ false
-    → o ≡ opened_of n → s ≡ over ws o (entriesOf l) → outcome (doneAnswer r) new ≡ octetsLookedUp n ws l out
-unfolding octetsLookedUp over
-octets-made n ws l out new o s b r e p f g h =
+pub octets_made : (n : ℕ) (ws l out new : List ℕ) (o s : State) (b : Bool) (r : Done)
+    → outcome (done_answer r) new ≡ closed_of ws s out → b ≡ some (unknown_at l) (length l / 6) → b ≡ false
+    → o ≡ opened_of n → s ≡ over ws o (entries_of l) → outcome (done_answer r) new ≡ octets_looked_up n ws l out
+unfolding octets_looked_up over
+octets_made n ws l out new o s b r e p f g h =
     rw (sym p, f)
-    (e ∙ looked ws s (entriesOf l) n (length (entriesOf l)) out (omega arith)
-    (ap (over ws s) (all-dropped (entriesOf l)) ∙ h ∙ ap (λ (x : State). over ws x (entriesOf l)) g))
+    (e ∙ looked ws s (entries_of l) n (length (entries_of l)) out (omega arith)
+    (ap (over ws s) (all_dropped (entries_of l)) ∙ h ∙ ap (λ (x : State). over ws x (entries_of l)) g))

@@ -2,16 +2,16 @@
 // 10, as `station_tally/Words` numbers the words). Octets after the last whole entry are not looked at.
 
 ghost use Rattle.std.specs.Prelude.{◌≡◌, ◌+◌, ◌*◌, ◌≤◌, ◌/◌, length};
-ghost use Rattle.octets.specs.Base.{some, doneAnswer, outcome};
+ghost use Rattle.octets.specs.Base.{some, done_answer, outcome};
 ghost use Rattle.log_windows.specs.Grow.{over};
-ghost use Rattle.log_octets.specs.Octets.{eventOf, addedAt, unknownAt, entriesOf, octetsLookedUp};
+ghost use Rattle.log_octets.specs.Octets.{event_of, added_at, unknown_at, entries_of, octets_looked_up};
 
 use log_entry::{Event, State};
 use octets::Done;
 
 // The event of a number; where it stands for none, the last.
 pub fn event_of(c: u32) -> Event
-    ensures { result ≡ eventOf c }
+    ensures { result ≡ event_of c }
 {
     if c == 1 {
         return Event::Collision(0);
@@ -45,7 +45,7 @@ pub fn event_of(c: u32) -> Event
 
 // Whether some entry's event stands for nothing.
 pub fn any_unknown(log: &[u8]) -> bool
-    ensures { result ≡ some (unknownAt log.now) (length log.now / 6) }
+    ensures { result ≡ some (unknown_at log.now) (length log.now / 6) }
 {
     let m = log.len() / 6;
     for k in 0..m {
@@ -59,7 +59,7 @@ pub fn any_unknown(log: &[u8]) -> bool
 // Entry k is added to the counts of every window that holds it.
 fn add_at(counts: &mut [u32; 640], windows: &[u32], log: &[u8], k: usize)
     requires { 6 * k + 6 ≤ length log.now }
-    ensures { counts.new ≡ addedAt windows.now log.now k counts.old }
+    ensures { counts.new ≡ added_at windows.now log.now k counts.old }
 {
     let time = octets_words::get32(log, 6 * k);
     let station = octets::wide(log[6 * k + 4]);
@@ -69,7 +69,7 @@ fn add_at(counts: &mut [u32; 640], windows: &[u32], log: &[u8], k: usize)
 
 // The state after all entries of the log more.
 pub fn entered_all(s: State, windows: &[u32], log: &[u8]) -> State
-    ensures { result ≡ over windows.now s (entriesOf log.now) }
+    ensures { result ≡ over windows.now s (entries_of log.now) }
 {
     let m = log.len() / 6;
     let stations = s.stations;
@@ -96,8 +96,8 @@ pub fn entered_all(s: State, windows: &[u32], log: &[u8]) -> State
 // Looks up the windows in the log of n stations, as `log_lookup::look_up` does, with one refusal before all others: 5,
 // where an entry's event stands for nothing.
 pub fn look_up_octets(log: &[u8], n: u32, windows: &[u32], out: &mut [u32]) -> Done
-    ensures { outcome (doneAnswer result) out.new
-        ≡ octetsLookedUp n windows.now log.now out.old }
+    ensures { outcome (done_answer result) out.new
+        ≡ octets_looked_up n windows.now log.now out.old }
 {
     if any_unknown(log) {
         return Done::Refused(5);

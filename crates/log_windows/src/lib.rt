@@ -1,9 +1,9 @@
 // The tallies of many windows, entry by entry: the state before the first entry of a log, and after one more.
 
 ghost use Rattle.std.specs.Prelude.{◌≡◌, ◌<◌, ◌≤◌, ◌+◌, ◌*◌, length};
-ghost use Rattle.station_tally.specs.Words.{wordCount};
-ghost use Rattle.log_entry.specs.Log.{maxWindows, holds};
-ghost use Rattle.log_windows.specs.Grow.{capped, added, addedAll, used, opened_of, entered_of};
+ghost use Rattle.station_tally.specs.Words.{word_count};
+ghost use Rattle.log_entry.specs.Log.{max_windows, holds};
+ghost use Rattle.log_windows.specs.Grow.{capped, added, added_all, used, opened_of, entered_of};
 
 use log_entry::{Event, State};
 
@@ -16,7 +16,7 @@ fn cap(c: u32) -> u32
 
 // Whether window w holds what the station reported at the time.
 fn inside(windows: &[u32], w: usize, time: u32, station: u32) -> bool
-    requires { (w < maxWindows) × (3 * w + 3 ≤ length windows.now) }
+    requires { (w < max_windows) × (3 * w + 3 ≤ length windows.now) }
     ensures { result ≡ holds windows.now w time station }
 {
     if windows[3 * w] != station {
@@ -30,7 +30,7 @@ fn inside(windows: &[u32], w: usize, time: u32, station: u32) -> bool
 
 // An event is added to the counts of window w, where that holds it.
 fn add(counts: &mut [u32; 640], windows: &[u32], time: u32, station: u32, word: usize, w: usize)
-    requires { (w < maxWindows) × (3 * w + 3 ≤ length windows.now) × (word < wordCount) }
+    requires { (w < max_windows) × (3 * w + 3 ≤ length windows.now) × (word < word_count) }
     ensures { counts.new ≡ added windows.now time station word w counts.old }
 {
     if inside(windows, w, time, station) {
@@ -42,7 +42,7 @@ fn add(counts: &mut [u32; 640], windows: &[u32], time: u32, station: u32, word: 
 // How many windows have a place in the table.
 fn placed(windows: &[u32]) -> usize
     ensures value { result ≡ used windows.now }
-    ensures small { (result ≤ maxWindows) × (3 * result ≤ length windows.now) }
+    ensures small { (result ≤ max_windows) × (3 * result ≤ length windows.now) }
 {
     let m = windows.len() / 3;
     if 64 < m {
@@ -53,8 +53,8 @@ fn placed(windows: &[u32]) -> usize
 
 // An event is added to every window that holds it.
 pub fn add_all(counts: &mut [u32; 640], windows: &[u32], time: u32, station: u32, word: usize)
-    requires { word < wordCount }
-    ensures { counts.new ≡ addedAll windows.now time station word counts.old }
+    requires { word < word_count }
+    ensures { counts.new ≡ added_all windows.now time station word counts.old }
 {
     let m = placed(windows);
     for w in 0..m {

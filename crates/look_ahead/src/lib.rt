@@ -2,17 +2,17 @@
 
 ghost use Rattle.std.specs.Prelude.{◌≡◌, ◌+◌, ◌≤◌, ◌<◌, length, replicate};
 ghost use Rattle.std.proofs.lemmas.List.Edits.{sets};
-ghost use Rattle.octets.specs.Base.{refused, outcome, doneAnswer};
-ghost use Rattle.sheet_layout.specs.Limits.{maxStations};
-ghost use Rattle.station_state.specs.State.{counterCount};
-ghost use Rattle.station_tally.specs.Words.{wordCount};
-ghost use Rattle.area.specs.Offsets.{areaSize};
-ghost use Rattle.area.specs.Area.{countAt};
+ghost use Rattle.octets.specs.Base.{refused, outcome, done_answer};
+ghost use Rattle.sheet_layout.specs.Limits.{max_stations};
+ghost use Rattle.station_state.specs.State.{counter_count};
+ghost use Rattle.station_tally.specs.Words.{word_count};
+ghost use Rattle.area.specs.Offsets.{area_size};
+ghost use Rattle.area.specs.Area.{count_at};
 ghost use Rattle.bus_spec.specs.declared.course.Ended.TheVariants.{All};
-ghost use Rattle.bus_spec.specs.Run.{runOutcome};
+ghost use Rattle.bus_spec.specs.Run.{run_outcome};
 ghost use Rattle.bus_offer.specs.Offer.{offered};
-ghost use Rattle.look_ahead.specs.Look.{allCounters, timesRefusal, lookRefusal, copied, countersPut, countersOf};
-ghost use Rattle.look_ahead.specs.Look.{runAhead, outlookOf, lookedAt, looked};
+ghost use Rattle.look_ahead.specs.Look.{all_counters, times_refusal, look_refusal, copied, counters_put, counters_of};
+ghost use Rattle.look_ahead.specs.Look.{run_ahead, outlook_of, looked_at, looked};
 
 use bus_spec::course::{Ended, RunAnswer};
 use octets::Done;
@@ -35,8 +35,8 @@ pub struct Outlook {
 
 // The refusal of n bit times, 13, or 0.
 fn times_refusal(area: &[u8], n: u32) -> u32
-    requires { areaSize ≤ length area.now }
-    ensures { result ≡ timesRefusal area.now n }
+    requires { area_size ≤ length area.now }
+    ensures { result ≡ times_refusal area.now n }
 {
     if MAX_TIMES < n {
         return 13;
@@ -50,7 +50,7 @@ fn times_refusal(area: &[u8], n: u32) -> u32
 
 // The refusal of a look ahead, 1, 2, 10, 11, 12 or 13, or 0.
 pub fn refusal(area: &[u8], second: &[u8], i: usize, value: u16, payload: &[u8], n: u32) -> u32
-    ensures { result ≡ lookRefusal area.now second.now i value
+    ensures { result ≡ look_refusal area.now second.now i value
         (length payload.now) n }
 {
     if second.len() < area::AREA {
@@ -65,7 +65,7 @@ pub fn refusal(area: &[u8], second: &[u8], i: usize, value: u16, payload: &[u8],
 
 // The copy of the work area in the second one.
 fn copy_area(second: &mut [u8], area: &[u8])
-    requires { (areaSize ≤ length second.old) × (areaSize ≤ length area.now) }
+    requires { (area_size ≤ length second.old) × (area_size ≤ length area.now) }
     ensures { second.new ≡ copied area.now second.old }
 {
     octets_copies::store(second, 0, &area[0..area::AREA]);
@@ -73,7 +73,7 @@ fn copy_area(second: &mut [u8], area: &[u8])
 
 // The counters of a station, from index `at` on.
 fn put_station(out: &mut [u32], at: usize, counters: [u32; station_state::COUNTERS])
-    requires { at + counterCount ≤ length out.old }
+    requires { at + counter_count ≤ length out.old }
     ensures { out.new ≡ sets out.old at counters }
 {
     let mut k: usize = 0;
@@ -85,8 +85,8 @@ fn put_station(out: &mut [u32], at: usize, counters: [u32; station_state::COUNTE
 
 // The counters of the first n stations.
 fn put_counters(area: &[u8], out: &mut [u32], n: usize)
-    requires { (n ≤ maxStations) × (areaSize ≤ length area.now) × (allCounters ≤ length out.old) }
-    ensures { out.new ≡ countersPut area.now n out.old }
+    requires { (n ≤ max_stations) × (area_size ≤ length area.now) × (all_counters ≤ length out.old) }
+    ensures { out.new ≡ counters_put area.now n out.old }
 {
     let mut i: usize = 0;
     while i < n {
@@ -98,8 +98,8 @@ fn put_counters(area: &[u8], out: &mut [u32], n: usize)
 
 // The counters of the first n stations, one station after the other, and zeros.
 fn read_all(area: &[u8], n: usize) -> [u32; ALL_COUNTERS]
-    requires { (n ≤ maxStations) × (areaSize ≤ length area.now) }
-    ensures { result ≡ countersOf area.now n }
+    requires { (n ≤ max_stations) × (area_size ≤ length area.now) }
+    ensures { result ≡ counters_of area.now n }
 {
     let mut out = [0u32; ALL_COUNTERS];
     put_counters(area, &mut out, n);
@@ -108,8 +108,8 @@ fn read_all(area: &[u8], n: usize) -> [u32; ALL_COUNTERS]
 
 // A look ahead refused under this number.
 fn no_look(number: u32) -> Outlook
-    ensures { (doneAnswer result.done ≡ refused number) × (result.words ≡ replicate wordCount 0)
-        × (result.counters ≡ replicate allCounters 0) × (result.ended ≡ All) }
+    ensures { (done_answer result.done ≡ refused number) × (result.words ≡ replicate word_count 0)
+        × (result.counters ≡ replicate all_counters 0) × (result.ended ≡ All) }
 {
     Outlook {
         done: Done::Refused(number),
@@ -128,8 +128,8 @@ fn offer_ahead(
     value: u16,
     payload: &[u8],
 ) -> Done
-    requires { (areaSize ≤ length area.now) × (areaSize ≤ length second.old) }
-    ensures { outcome (doneAnswer result) second.new
+    requires { (area_size ≤ length area.now) × (area_size ≤ length second.old) }
+    ensures { outcome (done_answer result) second.new
         ≡ offered (copied area.now second.old) i destination value payload.now }
 {
     copy_area(second, area);
@@ -146,9 +146,9 @@ fn run_ahead(
     payload: &[u8],
     n: u32,
 ) -> RunAnswer
-    requires { (areaSize ≤ length area.now) × (areaSize ≤ length second.old) }
-    ensures { runOutcome result second.new
-        ≡ runAhead area.now second.old i destination value payload.now n }
+    requires { (area_size ≤ length area.now) × (area_size ≤ length second.old) }
+    ensures { run_outcome result second.new
+        ≡ run_ahead area.now second.old i destination value payload.now n }
 {
     offer_ahead(area, second, i, destination, value, payload);
     fast_run::run(second, n)
@@ -164,10 +164,10 @@ fn go_ahead(
     payload: &[u8],
     n: u32,
 ) -> Outlook
-    requires area_size_in_bounds { (areaSize ≤ length area.now) × (areaSize ≤ length second.old) }
-    requires area_bound { countAt area.now ≤ maxStations }
-    ensures { outlookOf result second.new ≡ lookedAt (countAt area.now)
-        (runAhead area.now second.old i destination value payload.now n) }
+    requires area_size_in_bounds { (area_size ≤ length area.now) × (area_size ≤ length second.old) }
+    requires area_bound { count_at area.now ≤ max_stations }
+    ensures { outlook_of result second.new ≡ looked_at (count_at area.now)
+        (run_ahead area.now second.old i destination value payload.now n) }
 {
     let r = run_ahead(area, second, i, destination, value, payload, n);
     let counters = read_all(second, area::read_count(area) as usize);
@@ -192,7 +192,7 @@ pub fn look(
     payload: &[u8],
     n: u32,
 ) -> Outlook
-    ensures { outlookOf result second.new
+    ensures { outlook_of result second.new
         ≡ looked area.now second.old i destination value payload.now n }
 {
     let number = refusal(area, second, i, value, payload, n);

@@ -4,102 +4,102 @@ use Rattle.std.proofs.lemmas.List.Edits.{sets}
 use Rattle.octets.specs.Base.{pick, refused, accepted, Outcome, outcome}
 use Rattle.octets.specs.Equal.{equal}
 use Rattle.octets.specs.Store.{part}
-use Rattle.area.specs.Offsets.{areaSize}
-use Rattle.area_check.specs.Valid.{areaWrong, areaRefusal}
+use Rattle.area.specs.Offsets.{area_size}
+use Rattle.area_check.specs.Valid.{area_wrong, area_refusal}
 
 -- ---- the store
 
 -- "A second lent store holds up to four marks, each an octet that is 1 where the mark stands, an eight-octet name and
 -- the whole work area"
-abbrev pub markCount : ℕ
-markCount = 4
+abbrev pub mark_count : ℕ
+mark_count = 4
 
-abbrev pub nameSize : ℕ
-nameSize = 8
+abbrev pub name_size : ℕ
+name_size = 8
 
-abbrev pub markSize : ℕ
-markSize = 1 + nameSize + areaSize
+abbrev pub mark_size : ℕ
+mark_size = 1 + name_size + area_size
 
-abbrev pub storeSize : ℕ
-storeSize = markCount * markSize
+abbrev pub store_size : ℕ
+store_size = mark_count * mark_size
 
 -- where place k begins, its name, and its area
-abbrev pub markFrom : ℕ → ℕ
-markFrom k = markSize * k
+abbrev pub mark_from : ℕ → ℕ
+mark_from k = mark_size * k
 
-abbrev pub nameFrom : ℕ → ℕ
-nameFrom k = markFrom k + 1
+abbrev pub name_from : ℕ → ℕ
+name_from k = mark_from k + 1
 
-abbrev pub copyFrom : ℕ → ℕ
-copyFrom k = markFrom k + (1 + nameSize)
+abbrev pub copy_from : ℕ → ℕ
+copy_from k = mark_from k + (1 + name_size)
 
 unfoldable pub stands : (store : List ℕ) (k : ℕ) → Bool
-stands s k = eqb (get_or s (markFrom k) 0) 1
+stands s k = eqb (get_or s (mark_from k) 0) 1
 
 unfoldable pub name_at : (store : List ℕ) (k : ℕ) → List ℕ
-name_at s k = part s (nameFrom k) nameSize
+name_at s k = part s (name_from k) name_size
 
 unfoldable pub copy_at : (store : List ℕ) (k : ℕ) → List ℕ
-copy_at s k = part s (copyFrom k) areaSize
+copy_at s k = part s (copy_from k) area_size
 
 -- ---- finding a place: its number, markCount where there is none
 
 -- the first number from k on, of n, that passes the test; k + n where none does
-unfoldable pub firstFrom : (ℕ → Bool) → (k n : ℕ) → ℕ
-firstFrom t k zero = k
-firstFrom t k (suc n) = pick (t k) k (firstFrom t (k + 1) n)
+unfoldable pub first_from : (ℕ → Bool) → (k n : ℕ) → ℕ
+first_from t k zero = k
+first_from t k (suc n) = pick (t k) k (first_from t (k + 1) n)
 
 -- "Where a name stands twice, the first counts."
 unfoldable pub named : (store name : List ℕ) (k : ℕ) → Bool
 named s name k = stands s k && equal (name_at s k) name
 
 unfoldable pub found : (store name : List ℕ) → ℕ
-found s name = firstFrom (named s name) 0 markCount
+found s name = first_from (named s name) 0 mark_count
 
 -- "the first place whose octet is not 1"
 unfoldable pub vacant : (store : List ℕ) (k : ℕ) → Bool
 vacant s k = not (stands s k)
 
 unfoldable pub free : (store : List ℕ) → ℕ
-free s = firstFrom (vacant s) 0 markCount
+free s = first_from (vacant s) 0 mark_count
 
 -- "Marking under a standing name replaces it; .. a new name takes the first place whose octet is not 1."
-unfoldable pub placeFor : (store name : List ℕ) → ℕ
-placeFor s name = pick (eqb (found s name) markCount) (free s) (found s name)
+unfoldable pub place_for : (store name : List ℕ) → ℕ
+place_for s name = pick (eqb (found s name) mark_count) (free s) (found s name)
 
 -- ---- the calls: the answer, and the slice that is written
 
 -- the store with a mark at place k: the octet, the name, and of the area "only the first octets, as many as 1 asks for"
 unfoldable pub with_head : (store : List ℕ) (k : ℕ) (name : List ℕ) → List ℕ
-with_head s k name = set (sets s (nameFrom k) name) (markFrom k) 1
+with_head s k name = set (sets s (name_from k) name) (mark_from k) 1
 
-unfoldable pub withMark : (store : List ℕ) (k : ℕ) (name area : List ℕ) → List ℕ
-withMark s k name a = sets (with_head s k name) (copyFrom k) (take areaSize a)
+unfoldable pub with_mark : (store : List ℕ) (k : ℕ) (name area : List ℕ) → List ℕ
+with_mark s k name a = sets (with_head s k name) (copy_from k) (take area_size a)
 
 -- "marking checks its area under 1 and 2 first"; 15: "a store too short for four marks"; "as 18, a new name while four
 -- others stand". The store afterwards
 unfoldable pub marked : (area store name : List ℕ) → Outcome
 marked a s name =
-    pick (eqb (areaRefusal a) 0)
-    (pick (ltb (length s) storeSize) (outcome (refused 15) s)
-    (pick (eqb (placeFor s name) markCount) (outcome (refused 18) s)
-    (outcome (accepted []) (withMark s (placeFor s name) name a))))
-    (outcome (refused (areaRefusal a)) s)
+    pick (eqb (area_refusal a) 0)
+    (pick (ltb (length s) store_size) (outcome (refused 15) s)
+    (pick (eqb (place_for s name) mark_count) (outcome (refused 18) s)
+    (outcome (accepted []) (with_mark s (place_for s name) name a))))
+    (outcome (refused (area_refusal a)) s)
 
 -- "Returning puts back every octet, clock and draw places included." "a return checks only the length of the area it
 -- overwrites": 1; 15; "as 17, a return or drop of a name not marked"; "a return to a marked area that 2 would refuse
 -- under 2". The area afterwards
 unfoldable pub returned : (area store name : List ℕ) → Outcome
 returned a s name =
-    pick (ltb (length a) areaSize) (outcome (refused 1) a)
-    (pick (ltb (length s) storeSize) (outcome (refused 15) a)
-    (pick (eqb (found s name) markCount) (outcome (refused 17) a)
-    (pick (areaWrong (copy_at s (found s name))) (outcome (refused 2) a)
+    pick (ltb (length a) area_size) (outcome (refused 1) a)
+    (pick (ltb (length s) store_size) (outcome (refused 15) a)
+    (pick (eqb (found s name) mark_count) (outcome (refused 17) a)
+    (pick (area_wrong (copy_at s (found s name))) (outcome (refused 2) a)
     (outcome (accepted []) (sets a 0 (copy_at s (found s name)))))))
 
 -- "a drop sets only that octet to 0"; 15, 17. The store afterwards
 unfoldable pub dropped : (store name : List ℕ) → Outcome
 dropped s name =
-    pick (ltb (length s) storeSize) (outcome (refused 15) s)
-    (pick (eqb (found s name) markCount) (outcome (refused 17) s)
-    (outcome (accepted []) (set s (markFrom (found s name)) 0)))
+    pick (ltb (length s) store_size) (outcome (refused 15) s)
+    (pick (eqb (found s name) mark_count) (outcome (refused 17) s)
+    (outcome (accepted []) (set s (mark_from (found s name)) 0)))

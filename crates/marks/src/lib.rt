@@ -3,12 +3,12 @@
 
 ghost use Rattle.std.specs.Prelude.{◌≡◌, ◌<◌, ◌≤◌, length};
 ghost use Rattle.std.proofs.lemmas.List.Edits.{sets};
-ghost use Rattle.octets.specs.Base.{doneAnswer, outcome};
+ghost use Rattle.octets.specs.Base.{done_answer, outcome};
 ghost use Rattle.octets.specs.Equal.{equal};
-ghost use Rattle.area.specs.Offsets.{areaSize};
-ghost use Rattle.area_check.specs.Valid.{areaWrong};
-ghost use Rattle.marks.specs.Marks.{markCount, storeSize, stands, name_at, copy_at, named, found, vacant, free};
-ghost use Rattle.marks.specs.Marks.{placeFor, with_head, withMark, marked, returned, dropped};
+ghost use Rattle.area.specs.Offsets.{area_size};
+ghost use Rattle.area_check.specs.Valid.{area_wrong};
+ghost use Rattle.marks.specs.Marks.{mark_count, store_size, stands, name_at, copy_at, named, found, vacant, free};
+ghost use Rattle.marks.specs.Marks.{place_for, with_head, with_mark, marked, returned, dropped};
 
 use octets::Done;
 
@@ -26,7 +26,7 @@ const COPY_AT: usize = 9;
 
 // Whether a mark stands at place k.
 fn is_standing(store: &[u8], k: usize) -> bool
-    requires { (k < markCount) × (storeSize ≤ length store.now) }
+    requires { (k < mark_count) × (store_size ≤ length store.now) }
     ensures { result ≡ stands store.now k }
 {
     store[MARK * k] == 1
@@ -34,7 +34,7 @@ fn is_standing(store: &[u8], k: usize) -> bool
 
 // Whether the name at place k is this one.
 fn has_name(store: &[u8], k: usize, name: [u8; 8]) -> bool
-    requires { (k < markCount) × (storeSize ≤ length store.now) }
+    requires { (k < mark_count) × (store_size ≤ length store.now) }
     ensures { result ≡ equal (name_at store.now k) name }
 {
     let at = MARK * k + NAME_AT;
@@ -42,7 +42,7 @@ fn has_name(store: &[u8], k: usize, name: [u8; 8]) -> bool
 }
 
 fn is_named(store: &[u8], k: usize, name: [u8; 8]) -> bool
-    requires { (k < markCount) × (storeSize ≤ length store.now) }
+    requires { (k < mark_count) × (store_size ≤ length store.now) }
     ensures { result ≡ named store.now name k }
 {
     octets::both(is_standing(store, k), has_name(store, k, name))
@@ -50,9 +50,9 @@ fn is_named(store: &[u8], k: usize, name: [u8; 8]) -> bool
 
 // The first place with a mark of that name, 4 where there is none.
 fn find(store: &[u8], name: [u8; 8]) -> usize
-    requires { storeSize ≤ length store.now }
+    requires { store_size ≤ length store.now }
     ensures value { result ≡ found store.now name }
-    ensures small { result ≤ markCount }
+    ensures small { result ≤ mark_count }
 {
     let mut k: usize = 0;
     while k < COUNT {
@@ -66,9 +66,9 @@ fn find(store: &[u8], name: [u8; 8]) -> usize
 
 // The first place where no mark stands, 4 where there is none.
 fn find_free(store: &[u8]) -> usize
-    requires { storeSize ≤ length store.now }
+    requires { store_size ≤ length store.now }
     ensures value { result ≡ free store.now }
-    ensures small { result ≤ markCount }
+    ensures small { result ≤ mark_count }
 {
     let mut k: usize = 0;
     while k < COUNT {
@@ -82,9 +82,9 @@ fn find_free(store: &[u8]) -> usize
 
 // Where a mark of that name goes: over the one that stands, or to a free place; 4 where there is none.
 fn place_for(store: &[u8], name: [u8; 8]) -> usize
-    requires { storeSize ≤ length store.now }
-    ensures value { result ≡ placeFor store.now name }
-    ensures small { result ≤ markCount }
+    requires { store_size ≤ length store.now }
+    ensures value { result ≡ place_for store.now name }
+    ensures small { result ≤ mark_count }
 {
     let k = find(store, name);
     if k == COUNT {
@@ -95,7 +95,7 @@ fn place_for(store: &[u8], name: [u8; 8]) -> usize
 
 // The octet and the name of a mark written at place k.
 fn write_head(store: &mut [u8], k: usize, name: [u8; 8])
-    requires { (k < markCount) × (storeSize ≤ length store.old) }
+    requires { (k < mark_count) × (store_size ≤ length store.old) }
     ensures { store.new ≡ with_head store.old k name }
 {
     octets_copies::store(store, MARK * k + NAME_AT, &name);
@@ -104,8 +104,8 @@ fn write_head(store: &mut [u8], k: usize, name: [u8; 8])
 
 // A mark written at place k.
 fn write_mark(store: &mut [u8], k: usize, name: [u8; 8], area: &[u8])
-    requires { (k < markCount) × (storeSize ≤ length store.old) × (areaSize ≤ length area.now) }
-    ensures { store.new ≡ withMark store.old k name area.now }
+    requires { (k < mark_count) × (store_size ≤ length store.old) × (area_size ≤ length area.now) }
+    ensures { store.new ≡ with_mark store.old k name area.now }
 {
     write_head(store, k, name);
     octets_copies::store(store, MARK * k + COPY_AT, &area[0..area::AREA]);
@@ -113,8 +113,8 @@ fn write_mark(store: &mut [u8], k: usize, name: [u8; 8], area: &[u8])
 
 // Whether check 2 refuses the area at place k.
 fn is_wrong(store: &[u8], k: usize) -> bool
-    requires { (k < markCount) × (storeSize ≤ length store.now) }
-    ensures { result ≡ areaWrong (copy_at store.now k) }
+    requires { (k < mark_count) × (store_size ≤ length store.now) }
+    ensures { result ≡ area_wrong (copy_at store.now k) }
 {
     let at = MARK * k + COPY_AT;
     area_check::refusal(&store[at..at + area::AREA]) != 0
@@ -122,7 +122,7 @@ fn is_wrong(store: &[u8], k: usize) -> bool
 
 // Marks a work area under a name. Refusals 1, 2, 15, 18.
 pub fn mark(area: &[u8], store: &mut [u8], name: [u8; 8]) -> Done
-    ensures { outcome (doneAnswer result) store.new
+    ensures { outcome (done_answer result) store.new
         ≡ marked area.now store.old name }
 {
     let number = area_check::refusal(area);
@@ -142,7 +142,7 @@ pub fn mark(area: &[u8], store: &mut [u8], name: [u8; 8]) -> Done
 
 // The area at place k put back.
 fn put_back(area: &mut [u8], store: &[u8], k: usize)
-    requires { (k < markCount) × (storeSize ≤ length store.now) × (areaSize ≤ length area.old) }
+    requires { (k < mark_count) × (store_size ≤ length store.now) × (area_size ≤ length area.old) }
     ensures { area.new ≡ sets area.old 0 (copy_at store.now k) }
 {
     let at = MARK * k + COPY_AT;
@@ -151,7 +151,7 @@ fn put_back(area: &mut [u8], store: &[u8], k: usize)
 
 // Puts back the work area that is marked under a name. Refusals 1, 15, 17, 2.
 pub fn go_back(area: &mut [u8], store: &[u8], name: [u8; 8]) -> Done
-    ensures { outcome (doneAnswer result) area.new
+    ensures { outcome (done_answer result) area.new
         ≡ returned area.old store.now name }
 {
     if area.len() < area::AREA {
@@ -173,7 +173,7 @@ pub fn go_back(area: &mut [u8], store: &[u8], name: [u8; 8]) -> Done
 
 // Drops the mark of a name. Refusals 15, 17.
 pub fn drop_mark(store: &mut [u8], name: [u8; 8]) -> Done
-    ensures { outcome (doneAnswer result) store.new ≡ dropped store.old name }
+    ensures { outcome (done_answer result) store.new ≡ dropped store.old name }
 {
     if store.len() < STORE {
         return Done::Refused(15);

@@ -35,9 +35,9 @@ values_of (refused n) = []
 values_of (accepted vs) = vs
 
 -- what each case of the code's answer stands for
-abbrev pub doneAnswer : Done → Answer
-doneAnswer (Refused n) = refused n
-doneAnswer Made = accepted []
+abbrev pub done_answer : Done → Answer
+done_answer (Refused n) = refused n
+done_answer Made = accepted []
 
 -- What a call leaves: its answer, and the octets that it was lent.
 pub record Outcome : Type 0 where

@@ -9,24 +9,24 @@ use native.Mathlib.Omega.{arith}
 use Rattle.octets.specs.Base.{some, outside, Answer, refused, accepted}
 
 -- a test with its answer remembered, and two numbers that are equal or not
-pub by-test : {C : Type 0} (b : Bool) → (b ≡ true → C) → (b ≡ false → C) → C
-by-test true f g = f refl
-by-test false f g = g refl
+pub by_test : {C : Type 0} (b : Bool) → (b ≡ true → C) → (b ≡ false → C) → C
+by_test true f g = f refl
+by_test false f g = g refl
 
-pub by-eq : {C : Type 0} (m n : ℕ) → (m ≡ n → C) → ((m ≡ n → ⊥) → C) → C
-by-eq {C} m n f g = go (ℕ_discrete m n)
+pub by_eq : {C : Type 0} (m n : ℕ) → (m ≡ n → C) → ((m ≡ n → ⊥) → C) → C
+by_eq {C} m n f g = go (ℕ_discrete m n)
   where
     go : Dec (m ≡ n) → C
     go (yes h) = f h
     go (no h) = g h
 
 -- a refusal is no accepted answer, whatever its number
-abbrev isAccepted : Answer → Bool
-isAccepted (refused n) = false
-isAccepted (accepted vs) = true
+abbrev is_accepted : Answer → Bool
+is_accepted (refused n) = false
+is_accepted (accepted vs) = true
 
 pub refused_none : {C : Type 0} (k : ℕ) (vs : List ℕ) → refused k ≡ accepted vs → C
-refused_none k vs p = absurd (true≢false (sym (ap isAccepted p)))
+refused_none k vs p = absurd (true≢false (sym (ap is_accepted p)))
 
 -- neither of two
 pub neither : (a b : Bool) → (a || b) ≡ false → (a ≡ false) × (b ≡ false)
@@ -36,18 +36,18 @@ neither false b h = (refl, h)
 -- ---- a search, as a loop that counts up and stops at the first hit
 
 module _ (t : ℕ → Bool) where
-  pub some-none : some t 0 ≡ false
+  pub some_none : some t 0 ≡ false
   unfolding some
-  some-none = refl
+  some_none = refl
 
   pub some_more : (i : ℕ) (f : Bool) → f ≡ t i → f ≡ false → some t i ≡ false → some t (i + 1) ≡ false
   unfolding some
   some_more i f p q r = rw (add-one i, r, ← p) q
 
-  pub some-hit : (n i : ℕ) (f : Bool) → f ≡ t i → f ≡ true → i < n → true ≡ some t n
+  pub some_hit : (n i : ℕ) (f : Bool) → f ≡ t i → f ≡ true → i < n → true ≡ some t n
   unfolding some
-  some-hit zero i f p q h = absurd (not-suc-le-zero h)
-  some-hit (suc n) i f p q h = go (dec_lt i n) (λ k. some-hit n i f p q k)
+  some_hit zero i f p q h = absurd (not-suc-le-zero h)
+  some_hit (suc n) i f p q h = go (dec_lt i n) (λ k. some_hit n i f p q k)
     where
       go : Dec (i < n) → (i < n → true ≡ some t n) → true ≡ (some t n || t n)
       go (yes k) g = rw (← g k)
@@ -82,9 +82,9 @@ some_same t u (suc n) h = ap₂ (λ (a b : Bool). a || b) (some_same t u n (λ i
 
 -- ---- a range
 
-pub outside-not : (x a b : ℕ) → a ≤ x → x ≤ b → outside x a b ≡ false
+pub outside_not : (x a b : ℕ) → a ≤ x → x ≤ b → outside x a b ≡ false
 unfolding outside
-outside-not x a b p q = rw (le-ltb x a p, le-ltb b x q)
+outside_not x a b p q = rw (le-ltb x a p, le-ltb b x q)
 
 pub within : (x a b : ℕ) → outside x a b ≡ false → (a ≤ x) × (x ≤ b)
 unfolding outside
@@ -93,9 +93,9 @@ within x a b h = let n = neither (ltb x a) (ltb b x) h in (ltb-false x a n.0, lt
 pub within_low : (x a b : ℕ) (t : Bool) → t ≡ outside x a b → t ≡ false → a ≤ x
 within_low x a b t p q = (within x a b (sym p ∙ q)).0
 
-pub within-high : (x a b : ℕ) (t : Bool) → t ≡ outside x a b → t ≡ false → x ≤ b
-within-high x a b t p q = (within x a b (sym p ∙ q)).1
+pub within_high : (x a b : ℕ) (t : Bool) → t ≡ outside x a b → t ≡ false → x ≤ b
+within_high x a b t p q = (within x a b (sym p ∙ q)).1
 
-pub outside-is : (x a b : ℕ) (t : Bool) → t ≡ (ltb x a || ltb b x) → t ≡ outside x a b
+pub outside_is : (x a b : ℕ) (t : Bool) → t ≡ (ltb x a || ltb b x) → t ≡ outside x a b
 unfolding outside
-outside-is x a b t p = p
+outside_is x a b t p = p

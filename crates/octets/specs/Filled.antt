@@ -20,10 +20,10 @@ module _ {A : Type 0} where
   unfoldable pub filled : A → (ℕ → A) → ℕ → List A
   filled b t n = listed t n ++ replicate (16 - n) b
 
-  length-listed : (t : ℕ → A) (n : ℕ) → length (listed t n) ≡ n
+  length_listed : (t : ℕ → A) (n : ℕ) → length (listed t n) ≡ n
   unfolding listed
-  length-listed t zero = refl
-  length-listed t (suc n) = length-append (listed t n) (t n ∷ []) ∙ omega (arith, length-listed t n)
+  length_listed t zero = refl
+  length_listed t (suc n) = length-append (listed t n) (t n ∷ []) ∙ omega (arith, length_listed t n)
 
   -- only the first n matter
   listed_same : (t u : ℕ → A) (n : ℕ) → ((i : ℕ) → i < n → t i ≡ u i) → listed t n ≡ listed u n
@@ -32,9 +32,9 @@ module _ {A : Type 0} where
   listed_same t u (suc n) h =
       ap₂ (λ (ts : List A) (x : A). ts ++ (x ∷ [])) (listed_same t u n (λ i g. h i (omega arith))) (h n (omega arith))
 
-  pub filled-same : (b : A) (t u : ℕ → A) (n : ℕ) → ((i : ℕ) → i < n → t i ≡ u i) → filled b t n ≡ filled b u n
+  pub filled_same : (b : A) (t u : ℕ → A) (n : ℕ) → ((i : ℕ) → i < n → t i ≡ u i) → filled b t n ≡ filled b u n
   unfolding filled
-  filled-same b t u n h = ap (λ (ts : List A). ts ++ replicate (16 - n) b) (listed_same t u n h)
+  filled_same b t u n h = ap (λ (ts : List A). ts ++ replicate (16 - n) b) (listed_same t u n h)
 
   -- each of them
   listed_at : (t : ℕ → A) (n i : ℕ) (d : A) → i < n → get_or (listed t n) i d ≡ t i
@@ -43,26 +43,26 @@ module _ {A : Type 0} where
   listed_at t (suc n) i d h = go (dec_lt i n) (λ p. listed_at t n i d p)
     where
       go : Dec (i < n) → (i < n → get_or (listed t n) i d ≡ t i) → get_or (listed t n ++ (t n ∷ [])) i d ≡ t i
-      go (yes p) ih = get_or-append (listed t n) (t n ∷ []) d i (omega (arith, length-listed t n)) ∙ ih p
-      go (no p) ih = let e : i ≡ n = omega arith in rw e (get_or_at (listed t n) (t n) [] d n (length-listed t n))
+      go (yes p) ih = get_or-append (listed t n) (t n ∷ []) d i (omega (arith, length_listed t n)) ∙ ih p
+      go (no p) ih = let e : i ≡ n = omega arith in rw e (get_or_at (listed t n) (t n) [] d n (length_listed t n))
 
   pub filled_at : (b : A) (t : ℕ → A) (n i : ℕ) (d : A) → i < n → get_or (filled b t n) i d ≡ t i
   unfolding filled
   filled_at b t n i d h =
-      get_or-append (listed t n) (replicate (16 - n) b) d i (omega (arith, length-listed t n)) ∙ listed_at t n i d h
+      get_or-append (listed t n) (replicate (16 - n) b) d i (omega (arith, length_listed t n)) ∙ listed_at t n i d h
 
   -- and none of those after them
-  pub blank-at : (m k : ℕ) (b : A) → get_or (replicate m b) k b ≡ b
-  blank-at zero k b = refl
-  blank-at (suc m) zero b = refl
-  blank-at (suc m) (suc k) b = blank-at m k b
+  pub blank_at : (m k : ℕ) (b : A) → get_or (replicate m b) k b ≡ b
+  blank_at zero k b = refl
+  blank_at (suc m) zero b = refl
+  blank_at (suc m) (suc k) b = blank_at m k b
 
-  pub filled-past : (b : A) (t : ℕ → A) (n k : ℕ) → get_or (filled b t n) (n + k) b ≡ b
+  pub filled_past : (b : A) (t : ℕ → A) (n k : ℕ) → get_or (filled b t n) (n + k) b ≡ b
   unfolding filled
-  filled-past b t n k =
-      ap (λ (m : ℕ). get_or (listed t n ++ replicate (16 - n) b) (m + k) b) (sym (length-listed t n))
+  filled_past b t n k =
+      ap (λ (m : ℕ). get_or (listed t n ++ replicate (16 - n) b) (m + k) b) (sym (length_listed t n))
       ∙ get_or-append-add (listed t n) (replicate (16 - n) b) k b
-      ∙ blank-at (16 - n) k b
+      ∙ blank_at (16 - n) k b
 
   -- ---- the loop
 
@@ -75,8 +75,8 @@ module _ {A : Type 0} where
   unfolding filled listed
   filled_more b t i n ts x p h k q =
       let e : 16 - i ≡ suc (16 - (i + 1)) = omega arith in
-      rw (q, e, set_at (listed t i) b (replicate (16 - (i + 1)) b) x i (length-listed t i), add-one i, p)
+      rw (q, e, set_at (listed t i) b (replicate (16 - (i + 1)) b) x i (length_listed t i), add-one i, p)
       (sym (append_snoc (listed t i) (t i) (replicate (16 - suc i) b)))
 
-  pub filled-end : (b : A) (t : ℕ → A) (n i : ℕ) (ts : List A) → i ≤ n → n ≤ i → ts ≡ filled b t i → ts ≡ filled b t n
-  filled-end b t n i ts p q r = let e : i ≡ n = omega arith in rw e at r
+  pub filled_end : (b : A) (t : ℕ → A) (n i : ℕ) (ts : List A) → i ≤ n → n ≤ i → ts ≡ filled b t i → ts ≡ filled b t n
+  filled_end b t n i ts p q r = let e : i ≡ n = omega arith in rw e at r

@@ -8,23 +8,23 @@ use Rattle.std.proofs.Math.Seq.{take-set-lt}
 use borrow.Rule.Slice.PartMut.{mid_of, post_of, put_mid, put_same}
 
 -- an octet set within the part changes neither what is before it nor what is after it
-put-set : (a k j v : ℕ) (l ys : List ℕ) → j < k → put_mid a k (set l (a + j) v) ys ≡ put_mid a k l ys
-put-set a k j v l ys h =
+put_set : (a k j v : ℕ) (l ys : List ℕ) → j < k → put_mid a k (set l (a + j) v) ys ≡ put_mid a k l ys
+put_set a k j v l ys h =
     rw (take-set-le a l (a + j) v (omega arith), drop-set-add a l j v, drop-set-lt k (drop a l) j v h)
 
-mid-set : (a k j v : ℕ) (l : List ℕ) → j < k → mid_of a k (set l (a + j) v) ≡ set (mid_of a k l) j v
-mid-set a k j v l h = rw (drop-set-add a l j v) (take-set-lt k (drop a l) j v h)
+mid_set : (a k j v : ℕ) (l : List ℕ) → j < k → mid_of a k (set l (a + j) v) ≡ set (mid_of a k l) j v
+mid_set a k j v l h = rw (drop-set-add a l j v) (take-set-lt k (drop a l) j v h)
 
-stored-from : (vs : List ℕ) (a k j : ℕ) (l : List ℕ) → j + length vs ≤ k
+stored_from : (vs : List ℕ) (a k j : ℕ) (l : List ℕ) → j + length vs ≤ k
     → put_mid a k l (sets (mid_of a k l) j vs) ≡ sets l (a + j) vs
-stored-from [] a k j l h = put_same a k l
-stored-from (v ∷ vs) a k j l h =
+stored_from [] a k j l h = put_same a k l
+stored_from (v ∷ vs) a k j l h =
     let e : suc (a + j) ≡ a + suc j = omega arith in
-    ap (λ (m : List ℕ). put_mid a k l (sets m (suc j) vs)) (sym (mid-set a k j v l (omega arith)))
-    ∙ sym (put-set a k j v l (sets (mid_of a k (set l (a + j) v)) (suc j) vs) (omega arith))
-    ∙ stored-from vs a k (suc j) (set l (a + j) v) (omega arith)
+    ap (λ (m : List ℕ). put_mid a k l (sets m (suc j) vs)) (sym (mid_set a k j v l (omega arith)))
+    ∙ sym (put_set a k j v l (sets (mid_of a k (set l (a + j) v)) (suc j) vs) (omega arith))
+    ∙ stored_from vs a k (suc j) (set l (a + j) v) (omega arith)
     ∙ ap (λ (i : ℕ). sets (set l (a + j) v) i vs) (sym e)
 
-pub lent-store : (vs : List ℕ) (a k : ℕ) (l : List ℕ) → length vs ≤ k
+pub lent_store : (vs : List ℕ) (a k : ℕ) (l : List ℕ) → length vs ≤ k
     → put_mid a k l (sets (mid_of a k l) 0 vs) ≡ sets l a vs
-lent-store vs a k l h = stored-from vs a k 0 l (omega arith) ∙ ap (λ (i : ℕ). sets l i vs) (add-zero a)
+lent_store vs a k l h = stored_from vs a k 0 l (omega arith) ∙ ap (λ (i : ℕ). sets l i vs) (add-zero a)

@@ -5,14 +5,14 @@ use Rattle.std.proofs.Common.{◌∙◌, ap, ap₂, sym, pow-suc, add-zero, add-
 use Rattle.std.proofs.Math.ListN.{get_or-append}
 use Rattle.std.proofs.lemmas.List.Edits.{sets}
 use Rattle.std.proofs.Math.Seq.{length-sets, get_or-append_seam}
-use Rattle.octets.specs.Store.{Apart, octet-same, octet-other}
+use Rattle.octets.specs.Store.{Apart, octet_same, octet_other}
 use Rattle.octets.specs.Number.{get, spelled, put}
 
 -- one octet more, for every width
-get-more : (w : ℕ) (l : List ℕ) (at : ℕ) → get (suc w) l at ≡ get w l at * 256 + get_or l (at + w) 0
+get_more : (w : ℕ) (l : List ℕ) (at : ℕ) → get (suc w) l at ≡ get w l at * 256 + get_or l (at + w) 0
 unfolding get
-get-more zero l at = let e : at + 0 ≡ at = omega arith in rw e (omega arith)
-get-more (suc w) l at = refl
+get_more zero l at = let e : at + 0 ≡ at = omega arith in rw e (omega arith)
+get_more (suc w) l at = refl
 
 -- ---- numbers of octets
 
@@ -20,30 +20,30 @@ get-more (suc w) l at = refl
 unfoldable pub Octets : List ℕ → Type 0
 Octets l = (k : ℕ) → get_or l k 0 < 256
 
-pub octets-by : (l : List ℕ) → ((k : ℕ) → get_or l k 0 < 256) → Octets l
+pub octets_by : (l : List ℕ) → ((k : ℕ) → get_or l k 0 < 256) → Octets l
 unfolding Octets
-octets-by l h = h
+octets_by l h = h
 
-take-octets : (n : ℕ) (l : List ℕ) → ((k : ℕ) → get_or l k 0 < 256) → (k : ℕ) → get_or (take n l) k 0 < 256
-take-octets zero l h k = omega arith
-take-octets (suc n) [] h k = omega arith
-take-octets (suc n) (x ∷ l) h zero = h zero
-take-octets (suc n) (x ∷ l) h (suc k) = take-octets n l (λ j. h (suc j)) k
+take_octets : (n : ℕ) (l : List ℕ) → ((k : ℕ) → get_or l k 0 < 256) → (k : ℕ) → get_or (take n l) k 0 < 256
+take_octets zero l h k = omega arith
+take_octets (suc n) [] h k = omega arith
+take_octets (suc n) (x ∷ l) h zero = h zero
+take_octets (suc n) (x ∷ l) h (suc k) = take_octets n l (λ j. h (suc j)) k
 
 -- a front and a rest of octets are octets
-pub octets-take : (n : ℕ) (l : List ℕ) → Octets l → Octets (take n l)
+pub octets_take : (n : ℕ) (l : List ℕ) → Octets l → Octets (take n l)
 unfolding Octets
-octets-take n l o = take-octets n l o
+octets_take n l o = take_octets n l o
 
-pub octets-drop : (n : ℕ) (l : List ℕ) → Octets l → Octets (drop n l)
+pub octets_drop : (n : ℕ) (l : List ℕ) → Octets l → Octets (drop n l)
 unfolding Octets
-octets-drop n l o k = rw (get_or-drop n l k 0) (o (n + k))
+octets_drop n l o k = rw (get_or-drop n l k 0) (o (n + k))
 
-pub get-small : (w : ℕ) (l : List ℕ) (at : ℕ) → Octets l → get w l at < 256 ^ w
+pub get_small : (w : ℕ) (l : List ℕ) (at : ℕ) → Octets l → get w l at < 256 ^ w
 unfolding get Octets
-get-small zero l at o = omega arith
-get-small (suc w) l at o =
-    let ih = get-small w l at o in let z = o (at + w) in omega (arith, get-more w l at, pow-suc 256 w)
+get_small zero l at o = omega arith
+get_small (suc w) l at o =
+    let ih = get_small w l at o in let z = o (at + w) in omega (arith, get_more w l at, pow-suc 256 w)
 
 -- ---- where octets agree, so do numbers
 
@@ -52,13 +52,13 @@ pub get_by : (w at b : ℕ) (l m : List ℕ) → ((k : ℕ) → k < w → get_or
 unfolding get
 get_by zero at b l m s = refl
 get_by (suc w) at b l m s =
-    get-more w l at
+    get_more w l at
     ∙ ap₂ (λ (p q : ℕ). p * 256 + q) (get_by w at b l m (λ k h. s k (omega arith))) (s w (omega arith))
-    ∙ sym (get-more w m b)
+    ∙ sym (get_more w m b)
 
 -- octets behind, or in front, do not matter
-pub get-front : (w : ℕ) (a z : List ℕ) (at : ℕ) → at + w ≤ length a → get w (a ++ z) at ≡ get w a at
-get-front w a z at h = get_by w at at (a ++ z) a (λ k p. get_or-append a z 0 (at + k) (omega arith))
+pub get_front : (w : ℕ) (a z : List ℕ) (at : ℕ) → at + w ≤ length a → get w (a ++ z) at ≡ get w a at
+get_front w a z at h = get_by w at at (a ++ z) a (λ k p. get_or-append a z 0 (at + k) (omega arith))
 
 pub get_after : (w : ℕ) (a z : List ℕ) (at : ℕ) → at ≡ length a → get w (a ++ z) at ≡ get w z 0
 get_after w a z at e =
@@ -69,60 +69,60 @@ get_after w a z at e =
 
 -- ---- what is spelled reads as the number
 
-pub length-spelled : (w v : ℕ) → length (spelled w v) ≡ w
+pub length_spelled : (w v : ℕ) → length (spelled w v) ≡ w
 unfolding spelled
-length-spelled zero v = refl
-length-spelled (suc w) v =
-    length-append (spelled w (v / 256)) (v % 256 ∷ []) ∙ omega (arith, length-spelled w (v / 256))
+length_spelled zero v = refl
+length_spelled (suc w) v =
+    length-append (spelled w (v / 256)) (v % 256 ∷ []) ∙ omega (arith, length_spelled w (v / 256))
 
-pub get-spelled : (w v : ℕ) → v < 256 ^ w → get w (spelled w v) 0 ≡ v
+pub get_spelled : (w v : ℕ) → v < 256 ^ w → get w (spelled w v) 0 ≡ v
 unfolding spelled get
-get-spelled zero v h = omega arith
-get-spelled (suc w) v h =
-    let e : 0 + w ≡ length (spelled w (v / 256)) = omega (arith, length-spelled w (v / 256)) in
+get_spelled zero v h = omega arith
+get_spelled (suc w) v h =
+    let e : 0 + w ≡ length (spelled w (v / 256)) = omega (arith, length_spelled w (v / 256)) in
     let last : get_or (spelled w (v / 256) ++ (v % 256 ∷ [])) (0 + w) 0 ≡ v % 256 = rw e
     (get_or-append_seam (spelled w (v / 256)) (v % 256) [] 0) in
     let rest : get w (spelled w (v / 256) ++ (v % 256 ∷ [])) 0 ≡ v / 256 =
-    get-front w (spelled w (v / 256)) (v % 256 ∷ []) 0 (omega (arith, length-spelled w (v / 256)))
-    ∙ get-spelled w (v / 256) (omega (arith, pow-suc 256 w)) in
-    get-more w (spelled w (v / 256) ++ (v % 256 ∷ [])) 0 ∙ rw (last, rest) (omega arith)
+    get_front w (spelled w (v / 256)) (v % 256 ∷ []) 0 (omega (arith, length_spelled w (v / 256)))
+    ∙ get_spelled w (v / 256) (omega (arith, pow-suc 256 w)) in
+    get_more w (spelled w (v / 256) ++ (v % 256 ∷ [])) 0 ∙ rw (last, rest) (omega arith)
 
 -- ---- what is written
 
-pub length-put : (w : ℕ) (l : List ℕ) (at v : ℕ) → length (put w l at v) ≡ length l
+pub length_put : (w : ℕ) (l : List ℕ) (at v : ℕ) → length (put w l at v) ≡ length l
 unfolding put
-length-put w l at v = length-sets l at (spelled w v)
+length_put w l at v = length-sets l at (spelled w v)
 
-pub get-put-same : (w : ℕ) (l : List ℕ) (at v : ℕ) → at + w ≤ length l → v < 256 ^ w → get w (put w l at v) at ≡ v
+pub get_put_same : (w : ℕ) (l : List ℕ) (at v : ℕ) → at + w ≤ length l → v < 256 ^ w → get w (put w l at v) at ≡ v
 unfolding put
-get-put-same w l at v h k =
+get_put_same w l at v h k =
     get_by w at 0 (sets l at (spelled w v)) (spelled w v)
     (λ i p. let e : 0 + i ≡ i = omega arith in rw e
-    (octet-same (spelled w v) l at i (omega (arith, length-spelled w v)) (omega (arith, length-spelled w v))))
-    ∙ get-spelled w v k
+    (octet_same (spelled w v) l at i (omega (arith, length_spelled w v)) (omega (arith, length_spelled w v))))
+    ∙ get_spelled w v k
 
-pub get-put-other : (w n : ℕ) (l : List ℕ) (at b v : ℕ) → Apart b n at w → get n (put w l at v) b ≡ get n l b
+pub get_put_other : (w n : ℕ) (l : List ℕ) (at b v : ℕ) → Apart b n at w → get n (put w l at v) b ≡ get n l b
 unfolding put
-get-put-other w n l at b v a =
+get_put_other w n l at b v a =
     get_by n b b (sets l at (spelled w v)) l
-    (λ k p. octet-other (spelled w v) l at (b + k)
-    (λ q r. a (omega (arith, length-spelled w v)) (omega (arith, length-spelled w v))))
+    (λ k p. octet_other (spelled w v) l at (b + k)
+    (λ q r. a (omega (arith, length_spelled w v)) (omega (arith, length_spelled w v))))
 
 -- ---- the code of widths 2 and 4
 
-pub get-two : (l : List ℕ) (at x y : ℕ) → x ≡ get_or l at 0 → y ≡ get_or l (at + 1) 0 → x * 256 + y ≡ get 2 l at
+pub get_two : (l : List ℕ) (at x y : ℕ) → x ≡ get_or l at 0 → y ≡ get_or l (at + 1) 0 → x * 256 + y ≡ get 2 l at
 unfolding get
-get-two l at x y e f = ap₂ (λ (p q : ℕ). p * 256 + q) e f
+get_two l at x y e f = ap₂ (λ (p q : ℕ). p * 256 + q) e f
 
 pub put_two : (l : List ℕ) (at v : ℕ) → set (set l at (v / 256 % 256)) (at + 1) (v % 256) ≡ put 2 l at v
 unfolding put spelled
 put_two l at v = rw (add-one at)
 
-pub get-four : (l : List ℕ) (at x y z w : ℕ) → x ≡ get_or l at 0 → y ≡ get_or l (at + 1) 0 → z ≡ get_or l (at + 2) 0
+pub get_four : (l : List ℕ) (at x y z w : ℕ) → x ≡ get_or l at 0 → y ≡ get_or l (at + 1) 0 → z ≡ get_or l (at + 2) 0
     → w ≡ get_or l (at + 3) 0
     → ((x * 256 + y) * 256 + z) * 256 + w ≡ get 4 l at
 unfolding get
-get-four l at x y z w e f g h = rw (e, f, g, h)
+get_four l at x y z w e f g h = rw (e, f, g, h)
 
 pub put_four : (l : List ℕ) (at v : ℕ)
     → set (set (set (set l at (v / 256 / 256 / 256 % 256)) (at + 1) (v / 256 / 256 % 256)) (at + 2) (v / 256 % 256))

@@ -19,29 +19,29 @@ length_part l at n h = length-take-le n (drop at l) (omega (arith, length-drop a
 
 -- ---- one octet
 
-pub octet-other : (vs l : List ℕ) (at k : ℕ) → Apart k 1 at (length vs) → get_or (sets l at vs) k 0 ≡ get_or l k 0
-octet-other [] l at k h = refl
-octet-other (v ∷ vs) l at k h =
-    octet-other vs (set l at v) (suc at) k (λ p q. h (omega arith) (omega arith))
+pub octet_other : (vs l : List ℕ) (at k : ℕ) → Apart k 1 at (length vs) → get_or (sets l at vs) k 0 ≡ get_or l k 0
+octet_other [] l at k h = refl
+octet_other (v ∷ vs) l at k h =
+    octet_other vs (set l at v) (suc at) k (λ p q. h (omega arith) (omega arith))
     ∙ get_or-set_other l at k v 0 (λ e. h (omega arith) (omega arith))
 
-pub octet-same : (vs l : List ℕ) (at k : ℕ) → k < length vs → at + length vs ≤ length l
+pub octet_same : (vs l : List ℕ) (at k : ℕ) → k < length vs → at + length vs ≤ length l
     → get_or (sets l at vs) (at + k) 0 ≡ get_or vs k 0
-octet-same [] l at k h b = omega arith
-octet-same (v ∷ vs) l at zero h b =
+octet_same [] l at k h b = omega arith
+octet_same (v ∷ vs) l at zero h b =
     ap (λ (i : ℕ). get_or (sets (set l at v) (suc at) vs) i 0) (add-zero at)
-    ∙ octet-other vs (set l at v) (suc at) at (λ p q. omega arith)
+    ∙ octet_other vs (set l at v) (suc at) at (λ p q. omega arith)
     ∙ get_or-set_same l at v 0 (omega arith)
-octet-same (v ∷ vs) l at (suc k) h b =
+octet_same (v ∷ vs) l at (suc k) h b =
     ap (λ (i : ℕ). get_or (sets (set l at v) (suc at) vs) i 0) (omega arith)
-    ∙ octet-same vs (set l at v) (suc at) k (omega arith) (omega (arith, length-set l at v))
+    ∙ octet_same vs (set l at v) (suc at) k (omega arith) (omega (arith, length-set l at v))
 
 -- ---- a part
 
 -- a part that the store passes by is as it was
-pub part-other : (vs l : List ℕ) (at b n : ℕ) → b + n ≤ length l → Apart b n at (length vs)
+pub part_other : (vs l : List ℕ) (at b n : ℕ) → b + n ≤ length l → Apart b n at (length vs)
     → part (sets l at vs) b n ≡ part l b n
-part-other vs l at b n h a =
+part_other vs l at b n h a =
     let e : length (part (sets l at vs) b n) ≡ n = length_part (sets l at vs) b n
     (omega (arith, length-sets l at vs)) in
     ext_get_or 0 (part (sets l at vs) b n) (part l b n) (e ∙ sym (length_part l b n h))
@@ -53,7 +53,7 @@ part-other vs l at b n h a =
           (sets l at vs) i 0,
       get_or-drop b l i 0,
     )
-    (octet-other vs l at (b + i) (λ r s. a (omega arith) (omega arith))))
+    (octet_other vs l at (b + i) (λ r s. a (omega arith) (omega arith))))
 
 -- the part that was stored is what was stored
 pub part_same : (vs l : List ℕ) (at : ℕ) → at + length vs ≤ length l → part (sets l at vs) at (length vs) ≡ vs
@@ -63,17 +63,17 @@ part_same vs l at h =
     ext_get_or 0 (part (sets l at vs) at (length vs)) vs e
     (λ i p. let q : i < length vs = omega arith in
     rw (get_or-take (length vs) (drop at (sets l at vs)) i 0 q, get_or-drop at (sets l at vs) i 0)
-    (octet-same vs l at i q h))
+    (octet_same vs l at i q h))
 
 -- what was stored at the front is the front
-pub take-sets : (vs l : List ℕ) (n : ℕ) → n ≡ length vs → length vs ≤ length l → take n (sets l 0 vs) ≡ vs
-take-sets vs l n p h = rw p (part_same vs l 0 (omega arith))
+pub take_sets : (vs l : List ℕ) (n : ℕ) → n ≡ length vs → length vs ≤ length l → take n (sets l 0 vs) ≡ vs
+take_sets vs l n p h = rw p (part_same vs l 0 (omega arith))
 
 -- six octets, as an address has, one by one
-pub six-octets : (a : List ℕ) (at : ℕ) → at + 6 ≤ length a
+pub six_octets : (a : List ℕ) (at : ℕ) → at + 6 ≤ length a
     → get_or a at 0 ∷ get_or a (at + 1) 0 ∷ get_or a (at + 2) 0 ∷ get_or a (at + 3) 0 ∷ get_or a (at + 4) 0 ∷ get_or a (at + 5) 0 ∷
     [] ≡ part a at 6
-six-octets a at h =
+six_octets a at h =
     let e₁ : at + 1 ≡ suc at = omega arith in
     let e₂ : at + 2 ≡ suc (suc at) = omega arith in
     let e₃ : at + 3 ≡ suc (suc (suc at)) = omega arith in
@@ -102,9 +102,9 @@ six-octets a at h =
 -- ---- stores in a row
 
 -- two stores, the second where the first ends, are one
-pub sets-append : (xs ys l : List ℕ) (at e : ℕ) → e ≡ at + length xs → sets (sets l at xs) e ys ≡ sets l at (xs ++ ys)
-sets-append [] ys l at e p = let q : e ≡ at = omega arith in rw q
-sets-append (x ∷ xs) ys l at e p = sets-append xs ys (set l at x) (suc at) e (omega arith)
+pub sets_append : (xs ys l : List ℕ) (at e : ℕ) → e ≡ at + length xs → sets (sets l at xs) e ys ≡ sets l at (xs ++ ys)
+sets_append [] ys l at e p = let q : e ≡ at = omega arith in rw q
+sets_append (x ∷ xs) ys l at e p = sets_append xs ys (set l at x) (suc at) e (omega arith)
 
 -- ---- the loop of `store`: after i turns the first i octets of src are stored
 
@@ -112,7 +112,7 @@ pub stored_more : (s l src : List ℕ) (at i : ℕ) → i < length src → s ≡
     → set s (at + i) (get_or src i 0) ≡ sets l at (take (i + 1) src)
 stored_more s l src at i h e =
     rw (e, add-one i, take-suc src i 0 h)
-    (sets-append (take i src) (get_or src i 0 ∷ []) l at (at + i) (omega (arith, length-take-le i src (omega arith))))
+    (sets_append (take i src) (get_or src i 0 ∷ []) l at (at + i) (omega (arith, length-take-le i src (omega arith))))
 
-pub stored-all : (s l src : List ℕ) (at i : ℕ) → length src ≤ i → s ≡ sets l at (take i src) → s ≡ sets l at src
-stored-all s l src at i h e = rw (take_all i src h) at e
+pub stored_all_lem : (s l src : List ℕ) (at i : ℕ) → length src ≤ i → s ≡ sets l at (take i src) → s ≡ sets l at src
+stored_all_lem s l src at i h e = rw (take_all i src h) at e

@@ -9,24 +9,24 @@ turns f zero x = x
 turns f (suc n) x = f n (turns f n x)
 
 -- the three laws that the proof of such a loop cites: where it begins, after a turn, and where it ends
-pub turns-none : {A : Type 0} (f : ℕ → A → A) (x : A) → x ≡ turns f 0 x
+pub turns_none : {A : Type 0} (f : ℕ → A → A) (x : A) → x ≡ turns f 0 x
 unfolding turns
-turns-none f x = refl
+turns_none f x = refl
 
 pub turns_more : {A : Type 0} (f : ℕ → A → A) (n : ℕ) (x₀ x y : A) → y ≡ f n x → x ≡ turns f n x₀
     → y ≡ turns f (n + 1) x₀
 unfolding turns
 turns_more f n x₀ x y p q = rw (add-one n, sym q) p
 
-pub turns-end : {A : Type 0} (f : ℕ → A → A) (n i : ℕ) (x₀ x : A) → i ≤ n → n ≤ i → x ≡ turns f i x₀ → x ≡ turns f n x₀
-turns-end f n i x₀ x p q r = let e : i ≡ n = omega arith in rw e at r
+pub turns_end : {A : Type 0} (f : ℕ → A → A) (n i : ℕ) (x₀ x : A) → i ≤ n → n ≤ i → x ≡ turns f i x₀ → x ≡ turns f n x₀
+turns_end f n i x₀ x p q r = let e : i ≡ n = omega arith in rw e at r
 
 -- turns that each keep the length keep it
-pub length-turns : (f : ℕ → List ℕ → List ℕ) (n : ℕ) (l : List ℕ) → ((i : ℕ) (x : List ℕ) → length (f i x) ≡ length x)
+pub length_turns : (f : ℕ → List ℕ → List ℕ) (n : ℕ) (l : List ℕ) → ((i : ℕ) (x : List ℕ) → length (f i x) ≡ length x)
     → length (turns f n l) ≡ length l
 unfolding turns
-length-turns f zero l h = refl
-length-turns f (suc n) l h = h n (turns f n l) ∙ length-turns f n l h
+length_turns f zero l h = refl
+length_turns f (suc n) l h = h n (turns f n l) ∙ length_turns f n l h
 
 -- ---- the first n octets are 0
 
@@ -34,27 +34,27 @@ unfoldable pub blanked : ℕ → List ℕ → List ℕ
 blanked zero l = l
 blanked (suc n) l = set (blanked n l) n 0
 
-pub blanked-none : (l : List ℕ) → l ≡ blanked 0 l
+pub blanked_none : (l : List ℕ) → l ≡ blanked 0 l
 unfolding blanked
-blanked-none l = refl
+blanked_none l = refl
 
-pub blanked-more : (k : ℕ) (l x : List ℕ) → x ≡ blanked k l → set x k 0 ≡ blanked (k + 1) l
+pub blanked_more : (k : ℕ) (l x : List ℕ) → x ≡ blanked k l → set x k 0 ≡ blanked (k + 1) l
 unfolding blanked
-blanked-more k l x p = rw (add-one k, p)
+blanked_more k l x p = rw (add-one k, p)
 
-pub blanked-end : (n k : ℕ) (l x : List ℕ) → k ≤ n → n ≤ k → x ≡ blanked k l → x ≡ blanked n l
-blanked-end n k l x p q r = let e : k ≡ n = omega arith in rw e at r
+pub blanked_end : (n k : ℕ) (l x : List ℕ) → k ≤ n → n ≤ k → x ≡ blanked k l → x ≡ blanked n l
+blanked_end n k l x p q r = let e : k ≡ n = omega arith in rw e at r
 
-pub length-blanked : (n : ℕ) (l : List ℕ) → length (blanked n l) ≡ length l
+pub length_blanked : (n : ℕ) (l : List ℕ) → length (blanked n l) ≡ length l
 unfolding blanked
-length-blanked zero l = refl
-length-blanked (suc n) l = length-set (blanked n l) n 0 ∙ length-blanked n l
+length_blanked zero l = refl
+length_blanked (suc n) l = length-set (blanked n l) n 0 ∙ length_blanked n l
 
-pub blanked-same : (n k : ℕ) (l : List ℕ) → k < n → n ≤ length l → get_or (blanked n l) k 0 ≡ 0
+pub blanked_same : (n k : ℕ) (l : List ℕ) → k < n → n ≤ length l → get_or (blanked n l) k 0 ≡ 0
 unfolding blanked
-blanked-same zero k l h b = absurd (not-suc-le-zero h)
-blanked-same (suc n) k l h b = go (ℕ_discrete k n) (λ p. blanked-same n k l p (omega arith))
+blanked_same zero k l h b = absurd (not-suc-le-zero h)
+blanked_same (suc n) k l h b = go (ℕ_discrete k n) (λ p. blanked_same n k l p (omega arith))
   where
     go : Dec (k ≡ n) → (k < n → get_or (blanked n l) k 0 ≡ 0) → get_or (set (blanked n l) n 0) k 0 ≡ 0
-    go (yes p) ih = rw p (get_or-set_same (blanked n l) n 0 0 (omega (arith, length-blanked n l)))
+    go (yes p) ih = rw p (get_or-set_same (blanked n l) n 0 0 (omega (arith, length_blanked n l)))
     go (no p) ih = get_or-set_other (blanked n l) n k 0 0 p ∙ ih (omega arith)

@@ -4,11 +4,11 @@ use Rattle.std.specs.Prelude.{ℕ, zero, suc, ◌+◌, ◌*◌, List, [], ◌∷
 use Rattle.octets.specs.Number.{get, put}
 
 -- the n words from octet `at` on
-unfoldable pub wordsAt : ℕ → List ℕ → ℕ → List ℕ
-wordsAt zero l at = []
-wordsAt (suc n) l at = wordsAt n l at ++ (get 4 l (at + 4 * n) ∷ [])
+unfoldable pub words_at : ℕ → List ℕ → ℕ → List ℕ
+words_at zero l at = []
+words_at (suc n) l at = words_at n l at ++ (get 4 l (at + 4 * n) ∷ [])
 
 -- the octets with the first n of the words written from octet `at` on
-unfoldable pub putWords : ℕ → List ℕ → ℕ → List ℕ → List ℕ
-putWords zero l at ws = l
-putWords (suc n) l at ws = put 4 (putWords n l at ws) (at + 4 * n) (get_or ws n 0)
+unfoldable pub put_words : ℕ → List ℕ → ℕ → List ℕ → List ℕ
+put_words zero l at ws = l
+put_words (suc n) l at ws = put 4 (put_words n l at ws) (at + 4 * n) (get_or ws n 0)

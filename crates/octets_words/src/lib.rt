@@ -2,7 +2,7 @@
 
 ghost use Rattle.std.specs.Prelude.{◌≡◌, ◌+◌, ◌*◌, ◌<◌, ◌≤◌, length};
 ghost use Rattle.octets.specs.Number.{get, put};
-ghost use Rattle.octets.specs.Words.{putWords, wordsAt};
+ghost use Rattle.octets.specs.Words.{put_words, words_at};
 
 // The number of two octets at `at`, high octet first.
 pub fn get16(s: &[u8], at: usize) -> u32
@@ -36,7 +36,7 @@ pub fn put32(s: &mut [u8], at: usize, v: u32)
 // Writes 32-bit words one after the other from octet `at` on.
 pub fn store_words(s: &mut [u8], at: usize, words: &[u32])
     requires { at + 4 * length words.now ≤ length s.old }
-    ensures { s.new ≡ putWords (length words.now) s.old at words.now }
+    ensures { s.new ≡ put_words (length words.now) s.old at words.now }
 {
     let mut k = 0;
     while k < words.len() {
@@ -48,7 +48,7 @@ pub fn store_words(s: &mut [u8], at: usize, words: &[u32])
 // Fills `words` with the 32-bit words that stand from octet `at` on.
 pub fn load_words(s: &[u8], at: usize, words: &mut [u32])
     requires { at + 4 * length words.old ≤ length s.now }
-    ensures { words.new ≡ wordsAt (length words.old) s.now at }
+    ensures { words.new ≡ words_at (length words.old) s.now at }
 {
     let mut k = 0;
     while k < words.len() {

@@ -7,12 +7,12 @@ use Rattle.octets.specs.Base.{pick, accepted, number_of}
 use Rattle.octets.specs.Equal.{equal}
 use Rattle.octets.specs.NumberLaws.{Octets}
 use Rattle.sheet_layout.specs.declared.Layout.{Layout}
-use Rattle.sheet_layout.specs.Fit.{fitOf}
-use Rattle.sheet_read.specs.Sheet.{readSheet}
-use Rattle.area.specs.Offsets.{areaSize}
-use Rattle.area_check.specs.Valid.{areaRefusal}
+use Rattle.sheet_layout.specs.Fit.{fit_of}
+use Rattle.sheet_read.specs.Sheet.{read_sheet}
+use Rattle.area.specs.Offsets.{area_size}
+use Rattle.area_check.specs.Valid.{area_refusal}
 use Rattle.bus_start.specs.Start.{started}
-use Rattle.marks.specs.Marks.{markCount, nameSize, copy_at, found, placeFor, marked, returned, dropped}
+use Rattle.marks.specs.Marks.{mark_count, name_size, copy_at, found, place_for, marked, returned, dropped}
 use Rattle.delivery.specs.Calls.{Call, Fair, taken, end, begin}
 use Rattle.delivery.specs.Demand3.{called, Demand3For}
 
@@ -40,10 +40,10 @@ onward (along p) c = along (further p c)
 
 -- What the path alone leaves, on an area of just the octets that check 1 asks for: after the fresh start, and now.
 unfoldable pub blank : List ℕ
-blank = replicate areaSize 0
+blank = replicate area_size 0
 
 abbrev pub layout_of : Path → Layout
-layout_of p = (readSheet p.sheet).layout
+layout_of p = (read_sheet p.sheet).layout
 
 unfoldable pub beginning : Path → List ℕ
 beginning p = (started blank (layout_of p) p.depth p.draws).octets
@@ -64,7 +64,7 @@ pub data Act : Type 0 where
 abbrev pub FairAct : Act → Type 0
 FairAct (start s d draws) = Octets s
 FairAct (call c) = Fair c
-FairAct (mark name) = length name ≡ nameSize
+FairAct (mark name) = length name ≡ name_size
 FairAct (back name) = Unit {0}
 FairAct (lose name) = Unit {0}
 FairAct (hand s) = Unit {0}
@@ -88,7 +88,7 @@ opened a s = record { area = a; store = s; path = unknown; places = λ k. unknow
 -- whether the sheet is read and the fresh start accepted
 unfoldable pub starts : (area sheet : List ℕ) (d : ℕ) (draws : List (List ℕ)) → Bool
 starts a s d draws =
-    taken (number_of (readSheet s).answer) && taken (number_of (started a (readSheet s).layout d draws).answer)
+    taken (number_of (read_sheet s).answer) && taken (number_of (started a (read_sheet s).layout d draws).answer)
 
 -- What an act leaves: the octets by the promise of its call. An accepted start begins a path, and a call goes on along
 -- it. An accepted mark gives its place the area's path, an accepted return gives the area its place's. A place keeps
@@ -97,7 +97,7 @@ unfoldable pub after : Act → Session → Session
 after (start s d draws) w =
     pick (starts w.area s d draws)
     (record {
-      area = (started w.area (readSheet s).layout d draws).octets;
+      area = (started w.area (read_sheet s).layout d draws).octets;
       store = w.store;
       path = along (record { sheet = s; depth = d; draws = draws; calls = [] });
       places = w.places;
@@ -111,7 +111,7 @@ after (mark name) w =
       area = w.area;
       store = (marked w.area w.store name).octets;
       path = w.path;
-      places = λ k. pick (eqb k (placeFor w.store name)) w.path (w.places k);
+      places = λ k. pick (eqb k (place_for w.store name)) w.path (w.places k);
     })
     w
 after (back name) w =
@@ -133,9 +133,9 @@ after (hand s) w =
       places = λ k. pick (equal (copy_at w.store k) (copy_at s k)) (w.places k) unknown;
     }
 
-unfoldable pub afterAll : List Act → Session → Session
-afterAll [] w = w
-afterAll (x ∷ xs) w = afterAll xs (after x w)
+unfoldable pub after_all : List Act → Session → Session
+after_all [] w = w
+after_all (x ∷ xs) w = after_all xs (after x w)
 
 -- ---- the promise
 
@@ -143,9 +143,9 @@ afterAll (x ∷ xs) w = afterAll xs (after x w)
 -- layout that fits demand 3 holds of the path. Where it has one for a place, the area marked there is what that path
 -- leaves, and a return to it is not refused under 2.
 pub record Promise (w : Session) : Type 0 where
-  pub octets : (p : Path) → w.path ≡ along p → take areaSize w.area ≡ reached p
-  pub passes : (p : Path) → w.path ≡ along p → areaRefusal w.area ≡ 0
-  pub demand : (p : Path) → w.path ≡ along p → fitOf (layout_of p) ≡ accepted (1 ∷ [])
+  pub octets : (p : Path) → w.path ≡ along p → take area_size w.area ≡ reached p
+  pub passes : (p : Path) → w.path ≡ along p → area_refusal w.area ≡ 0
+  pub demand : (p : Path) → w.path ≡ along p → fit_of (layout_of p) ≡ accepted (1 ∷ [])
       → Demand3For (layout_of p) (beginning p) p.calls
-  pub marks : (k : ℕ) (p : Path) → k < markCount → w.places k ≡ along p → copy_at w.store k ≡ reached p
-  pub returns : (k : ℕ) (p : Path) → k < markCount → w.places k ≡ along p → areaRefusal (copy_at w.store k) ≡ 0
+  pub marks : (k : ℕ) (p : Path) → k < mark_count → w.places k ≡ along p → copy_at w.store k ≡ reached p
+  pub returns : (k : ℕ) (p : Path) → k < mark_count → w.places k ≡ along p → area_refusal (copy_at w.store k) ≡ 0

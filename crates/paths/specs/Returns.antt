@@ -11,115 +11,115 @@ use Rattle.std.proofs.Math.ListN.{length, take}
 use Rattle.std.proofs.lemmas.List.Edits.{sets}
 use Rattle.std.proofs.Math.Seq.{length-take-le}
 use Rattle.octets.specs.Base.{accepted, outcome}
-use Rattle.octets.specs.BaseLaws.{by-test, refused_none}
-use Rattle.octets.specs.Store.{take-sets}
-use Rattle.area.specs.Offsets.{areaSize}
-use Rattle.area_check.specs.Valid.{areaWrong, areaRefusal}
-use Rattle.area_check.specs.AreaCheckLaws.{passes-right}
-use Rattle.marks.specs.Marks.{markCount, nameSize, storeSize, copy_at, found, placeFor, withMark, marked, returned}
-use Rattle.marks.specs.MarkTheorems.{place-most, mark-length, mark-own, mark-found}
-use Rattle.paths.specs.Front.{refusal-front}
+use Rattle.octets.specs.BaseLaws.{by_test, refused_none}
+use Rattle.octets.specs.Store.{take_sets}
+use Rattle.area.specs.Offsets.{area_size}
+use Rattle.area_check.specs.Valid.{area_wrong, area_refusal}
+use Rattle.area_check.specs.AreaCheckLaws.{passes_right}
+use Rattle.marks.specs.Marks.{mark_count, name_size, store_size, copy_at, found, place_for, with_mark, marked, returned}
+use Rattle.marks.specs.MarkTheorems.{place_most, mark_length, mark_own, mark_found}
+use Rattle.paths.specs.Front.{refusal_front}
 use Rattle.paths.specs.Paths.{Known, mark, back, Session, after}
 
 -- what an accepted mark is
 record Made (a s name : List ℕ) : Type 0 where
-  passes : areaRefusal a ≡ 0
-  room : storeSize ≤ length s
-  place : placeFor s name < markCount
-  store : (marked a s name).octets ≡ withMark s (placeFor s name) name a
+  passes : area_refusal a ≡ 0
+  room : store_size ≤ length s
+  place : place_for s name < mark_count
+  store : (marked a s name).octets ≡ with_mark s (place_for s name) name a
 
 made : (a s name : List ℕ) → (marked a s name).answer ≡ accepted [] → Made a s name
 unfolding marked
 made a s name =
-    by-test (eqb (areaRefusal a) 0)
-    (λ r. by-test (ltb (length s) storeSize)
+    by_test (eqb (area_refusal a) 0)
+    (λ r. by_test (ltb (length s) store_size)
     (λ l. rw (r, l) (λ h. refused_none 15 [] h))
-    (λ l. by-test (eqb (placeFor s name) markCount)
+    (λ l. by_test (eqb (place_for s name) mark_count)
     (λ f. rw (r, l, f) (λ h. refused_none 18 [] h))
     (λ f h. record {
-      passes = eqb-true (areaRefusal a) 0 r;
-      room = ltb-false (length s) storeSize l;
-      place = omega (arith, place-most s name, eqb-false (placeFor s name) markCount f);
+      passes = eqb-true (area_refusal a) 0 r;
+      room = ltb-false (length s) store_size l;
+      place = omega (arith, place_most s name, eqb-false (place_for s name) mark_count f);
       store = rw (r, l, f);
     })))
-    (λ r. rw r (λ h. refused_none (areaRefusal a) [] h))
+    (λ r. rw r (λ h. refused_none (area_refusal a) [] h))
 
 -- check 2 looks at no octet past those that check 1 asks for
-front-right : (a : List ℕ) → areaRefusal a ≡ 0 → areaWrong (take areaSize a) ≡ false
-front-right a h =
-    let b = take areaSize a in
-    let l : length b ≡ areaSize = length-take-le areaSize a (passes-right a h).0 in
-    (passes-right b (sym (refusal-front (drop areaSize a) b (omega arith)) ∙ ap areaRefusal (take-append-drop areaSize a)
+front_right : (a : List ℕ) → area_refusal a ≡ 0 → area_wrong (take area_size a) ≡ false
+front_right a h =
+    let b = take area_size a in
+    let l : length b ≡ area_size = length-take-le area_size a (passes_right a h).0 in
+    (passes_right b (sym (refusal_front (drop area_size a) b (omega arith)) ∙ ap area_refusal (take-append-drop area_size a)
     ∙ h)).1
 
-module _ (a s name : List ℕ) (eight : length name ≡ nameSize) (w : Made a s name) where
-  big : areaSize ≤ length a
-  big = (passes-right a w.passes).0
+module _ (a s name : List ℕ) (eight : length name ≡ name_size) (w : Made a s name) where
+  big : area_size ≤ length a
+  big = (passes_right a w.passes).0
 
-  again : found (withMark s (placeFor s name) name a) name ≡ placeFor s name
-  again = mark-found s name a (placeFor s name) w.place w.room eight big refl
+  again : found (with_mark s (place_for s name) name a) name ≡ place_for s name
+  again = mark_found s name a (place_for s name) w.place w.room eight big refl
 
-  back-made : (b : List ℕ) → areaSize ≤ length b
-      → returned b (withMark s (placeFor s name) name a) name ≡ outcome (accepted []) (sets b 0 (take areaSize a))
+  back_made : (b : List ℕ) → area_size ≤ length b
+      → returned b (with_mark s (place_for s name) name a) name ≡ outcome (accepted []) (sets b 0 (take area_size a))
   unfolding returned
-  back-made b long =
-      let at = placeFor s name in
-      let l : length (withMark s at name a) ≡ length s = mark-length s name a at w.place w.room eight big in
-      let c : copy_at (withMark s at name a) at ≡ take areaSize a =
-      mark-own s name a at w.place w.room eight big in
+  back_made b long =
+      let at = place_for s name in
+      let l : length (with_mark s at name a) ≡ length s = mark_length s name a at w.place w.room eight big in
+      let c : copy_at (with_mark s at name a) at ≡ take area_size a =
+      mark_own s name a at w.place w.room eight big in
       let p = w.place in
       let r = w.room in
       rw (
-        le-ltb (length b) areaSize long,
-        le-ltb (length (withMark s at name a)) storeSize (omega arith),
+        le-ltb (length b) area_size long,
+        le-ltb (length (with_mark s at name a)) store_size (omega arith),
         again,
-        ne_eqb at markCount (λ z. omega arith),
+        ne_eqb at mark_count (λ z. omega arith),
         c,
-        front-right a w.passes,
+        front_right a w.passes,
       )
 
-pub mark-back : (a s name b : List ℕ) → length name ≡ nameSize → areaSize ≤ length b
+pub mark_back : (a s name b : List ℕ) → length name ≡ name_size → area_size ≤ length b
     → (marked a s name).answer ≡ accepted []
-    → returned b (marked a s name).octets name ≡ outcome (accepted []) (sets b 0 (take areaSize a))
-mark-back a s name b eight long h =
+    → returned b (marked a s name).octets name ≡ outcome (accepted []) (sets b 0 (take area_size a))
+mark_back a s name b eight long h =
     let w = made a s name h in
-    ap (λ (x : List ℕ). returned b x name) w.store ∙ back-made a s name eight w b long
+    ap (λ (x : List ℕ). returned b x name) w.store ∙ back_made a s name eight w b long
 
 -- ---- the path
 
-marked-session : (w : Session) (name : List ℕ) → (marked w.area w.store name).answer ≡ accepted []
+marked_session : (w : Session) (name : List ℕ) → (marked w.area w.store name).answer ≡ accepted []
     → ((after (mark name) w).store ≡ (marked w.area w.store name).octets)
-    × ((after (mark name) w).places (placeFor w.store name) ≡ w.path)
+    × ((after (mark name) w).places (place_for w.store name) ≡ w.path)
 unfolding after
-marked-session w name e =
-    let at = placeFor w.store name in rw (e, eq-eqb at at refl) (refl, refl)
+marked_session w name e =
+    let at = place_for w.store name in rw (e, eq-eqb at at refl) (refl, refl)
 
 -- w is marked; v is what came of it, with any area, and the store and the book's places as the mark left them
-module _ (w v : Session) (name : List ℕ) (eight : length name ≡ nameSize)
-    (accept : (marked w.area w.store name).answer ≡ accepted []) (long : areaSize ≤ length v.area)
+module _ (w v : Session) (name : List ℕ) (eight : length name ≡ name_size)
+    (accept : (marked w.area w.store name).answer ≡ accepted []) (long : area_size ≤ length v.area)
     (stores : v.store ≡ (after (mark name) w).store) (places : v.places ≡ (after (mark name) w).places) where
   d : Made w.area w.store name
   d = made w.area w.store name accept
 
-  store_is : v.store ≡ withMark w.store (placeFor w.store name) name w.area
-  store_is = stores ∙ (marked-session w name accept).0 ∙ d.store
+  store_is : v.store ≡ with_mark w.store (place_for w.store name) name w.area
+  store_is = stores ∙ (marked_session w name accept).0 ∙ d.store
 
   back_is : returned v.area v.store name
-      ≡ outcome (accepted []) (sets v.area 0 (take areaSize w.area))
+      ≡ outcome (accepted []) (sets v.area 0 (take area_size w.area))
   back_is =
       ap (λ (x : List ℕ). returned v.area x name) store_is
-      ∙ back-made w.area w.store name eight d v.area long
+      ∙ back_made w.area w.store name eight d v.area long
 
-  pub back-area : take areaSize (after (back name) v).area ≡ take areaSize w.area
+  pub back_area : take area_size (after (back name) v).area ≡ take area_size w.area
   unfolding after
-  back-area =
-      let l : length (take areaSize w.area) ≡ areaSize =
-      length-take-le areaSize w.area (passes-right w.area d.passes).0 in
-      rw back_is (take-sets (take areaSize w.area) v.area areaSize (sym l) (omega arith))
+  back_area =
+      let l : length (take area_size w.area) ≡ area_size =
+      length-take-le area_size w.area (passes_right w.area d.passes).0 in
+      rw back_is (take_sets (take area_size w.area) v.area area_size (sym l) (omega arith))
 
-  pub back-path : (after (back name) v).path ≡ w.path
+  pub back_path : (after (back name) v).path ≡ w.path
   unfolding after
-  back-path =
+  back_path =
       rw back_is
       (ap v.places (ap (λ (x : List ℕ). found x name) store_is ∙ again w.area w.store name eight d)
-      ∙ ap (λ (f : ℕ → Known). f (placeFor w.store name)) places ∙ (marked-session w name accept).1)
+      ∙ ap (λ (f : ℕ → Known). f (place_for w.store name)) places ∙ (marked_session w name accept).1)

@@ -3,35 +3,35 @@ use Rattle.std.specs.Prelude.{ℕ, suc, ◌+◌, ◌*◌, ◌≤◌, ◌<◌, �
 use Rattle.std.proofs.Common.{◌∙◌, ap, suc-mul, mul-le-mul_right, add-one, arith}
 use Rattle.octets.specs.Number.{get}
 use Rattle.octets.specs.Filled.{filled_none, filled_more}
-use Rattle.plan_draws.specs.Draws.{rowPlace, drawIn, row_in, blankRow, drawsIn}
-use Rattle.sheet_layout.specs.Limits.{maxDraws, maxStations}
+use Rattle.plan_draws.specs.Draws.{row_place, draw_in, row_in, blank_row, draws_in}
+use Rattle.sheet_layout.specs.Limits.{max_draws, max_stations}
 
-pub row-none : (l : List ℕ) (at : ℕ) → replicate 16 0 ≡ row_in l at 0
+pub row_none : (l : List ℕ) (at : ℕ) → replicate 16 0 ≡ row_in l at 0
 unfolding row_in
-row-none l at = filled_none 0 (drawIn l at)
+row_none l at = filled_none 0 (draw_in l at)
 
-pub row_more : (l : List ℕ) (at k d : ℕ) (row : List ℕ) (v : ℕ) → v ≡ get 2 l (at + 2 * k) → k < d → d ≤ maxDraws
+pub row_more : (l : List ℕ) (at k d : ℕ) (row : List ℕ) (v : ℕ) → v ≡ get 2 l (at + 2 * k) → k < d → d ≤ max_draws
     → row ≡ row_in l at k → set row k v ≡ row_in l at (k + 1)
-unfolding row_in drawIn
-row_more l at k d row v p h g q = filled_more 0 (drawIn l at) k d row v p h g q
+unfolding row_in draw_in
+row_more l at k d row v p h g q = filled_more 0 (draw_in l at) k d row v p h g q
 
-pub row-end : (l : List ℕ) (at d k : ℕ) (row : List ℕ) → k ≤ d → d ≤ k → row ≡ row_in l at k → row ≡ row_in l at d
-row-end l at d k row p q r = let e : k ≡ d = omega arith in rw e at r
+pub row_end : (l : List ℕ) (at d k : ℕ) (row : List ℕ) → k ≤ d → d ≤ k → row ≡ row_in l at k → row ≡ row_in l at d
+row_end l at d k row p q r = let e : k ≡ d = omega arith in rw e at r
 
-pub draws-none : (l : List ℕ) (at d : ℕ) → replicate 16 (replicate 16 0) ≡ drawsIn l at 0 d
-unfolding drawsIn
-draws-none l at d = filled_none blankRow (λ i. row_in l (rowPlace at d i) d)
+pub draws_none : (l : List ℕ) (at d : ℕ) → replicate 16 (replicate 16 0) ≡ draws_in l at 0 d
+unfolding draws_in
+draws_none l at d = filled_none blank_row (λ i. row_in l (row_place at d i) d)
 
-pub draws-more : (l : List ℕ) (at d i n p : ℕ) (all : List (List ℕ)) (row : List ℕ) → row ≡ row_in l p d
-    → p ≡ at + 2 * (i * d) → i < n → n ≤ maxStations
-    → all ≡ drawsIn l at i d → set all i row ≡ drawsIn l at (i + 1) d
-unfolding drawsIn
-draws-more l at d i n p all row q e h g r =
-    filled_more blankRow (λ i. row_in l (rowPlace at d i) d) i n all row (q ∙ ap (λ (x : ℕ). row_in l x d) e) h g r
+pub draws_more : (l : List ℕ) (at d i n p : ℕ) (all : List (List ℕ)) (row : List ℕ) → row ≡ row_in l p d
+    → p ≡ at + 2 * (i * d) → i < n → n ≤ max_stations
+    → all ≡ draws_in l at i d → set all i row ≡ draws_in l at (i + 1) d
+unfolding draws_in
+draws_more l at d i n p all row q e h g r =
+    filled_more blank_row (λ i. row_in l (row_place at d i) d) i n all row (q ∙ ap (λ (x : ℕ). row_in l x d) e) h g r
 
-pub draws-end : (l : List ℕ) (at d n i : ℕ) (all : List (List ℕ)) → i ≤ n → n ≤ i → all ≡ drawsIn l at i d
-    → all ≡ drawsIn l at n d
-draws-end l at d n i all p q r = let e : i ≡ n = omega arith in rw e at r
+pub draws_end : (l : List ℕ) (at d n i : ℕ) (all : List (List ℕ)) → i ≤ n → n ≤ i → all ≡ draws_in l at i d
+    → all ≡ draws_in l at n d
+draws_end l at d n i all p q r = let e : i ≡ n = omega arith in rw e at r
 
 pub row_room : (l : List ℕ) (at d i n p : ℕ) → p ≡ at + 2 * (i * d) → i < n → at + 2 * (n * d) ≤ length l
     → p + 2 * d ≤ length l

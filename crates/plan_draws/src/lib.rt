@@ -1,12 +1,12 @@
 // The draws of a run input: by station, and then by draw place.
 
 ghost use Rattle.std.specs.Prelude.{◌≡◌, ◌+◌, ◌*◌, ◌<◌, ◌≤◌, length};
-ghost use Rattle.plan_draws.specs.Draws.{row_in, drawsIn};
-ghost use Rattle.sheet_layout.specs.Limits.{maxDraws, maxStations};
+ghost use Rattle.plan_draws.specs.Draws.{row_in, draws_in};
+ghost use Rattle.sheet_layout.specs.Limits.{max_draws, max_stations};
 
 // The d draws from octet `at` on, and zeros after them.
 fn read_row(s: &[u8], at: usize, d: usize) -> [u16; 16]
-    requires { (d ≤ maxDraws) × (at + 2 * d ≤ length s.now) }
+    requires { (d ≤ max_draws) × (at + 2 * d ≤ length s.now) }
     ensures { result ≡ row_in s.now at d }
 {
     let mut row = [0u16; 16];
@@ -21,8 +21,8 @@ fn read_row(s: &[u8], at: usize, d: usize) -> [u16; 16]
 
 // The draws by station and then by draw place: the rows of n stations from octet `at` on, and blank rows after them.
 pub fn read_draws(s: &[u8], at: usize, n: usize, d: usize) -> [[u16; 16]; 16]
-    requires { (n ≤ maxStations) × (d ≤ maxDraws) × (at + 2 * (n * d) ≤ length s.now) }
-    ensures { result ≡ drawsIn s.now at n d }
+    requires { (n ≤ max_stations) × (d ≤ max_draws) × (at + 2 * (n * d) ≤ length s.now) }
+    ensures { result ≡ draws_in s.now at n d }
 {
     let mut all = [[0u16; 16]; 16];
     let mut place = at;

@@ -4,12 +4,12 @@ use Rattle.octets.specs.Base.{some, outside}
 use Rattle.octets.specs.Equal.{equal}
 use Rattle.octets.specs.Number.{get}
 use Rattle.octets.specs.Filled.{listed, filled}
-use Rattle.sheet_layout.specs.Layout.{tapAt, gap_of, span_of}
-use Rattle.sheet_layout.specs.Check.{gap1Out, figuresOut, addressWrong, refusalOf}
-use Rattle.sheet_read.specs.Sheet.{field_at, field, figuresIn, tapIn, layoutIn, sheetSize, readSheet}
-use Rattle.plan_draws.specs.Draws.{blankRow, drawIn, row_in, drawsIn}
-use Rattle.plan_read.specs.Plan.{nameSize, offerName, offerPlace, drawsWrong, timeBefore, offersWrong}
-use Rattle.plan_read.specs.Plan.{planWrong, namesWrong, lastRefusal, afterSheet, planRefusal, Planned, planRead}
+use Rattle.sheet_layout.specs.Layout.{tap_at, gap_of, span_of}
+use Rattle.sheet_layout.specs.Check.{gap1_out, figures_out, address_wrong, refusal_of}
+use Rattle.sheet_read.specs.Sheet.{field_at, field, figures_in, tap_in, layout_in, sheet_size, read_sheet}
+use Rattle.plan_draws.specs.Draws.{blank_row, draw_in, row_in, draws_in}
+use Rattle.plan_read.specs.Plan.{name_size, offer_name, offer_place, draws_wrong, time_before, offers_wrong}
+use Rattle.plan_read.specs.Plan.{plan_wrong, names_wrong, last_refusal, after_sheet, plan_refusal, Planned, plan_as_read}
 
 sheet : List ℕ
 sheet = 0 ∷ 2 ∷ 0 ∷ 2 ∷ 0 ∷ 0 ∷ 0 ∷ 0 ∷ 1 ∷ 10 ∷ 2 ∷ 0 ∷ 0 ∷ 0 ∷ 0 ∷ 2 ∷ []
@@ -32,7 +32,7 @@ named t high j k =
     ++ (high ∷ 0 ∷ 5 ∷ 220 ∷ [])
 
 rows :
-    map planRefusal
+    map plan_refusal
     -- the whole case, 149 octets
     (input 1 0 0
     -- cut in the sheet, before D, in the draws; D 0 and 17
@@ -47,7 +47,7 @@ rows :
     ∷ named 1 0 0 2 ∷ (named 0 0 0 2 ++ (0 ∷ [])) ∷ named 0 2 0 2 ∷ named 0 2 0 1 ∷ [])
     ≡ 0 ∷ 3 ∷ 9 ∷ 9 ∷ 9 ∷ 9 ∷ 16 ∷ 16 ∷ 16 ∷ 16 ∷ 16 ∷ 13 ∷ 16
     ∷ 0 ∷ 0 ∷ 19 ∷ 19 ∷ 19 ∷ 19 ∷ 16 ∷ 16 ∷ 19 ∷ 13 ∷ []
-unfolding sheet draws offer input named some outside equal get listed filled tapAt gap_of span_of gap1Out figuresOut addressWrong refusalOf field_at field figuresIn tapIn layoutIn sheetSize readSheet nameSize offerName offerPlace drawsWrong timeBefore offersWrong planWrong namesWrong lastRefusal afterSheet planRefusal
+unfolding sheet draws offer input named some outside equal get listed filled tap_at gap_of span_of gap1_out figures_out address_wrong refusal_of field_at field figures_in tap_in layout_in sheet_size read_sheet name_size offer_name offer_place draws_wrong time_before offers_wrong plan_wrong names_wrong last_refusal after_sheet plan_refusal
 rows = refl
 
 -- what is read of the whole case: D, where the draws begin, two offers, where the first begins, 1500 bit times; and the
@@ -55,10 +55,10 @@ rows = refl
 numbers : Planned → List ℕ
 numbers r = r.depth ∷ r.drawn ∷ r.offers ∷ r.first ∷ r.times ∷ []
 
-whole-case : numbers (planRead (input 1 0 0)) ≡ 1 ∷ 17 ∷ 2 ∷ 23 ∷ 1500 ∷ []
-unfolding sheet draws offer input some outside equal get listed filled tapAt gap_of span_of gap1Out figuresOut addressWrong refusalOf field_at field figuresIn tapIn layoutIn sheetSize readSheet nameSize offerName offerPlace drawsWrong timeBefore offersWrong planWrong namesWrong lastRefusal afterSheet planRefusal numbers planRead
-whole-case = refl
+whole_case : numbers (plan_as_read (input 1 0 0)) ≡ 1 ∷ 17 ∷ 2 ∷ 23 ∷ 1500 ∷ []
+unfolding sheet draws offer input some outside equal get listed filled tap_at gap_of span_of gap1_out figures_out address_wrong refusal_of field_at field figures_in tap_in layout_in sheet_size read_sheet name_size offer_name offer_place draws_wrong time_before offers_wrong plan_wrong names_wrong last_refusal after_sheet plan_refusal numbers plan_as_read
+whole_case = refl
 
-whole-draws : drawsIn (input 1 0 0) 17 2 1 ≡ blankRow ∷ (1 ∷ replicate 15 0) ∷ replicate 14 blankRow
-unfolding sheet draws offer input get listed filled drawIn row_in drawsIn
-whole-draws = refl
+whole_draws : draws_in (input 1 0 0) 17 2 1 ≡ blank_row ∷ (1 ∷ replicate 15 0) ∷ replicate 14 blank_row
+unfolding sheet draws offer input get listed filled draw_in row_in draws_in
+whole_draws = refl

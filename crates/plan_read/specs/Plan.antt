@@ -5,81 +5,81 @@ use Rattle.octets.specs.Base.{pick, some, outside, Answer, refused, accepted, nu
 use Rattle.octets.specs.Number.{get}
 use Rattle.octets.specs.Store.{part}
 use Rattle.sheet_layout.specs.declared.Layout.{Layout}
-use Rattle.sheet_layout.specs.Layout.{blankLayout}
-use Rattle.sheet_read.specs.Sheet.{countIn, layoutIn, sheetSize, readSheet}
+use Rattle.sheet_layout.specs.Layout.{blank_layout}
+use Rattle.sheet_read.specs.Sheet.{count_in, layout_in, sheet_size, read_sheet}
 use Rattle.plan_read.specs.declared.Verdict.{Verdict}
 use Rattle.plan_read.specs.declared.Verdict.TheVariants.{Refused, Whole}
 use Rattle.plan_read.specs.declared.Plan.{Plan}
 use Rattle.plan_read.specs.declared.Offered.{Offered}
-use Rattle.sheet_layout.specs.Limits.{lastClock}
+use Rattle.sheet_layout.specs.Limits.{last_clock}
 
 -- ---- D; the draws are in `plan_draws`
 
 -- "sheet; D": D, where it stands at u, just after the sheet
-abbrev pub depthIn : List ℕ → (u : ℕ) → ℕ
-depthIn l u = get_or l u 0
+abbrev pub depth_in : List ℕ → (u : ℕ) → ℕ
+depth_in l u = get_or l u 0
 
 -- ---- the offers
 
 -- "offer count (2)": where it stands, after the N × D draws
-abbrev pub offersPlace : List ℕ → (u n : ℕ) → ℕ
-offersPlace l u n = u + 1 + 2 * (n * depthIn l u)
+abbrev pub offers_place : List ℕ → (u n : ℕ) → ℕ
+offers_place l u n = u + 1 + 2 * (n * depth_in l u)
 
 -- the number of offers, where it stands at c. N12: "If the top bit of a plan's offer count stands, the other bits are
 -- the count"
-abbrev pub namesIn : List ℕ → (c : ℕ) → Bool
-namesIn l c = leb 32768 (get 2 l c)
+abbrev pub names_in : List ℕ → (c : ℕ) → Bool
+names_in l c = leb 32768 (get 2 l c)
 
-abbrev pub offersIn : List ℕ → (c : ℕ) → ℕ
-offersIn l c = get 2 l c % 32768
+abbrev pub offers_in : List ℕ → (c : ℕ) → ℕ
+offers_in l c = get 2 l c % 32768
 
 -- "per offer time (4), station (1), destination (6), value (2), size (2), data": the offer that begins at p
-abbrev pub offerTime : List ℕ → (p : ℕ) → ℕ
-offerTime l p = get 4 l p
+abbrev pub offer_time : List ℕ → (p : ℕ) → ℕ
+offer_time l p = get 4 l p
 
-abbrev pub offerStation : List ℕ → (p : ℕ) → ℕ
-offerStation l p = get_or l (p + 4) 0
+abbrev pub offer_station : List ℕ → (p : ℕ) → ℕ
+offer_station l p = get_or l (p + 4) 0
 
-abbrev pub offerDestination : List ℕ → (p : ℕ) → List ℕ
-offerDestination l p = part l (p + 5) 6
+abbrev pub offer_destination : List ℕ → (p : ℕ) → List ℕ
+offer_destination l p = part l (p + 5) 6
 
-abbrev pub offerValue : List ℕ → (p : ℕ) → ℕ
-offerValue l p = get 2 l (p + 11)
+abbrev pub offer_value : List ℕ → (p : ℕ) → ℕ
+offer_value l p = get 2 l (p + 11)
 
-abbrev pub offerSize : List ℕ → (p : ℕ) → ℕ
-offerSize l p = get 2 l (p + 13)
+abbrev pub offer_size : List ℕ → (p : ℕ) → ℕ
+offer_size l p = get 2 l (p + 13)
 
-unfoldable pub offerData : List ℕ → (p size : ℕ) → List ℕ
-offerData l p size = part l (p + 15) size
+unfoldable pub offer_data : List ℕ → (p size : ℕ) → List ℕ
+offer_data l p size = part l (p + 15) size
 
 -- "and each offer ends in two octets": the octets of a name, where b says whether the plan has names
-unfoldable pub nameSize : Bool → ℕ
-nameSize b = pick b 2 0
+unfoldable pub name_size : Bool → ℕ
+name_size b = pick b 2 0
 
 -- "0, or the number, counted from 1, of an earlier offer"; where the plan has no names, 0
-unfoldable pub offerName : List ℕ → (b : Bool) (p : ℕ) → ℕ
-offerName l b p = pick b (get 2 l (p + 15 + offerSize l p)) 0
+unfoldable pub offer_name : List ℕ → (b : Bool) (p : ℕ) → ℕ
+offer_name l b p = pick b (get 2 l (p + 15 + offer_size l p)) 0
 
 -- its fixed fields, and its name
-unfoldable pub offerIn : List ℕ → (b : Bool) (p : ℕ) → Offered
-offerIn l b p =
+unfoldable pub offer_in : List ℕ → (b : Bool) (p : ℕ) → Offered
+offer_in l b p =
     record {
-      time = offerTime l p;
-      station = offerStation l p;
-      destination = offerDestination l p;
-      value = offerValue l p;
-      size = offerSize l p;
-      name = offerName l b p;
+      time = offer_time l p;
+      station = offer_station l p;
+      destination = offer_destination l p;
+      value = offer_value l p;
+      size = offer_size l p;
+      name = offer_name l b p;
     }
 
 -- where the offer after the one at p begins
-abbrev pub nextOffer : List ℕ → (b : Bool) (p : ℕ) → ℕ
-nextOffer l b p = p + 15 + offerSize l p + nameSize b
+abbrev pub next_offer : List ℕ → (b : Bool) (p : ℕ) → ℕ
+next_offer l b p = p + 15 + offer_size l p + name_size b
 
 -- where offer k begins, of those from octet `at` on
-unfoldable pub offerPlace : List ℕ → (b : Bool) (at k : ℕ) → ℕ
-offerPlace l b at zero = at
-offerPlace l b at (suc k) = nextOffer l b (offerPlace l b at k)
+unfoldable pub offer_place : List ℕ → (b : Bool) (at k : ℕ) → ℕ
+offer_place l b at zero = at
+offer_place l b at (suc k) = next_offer l b (offer_place l b at k)
 
 -- An offer as the plan gives it, with no octet places: its time, station, destination, value, data, and its name.
 pub record PlannedOffer : Type 0 where
@@ -91,78 +91,78 @@ pub record PlannedOffer : Type 0 where
   pub name : ℕ
 
 -- the offer that begins at p
-unfoldable pub offerAt : List ℕ → (b : Bool) (p : ℕ) → PlannedOffer
-offerAt l b p =
+unfoldable pub offer_at : List ℕ → (b : Bool) (p : ℕ) → PlannedOffer
+offer_at l b p =
     record {
-      time = offerTime l p;
-      station = offerStation l p;
-      destination = offerDestination l p;
-      value = offerValue l p;
-      payload = offerData l p (offerSize l p);
-      name = offerName l b p;
+      time = offer_time l p;
+      station = offer_station l p;
+      destination = offer_destination l p;
+      value = offer_value l p;
+      payload = offer_data l p (offer_size l p);
+      name = offer_name l b p;
     }
 
 -- the offers of a plan, n of them from octet p on, in plan order
-unfoldable pub offersOf : List ℕ → (b : Bool) (p n : ℕ) → List PlannedOffer
-offersOf l b p zero = []
-offersOf l b p (suc n) = offerAt l b p ∷ offersOf l b (nextOffer l b p) n
+unfoldable pub offers_of : List ℕ → (b : Bool) (p n : ℕ) → List PlannedOffer
+offers_of l b p zero = []
+offers_of l b p (suc n) = offer_at l b p ∷ offers_of l b (next_offer l b p) n
 
 -- "bit times (4), one run over all offers": where they stand, after the offers, and their number
-abbrev pub timesPlace : List ℕ → (c : ℕ) → ℕ
-timesPlace l c = offerPlace l (namesIn l c) (c + 2) (offersIn l c)
+abbrev pub times_place : List ℕ → (c : ℕ) → ℕ
+times_place l c = offer_place l (names_in l c) (c + 2) (offers_in l c)
 
-abbrev pub timesIn : List ℕ → (c : ℕ) → ℕ
-timesIn l c = get 4 l (timesPlace l c)
+abbrev pub times_in : List ℕ → (c : ℕ) → ℕ
+times_in l c = get 4 l (times_place l c)
 
 -- ---- the refusals
 
 -- 9: "D is outside 1..16, or the draws aren't N × D numbers; so too a run input that ends before its last draw."
-unfoldable pub drawsWrong : List ℕ → (u n : ℕ) → Bool
-drawsWrong l u n = ltb (length l) (u + 1) || (outside (depthIn l u) 1 16 || ltb (length l) (offersPlace l u n))
+unfoldable pub draws_wrong : List ℕ → (u n : ℕ) → Bool
+draws_wrong l u n = ltb (length l) (u + 1) || (outside (depth_in l u) 1 16 || ltb (length l) (offers_place l u n))
 
 -- "offer times that fall": the time before offer k's, 0 before the first; whether one of the first n is less than the
 -- one before it
-unfoldable pub timeBefore : List ℕ → (b : Bool) (at k : ℕ) → ℕ
-timeBefore l b at zero = 0
-timeBefore l b at (suc k) = offerTime l (offerPlace l b at k)
+unfoldable pub time_before : List ℕ → (b : Bool) (at k : ℕ) → ℕ
+time_before l b at zero = 0
+time_before l b at (suc k) = offer_time l (offer_place l b at k)
 
-abbrev pub timeFalls : List ℕ → (b : Bool) (at k : ℕ) → Bool
-timeFalls l b at k = ltb (offerTime l (offerPlace l b at k)) (timeBefore l b at k)
+abbrev pub time_falls : List ℕ → (b : Bool) (at k : ℕ) → Bool
+time_falls l b at k = ltb (offer_time l (offer_place l b at k)) (time_before l b at k)
 
 -- "is short, has octets left over .. or offer times that fall": n offers from octet `at` on, and the bit times
-unfoldable pub offersWrong : List ℕ → (b : Bool) (at n : ℕ) → Bool
-offersWrong l b at n = some (timeFalls l b at) n || not (eqb (length l) (offerPlace l b at n + 4))
+unfoldable pub offers_wrong : List ℕ → (b : Bool) (at n : ℕ) → Bool
+offers_wrong l b at n = some (time_falls l b at) n || not (eqb (length l) (offer_place l b at n + 4))
 
 -- 16: "The plan is over 16,384 octets with its sheet, is short, has octets left over, over 64 offers, or offer times
 -- that fall."
-unfoldable pub planWrong : List ℕ → (c : ℕ) → Bool
-planWrong l c =
+unfoldable pub plan_wrong : List ℕ → (c : ℕ) → Bool
+plan_wrong l c =
     ltb 16384 (length l)
-    || (ltb (length l) (c + 2) || (ltb 64 (offersIn l c) || offersWrong l (namesIn l c) (c + 2) (offersIn l c)))
+    || (ltb (length l) (c + 2) || (ltb 64 (offers_in l c) || offers_wrong l (names_in l c) (c + 2) (offers_in l c)))
 
 -- 19: "an offer that names its own number or any above it": of n offers from octet `at` on; offer k has number k + 1
-abbrev pub namesAhead : List ℕ → (b : Bool) (at k : ℕ) → Bool
-namesAhead l b at k = ltb k (offerName l b (offerPlace l b at k))
+abbrev pub names_ahead : List ℕ → (b : Bool) (at k : ℕ) → Bool
+names_ahead l b at k = ltb k (offer_name l b (offer_place l b at k))
 
-unfoldable pub namesWrong : List ℕ → (b : Bool) (at n : ℕ) → Bool
-namesWrong l b at n = some (namesAhead l b at) n
+unfoldable pub names_wrong : List ℕ → (b : Bool) (at n : ℕ) → Bool
+names_wrong l b at n = some (names_ahead l b at) n
 
 -- 13: "Clock plus the bit times asked exceeds 16,777,216. A run input makes this check last."
-unfoldable pub lastRefusal : List ℕ → (c : ℕ) → ℕ
-lastRefusal l c =
-    pick (planWrong l c) 16
-    (pick (namesWrong l (namesIn l c) (c + 2) (offersIn l c)) 19 (pick (ltb lastClock (timesIn l c)) 13 0))
+unfoldable pub last_refusal : List ℕ → (c : ℕ) → ℕ
+last_refusal l c =
+    pick (plan_wrong l c) 16
+    (pick (names_wrong l (names_in l c) (c + 2) (offers_in l c)) 19 (pick (ltb last_clock (times_in l c)) 13 0))
 
-unfoldable pub afterSheet : List ℕ → (u n : ℕ) → ℕ
-afterSheet l u n = pick (drawsWrong l u n) 9 (lastRefusal l (offersPlace l u n))
+unfoldable pub after_sheet : List ℕ → (u n : ℕ) → ℕ
+after_sheet l u n = pick (draws_wrong l u n) 9 (last_refusal l (offers_place l u n))
 
 -- 3 to 8: what the reader of sheets refuses, everything after the sheet at hand
-abbrev pub sheetRefusal : List ℕ → ℕ
-sheetRefusal l = number_of (readSheet l).answer
+abbrev pub sheet_refusal : List ℕ → ℕ
+sheet_refusal l = number_of (read_sheet l).answer
 
 -- the number of the refusal, 0 where there is none
-unfoldable pub planRefusal : List ℕ → ℕ
-planRefusal l = pick (eqb (sheetRefusal l) 0) (afterSheet l (sheetSize l) (countIn l)) (sheetRefusal l)
+unfoldable pub plan_refusal : List ℕ → ℕ
+plan_refusal l = pick (eqb (sheet_refusal l) 0) (after_sheet l (sheet_size l) (count_in l)) (sheet_refusal l)
 
 -- ---- reading
 
@@ -183,7 +183,7 @@ abbrev pub unplanned : ℕ → Planned
 unplanned n =
     record {
       answer = refused n;
-      layout = blankLayout;
+      layout = blank_layout;
       depth = 0;
       drawn = 0;
       offers = 0;
@@ -200,32 +200,32 @@ whole_of l y d at c =
       layout = y;
       depth = d;
       drawn = at;
-      offers = offersIn l c;
+      offers = offers_in l c;
       first = c + 2;
-      named = namesIn l c;
-      times = timesIn l c;
+      named = names_in l c;
+      times = times_in l c;
     }
 
 -- of layout y, with D at u
-abbrev pub wholeFrom : List ℕ → Layout → (u : ℕ) → Planned
-wholeFrom l y u = whole_of l y (depthIn l u) (u + 1) (offersPlace l u y.count)
+abbrev pub whole_from : List ℕ → Layout → (u : ℕ) → Planned
+whole_from l y u = whole_of l y (depth_in l u) (u + 1) (offers_place l u y.count)
 
 -- what is answered with refusal n, or with none of them what was read
 abbrev pub unless : ℕ → Planned → Planned
 unless n r = pick (eqb n 0) r (unplanned n)
 
-unfoldable pub planRead : List ℕ → Planned
-planRead l = unless (planRefusal l) (wholeFrom l (layoutIn l) (sheetSize l))
+unfoldable pub plan_as_read : List ℕ → Planned
+plan_as_read l = unless (plan_refusal l) (whole_from l (layout_in l) (sheet_size l))
 
 -- what the code's answer stands for
-abbrev pub verdictAnswer : Verdict → Answer
-verdictAnswer (Refused n) = refused n
-verdictAnswer Whole = accepted []
+abbrev pub verdict_answer : Verdict → Answer
+verdict_answer (Refused n) = refused n
+verdict_answer Whole = accepted []
 
-abbrev pub planReading : Plan → Planned
-planReading r =
+abbrev pub plan_reading : Plan → Planned
+plan_reading r =
     record {
-      answer = verdictAnswer r.read;
+      answer = verdict_answer r.read;
       layout = r.layout;
       depth = r.depth;
       drawn = r.drawn;

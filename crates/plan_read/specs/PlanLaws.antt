@@ -9,317 +9,317 @@ use borrow.Author.Tests.{lt-ltb, le-ltb, eq-eqb, ne_eqb, ltb-false, eqb-true, eq
 use Rattle.std.proofs.Math.Dec.{ltb}
 use Rattle.std.proofs.Math.ListN.{length}
 use Rattle.octets.specs.Base.{pick, some, outside, Answer, refused, accepted, number_of, values_of}
-use Rattle.octets.specs.BaseLaws.{neither, some_more, some-hit, within}
+use Rattle.octets.specs.BaseLaws.{neither, some_more, some_hit, within}
 use Rattle.octets.specs.Number.{get}
 use Rattle.octets.specs.Store.{part}
 use Rattle.sheet_layout.specs.declared.Layout.{Layout}
-use Rattle.sheet_layout.specs.Check.{refusalOf}
+use Rattle.sheet_layout.specs.Check.{refusal_of}
 use Rattle.sheet_read.specs.declared.Sheet.{Sheet}
 use Rattle.sheet_read.specs.declared.SheetRead.TheVariants as sheets
-use Rattle.sheet_read.specs.Sheet.{mapOf, stands, layoutIn, sheetSize, Reading, unread, readSheet, sheetAnswer}
-use Rattle.sheet_read.specs.Sheet.{sheetReading}
-use Rattle.sheet_read.specs.SheetTheorems.{Read, read-sound}
-use Rattle.plan_read.specs.Plan.{namesIn, offersIn, offerData, nameSize, offerName, offerIn, nextOffer, offerPlace}
-use Rattle.plan_read.specs.Plan.{timesPlace, timesIn, drawsWrong, timeBefore, timeFalls, offersWrong, planWrong}
-use Rattle.plan_read.specs.Plan.{namesAhead, namesWrong, lastRefusal, afterSheet}
-use Rattle.plan_read.specs.Plan.{sheetRefusal, planRefusal, Planned, unplanned, whole_of, wholeFrom, unless}
-use Rattle.plan_read.specs.Plan.{planRead}
-use Rattle.sheet_layout.specs.Limits.{lastClock, maxStations}
+use Rattle.sheet_read.specs.Sheet.{map_of, stands, layout_in, sheet_size, Reading, unread, read_sheet, sheet_answer}
+use Rattle.sheet_read.specs.Sheet.{sheet_reading}
+use Rattle.sheet_read.specs.SheetTheorems.{Read, read_sound}
+use Rattle.plan_read.specs.Plan.{names_in, offers_in, offer_data, name_size, offer_name, offer_in, next_offer, offer_place}
+use Rattle.plan_read.specs.Plan.{times_place, times_in, draws_wrong, time_before, time_falls, offers_wrong, plan_wrong}
+use Rattle.plan_read.specs.Plan.{names_ahead, names_wrong, last_refusal, after_sheet}
+use Rattle.plan_read.specs.Plan.{sheet_refusal, plan_refusal, Planned, unplanned, whole_of, whole_from, unless}
+use Rattle.plan_read.specs.Plan.{plan_as_read}
+use Rattle.sheet_layout.specs.Limits.{last_clock, max_stations}
 
 -- N × D with both at most sixteen
-pub few : (n d : ℕ) (b : Bool) → n ≤ maxStations → b ≡ outside d 1 16 → b ≡ false → n * d ≤ 256
+pub few : (n d : ℕ) (b : Bool) → n ≤ max_stations → b ≡ outside d 1 16 → b ≡ false → n * d ≤ 256
 few n d b p q r = mul-le-mul p (within d 1 16 (sym q ∙ r)).1
 
 -- ---- an offer
 
-pub name-none : (l : List ℕ) (p : ℕ) (b : Bool) → b ≡ false → 0 ≡ offerName l b p
-unfolding offerName
-name-none l p b h = rw h
+pub name_none : (l : List ℕ) (p : ℕ) (b : Bool) → b ≡ false → 0 ≡ offer_name l b p
+unfolding offer_name
+name_none l p b h = rw h
 
-pub name-is : (l : List ℕ) (p z n : ℕ) (b : Bool) → b ≡ true → z ≡ get 2 l (p + 13) → n ≡ get 2 l (p + 15 + z)
-    → n ≡ offerName l b p
-unfolding offerName
-name-is l p z n b h e q = rw (h, ← e) q
+pub name_is : (l : List ℕ) (p z n : ℕ) (b : Bool) → b ≡ true → z ≡ get 2 l (p + 13) → n ≡ get 2 l (p + 15 + z)
+    → n ≡ offer_name l b p
+unfolding offer_name
+name_is l p z n b h e q = rw (h, ← e) q
 
-pub name-fits : (l : List ℕ) (p z : ℕ) (b : Bool) → b ≡ true → p + 15 + z + nameSize b ≤ length l
+pub name_fits : (l : List ℕ) (p z : ℕ) (b : Bool) → b ≡ true → p + 15 + z + name_size b ≤ length l
     → p + 15 + z + 2 ≤ length l
-unfolding nameSize
-name-fits l p z b h q = rw h at q
+unfolding name_size
+name_fits l p z b h q = rw h at q
 
-pub size-two : (b : Bool) → b ≡ true → 2 ≡ nameSize b
-unfolding nameSize
-size-two b h = rw h
+pub size_two : (b : Bool) → b ≡ true → 2 ≡ name_size b
+unfolding name_size
+size_two b h = rw h
 
-pub size_none : (b : Bool) → b ≡ false → 0 ≡ nameSize b
-unfolding nameSize
+pub size_none : (b : Bool) → b ≡ false → 0 ≡ name_size b
+unfolding name_size
 size_none b h = rw h
 
-pub offer-in : (l a : List ℕ) (b : Bool) (at t s v z n : ℕ) → n ≡ offerName l b at → z ≡ get 2 l (at + 13)
+pub offer_in_lem : (l a : List ℕ) (b : Bool) (at t s v z n : ℕ) → n ≡ offer_name l b at → z ≡ get 2 l (at + 13)
     → v ≡ get 2 l (at + 11) → a ≡ part l (at + 5) 6
     → s ≡ get_or l (at + 4) 0 → t ≡ get 4 l at
-    → record { time = t; station = s; destination = a; value = v; size = z; name = n } ≡ offerIn l b at
-unfolding offerIn
-offer-in l a b at t s v z n pn pz pv pa ps pt =
+    → record { time = t; station = s; destination = a; value = v; size = z; name = n } ≡ offer_in l b at
+unfolding offer_in
+offer_in_lem l a b at t s v z n pn pz pv pa ps pt =
     λ i. record { time = pt i; station = ps i; destination = pa i; value = pv i; size = pz i; name = pn i }
 
-pub data_is : (l : List ℕ) (at size : ℕ) → take (at + 15 + size - (at + 15)) (drop (at + 15) l) ≡ offerData l at size
-unfolding offerData
+pub data_is : (l : List ℕ) (at size : ℕ) → take (at + 15 + size - (at + 15)) (drop (at + 15) l) ≡ offer_data l at size
+unfolding offer_data
 data_is l at size = let e : at + 15 + size - (at + 15) ≡ size = omega arith in rw e
 
 -- ---- the walk over the offers
 
 module _ (l : List ℕ) (b : Bool) where
-  offers-rise : (at k d : ℕ) → offerPlace l b at k ≤ offerPlace l b at (d + k)
-  unfolding offerPlace
-  offers-rise at k zero = let e : 0 + k ≡ k = omega arith in rw e (omega arith)
-  offers-rise at k (suc d) = let e : suc d + k ≡ suc (d + k) = omega arith in rw e (omega (arith, offers-rise at k d))
+  offers_rise : (at k d : ℕ) → offer_place l b at k ≤ offer_place l b at (d + k)
+  unfolding offer_place
+  offers_rise at k zero = let e : 0 + k ≡ k = omega arith in rw e (omega arith)
+  offers_rise at k (suc d) = let e : suc d + k ≡ suc (d + k) = omega arith in rw e (omega (arith, offers_rise at k d))
 
-  pub offer-next : (at k : ℕ)
-      → offerPlace l b at (suc k) ≡ offerPlace l b at k + 15 + get 2 l (offerPlace l b at k + 13) + nameSize b
-  unfolding offerPlace
-  offer-next at k = refl
+  pub offer_next : (at k : ℕ)
+      → offer_place l b at (suc k) ≡ offer_place l b at k + 15 + get 2 l (offer_place l b at k + 13) + name_size b
+  unfolding offer_place
+  offer_next at k = refl
 
-  pub past : (at k n : ℕ) → k < n → offerPlace l b at (suc k) ≤ offerPlace l b at n
+  pub past : (at k n : ℕ) → k < n → offer_place l b at (suc k) ≤ offer_place l b at n
   past at k n h =
       let e : (n - suc k) + suc k ≡ n = omega arith in
-      rw e at (offers-rise at (suc k) (n - suc k))
+      rw e at (offers_rise at (suc k) (n - suc k))
 
-  size-wrong : (at n : ℕ) → (length l ≡ offerPlace l b at n + 4 → ⊥) → true ≡ offersWrong l b at n
-  unfolding offersWrong
-  size-wrong at n h = rw (ne_eqb (length l) (offerPlace l b at n + 4) h) (sym (or-true (some (timeFalls l b at) n)))
+  size_wrong : (at n : ℕ) → (length l ≡ offer_place l b at n + 4 → ⊥) → true ≡ offers_wrong l b at n
+  unfolding offers_wrong
+  size_wrong at n h = rw (ne_eqb (length l) (offer_place l b at n + 4) h) (sym (or-true (some (time_falls l b at) n)))
 
-  pub walk_first : (at : ℕ) → at ≡ offerPlace l b at 0
-  unfolding offerPlace
+  pub walk_first : (at : ℕ) → at ≡ offer_place l b at 0
+  unfolding offer_place
   walk_first at = refl
 
-  pub walk-zero : (at : ℕ) → 0 ≡ timeBefore l b at 0
-  unfolding timeBefore
-  walk-zero at = refl
+  pub walk_zero : (at : ℕ) → 0 ≡ time_before l b at 0
+  unfolding time_before
+  walk_zero at = refl
 
-  pub walk-short : (at n k p : ℕ) → p ≡ offerPlace l b at k → k < n → p ≤ length l → length l - p < 15
-      → true ≡ offersWrong l b at n
-  walk-short at n k p e h g w = size-wrong at n (λ q. omega (arith, past at k n h, offer-next at k))
+  pub walk_short : (at n k p : ℕ) → p ≡ offer_place l b at k → k < n → p ≤ length l → length l - p < 15
+      → true ≡ offers_wrong l b at n
+  walk_short at n k p e h g w = size_wrong at n (λ q. omega (arith, past at k n h, offer_next at k))
 
-  pub walk-falls : (at n k p t x : ℕ) → p ≡ offerPlace l b at k → k < n → t ≡ get 4 l p → x ≡ timeBefore l b at k
-      → t < x → true ≡ offersWrong l b at n
-  unfolding offersWrong
-  walk-falls at n k p t x e h q r w =
-      let f : ltb t x ≡ timeFalls l b at k = ap₂ ltb (q ∙ ap (get 4 l) e) r in
-      rw (← some-hit (timeFalls l b at) n k (ltb t x) f (lt-ltb t x w) h)
+  pub walk_falls : (at n k p t x : ℕ) → p ≡ offer_place l b at k → k < n → t ≡ get 4 l p → x ≡ time_before l b at k
+      → t < x → true ≡ offers_wrong l b at n
+  unfolding offers_wrong
+  walk_falls at n k p t x e h q r w =
+      let f : ltb t x ≡ time_falls l b at k = ap₂ ltb (q ∙ ap (get 4 l) e) r in
+      rw (← some_hit (time_falls l b at) n k (ltb t x) f (lt-ltb t x w) h)
 
-  pub walk-cut : (at n k p z x : ℕ) → p ≡ offerPlace l b at k → k < n → z ≡ get 2 l (p + 13) → x ≡ nameSize b
+  pub walk_cut : (at n k p z x : ℕ) → p ≡ offer_place l b at k → k < n → z ≡ get 2 l (p + 13) → x ≡ name_size b
       → 15 ≤ length l - p
-      → length l - p - 15 < z + x → true ≡ offersWrong l b at n
-  walk-cut at n k p z x e h q r g w =
-      let f : z ≡ get 2 l (offerPlace l b at k + 13) = q ∙ ap (λ (x : ℕ). get 2 l (x + 13)) e in
-      size-wrong at n (λ v. omega (arith, past at k n h, offer-next at k))
+      → length l - p - 15 < z + x → true ≡ offers_wrong l b at n
+  walk_cut at n k p z x e h q r g w =
+      let f : z ≡ get 2 l (offer_place l b at k + 13) = q ∙ ap (λ (x : ℕ). get 2 l (x + 13)) e in
+      size_wrong at n (λ v. omega (arith, past at k n h, offer_next at k))
 
-  pub walk-place : (at k p z x : ℕ) → p ≡ offerPlace l b at k → z ≡ get 2 l (p + 13) → x ≡ nameSize b
-      → p + 15 + z + x ≡ offerPlace l b at (k + 1)
-  walk-place at k p z x e q r =
-      let f : z ≡ get 2 l (offerPlace l b at k + 13) = q ∙ ap (λ (x : ℕ). get 2 l (x + 13)) e in
-      rw (add-one k) (omega (arith, offer-next at k))
+  pub walk_place : (at k p z x : ℕ) → p ≡ offer_place l b at k → z ≡ get 2 l (p + 13) → x ≡ name_size b
+      → p + 15 + z + x ≡ offer_place l b at (k + 1)
+  walk_place at k p z x e q r =
+      let f : z ≡ get 2 l (offer_place l b at k + 13) = q ∙ ap (λ (x : ℕ). get 2 l (x + 13)) e in
+      rw (add-one k) (omega (arith, offer_next at k))
 
-  pub walk-time : (at k p t : ℕ) → p ≡ offerPlace l b at k → t ≡ get 4 l p → t ≡ timeBefore l b at (k + 1)
-  unfolding timeBefore
-  walk-time at k p t e q = rw (add-one k) (q ∙ ap (get 4 l) e)
+  pub walk_time : (at k p t : ℕ) → p ≡ offer_place l b at k → t ≡ get 4 l p → t ≡ time_before l b at (k + 1)
+  unfolding time_before
+  walk_time at k p t e q = rw (add-one k) (q ∙ ap (get 4 l) e)
 
-  pub walk-rising : (at k p t x : ℕ) → p ≡ offerPlace l b at k → t ≡ get 4 l p → x ≡ timeBefore l b at k → x ≤ t
-      → some (timeFalls l b at) k ≡ false
-      → some (timeFalls l b at) (k + 1) ≡ false
-  walk-rising at k p t x e q r w h =
-      let f : ltb t x ≡ timeFalls l b at k = ap₂ ltb (q ∙ ap (get 4 l) e) r in
-      some_more (timeFalls l b at) k (ltb t x) f (le-ltb t x w) h
+  pub walk_rising : (at k p t x : ℕ) → p ≡ offer_place l b at k → t ≡ get 4 l p → x ≡ time_before l b at k → x ≤ t
+      → some (time_falls l b at) k ≡ false
+      → some (time_falls l b at) (k + 1) ≡ false
+  walk_rising at k p t x e q r w h =
+      let f : ltb t x ≡ time_falls l b at k = ap₂ ltb (q ∙ ap (get 4 l) e) r in
+      some_more (time_falls l b at) k (ltb t x) f (le-ltb t x w) h
 
-  pub walk-left : (at n k p : ℕ) → p ≡ offerPlace l b at k → k ≤ n → n ≤ k → p ≤ length l
-      → (length l - p ≡ 4 → ⊥) → true ≡ offersWrong l b at n
-  walk-left at n k p e g h d w =
+  pub walk_left : (at n k p : ℕ) → p ≡ offer_place l b at k → k ≤ n → n ≤ k → p ≤ length l
+      → (length l - p ≡ 4 → ⊥) → true ≡ offers_wrong l b at n
+  walk_left at n k p e g h d w =
       let j : k ≡ n = omega arith in
-      let f : p ≡ offerPlace l b at n = e ∙ ap (offerPlace l b at) j in
-      size-wrong at n (λ v. w (omega arith))
+      let f : p ≡ offer_place l b at n = e ∙ ap (offer_place l b at) j in
+      size_wrong at n (λ v. w (omega arith))
 
-  pub walk_end : (at n k p : ℕ) → p ≡ offerPlace l b at k → k ≤ n → n ≤ k → p ≤ length l → length l - p ≡ 4
-      → some (timeFalls l b at) k ≡ false
-      → false ≡ offersWrong l b at n
-  unfolding offersWrong
+  pub walk_end : (at n k p : ℕ) → p ≡ offer_place l b at k → k ≤ n → n ≤ k → p ≤ length l → length l - p ≡ 4
+      → some (time_falls l b at) k ≡ false
+      → false ≡ offers_wrong l b at n
+  unfolding offers_wrong
   walk_end at n k p e g h d w r =
       let j : k ≡ n = omega arith in
-      let f : p ≡ offerPlace l b at n = e ∙ ap (offerPlace l b at) j in
-      let q : some (timeFalls l b at) n ≡ false = rw j at r in
-      rw (q, eq-eqb (length l) (offerPlace l b at n + 4) (omega arith))
+      let f : p ≡ offer_place l b at n = e ∙ ap (offer_place l b at) j in
+      let q : some (time_falls l b at) n ≡ false = rw j at r in
+      rw (q, eq-eqb (length l) (offer_place l b at n + 4) (omega arith))
 
   -- ---- the walk over the names
 
-  offers-end : (at n : ℕ) → offersWrong l b at n ≡ false → length l ≡ offerPlace l b at n + 4
-  unfolding offersWrong
-  offers-end at n h =
-      eqb-true (length l) (offerPlace l b at n + 4)
-      (not-not (eqb (length l) (offerPlace l b at n + 4)) (neither (some (timeFalls l b at) n) _ h).1)
+  offers_end : (at n : ℕ) → offers_wrong l b at n ≡ false → length l ≡ offer_place l b at n + 4
+  unfolding offers_wrong
+  offers_end at n h =
+      eqb-true (length l) (offer_place l b at n + 4)
+      (not_not (eqb (length l) (offer_place l b at n + 4)) (neither (some (time_falls l b at) n) _ h).1)
     where
-      not-not : (b : Bool) → not b ≡ false → b ≡ true
-      not-not true p = refl
-      not-not false p = sym p
+      not_not : (b : Bool) → not b ≡ false → b ≡ true
+      not_not true p = refl
+      not_not false p = sym p
 
   -- an offer of a plan that is not refused under 16 lies within it
-  pub name-lies : (at n k p : ℕ) → offersWrong l b at n ≡ false → p ≡ offerPlace l b at k → k < n
-      → nextOffer l b p ≤ length l
-  name-lies at n k p h e g =
-      let f : get 2 l (p + 13) ≡ get 2 l (offerPlace l b at k + 13) = ap (λ (x : ℕ). get 2 l (x + 13)) e in
-      omega (arith, past at k n g, offer-next at k, offers-end at n h)
+  pub name_lies : (at n k p : ℕ) → offers_wrong l b at n ≡ false → p ≡ offer_place l b at k → k < n
+      → next_offer l b p ≤ length l
+  name_lies at n k p h e g =
+      let f : get 2 l (p + 13) ≡ get 2 l (offer_place l b at k + 13) = ap (λ (x : ℕ). get 2 l (x + 13)) e in
+      omega (arith, past at k n g, offer_next at k, offers_end at n h)
 
-  pub name-size-fits : (at n k p : ℕ) → offersWrong l b at n ≡ false → p ≡ offerPlace l b at k → k < n
+  pub name_size_fits : (at n k p : ℕ) → offers_wrong l b at n ≡ false → p ≡ offer_place l b at k → k < n
       → p + 13 + 2 ≤ length l
-  name-size-fits at n k p h e g = omega (arith, name-lies at n k p h e g)
+  name_size_fits at n k p h e g = omega (arith, name_lies at n k p h e g)
 
-  pub name-room : (at n k p z : ℕ) → offersWrong l b at n ≡ false → p ≡ offerPlace l b at k → k < n
-      → z ≡ get 2 l (p + 13) → p + 15 + z + nameSize b ≤ length l
-  name-room at n k p z h e g q = omega (arith, name-lies at n k p h e g)
+  pub name_room : (at n k p z : ℕ) → offers_wrong l b at n ≡ false → p ≡ offer_place l b at k → k < n
+      → z ≡ get 2 l (p + 13) → p + 15 + z + name_size b ≤ length l
+  name_room at n k p z h e g q = omega (arith, name_lies at n k p h e g)
 
-  pub name-step : (at n k p z x : ℕ) → offersWrong l b at n ≡ false → p ≡ offerPlace l b at k → k < n
-      → z ≡ get 2 l (p + 13) → x ≡ nameSize b → p + 15 + z + x ≤ length l
-  name-step at n k p z x h e g q r = omega (arith, name-lies at n k p h e g)
+  pub name_step : (at n k p z x : ℕ) → offers_wrong l b at n ≡ false → p ≡ offer_place l b at k → k < n
+      → z ≡ get 2 l (p + 13) → x ≡ name_size b → p + 15 + z + x ≤ length l
+  name_step at n k p z x h e g q r = omega (arith, name_lies at n k p h e g)
 
-  pub name-start : (at n : ℕ) → offersWrong l b at n ≡ false → at ≤ length l
-  unfolding offerPlace
-  name-start at n h =
+  pub name_start : (at n : ℕ) → offers_wrong l b at n ≡ false → at ≤ length l
+  unfolding offer_place
+  name_start at n h =
       let e : 0 + n ≡ n = omega arith in
       let f : n + 0 ≡ n = omega arith in
-      omega (arith, offers-end at n h, rw f at (offers-rise at 0 n))
+      omega (arith, offers_end at n h, rw f at (offers_rise at 0 n))
 
-  pub name-hit : (at n k p m : ℕ) → p ≡ offerPlace l b at k → m ≡ offerName l b p → k < n → k < m
-      → true ≡ namesWrong l b at n
-  unfolding namesWrong
-  name-hit at n k p m e q g h =
-      some-hit (namesAhead l b at) n k (ltb k m) (ap (ltb k) (q ∙ ap (offerName l b) e)) (lt-ltb k m h) g
+  pub name_hit : (at n k p m : ℕ) → p ≡ offer_place l b at k → m ≡ offer_name l b p → k < n → k < m
+      → true ≡ names_wrong l b at n
+  unfolding names_wrong
+  name_hit at n k p m e q g h =
+      some_hit (names_ahead l b at) n k (ltb k m) (ap (ltb k) (q ∙ ap (offer_name l b) e)) (lt-ltb k m h) g
 
-  pub name-more : (at k p m : ℕ) → p ≡ offerPlace l b at k → m ≡ offerName l b p → m ≤ k
-      → some (namesAhead l b at) k ≡ false → some (namesAhead l b at) (k + 1) ≡ false
-  name-more at k p m e q h r =
-      some_more (namesAhead l b at) k (ltb k m) (ap (ltb k) (q ∙ ap (offerName l b) e)) (le-ltb k m h) r
+  pub name_more : (at k p m : ℕ) → p ≡ offer_place l b at k → m ≡ offer_name l b p → m ≤ k
+      → some (names_ahead l b at) k ≡ false → some (names_ahead l b at) (k + 1) ≡ false
+  name_more at k p m e q h r =
+      some_more (names_ahead l b at) k (ltb k m) (ap (ltb k) (q ∙ ap (offer_name l b) e)) (le-ltb k m h) r
 
-  pub name-end : (at n k : ℕ) → k ≤ n → n ≤ k → some (namesAhead l b at) k ≡ false → false ≡ namesWrong l b at n
-  unfolding namesWrong
-  name-end at n k g h r = let j : k ≡ n = omega arith in sym (rw j at r)
+  pub name_end : (at n k : ℕ) → k ≤ n → n ≤ k → some (names_ahead l b at) k ≡ false → false ≡ names_wrong l b at n
+  unfolding names_wrong
+  name_end at n k g h r = let j : k ≡ n = omega arith in sym (rw j at r)
 
 -- ---- refusal 16
 
 module _ (l : List ℕ) (c : ℕ) where
-  pub wrong-long : 16384 < length l → true ≡ planWrong l c
-  unfolding planWrong
-  wrong-long h = rw (lt-ltb 16384 (length l) h)
+  pub wrong_long : 16384 < length l → true ≡ plan_wrong l c
+  unfolding plan_wrong
+  wrong_long h = rw (lt-ltb 16384 (length l) h)
 
-  pub wrong-count : length l ≤ 16384 → c ≤ length l → length l - c < 2 → true ≡ planWrong l c
-  unfolding planWrong
-  wrong-count h g w = rw (le-ltb 16384 (length l) h, lt-ltb (length l) (c + 2) (omega arith))
+  pub wrong_count : length l ≤ 16384 → c ≤ length l → length l - c < 2 → true ≡ plan_wrong l c
+  unfolding plan_wrong
+  wrong_count h g w = rw (le-ltb 16384 (length l) h, lt-ltb (length l) (c + 2) (omega arith))
 
-  pub wrong-many : (m : ℕ) → length l ≤ 16384 → c ≤ length l → 2 ≤ length l - c → m ≡ get 2 l c → 64 < m % 32768
-      → true ≡ planWrong l c
-  unfolding planWrong
-  wrong-many m h g w e f =
+  pub wrong_many : (m : ℕ) → length l ≤ 16384 → c ≤ length l → 2 ≤ length l - c → m ≡ get 2 l c → 64 < m % 32768
+      → true ≡ plan_wrong l c
+  unfolding plan_wrong
+  wrong_many m h g w e f =
       rw (le-ltb 16384 (length l) h, le-ltb (length l) (c + 2) (omega arith), ← e, lt-ltb 64 (m % 32768) f)
 
-  pub wrong-offers : (m : ℕ) (r : Bool) → r ≡ offersWrong l (leb 32768 m) (c + 2) (m % 32768) → length l ≤ 16384
+  pub wrong_offers : (m : ℕ) (r : Bool) → r ≡ offers_wrong l (leb 32768 m) (c + 2) (m % 32768) → length l ≤ 16384
       → c ≤ length l
-      → 2 ≤ length l - c → m ≡ get 2 l c → m % 32768 ≤ 64 → r ≡ planWrong l c
-  unfolding planWrong
-  wrong-offers m r p h g w e f =
+      → 2 ≤ length l - c → m ≡ get 2 l c → m % 32768 ≤ 64 → r ≡ plan_wrong l c
+  unfolding plan_wrong
+  wrong_offers m r p h g w e f =
       p ∙ rw (le-ltb 16384 (length l) h, le-ltb (length l) (c + 2) (omega arith), ← e, le-ltb 64 (m % 32768) f)
 
   -- none of it: the input ends with the bit times
-  ends_so : planWrong l c ≡ false → (c + 2 ≤ length l) × (length l ≡ timesPlace l c + 4)
-  unfolding planWrong offersWrong
+  ends_so : plan_wrong l c ≡ false → (c + 2 ≤ length l) × (length l ≡ times_place l c + 4)
+  unfolding plan_wrong offers_wrong
   ends_so h =
       let a = neither (ltb 16384 (length l)) _ h in
       let b = neither (ltb (length l) (c + 2)) _ a.1 in
-      let d = neither (ltb 64 (offersIn l c)) _ b.1 in
-      let e = neither (some (timeFalls l (namesIn l c) (c + 2)) (offersIn l c)) _ d.1 in (
+      let d = neither (ltb 64 (offers_in l c)) _ b.1 in
+      let e = neither (some (time_falls l (names_in l c) (c + 2)) (offers_in l c)) _ d.1 in (
         ltb-false (length l) (c + 2) b.0,
-        eqb-true (length l) (timesPlace l c + 4)
-            (not-not (eqb (length l) (timesPlace l c + 4)) e.1),
+        eqb-true (length l) (times_place l c + 4)
+            (not_not (eqb (length l) (times_place l c + 4)) e.1),
       )
     where
-      not-not : (b : Bool) → not b ≡ false → b ≡ true
-      not-not true p = refl
-      not-not false p = sym p
+      not_not : (b : Bool) → not b ≡ false → b ≡ true
+      not_not true p = refl
+      not_not false p = sym p
 
-  pub times-room : (b : Bool) → b ≡ planWrong l c → b ≡ false → 4 ≤ length l
-  times-room b p q = omega (arith, (ends_so (sym p ∙ q)).1)
+  pub times_room : (b : Bool) → b ≡ plan_wrong l c → b ≡ false → 4 ≤ length l
+  times_room b p q = omega (arith, (ends_so (sym p ∙ q)).1)
 
-  pub times-fit : (b : Bool) → b ≡ planWrong l c → b ≡ false → length l - 4 + 4 ≤ length l
-  times-fit b p q = omega (arith, times-room b p q)
+  pub times_fit : (b : Bool) → b ≡ plan_wrong l c → b ≡ false → length l - 4 + 4 ≤ length l
+  times_fit b p q = omega (arith, times_room b p q)
 
-  times-place : planWrong l c ≡ false → length l - 4 ≡ timesPlace l c
-  times-place h = omega (arith, (ends_so h).1)
+  times_place_lem : plan_wrong l c ≡ false → length l - 4 ≡ times_place l c
+  times_place_lem h = omega (arith, (ends_so h).1)
 
-  pub last-wrong : (b : Bool) → b ≡ planWrong l c → b ≡ true → 16 ≡ lastRefusal l c
-  unfolding lastRefusal
-  last-wrong b p q = rw (← p, q)
+  pub last_wrong : (b : Bool) → b ≡ plan_wrong l c → b ≡ true → 16 ≡ last_refusal l c
+  unfolding last_refusal
+  last_wrong b p q = rw (← p, q)
 
   -- no refusal under 16: the offers are in order, and the count stands within the input
-  wrong-none : planWrong l c ≡ false → offersWrong l (namesIn l c) (c + 2) (offersIn l c) ≡ false
-  unfolding planWrong
-  wrong-none h =
+  wrong_none : plan_wrong l c ≡ false → offers_wrong l (names_in l c) (c + 2) (offers_in l c) ≡ false
+  unfolding plan_wrong
+  wrong_none h =
       let a = neither (ltb 16384 (length l)) _ h in
       let b = neither (ltb (length l) (c + 2)) _ a.1 in
-      (neither (ltb 64 (offersIn l c)) _ b.1).1
+      (neither (ltb 64 (offers_in l c)) _ b.1).1
 
-  pub word_room : (b : Bool) → b ≡ planWrong l c → b ≡ false → c + 2 ≤ length l
+  pub word_room : (b : Bool) → b ≡ plan_wrong l c → b ≡ false → c + 2 ≤ length l
   word_room b p q = (ends_so (sym p ∙ q)).0
 
-  pub names-asked : (b : Bool) (m : ℕ) → b ≡ planWrong l c → b ≡ false → m ≡ get 2 l c
-      → offersWrong l (leb 32768 m) (c + 2) (m % 32768) ≡ false
-  names-asked b m p q e = rw e (wrong-none (sym p ∙ q))
+  pub names_asked : (b : Bool) (m : ℕ) → b ≡ plan_wrong l c → b ≡ false → m ≡ get 2 l c
+      → offers_wrong l (leb 32768 m) (c + 2) (m % 32768) ≡ false
+  names_asked b m p q e = rw e (wrong_none (sym p ∙ q))
 
-  module _ (b d : Bool) (m : ℕ) (p : b ≡ planWrong l c) (q : b ≡ false) (e : m ≡ get 2 l c)
-      (s : d ≡ namesWrong l (leb 32768 m) (c + 2) (m % 32768)) where
-    names-are : d ≡ namesWrong l (namesIn l c) (c + 2) (offersIn l c)
-    names-are = s ∙ rw e
+  module _ (b d : Bool) (m : ℕ) (p : b ≡ plan_wrong l c) (q : b ≡ false) (e : m ≡ get 2 l c)
+      (s : d ≡ names_wrong l (leb 32768 m) (c + 2) (m % 32768)) where
+    names_are : d ≡ names_wrong l (names_in l c) (c + 2) (offers_in l c)
+    names_are = s ∙ rw e
 
-    pub last-names : d ≡ true → 19 ≡ lastRefusal l c
-    unfolding lastRefusal
-    last-names u = rw (← p, q, ← names-are, u)
+    pub last_names : d ≡ true → 19 ≡ last_refusal l c
+    unfolding last_refusal
+    last_names u = rw (← p, q, ← names_are, u)
 
-    pub last-over : (t : ℕ) → d ≡ false → t ≡ get 4 l (length l - 4) → lastClock < t → 13 ≡ lastRefusal l c
-    unfolding lastRefusal
-    last-over t u v h =
-        let f : t ≡ timesIn l c = v ∙ ap (get 4 l) (times-place (sym p ∙ q)) in
-        rw (← p, q, ← names-are, u, ← f, lt-ltb lastClock t h)
+    pub last_over : (t : ℕ) → d ≡ false → t ≡ get 4 l (length l - 4) → last_clock < t → 13 ≡ last_refusal l c
+    unfolding last_refusal
+    last_over t u v h =
+        let f : t ≡ times_in l c = v ∙ ap (get 4 l) (times_place_lem (sym p ∙ q)) in
+        rw (← p, q, ← names_are, u, ← f, lt-ltb last_clock t h)
 
-    pub last_none : (t : ℕ) → d ≡ false → t ≡ get 4 l (length l - 4) → t ≤ lastClock → 0 ≡ lastRefusal l c
-    unfolding lastRefusal
+    pub last_none : (t : ℕ) → d ≡ false → t ≡ get 4 l (length l - 4) → t ≤ last_clock → 0 ≡ last_refusal l c
+    unfolding last_refusal
     last_none t u v h =
-        let f : t ≡ timesIn l c = v ∙ ap (get 4 l) (times-place (sym p ∙ q)) in
-        rw (← p, q, ← names-are, u, ← f, le-ltb lastClock t h)
+        let f : t ≡ times_in l c = v ∙ ap (get 4 l) (times_place_lem (sym p ∙ q)) in
+        rw (← p, q, ← names_are, u, ← f, le-ltb last_clock t h)
 
-  none_right : lastRefusal l c ≡ 0 → planWrong l c ≡ false
-  unfolding lastRefusal
-  none_right h = go (planWrong l c) _ 0 refl (sym h)
+  none_right : last_refusal l c ≡ 0 → plan_wrong l c ≡ false
+  unfolding last_refusal
+  none_right h = go (plan_wrong l c) _ 0 refl (sym h)
     where
       go : (b : Bool) (y x : ℕ) → x ≡ 0 → x ≡ pick b 16 y → b ≡ false
       go true y x q p = absurd (omega arith)
       go false y x q p = refl
 
-  pub count_room : (n : ℕ) → n ≡ lastRefusal l c → n ≡ 0 → c + 2 ≤ length l
+  pub count_room : (n : ℕ) → n ≡ last_refusal l c → n ≡ 0 → c + 2 ≤ length l
   count_room n p q = (ends_so (none_right (sym p ∙ q))).0
 
-  pub end-room : (n : ℕ) → n ≡ lastRefusal l c → n ≡ 0 → 4 ≤ length l
-  end-room n p q = omega (arith, (ends_so (none_right (sym p ∙ q))).1)
+  pub end_room : (n : ℕ) → n ≡ last_refusal l c → n ≡ 0 → 4 ≤ length l
+  end_room n p q = omega (arith, (ends_so (none_right (sym p ∙ q))).1)
 
-  pub end-fit : (n : ℕ) → n ≡ lastRefusal l c → n ≡ 0 → length l - 4 + 4 ≤ length l
-  end-fit n p q = omega (arith, end-room n p q)
+  pub end_fit : (n : ℕ) → n ≡ last_refusal l c → n ≡ 0 → length l - 4 + 4 ≤ length l
+  end_fit n p q = omega (arith, end_room n p q)
 
 -- ---- what is read, after the draws
 
-unfoldable pub restRead : List ℕ → Layout → (d at c : ℕ) → Planned
-restRead l y d at c = unless (lastRefusal l c) (whole_of l y d at c)
+unfoldable pub rest_read : List ℕ → Layout → (d at c : ℕ) → Planned
+rest_read l y d at c = unless (last_refusal l c) (whole_of l y d at c)
 
-pub rest-refused : (l : List ℕ) (y : Layout) (d at c n : ℕ) (r : Planned) → r ≡ unplanned n → n ≡ lastRefusal l c
-    → (n ≡ 0 → ⊥) → r ≡ restRead l y d at c
-unfolding restRead
-rest-refused l y d at c n r p q h = p ∙ rw (← q, ne_eqb n 0 h)
+pub rest_refused : (l : List ℕ) (y : Layout) (d at c n : ℕ) (r : Planned) → r ≡ unplanned n → n ≡ last_refusal l c
+    → (n ≡ 0 → ⊥) → r ≡ rest_read l y d at c
+unfolding rest_read
+rest_refused l y d at c n r p q h = p ∙ rw (← q, ne_eqb n 0 h)
 
-pub rest_read : (l : List ℕ) (y : Layout) (d at c n o t : ℕ) → t ≡ get 4 l (length l - 4) → o ≡ get 2 l c
-    → n ≡ lastRefusal l c → n ≡ 0
+pub rest_read_lem : (l : List ℕ) (y : Layout) (d at c n o t : ℕ) → t ≡ get 4 l (length l - 4) → o ≡ get 2 l c
+    → n ≡ last_refusal l c → n ≡ 0
     → record {
       answer = accepted [];
       layout = y;
@@ -329,12 +329,12 @@ pub rest_read : (l : List ℕ) (y : Layout) (d at c n o t : ℕ) → t ≡ get 4
       first = c + 2;
       named = leb 32768 o;
       times = t;
-    } ≡ restRead l y d at c
-unfolding restRead
-rest_read l y d at c n o t pt po q h =
-    let e : lastRefusal l c ≡ 0 = sym q ∙ h in
-    let f : t ≡ timesIn l c = pt ∙ ap (get 4 l) (times-place l c (none_right l c e)) in
-    rw (eq-eqb (lastRefusal l c) 0 e) (λ i. record {
+    } ≡ rest_read l y d at c
+unfolding rest_read
+rest_read_lem l y d at c n o t pt po q h =
+    let e : last_refusal l c ≡ 0 = sym q ∙ h in
+    let f : t ≡ times_in l c = pt ∙ ap (get 4 l) (times_place_lem l c (none_right l c e)) in
+    rw (eq-eqb (last_refusal l c) 0 e) (λ i. record {
       answer = accepted [];
       layout = y;
       depth = d;
@@ -347,106 +347,106 @@ rest_read l y d at c n o t pt po q h =
 
 -- ---- after the sheet
 
-unfoldable pub sheetOn : List ℕ → (u : ℕ) → Layout → Planned
-sheetOn l u y = unless (afterSheet l u y.count) (wholeFrom l y u)
+unfoldable pub sheet_on : List ℕ → (u : ℕ) → Layout → Planned
+sheet_on l u y = unless (after_sheet l u y.count) (whole_from l y u)
 
 module _ (l : List ℕ) (u : ℕ) (y : Layout) (r : Planned) where
-  nine : drawsWrong l u y.count ≡ true → r ≡ unplanned 9 → r ≡ sheetOn l u y
-  unfolding sheetOn afterSheet
+  nine : draws_wrong l u y.count ≡ true → r ≡ unplanned 9 → r ≡ sheet_on l u y
+  unfolding sheet_on after_sheet
   nine h p = p ∙ rw h
 
-  pub sheet-no-depth : r ≡ unplanned 9 → length l ≤ u → r ≡ sheetOn l u y
-  unfolding drawsWrong
-  sheet-no-depth p h = nine (wrong h) p
+  pub sheet_no_depth : r ≡ unplanned 9 → length l ≤ u → r ≡ sheet_on l u y
+  unfolding draws_wrong
+  sheet_no_depth p h = nine (wrong h) p
     where
-      wrong : length l ≤ u → drawsWrong l u y.count ≡ true
+      wrong : length l ≤ u → draws_wrong l u y.count ≡ true
       wrong h = rw (lt-ltb (length l) (u + 1) (omega arith))
 
-  pub sheet-depth : (d : ℕ) (b : Bool) → r ≡ unplanned 9 → b ≡ outside d 1 16 → b ≡ true → d ≡ get_or l u 0 → u < length l
-      → r ≡ sheetOn l u y
-  unfolding drawsWrong
-  sheet-depth d b p q t e h = nine wrong p
+  pub sheet_depth : (d : ℕ) (b : Bool) → r ≡ unplanned 9 → b ≡ outside d 1 16 → b ≡ true → d ≡ get_or l u 0 → u < length l
+      → r ≡ sheet_on l u y
+  unfolding draws_wrong
+  sheet_depth d b p q t e h = nine wrong p
     where
-      wrong : drawsWrong l u y.count ≡ true
+      wrong : draws_wrong l u y.count ≡ true
       wrong = rw (le-ltb (length l) (u + 1) (omega arith), ← e, ← q, t)
 
-  pub sheet-draws : (d : ℕ) (b : Bool) → r ≡ unplanned 9 → b ≡ outside d 1 16 → b ≡ false → d ≡ get_or l u 0
+  pub sheet_draws : (d : ℕ) (b : Bool) → r ≡ unplanned 9 → b ≡ outside d 1 16 → b ≡ false → d ≡ get_or l u 0
       → u < length l
-      → length l < u + 1 + 2 * (y.count * d) → r ≡ sheetOn l u y
-  unfolding drawsWrong
-  sheet-draws d b p q t e h g = nine wrong p
+      → length l < u + 1 + 2 * (y.count * d) → r ≡ sheet_on l u y
+  unfolding draws_wrong
+  sheet_draws d b p q t e h g = nine wrong p
     where
-      wrong : drawsWrong l u y.count ≡ true
+      wrong : draws_wrong l u y.count ≡ true
       wrong =
           rw (le-ltb (length l) (u + 1) (omega arith), ← e, ← q, t, lt-ltb (length l) (u + 1 + 2 * (y.count * d)) g)
 
-  pub sheet-rest : (d : ℕ) (b : Bool) → r ≡ restRead l y d (u + 1) (u + 1 + 2 * (y.count * d)) → b ≡ outside d 1 16
+  pub sheet_rest : (d : ℕ) (b : Bool) → r ≡ rest_read l y d (u + 1) (u + 1 + 2 * (y.count * d)) → b ≡ outside d 1 16
       → b ≡ false → d ≡ get_or l u 0 → u < length l
-      → u + 1 + 2 * (y.count * d) ≤ length l → r ≡ sheetOn l u y
-  unfolding restRead sheetOn afterSheet drawsWrong
-  sheet-rest d b p q t e h g = p ∙ rw in_order (rw (← e))
+      → u + 1 + 2 * (y.count * d) ≤ length l → r ≡ sheet_on l u y
+  unfolding rest_read sheet_on after_sheet draws_wrong
+  sheet_rest d b p q t e h g = p ∙ rw in_order (rw (← e))
     where
-      in_order : drawsWrong l u y.count ≡ false
+      in_order : draws_wrong l u y.count ≡ false
       in_order =
           rw (le-ltb (length l) (u + 1) (omega arith), ← e, ← q, t, le-ltb (length l) (u + 1 + 2 * (y.count * d)) g)
 
 -- ---- the whole input
 
 -- a refusal of the sheet has a number
-refused-number : (l : List ℕ) (n : ℕ) → (readSheet l).answer ≡ refused n → n ≡ 0 → ⊥
-unfolding readSheet
-refused-number l n =
-    go (ltb (length l) (sheetSize l)) (stands (mapOf l) 7) (eqb (refusalOf (layoutIn l)) 0) refl
+refused_number : (l : List ℕ) (n : ℕ) → (read_sheet l).answer ≡ refused n → n ≡ 0 → ⊥
+unfolding read_sheet
+refused_number l n =
+    go (ltb (length l) (sheet_size l)) (stands (map_of l) 7) (eqb (refusal_of (layout_in l)) 0) refl
   where
     number : Answer → ℕ
     number a = number_of a
 
-    go : (s t u : Bool) → eqb (refusalOf (layoutIn l)) 0 ≡ u
+    go : (s t u : Bool) → eqb (refusal_of (layout_in l)) 0 ≡ u
         → (pick s (unread 3) (pick t (unread 4) (pick u (record {
-          answer = accepted (sheetSize l ∷ []);
-          layout = layoutIn l;
-        }) (unread (refusalOf (layoutIn l)))))).answer ≡ refused n
+          answer = accepted (sheet_size l ∷ []);
+          layout = layout_in l;
+        }) (unread (refusal_of (layout_in l)))))).answer ≡ refused n
         → n ≡ 0 → ⊥
     go true t u q h z = let e : 3 ≡ n = ap number h in omega arith
     go false true u q h z = let e : 4 ≡ n = ap number h in omega arith
     go false false true q h z =
-        let e : length (sheetSize l ∷ []) ≡ 0 = ap (λ (a : Answer). length (values_of a)) h in omega arith
-    go false false false q h z = eqb-false (refusalOf (layoutIn l)) 0 q (ap number h ∙ z)
+        let e : length (sheet_size l ∷ []) ≡ 0 = ap (λ (a : Answer). length (values_of a)) h in omega arith
+    go false false false q h z = eqb-false (refusal_of (layout_in l)) 0 q (ap number h ∙ z)
 
-module _ (l : List ℕ) (f : Sheet) (n : ℕ) (p : sheetReading f ≡ readSheet l) where
-  answers : sheetAnswer f.read ≡ (readSheet l).answer
+module _ (l : List ℕ) (f : Sheet) (n : ℕ) (p : sheet_reading f ≡ read_sheet l) where
+  answers : sheet_answer f.read ≡ (read_sheet l).answer
   answers = ap (λ (r : Reading). r.answer) p
 
   module _ (e : f.read ≡ sheets.Used n) where
-    used : Read l n (readSheet l)
-    used = read-sound l n (sym answers ∙ ap sheetAnswer e)
+    used : Read l n (read_sheet l)
+    used = read_sound l n (sym answers ∙ ap sheet_answer e)
 
-    layout : f.layout ≡ layoutIn l
+    layout : f.layout ≡ layout_in l
     layout = ap (λ (r : Reading). r.layout) p ∙ used.layout
 
-sheet-number : (l : List ℕ) (n : ℕ) → sheetRefusal l ≡ n → (n ≡ 0 → ⊥) → planRefusal l ≡ n
-unfolding planRefusal
-sheet-number l n p h = rw (p, ne_eqb n 0 h)
+sheet_number : (l : List ℕ) (n : ℕ) → sheet_refusal l ≡ n → (n ≡ 0 → ⊥) → plan_refusal l ≡ n
+unfolding plan_refusal
+sheet_number l n p h = rw (p, ne_eqb n 0 h)
 
-pub plan-refused : (l : List ℕ) (f : Sheet) (n : ℕ) (r : Planned) → r ≡ unplanned n → sheetReading f ≡ readSheet l
-    → f.read ≡ sheets.Refused n → r ≡ planRead l
-unfolding planRead
-plan-refused l f n r q p e =
-    let a : (readSheet l).answer ≡ refused n = sym (answers l f n p) ∙ ap sheetAnswer e in
-    let b : n ≡ 0 → ⊥ = refused-number l n a in
-    q ∙ rw (sheet-number l n (ap number_of a) b, ne_eqb n 0 b)
+pub plan_refused : (l : List ℕ) (f : Sheet) (n : ℕ) (r : Planned) → r ≡ unplanned n → sheet_reading f ≡ read_sheet l
+    → f.read ≡ sheets.Refused n → r ≡ plan_as_read l
+unfolding plan_as_read
+plan_refused l f n r q p e =
+    let a : (read_sheet l).answer ≡ refused n = sym (answers l f n p) ∙ ap sheet_answer e in
+    let b : n ≡ 0 → ⊥ = refused_number l n a in
+    q ∙ rw (sheet_number l n (ap number_of a) b, ne_eqb n 0 b)
 
-pub sheet-within : (l : List ℕ) (f : Sheet) (n : ℕ) → sheetReading f ≡ readSheet l → f.read ≡ sheets.Used n
+pub sheet_within : (l : List ℕ) (f : Sheet) (n : ℕ) → sheet_reading f ≡ read_sheet l → f.read ≡ sheets.Used n
     → n ≤ length l
-sheet-within l f n p e = (used l f n p e).within
+sheet_within l f n p e = (used l f n p e).within
 
-pub sheet-few : (l : List ℕ) (f : Sheet) (n : ℕ) → sheetReading f ≡ readSheet l → f.read ≡ sheets.Used n
-    → f.layout.count ≤ maxStations
-sheet-few l f n p e = rw (ap (λ (r : Reading). r.layout.count) p) (used l f n p e).sound.count.1
+pub sheet_few : (l : List ℕ) (f : Sheet) (n : ℕ) → sheet_reading f ≡ read_sheet l → f.read ≡ sheets.Used n
+    → f.layout.count ≤ max_stations
+sheet_few l f n p e = rw (ap (λ (r : Reading). r.layout.count) p) (used l f n p e).sound.count.1
 
-pub plan-read : (l : List ℕ) (f : Sheet) (n : ℕ) (r : Planned) → r ≡ sheetOn l n f.layout
-    → sheetReading f ≡ readSheet l → f.read ≡ sheets.Used n → r ≡ planRead l
-unfolding planRead planRefusal sheetOn layoutIn
-plan-read l f n r q p e =
-    let a : number_of (readSheet l).answer ≡ 0 = ap number_of (sym (answers l f n p) ∙ ap sheetAnswer e) in
+pub plan_read : (l : List ℕ) (f : Sheet) (n : ℕ) (r : Planned) → r ≡ sheet_on l n f.layout
+    → sheet_reading f ≡ read_sheet l → f.read ≡ sheets.Used n → r ≡ plan_as_read l
+unfolding plan_as_read plan_refusal sheet_on layout_in
+plan_read l f n r q p e =
+    let a : number_of (read_sheet l).answer ≡ 0 = ap number_of (sym (answers l f n p) ∙ ap sheet_answer e) in
     q ∙ rw (layout l f n p e, (used l f n p e).used, a)

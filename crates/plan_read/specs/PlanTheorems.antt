@@ -7,33 +7,33 @@ use Rattle.octets.specs.Base.{pick, some, outside, accepted, number_of}
 use Rattle.octets.specs.BaseLaws.{neither, none_below, within}
 use Rattle.sheet_layout.specs.declared.Tap.{Tap}
 use Rattle.sheet_layout.specs.declared.Layout.{Layout}
-use Rattle.sheet_layout.specs.Layout.{blankTap}
-use Rattle.sheet_layout.specs.Check.{refusalOf}
+use Rattle.sheet_layout.specs.Layout.{blank_tap}
+use Rattle.sheet_layout.specs.Check.{refusal_of}
 use Rattle.sheet_layout.specs.CheckLaws.{Sound}
-use Rattle.sheet_read.specs.Sheet.{mapOf, stands, countPlace, countIn, tapIn, tapsFrom, layoutIn, sheetSize, unread}
-use Rattle.sheet_read.specs.Sheet.{readSheet}
-use Rattle.sheet_read.specs.SheetTheorems.{read-sound, layout-formed}
-use Rattle.plan_read.specs.Plan.{depthIn, offersPlace, namesIn, offersIn, offerTime, offerName, nextOffer}
-use Rattle.plan_read.specs.Plan.{offerPlace, timesIn, drawsWrong, timeBefore, timeFalls, offersWrong, planWrong}
-use Rattle.plan_read.specs.Plan.{namesAhead, namesWrong, lastRefusal}
-use Rattle.plan_read.specs.Plan.{afterSheet, sheetRefusal, planRefusal, Planned, unplanned, wholeFrom, unless}
-use Rattle.plan_read.specs.Plan.{planRead, planReading}
+use Rattle.sheet_read.specs.Sheet.{map_of, stands, count_place, count_in, tap_in, taps_from, layout_in, sheet_size, unread}
+use Rattle.sheet_read.specs.Sheet.{read_sheet}
+use Rattle.sheet_read.specs.SheetTheorems.{read_sound, layout_formed}
+use Rattle.plan_read.specs.Plan.{depth_in, offers_place, names_in, offers_in, offer_time, offer_name, next_offer}
+use Rattle.plan_read.specs.Plan.{offer_place, times_in, draws_wrong, time_before, time_falls, offers_wrong, plan_wrong}
+use Rattle.plan_read.specs.Plan.{names_ahead, names_wrong, last_refusal}
+use Rattle.plan_read.specs.Plan.{after_sheet, sheet_refusal, plan_refusal, Planned, unplanned, whole_from, unless}
+use Rattle.plan_read.specs.Plan.{plan_as_read, plan_reading}
 use Rattle.plan_read.specs.declared.Plan.{Plan}
-use Rattle.plan_read.specs.PlanLaws.{name-lies}
-use Rattle.sheet_layout.specs.Limits.{lastClock, maxDraws}
+use Rattle.plan_read.specs.PlanLaws.{name_lies}
+use Rattle.sheet_layout.specs.Limits.{last_clock, max_draws}
 
 pub record Right (l : List ℕ) (r : Planned) : Type 0 where
   pub sound : Sound r.layout
-  pub depth : (1 ≤ r.depth) × (r.depth ≤ maxDraws)
+  pub depth : (1 ≤ r.depth) × (r.depth ≤ max_draws)
   pub draws : r.drawn + 2 * (r.layout.count * r.depth) ≤ length l
   pub size : length l ≤ 16384
   pub many : r.offers ≤ 64
-  pub offer : (k : ℕ) → k < r.offers → nextOffer l r.named (offerPlace l r.named r.first k) ≤ length l
+  pub offer : (k : ℕ) → k < r.offers → next_offer l r.named (offer_place l r.named r.first k) ≤ length l
   pub rising : (k : ℕ) → k < r.offers
-      → timeBefore l r.named r.first k ≤ offerTime l (offerPlace l r.named r.first k)
-  pub names : (k : ℕ) → k < r.offers → offerName l r.named (offerPlace l r.named r.first k) ≤ k
-  pub ending : length l ≡ offerPlace l r.named r.first r.offers + 4
-  pub times : r.times ≤ lastClock
+      → time_before l r.named r.first k ≤ offer_time l (offer_place l r.named r.first k)
+  pub names : (k : ℕ) → k < r.offers → offer_name l r.named (offer_place l r.named r.first k) ≤ k
+  pub ending : length l ≡ offer_place l r.named r.first r.offers + 4
+  pub times : r.times ≤ last_clock
 
 -- ---- no number, no refusal
 
@@ -48,171 +48,171 @@ accepts n r = go (eqb n 0) refl
     go true e p = eqb-true n 0 e
     go false e p = p
 
-sheet-accepts : (l : List ℕ) → sheetRefusal l ≡ 0 → (readSheet l).answer ≡ accepted (sheetSize l ∷ [])
-unfolding readSheet
-sheet-accepts l =
-    go (ltb (length l) (sheetSize l)) (stands (mapOf l) 7)
-    (eqb (refusalOf (layoutIn l)) 0) 0 refl refl
+sheet_accepts : (l : List ℕ) → sheet_refusal l ≡ 0 → (read_sheet l).answer ≡ accepted (sheet_size l ∷ [])
+unfolding read_sheet
+sheet_accepts l =
+    go (ltb (length l) (sheet_size l)) (stands (map_of l) 7)
+    (eqb (refusal_of (layout_in l)) 0) 0 refl refl
   where
-    go : (s t u : Bool) (x : ℕ) → x ≡ 0 → eqb (refusalOf (layoutIn l)) 0 ≡ u
+    go : (s t u : Bool) (x : ℕ) → x ≡ 0 → eqb (refusal_of (layout_in l)) 0 ≡ u
         → number_of (pick s (unread 3) (pick t (unread 4) (pick u (record {
-          answer = accepted (sheetSize l ∷ []);
-          layout = layoutIn l;
-        }) (unread (refusalOf (layoutIn l)))))).answer ≡ x
+          answer = accepted (sheet_size l ∷ []);
+          layout = layout_in l;
+        }) (unread (refusal_of (layout_in l)))))).answer ≡ x
         → (pick s (unread 3) (pick t (unread 4) (pick u (record {
-          answer = accepted (sheetSize l ∷ []);
-          layout = layoutIn l;
-        }) (unread (refusalOf (layoutIn l)))))).answer ≡ accepted (sheetSize l ∷ [])
+          answer = accepted (sheet_size l ∷ []);
+          layout = layout_in l;
+        }) (unread (refusal_of (layout_in l)))))).answer ≡ accepted (sheet_size l ∷ [])
     go true t u x z q h = absurd (omega arith)
     go false true u x z q h = absurd (omega arith)
     go false false true x z q h = refl
-    go false false false x z q h = absurd (eqb-false (refusalOf (layoutIn l)) 0 q (h ∙ z))
+    go false false false x z q h = absurd (eqb-false (refusal_of (layout_in l)) 0 q (h ∙ z))
 
-both_right : (l : List ℕ) → planRefusal l ≡ 0 → (sheetRefusal l ≡ 0) × (afterSheet l (sheetSize l) (countIn l) ≡ 0)
-unfolding planRefusal
-both_right l = go (eqb (sheetRefusal l) 0) refl
+both_right : (l : List ℕ) → plan_refusal l ≡ 0 → (sheet_refusal l ≡ 0) × (after_sheet l (sheet_size l) (count_in l) ≡ 0)
+unfolding plan_refusal
+both_right l = go (eqb (sheet_refusal l) 0) refl
   where
-    go : (b : Bool) → eqb (sheetRefusal l) 0 ≡ b → pick b (afterSheet l (sheetSize l) (countIn l)) (sheetRefusal l) ≡ 0
-        → (sheetRefusal l ≡ 0) × (afterSheet l (sheetSize l) (countIn l) ≡ 0)
-    go true e p = (eqb-true (sheetRefusal l) 0 e, p)
-    go false e p = absurd (eqb-false (sheetRefusal l) 0 e p)
+    go : (b : Bool) → eqb (sheet_refusal l) 0 ≡ b → pick b (after_sheet l (sheet_size l) (count_in l)) (sheet_refusal l) ≡ 0
+        → (sheet_refusal l ≡ 0) × (after_sheet l (sheet_size l) (count_in l) ≡ 0)
+    go true e p = (eqb-true (sheet_refusal l) 0 e, p)
+    go false e p = absurd (eqb-false (sheet_refusal l) 0 e p)
 
 module _ (l : List ℕ) (u n : ℕ) where
-  after-right : afterSheet l u n ≡ 0 → (drawsWrong l u n ≡ false) × (lastRefusal l (offersPlace l u n) ≡ 0)
-  unfolding afterSheet
-  after-right h = passed (drawsWrong l u n) 9 (lastRefusal l (offersPlace l u n)) (λ z. omega arith) h
+  after_right : after_sheet l u n ≡ 0 → (draws_wrong l u n ≡ false) × (last_refusal l (offers_place l u n) ≡ 0)
+  unfolding after_sheet
+  after_right h = passed (draws_wrong l u n) 9 (last_refusal l (offers_place l u n)) (λ z. omega arith) h
 
-  draws-right : drawsWrong l u n ≡ false → (1 ≤ depthIn l u) × (depthIn l u ≤ maxDraws) × (offersPlace l u n ≤ length l)
-  unfolding drawsWrong
-  draws-right h =
+  draws_right : draws_wrong l u n ≡ false → (1 ≤ depth_in l u) × (depth_in l u ≤ max_draws) × (offers_place l u n ≤ length l)
+  unfolding draws_wrong
+  draws_right h =
       let a = neither (ltb (length l) (u + 1)) _ h in
-      let b = neither (outside (depthIn l u) 1 16) (ltb (length l) (offersPlace l u n)) a.1 in
-      let d = within (depthIn l u) 1 16 b.0 in
-      (d.0, d.1, ltb-false (length l) (offersPlace l u n) b.1)
+      let b = neither (outside (depth_in l u) 1 16) (ltb (length l) (offers_place l u n)) a.1 in
+      let d = within (depth_in l u) 1 16 b.0 in
+      (d.0, d.1, ltb-false (length l) (offers_place l u n) b.1)
 
 module _ (l : List ℕ) (c : ℕ) where
-  last-right : lastRefusal l c ≡ 0
-      → (planWrong l c ≡ false) × (namesWrong l (namesIn l c) (c + 2) (offersIn l c) ≡ false)
-      × (timesIn l c ≤ lastClock)
-  unfolding lastRefusal
-  last-right h =
-      let a = passed (planWrong l c) 16 _ (λ z. omega arith) h in
-      let n = passed (namesWrong l (namesIn l c) (c + 2) (offersIn l c)) 19 _ (λ z. omega arith) a.1 in
-      let b = passed (ltb lastClock (timesIn l c)) 13 0 (λ z. omega arith) n.1 in
-      (a.0, n.0, ltb-false lastClock (timesIn l c) b.0)
+  last_right : last_refusal l c ≡ 0
+      → (plan_wrong l c ≡ false) × (names_wrong l (names_in l c) (c + 2) (offers_in l c) ≡ false)
+      × (times_in l c ≤ last_clock)
+  unfolding last_refusal
+  last_right h =
+      let a = passed (plan_wrong l c) 16 _ (λ z. omega arith) h in
+      let n = passed (names_wrong l (names_in l c) (c + 2) (offers_in l c)) 19 _ (λ z. omega arith) a.1 in
+      let b = passed (ltb last_clock (times_in l c)) 13 0 (λ z. omega arith) n.1 in
+      (a.0, n.0, ltb-false last_clock (times_in l c) b.0)
 
-  plan-right : planWrong l c ≡ false
-      → (length l ≤ 16384) × (offersIn l c ≤ 64) × (offersWrong l (namesIn l c) (c + 2) (offersIn l c) ≡ false)
-  unfolding planWrong
-  plan-right h =
+  plan_right : plan_wrong l c ≡ false
+      → (length l ≤ 16384) × (offers_in l c ≤ 64) × (offers_wrong l (names_in l c) (c + 2) (offers_in l c) ≡ false)
+  unfolding plan_wrong
+  plan_right h =
       let a = neither (ltb 16384 (length l)) _ h in
       let b = neither (ltb (length l) (c + 2)) _ a.1 in
-      let d = neither (ltb 64 (offersIn l c)) _ b.1 in
-      (ltb-false 16384 (length l) a.0, ltb-false 64 (offersIn l c) d.0, d.1)
+      let d = neither (ltb 64 (offers_in l c)) _ b.1 in
+      (ltb-false 16384 (length l) a.0, ltb-false 64 (offers_in l c) d.0, d.1)
 
-not-not : (b : Bool) → not b ≡ false → b ≡ true
-not-not true p = refl
-not-not false p = sym p
+not_not : (b : Bool) → not b ≡ false → b ≡ true
+not_not true p = refl
+not_not false p = sym p
 
-module _ (l : List ℕ) (b : Bool) (at n : ℕ) (h : offersWrong l b at n ≡ false) where
-  parts : (some (timeFalls l b at) n ≡ false) × (not (eqb (length l) (offerPlace l b at n + 4)) ≡ false)
-  unfolding offersWrong
-  parts = neither (some (timeFalls l b at) n) (not (eqb (length l) (offerPlace l b at n + 4))) h
+module _ (l : List ℕ) (b : Bool) (at n : ℕ) (h : offers_wrong l b at n ≡ false) where
+  parts : (some (time_falls l b at) n ≡ false) × (not (eqb (length l) (offer_place l b at n + 4)) ≡ false)
+  unfolding offers_wrong
+  parts = neither (some (time_falls l b at) n) (not (eqb (length l) (offer_place l b at n + 4))) h
 
-  ends : length l ≡ offerPlace l b at n + 4
-  ends = eqb-true (length l) (offerPlace l b at n + 4) (not-not (eqb (length l) (offerPlace l b at n + 4)) parts.1)
+  ends : length l ≡ offer_place l b at n + 4
+  ends = eqb-true (length l) (offer_place l b at n + 4) (not_not (eqb (length l) (offer_place l b at n + 4)) parts.1)
 
-  rises : (k : ℕ) → k < n → timeBefore l b at k ≤ offerTime l (offerPlace l b at k)
+  rises : (k : ℕ) → k < n → time_before l b at k ≤ offer_time l (offer_place l b at k)
   rises k g =
-      ltb-false (offerTime l (offerPlace l b at k)) (timeBefore l b at k)
-      (none_below (timeFalls l b at) n k parts.0 g)
+      ltb-false (offer_time l (offer_place l b at k)) (time_before l b at k)
+      (none_below (time_falls l b at) n k parts.0 g)
 
-  lies : (k : ℕ) → k < n → nextOffer l b (offerPlace l b at k) ≤ length l
-  lies k g = name-lies l b at n k (offerPlace l b at k) h refl g
+  lies : (k : ℕ) → k < n → next_offer l b (offer_place l b at k) ≤ length l
+  lies k g = name_lies l b at n k (offer_place l b at k) h refl g
 
-earlier : (l : List ℕ) (b : Bool) (at n : ℕ) → namesWrong l b at n ≡ false → (k : ℕ) → k < n
-    → offerName l b (offerPlace l b at k) ≤ k
-unfolding namesWrong
-earlier l b at n h k g = ltb-false k (offerName l b (offerPlace l b at k)) (none_below (namesAhead l b at) n k h g)
+earlier : (l : List ℕ) (b : Bool) (at n : ℕ) → names_wrong l b at n ≡ false → (k : ℕ) → k < n
+    → offer_name l b (offer_place l b at k) ≤ k
+unfolding names_wrong
+earlier l b at n h k g = ltb-false k (offer_name l b (offer_place l b at k)) (none_below (names_ahead l b at) n k h g)
 
 -- ---- an input that is read
 
-count-is : (l : List ℕ) → (layoutIn l).count ≡ countIn l
-unfolding layoutIn
-count-is l = refl
+count_is : (l : List ℕ) → (layout_in l).count ≡ count_in l
+unfolding layout_in
+count_is l = refl
 
-from-right : (l : List ℕ) (y : Layout) (u : ℕ) → Sound y → afterSheet l u y.count ≡ 0 → Right l (wholeFrom l y u)
-from-right l y u s h =
-    let a = after-right l u y.count h in
-    let d = draws-right l u y.count a.0 in
-    let c = last-right l (offersPlace l u y.count) a.1 in
-    let p = plan-right l (offersPlace l u y.count) c.0 in
-    let x = offersPlace l u y.count in
+from_right : (l : List ℕ) (y : Layout) (u : ℕ) → Sound y → after_sheet l u y.count ≡ 0 → Right l (whole_from l y u)
+from_right l y u s h =
+    let a = after_right l u y.count h in
+    let d = draws_right l u y.count a.0 in
+    let c = last_right l (offers_place l u y.count) a.1 in
+    let p = plan_right l (offers_place l u y.count) c.0 in
+    let x = offers_place l u y.count in
     record {
       sound = s;
       depth = (d.0, d.1);
       draws = d.2;
       size = p.0;
       many = p.1;
-      offer = lies l (namesIn l x) (x + 2) (offersIn l x) p.2;
-      rising = rises l (namesIn l x) (x + 2) (offersIn l x) p.2;
-      names = earlier l (namesIn l x) (x + 2) (offersIn l x) c.1;
-      ending = ends l (namesIn l x) (x + 2) (offersIn l x) p.2;
+      offer = lies l (names_in l x) (x + 2) (offers_in l x) p.2;
+      rising = rises l (names_in l x) (x + 2) (offers_in l x) p.2;
+      names = earlier l (names_in l x) (x + 2) (offers_in l x) c.1;
+      ending = ends l (names_in l x) (x + 2) (offers_in l x) p.2;
       times = c.2;
     }
 
-pub read_right : (l : List ℕ) → number_of (planRead l).answer ≡ 0 → Right l (planRead l)
-unfolding planRead
+pub read_right : (l : List ℕ) → number_of (plan_as_read l).answer ≡ 0 → Right l (plan_as_read l)
+unfolding plan_as_read
 read_right l h =
-    let e : planRefusal l ≡ 0 = accepts (planRefusal l) (wholeFrom l (layoutIn l) (sheetSize l)) h in
+    let e : plan_refusal l ≡ 0 = accepts (plan_refusal l) (whole_from l (layout_in l) (sheet_size l)) h in
     let b = both_right l e in
-    let r = read-sound l (sheetSize l) (sheet-accepts l b.0) in
-    let s : Sound (layoutIn l) = subst (λ (y : Layout). Sound y) r.layout r.sound in
-    let f : afterSheet l (sheetSize l) (layoutIn l).count ≡ 0 = ap (afterSheet l (sheetSize l)) (count-is l) ∙ b.1 in
-    rw (eq-eqb (planRefusal l) 0 e) (from-right l (layoutIn l) (sheetSize l) s f)
+    let r = read_sound l (sheet_size l) (sheet_accepts l b.0) in
+    let s : Sound (layout_in l) = subst (λ (y : Layout). Sound y) r.layout r.sound in
+    let f : after_sheet l (sheet_size l) (layout_in l).count ≡ 0 = ap (after_sheet l (sheet_size l)) (count_is l) ∙ b.1 in
+    rw (eq-eqb (plan_refusal l) 0 e) (from_right l (layout_in l) (sheet_size l) s f)
 
 -- ---- its layout
 
-sheet-passes : (l : List ℕ) → sheetRefusal l ≡ 0 → refusalOf (layoutIn l) ≡ 0
-unfolding readSheet
-sheet-passes l =
-    go (ltb (length l) (sheetSize l)) (stands (mapOf l) 7) (eqb (refusalOf (layoutIn l)) 0) refl
+sheet_passes : (l : List ℕ) → sheet_refusal l ≡ 0 → refusal_of (layout_in l) ≡ 0
+unfolding read_sheet
+sheet_passes l =
+    go (ltb (length l) (sheet_size l)) (stands (map_of l) 7) (eqb (refusal_of (layout_in l)) 0) refl
   where
-    go : (s t u : Bool) → eqb (refusalOf (layoutIn l)) 0 ≡ u
+    go : (s t u : Bool) → eqb (refusal_of (layout_in l)) 0 ≡ u
         → number_of (pick s (unread 3) (pick t (unread 4) (pick u (record {
-          answer = accepted (sheetSize l ∷ []);
-          layout = layoutIn l;
-        }) (unread (refusalOf (layoutIn l)))))).answer ≡ 0
-        → refusalOf (layoutIn l) ≡ 0
+          answer = accepted (sheet_size l ∷ []);
+          layout = layout_in l;
+        }) (unread (refusal_of (layout_in l)))))).answer ≡ 0
+        → refusal_of (layout_in l) ≡ 0
     go true t u q h = absurd (omega arith)
     go false true u q h = absurd (omega arith)
-    go false false true q h = eqb-true (refusalOf (layoutIn l)) 0 q
+    go false false true q h = eqb-true (refusal_of (layout_in l)) 0 q
     go false false false q h = h
 
-read-layout : (l : List ℕ) → number_of (planRead l).answer ≡ 0 → (planRead l).layout ≡ layoutIn l
-unfolding planRead
-read-layout l h = rw (eq-eqb (planRefusal l) 0 (accepts (planRefusal l) (wholeFrom l (layoutIn l) (sheetSize l)) h))
+read_layout : (l : List ℕ) → number_of (plan_as_read l).answer ≡ 0 → (plan_as_read l).layout ≡ layout_in l
+unfolding plan_as_read
+read_layout l h = rw (eq-eqb (plan_refusal l) 0 (accepts (plan_refusal l) (whole_from l (layout_in l) (sheet_size l)) h))
 
-plan-accepts : (l : List ℕ) → number_of (planRead l).answer ≡ 0 → sheetRefusal l ≡ 0
-unfolding planRead
-plan-accepts l h = (both_right l (accepts (planRefusal l) (wholeFrom l (layoutIn l) (sheetSize l)) h)).0
+plan_accepts : (l : List ℕ) → number_of (plan_as_read l).answer ≡ 0 → sheet_refusal l ≡ 0
+unfolding plan_as_read
+plan_accepts l h = (both_right l (accepts (plan_refusal l) (whole_from l (layout_in l) (sheet_size l)) h)).0
 
 -- it passes checks 5 to 8
-pub read-passes : (l : List ℕ) → number_of (planRead l).answer ≡ 0 → refusalOf (planRead l).layout ≡ 0
-read-passes l h = ap refusalOf (read-layout l h) ∙ sheet-passes l (plan-accepts l h)
+pub read_passes : (l : List ℕ) → number_of (plan_as_read l).answer ≡ 0 → refusal_of (plan_as_read l).layout ≡ 0
+read_passes l h = ap refusal_of (read_layout l h) ∙ sheet_passes l (plan_accepts l h)
 
 -- each address has six octets
-pub read-formed : (l : List ℕ) → number_of (planRead l).answer ≡ 0 → (i : ℕ) → i < (planRead l).layout.count
-    → length (get_or (planRead l).layout.stations i (record { position = 0; address = [] })).address ≡ 6
-read-formed l h i g =
-    let e = read-layout l h in
-    let w = (read-sound l (sheetSize l) (sheet-accepts l (plan-accepts l h))).within in
-    let k : i < (layoutIn l).count = omega (arith, ap (λ (y : Layout). y.count) e) in
+pub read_formed : (l : List ℕ) → number_of (plan_as_read l).answer ≡ 0 → (i : ℕ) → i < (plan_as_read l).layout.count
+    → length (get_or (plan_as_read l).layout.stations i (record { position = 0; address = [] })).address ≡ 6
+read_formed l h i g =
+    let e = read_layout l h in
+    let w = (read_sound l (sheet_size l) (sheet_accepts l (plan_accepts l h))).within in
+    let k : i < (layout_in l).count = omega (arith, ap (λ (y : Layout). y.count) e) in
     ap (λ (y : Layout). length (get_or y.stations i (record { position = 0; address = [] })).address) e
-    ∙ layout-formed l w i k (let n = (read_right l h).sound.count.1 in omega arith)
+    ∙ layout_formed l w i k (let n = (read_right l h).sound.count.1 in omega arith)
 
 -- ---- the same of the code's answer, as its callers meet it
 
-pub reading-right : (l : List ℕ) (p : Plan) → planReading p ≡ planRead l → number_of (planRead l).answer ≡ 0
-    → Right l (planReading p)
-reading-right l p e n = subst (λ (r : Planned). Right l r) (sym e) (read_right l n)
+pub reading_right : (l : List ℕ) (p : Plan) → plan_reading p ≡ plan_as_read l → number_of (plan_as_read l).answer ≡ 0
+    → Right l (plan_reading p)
+reading_right l p e n = subst (λ (r : Planned). Right l r) (sym e) (read_right l n)

@@ -2,11 +2,11 @@
 
 ghost use Rattle.std.specs.Prelude.{◌≡◌, false, ◌+◌, ◌*◌, ◌<◌, ◌≤◌, length};
 ghost use Rattle.octets.specs.Number.{get};
-ghost use Rattle.plan_read.specs.Plan.{nameSize, offerName, offerIn, nextOffer, offerData, offersWrong, planWrong};
-ghost use Rattle.plan_read.specs.Plan.{namesWrong, lastRefusal, unplanned};
-ghost use Rattle.plan_read.specs.Plan.{planRead, planReading};
-ghost use Rattle.plan_read.specs.PlanLaws.{restRead, sheetOn};
-ghost use Rattle.sheet_layout.specs.Limits.{maxStations};
+ghost use Rattle.plan_read.specs.Plan.{name_size, offer_name, offer_in, next_offer, offer_data, offers_wrong, plan_wrong};
+ghost use Rattle.plan_read.specs.Plan.{names_wrong, last_refusal, unplanned};
+ghost use Rattle.plan_read.specs.Plan.{plan_as_read, plan_reading};
+ghost use Rattle.plan_read.specs.PlanLaws.{rest_read, sheet_on};
+ghost use Rattle.sheet_layout.specs.Limits.{max_stations};
 
 use sheet_layout::{Figures, Layout, Tap};
 use sheet_read::SheetRead;
@@ -46,7 +46,7 @@ pub struct Offered {
 
 // The octets of a name.
 pub fn name_size(named: bool) -> usize
-    ensures value { result ≡ nameSize named }
+    ensures value { result ≡ name_size named }
     ensures small { result ≤ 2 }
 {
     if named { 2 } else { 0 }
@@ -54,8 +54,8 @@ pub fn name_size(named: bool) -> usize
 
 // The name of the offer that begins at `at` and has `size` octets of data; 0 in a plan without names.
 pub fn read_name(s: &[u8], at: usize, size: usize, named: bool) -> u32
-    requires { (at + 15 + size + nameSize named ≤ length s.now) × (size ≡ get 2 s.now (at + 13)) }
-    ensures { result ≡ offerName s.now named at }
+    requires { (at + 15 + size + name_size named ≤ length s.now) × (size ≡ get 2 s.now (at + 13)) }
+    ensures { result ≡ offer_name s.now named at }
 {
     if named {
         octets_words::get16(s, at + 15 + size)
@@ -66,8 +66,8 @@ pub fn read_name(s: &[u8], at: usize, size: usize, named: bool) -> u32
 
 // The fixed fields and the name of the offer that begins at `at`.
 pub fn read_offer(s: &[u8], at: usize, named: bool) -> Offered
-    requires { nextOffer s.now named at ≤ length s.now }
-    ensures { result ≡ offerIn s.now named at }
+    requires { next_offer s.now named at ≤ length s.now }
+    ensures { result ≡ offer_in s.now named at }
 {
     let time = octets_words::get32(s, at);
     let station = octets::wide(s[at + 4]);
@@ -88,7 +88,7 @@ pub fn read_offer(s: &[u8], at: usize, named: bool) -> Offered
 // The data of the offer that begins at `at`, as a part of the input itself.
 pub fn offer_data(s: &[u8], at: usize, size: usize) -> &[u8]
     requires { at + 15 + size ≤ length s.now }
-    ensures { result.now ≡ offerData s.now at size }
+    ensures { result.now ≡ offer_data s.now at size }
 {
     let from = at + 15;
     let end = from + size;
@@ -98,7 +98,7 @@ pub fn offer_data(s: &[u8], at: usize, size: usize) -> &[u8]
 // Whether the times of the offers from octet `at` on fall, or the offers and the bit times are not just what is left.
 fn offers_wrong(s: &[u8], named: bool, at: usize, count: usize) -> bool
     requires { at ≤ length s.now }
-    ensures { result ≡ offersWrong s.now named at count }
+    ensures { result ≡ offers_wrong s.now named at count }
 {
     let n = s.len();
     let extra = name_size(named);
@@ -130,7 +130,7 @@ fn offers_wrong(s: &[u8], named: bool, at: usize, count: usize) -> bool
 // Refusal 16 of an input whose offer count stands at c.
 fn plan_wrong(s: &[u8], c: usize) -> bool
     requires { c ≤ length s.now }
-    ensures { result ≡ planWrong s.now c }
+    ensures { result ≡ plan_wrong s.now c }
 {
     let n = s.len();
     if 16384 < n {
@@ -149,8 +149,8 @@ fn plan_wrong(s: &[u8], c: usize) -> bool
 
 // Refusal 19 of an input whose offer count stands at c: whether an offer names its own number or one above it.
 fn names_wrong(s: &[u8], named: bool, at: usize, count: usize) -> bool
-    requires { offersWrong s.now named at count ≡ false }
-    ensures { result ≡ namesWrong s.now named at count }
+    requires { offers_wrong s.now named at count ≡ false }
+    ensures { result ≡ names_wrong s.now named at count }
 {
     let extra = name_size(named);
     let mut place = at;
@@ -170,7 +170,7 @@ fn names_wrong(s: &[u8], named: bool, at: usize, count: usize) -> bool
 // Refusals 16, 19 and 13, by their number; 0 where there is none.
 fn last_refusal(s: &[u8], c: usize) -> u32
     requires { c ≤ length s.now }
-    ensures { result ≡ lastRefusal s.now c }
+    ensures { result ≡ last_refusal s.now c }
 {
     if plan_wrong(s, c) {
         return 16;
@@ -187,7 +187,7 @@ fn last_refusal(s: &[u8], c: usize) -> u32
 
 // What is answered with a refusal.
 fn unread_plan(n: u32) -> Plan
-    ensures { planReading result ≡ unplanned n }
+    ensures { plan_reading result ≡ unplanned n }
 {
     let blank = Tap {
         position: 0,
@@ -221,7 +221,7 @@ fn unread_plan(n: u32) -> Plan
 // The plan of an input whose draws begin at `at`, all there, and whose offer count stands at c.
 fn read_rest(s: &[u8], y: Layout, d: u32, at: usize, c: usize) -> Plan
     requires { c ≤ length s.now }
-    ensures { planReading result ≡ restRead s.now y d at c }
+    ensures { plan_reading result ≡ rest_read s.now y d at c }
 {
     let number = last_refusal(s, c);
     if number != 0 {
@@ -243,8 +243,8 @@ fn read_rest(s: &[u8], y: Layout, d: u32, at: usize, c: usize) -> Plan
 
 // The plan of an input whose sheet has layout y and takes the first `used` octets.
 fn after_sheet(s: &[u8], used: usize, y: Layout) -> Plan
-    requires { (used ≤ length s.now) × (y.count ≤ maxStations) }
-    ensures { planReading result ≡ sheetOn s.now used y }
+    requires { (used ≤ length s.now) × (y.count ≤ max_stations) }
+    ensures { plan_reading result ≡ sheet_on s.now used y }
 {
     let n = s.len();
     if n <= used {
@@ -263,7 +263,7 @@ fn after_sheet(s: &[u8], used: usize, y: Layout) -> Plan
 
 // The run input s, or a refusal (3 to 9, 16, 19, 13).
 pub fn read_plan(s: &[u8]) -> Plan
-    ensures { planReading result ≡ planRead s.now }
+    ensures { plan_reading result ≡ plan_as_read s.now }
 {
     let front = sheet_read::read_sheet(s);
     let y = front.layout;

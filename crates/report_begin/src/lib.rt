@@ -3,12 +3,12 @@
 ghost use Rattle.std.specs.Prelude.{◌≡◌, ◌<◌, ◌≤◌, [], ◌∷◌, length};
 ghost use Rattle.std.proofs.lemmas.List.Edits.{sets};
 ghost use Rattle.octets.specs.Base.{accepted, number_of};
-ghost use Rattle.report_text.specs.Text.{written, puts, refusedLine};
-ghost use Rattle.plan_read.specs.Plan.{planRead, planReading, verdictAnswer};
-ghost use Rattle.report_spec.specs.Printed.{firstText};
-ghost use Rattle.report_spec.specs.Pieces.{pieceAnswer, handing, given, noProgress, startPiece, firstPiece, begun};
-ghost use Rattle.area.specs.Offsets.{areaSize};
-ghost use Rattle.sheet_layout.specs.Limits.{maxStations};
+ghost use Rattle.report_text.specs.Text.{written, puts, refused_line};
+ghost use Rattle.plan_read.specs.Plan.{plan_as_read, plan_reading, verdict_answer};
+ghost use Rattle.report_spec.specs.Printed.{first_text};
+ghost use Rattle.report_spec.specs.Pieces.{piece_answer, handing, given, no_progress, start_piece, first_piece, begun};
+ghost use Rattle.area.specs.Offsets.{area_size};
+ghost use Rattle.sheet_layout.specs.Limits.{max_stations};
 
 use plan_read::{Plan, Verdict};
 use report_spec::{Handed, Piece, Progress};
@@ -16,8 +16,8 @@ use sheet_layout::Layout;
 
 // The first line.
 fn put_heading(out: &mut [u8], y: Layout) -> usize
-    requires { (0 < y.count) × (y.count ≤ maxStations) × (2048 ≤ length out.old) }
-    ensures { written result out.new ≡ puts out.old 0 (firstText y) }
+    requires { (0 < y.count) × (y.count ≤ max_stations) × (2048 ≤ length out.old) }
+    ensures { written result out.new ≡ puts out.old 0 (first_text y) }
 {
     if sheet_fit::fits_well(y) {
         return report_text::put_first(out, y.count, b"fit yes\n");
@@ -27,7 +27,7 @@ fn put_heading(out: &mut [u8], y: Layout) -> usize
 
 // Where nothing is to come.
 fn no_progress() -> Progress
-    ensures { result ≡ noProgress }
+    ensures { result ≡ no_progress }
 {
     Progress {
         at: 0,
@@ -42,9 +42,9 @@ fn no_progress() -> Progress
 // The first piece of an input that is refused.
 fn refused_piece(out: &mut [u8], n: u32) -> Handed
     requires { 2048 ≤ length out.old }
-    ensures piece { pieceAnswer result.piece ≡ accepted (length (refusedLine n) ∷ []) }
-    ensures progress { result.progress ≡ noProgress }
-    ensures text { out.new ≡ sets out.old 0 (refusedLine n) }
+    ensures piece { piece_answer result.piece ≡ accepted (length (refused_line n) ∷ []) }
+    ensures progress { result.progress ≡ no_progress }
+    ensures text { out.new ≡ sets out.old 0 (refused_line n) }
 {
     let end = report_text::put_counted(out, 0, b"refused", n, b'\n');
     Handed {
@@ -55,10 +55,10 @@ fn refused_piece(out: &mut [u8], n: u32) -> Handed
 
 // The first piece of an input that is read: a fresh start.
 fn start_piece(input: &[u8], area: &mut [u8], out: &mut [u8], p: Plan) -> Handed
-    requires p_value { (planReading p ≡ planRead input.now) × (number_of (planRead input.now).answer ≡ 0) }
-    requires area_size_in_bounds { (areaSize ≤ length area.old) × (2048 ≤ length out.old) }
+    requires p_value { (plan_reading p ≡ plan_as_read input.now) × (number_of (plan_as_read input.now).answer ≡ 0) }
+    requires area_size_in_bounds { (area_size ≤ length area.old) × (2048 ≤ length out.old) }
     ensures { handing result area.new out.new
-        ≡ given out.old (startPiece input.now (planReading p) area.old) }
+        ≡ given out.old (start_piece input.now (plan_reading p) area.old) }
 {
     let y = p.layout;
     let draws = plan_draws::read_draws(input, p.drawn, y.count as usize, p.depth as usize);
@@ -79,7 +79,7 @@ fn start_piece(input: &[u8], area: &mut [u8], out: &mut [u8], p: Plan) -> Handed
 
 // The number of the refusal of an input, 0 where there is none.
 fn refusal_in(v: Verdict) -> u32
-    ensures { result ≡ number_of (verdictAnswer v) }
+    ensures { result ≡ number_of (verdict_answer v) }
 {
     match v {
         Verdict::Refused(n) => n,
@@ -88,9 +88,9 @@ fn refusal_in(v: Verdict) -> u32
 }
 
 fn begin_on(input: &[u8], area: &mut [u8], out: &mut [u8]) -> Handed
-    requires { (areaSize ≤ length area.old) × (2048 ≤ length out.old) }
+    requires { (area_size ≤ length area.old) × (2048 ≤ length out.old) }
     ensures { handing result area.new out.new
-        ≡ given out.old (firstPiece input.now area.old) }
+        ≡ given out.old (first_piece input.now area.old) }
 {
     let p = plan_read::read_plan(input);
     let read = p.read;

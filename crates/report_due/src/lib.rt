@@ -2,10 +2,10 @@
 // of a step do to the offers' fates.
 
 ghost use Rattle.std.specs.Prelude.{◌≡◌, false, ◌+◌, ◌<◌, ◌≤◌, length, get_or};
-ghost use Rattle.bus_spec.specs.BitTime.{eventAt};
-ghost use Rattle.plan_read.specs.Plan.{nextOffer, offerAt};
-ghost use Rattle.report_spec.specs.Printed.{namedFate, isReady, fateMade, fateAfter, after};
-ghost use Rattle.report_spec.specs.Pieces.{firstReady, stepsTo, stepsFrom, offersAt, offersShort};
+ghost use Rattle.bus_spec.specs.BitTime.{event_at};
+ghost use Rattle.plan_read.specs.Plan.{next_offer, offer_at};
+ghost use Rattle.report_spec.specs.Printed.{named_fate, is_ready, fate_made, fate_after, after};
+ghost use Rattle.report_spec.specs.Pieces.{first_ready, steps_to, steps_from, offers_at, offers_short};
 
 use bus_spec::Events;
 use report_spec::{Progress, Ready};
@@ -13,8 +13,8 @@ use station_spec::TransmitEvent;
 
 // The fate of the offer that the one at `at` names; 2 where it names none.
 pub fn named_fate(input: &[u8], named: bool, at: usize, fates: [u8; 64]) -> u32
-    requires { nextOffer input.now named at ≤ length input.now }
-    ensures { result ≡ namedFate fates (offerAt input.now named at) }
+    requires { next_offer input.now named at ≤ length input.now }
+    ensures { result ≡ named_fate fates (offer_at input.now named at) }
 {
     let size = octets_words::get16(input, at + 13) as usize;
     let name = plan_read::read_name(input, at, size, named);
@@ -29,8 +29,8 @@ pub fn named_fate(input: &[u8], named: bool, at: usize, fates: [u8; 64]) -> u32
 
 // Whether the offer at `at`, with number k, is decided before the step of this clock.
 fn is_ready(input: &[u8], named: bool, at: usize, fates: [u8; 64], k: usize, clock: u32) -> bool
-    requires { (nextOffer input.now named at ≤ length input.now) × (k < 64) }
-    ensures { result ≡ isReady (offerAt input.now named at) k clock fates }
+    requires { (next_offer input.now named at ≤ length input.now) × (k < 64) }
+    ensures { result ≡ is_ready (offer_at input.now named at) k clock fates }
 {
     if fates[k] != 0 {
         return false;
@@ -43,9 +43,9 @@ fn is_ready(input: &[u8], named: bool, at: usize, fates: [u8; 64], k: usize, clo
 
 // The offer that is decided next before the step of this clock, if there is one.
 pub fn next_ready(input: &[u8], clock: u32, g: Progress) -> Ready
-    requires { offersShort input.now g ≡ false }
+    requires { offers_short input.now g ≡ false }
     ensures { result
-        ≡ firstReady input.now g.named g.at g.offers 0 clock g.fates }
+        ≡ first_ready input.now g.named g.at g.offers 0 clock g.fates }
 {
     let count = g.offers as usize;
     let named = g.named;
@@ -73,7 +73,7 @@ pub fn next_ready(input: &[u8], clock: u32, g: Progress) -> Ready
 // Of m steps from this clock on those that may be made before the time of the offer at `at`, with number k.
 fn steps_to(input: &[u8], at: usize, fates: [u8; 64], k: usize, clock: u32, m: u32) -> u32
     requires { (at + 15 ≤ length input.now) × (k < 64) }
-    ensures { result ≡ stepsTo (offerAt input.now false at) k clock fates m }
+    ensures { result ≡ steps_to (offer_at input.now false at) k clock fates m }
 {
     if fates[k] != 0 {
         return m;
@@ -90,8 +90,8 @@ fn steps_to(input: &[u8], at: usize, fates: [u8; 64], k: usize, clock: u32, m: u
 
 // The steps that may be made from this clock on before the next offer's time.
 pub fn span(input: &[u8], clock: u32, g: Progress) -> u32
-    requires { offersShort input.now g ≡ false }
-    ensures { result ≡ stepsFrom (offersAt input.now g) 0 clock g.fates g.times }
+    requires { offers_short input.now g ≡ false }
+    ensures { result ≡ steps_from (offers_at input.now g) 0 clock g.fates g.times }
 {
     let count = g.offers as usize;
     let named = g.named;
@@ -109,7 +109,7 @@ pub fn span(input: &[u8], clock: u32, g: Progress) -> u32
 
 // A fate after the transmit event of the offer's station.
 fn fate_after(fate: u8, e: TransmitEvent) -> u8
-    ensures { result ≡ fateAfter fate e }
+    ensures { result ≡ fate_after fate e }
 {
     if fate != 1 {
         return fate;
@@ -126,7 +126,7 @@ fn fate_after(fate: u8, e: TransmitEvent) -> u8
 
 // The transmit event of a station, none past the last one.
 fn event_of(events: [Events; 16], station: usize) -> TransmitEvent
-    ensures { result ≡ (eventAt events station).sent }
+    ensures { result ≡ (event_at events station).sent }
 {
     if 16 <= station {
         return TransmitEvent::NoTransmit;
@@ -137,7 +137,7 @@ fn event_of(events: [Events; 16], station: usize) -> TransmitEvent
 
 // The station of the offer at `at`.
 pub fn station_of(input: &[u8], named: bool, at: usize) -> u32
-    requires { nextOffer input.now named at ≤ length input.now }
+    requires { next_offer input.now named at ≤ length input.now }
     ensures { result ≡ get_or input.now (at + 4) 0 }
 {
     octets::wide(input[at + 4])
@@ -145,15 +145,15 @@ pub fn station_of(input: &[u8], named: bool, at: usize) -> u32
 
 // The fate of an offer that was made: held where it was not refused, else lost.
 pub fn fate_made(n: u32) -> u8
-    ensures { result ≡ fateMade n }
+    ensures { result ≡ fate_made n }
 {
     if n == 0 { 1 } else { 3 }
 }
 
 // The fates of all offers after the events of a step.
 pub fn fates_after(input: &[u8], events: [Events; 16], g: Progress) -> [u8; 64]
-    requires { offersShort input.now g ≡ false }
-    ensures { result ≡ after (offersAt input.now g) 0 events g.fates }
+    requires { offers_short input.now g ≡ false }
+    ensures { result ≡ after (offers_at input.now g) 0 events g.fates }
 {
     let count = g.offers as usize;
     let named = g.named;

@@ -1,17 +1,17 @@
 // The lines of the run program (document 01, "The run program"), written into lent octets.
 
 ghost use Rattle.std.specs.Prelude.{◌≡◌, ◌+◌, ◌≤◌, length};
-ghost use Rattle.station_tally.specs.Words.{wordCount};
+ghost use Rattle.station_tally.specs.Words.{word_count};
 ghost use Rattle.report_text.specs.Text.{written, puts};
-ghost use Rattle.report_lines.specs.Events.{eventLine, stationLines, stepLines};
+ghost use Rattle.report_lines.specs.Events.{event_line, station_lines, step_lines};
 
 use bus_spec::Events;
 
 // The line of an event of station i in step t, by its word and value, written at `at`. Answers where it ends, as all
 // here do.
 fn put_event(out: &mut [u8], at: usize, t: u32, i: u32, w: u32, v: u32) -> usize
-    requires { (at + 48 ≤ length out.old) × (w ≤ wordCount) }
-    ensures text { written result out.new ≡ puts out.old at (eventLine t i w v) }
+    requires { (at + 48 ≤ length out.old) × (w ≤ word_count) }
+    ensures text { written result out.new ≡ puts out.old at (event_line t i w v) }
     ensures small { result ≤ at + 48 }
 {
     match w {
@@ -32,7 +32,7 @@ fn put_event(out: &mut [u8], at: usize, t: u32, i: u32, w: u32, v: u32) -> usize
 // The lines of station i's events.
 fn put_station(out: &mut [u8], at: usize, t: u32, i: u32, e: Events) -> usize
     requires { at + 96 ≤ length out.old }
-    ensures text { written result out.new ≡ puts out.old at (stationLines t i e) }
+    ensures text { written result out.new ≡ puts out.old at (station_lines t i e) }
     ensures small { result ≤ at + 96 }
 {
     let sent = e.sent;
@@ -58,7 +58,7 @@ fn put_station(out: &mut [u8], at: usize, t: u32, i: u32, e: Events) -> usize
 // The lines of step t, stations rising.
 pub fn put_step(out: &mut [u8], t: u32, events: [Events; 16]) -> usize
     requires { 1536 ≤ length out.old }
-    ensures text { written result out.new ≡ puts out.old 0 (stepLines t events 16) }
+    ensures text { written result out.new ≡ puts out.old 0 (step_lines t events 16) }
     ensures small { result ≤ 1536 }
 {
     let mut at: usize = 0;

@@ -3,24 +3,24 @@
 
 ghost use Rattle.std.specs.Prelude.{◌≡◌, true, false, [], ◌∷◌, ◌<◌, ◌≤◌, length, set};
 ghost use Rattle.std.proofs.lemmas.List.Edits.{sets};
-ghost use Rattle.octets.specs.Base.{accepted, outcome, doneAnswer, number_of};
-ghost use Rattle.area.specs.Area.{clockAt};
+ghost use Rattle.octets.specs.Base.{accepted, outcome, done_answer, number_of};
+ghost use Rattle.area.specs.Area.{clock_at};
 ghost use Rattle.bus_spec.specs.RunLaws.{Runnable};
-ghost use Rattle.report_text.specs.Text.{written, puts, droppedOffer};
-ghost use Rattle.plan_read.specs.Plan.{offerAt};
-ghost use Rattle.report_spec.specs.Printed.{lost, made, offerLine, madeThen};
-ghost use Rattle.report_spec.specs.Pieces.{lies, onward, lastPiece, decisionPiece, offerPiece, stepPiece, nextPiece};
-ghost use Rattle.report_spec.specs.Pieces.{pieceAnswer, handing, given, offersShort, advancedOn, advanced};
-ghost use Rattle.area.specs.Offsets.{areaSize};
+ghost use Rattle.report_text.specs.Text.{written, puts, dropped_offer};
+ghost use Rattle.plan_read.specs.Plan.{offer_at};
+ghost use Rattle.report_spec.specs.Printed.{lost, made, offer_line, made_then};
+ghost use Rattle.report_spec.specs.Pieces.{lies, onward, last_piece, decision_piece, offer_piece, step_piece, next_piece};
+ghost use Rattle.report_spec.specs.Pieces.{piece_answer, handing, given, offers_short, advanced_on, advanced};
+ghost use Rattle.area.specs.Offsets.{area_size};
 
 use octets::Done;
 use report_spec::{Handed, Piece, Progress, Ready};
 
 // The last line.
 fn end_piece(area: &[u8], out: &mut [u8], g: Progress) -> Handed
-    requires { (areaSize ≤ length area.now) × (2048 ≤ length out.old) }
+    requires { (area_size ≤ length area.now) × (2048 ≤ length out.old) }
     ensures { handing result area.now out.new
-        ≡ given out.old (lastPiece g area.now) }
+        ≡ given out.old (last_piece g area.now) }
 {
     let end = report_text::put_counted(out, 0, b"end", area::read_clock(area), b'\n');
     let fates = g.fates;
@@ -40,8 +40,8 @@ fn end_piece(area: &[u8], out: &mut [u8], g: Progress) -> Handed
 // Makes the offer that begins at `at`.
 fn make_offer(input: &[u8], area: &mut [u8], named: bool, at: usize) -> Done
     requires { lies input.now named at ≡ true }
-    ensures { outcome (doneAnswer result) area.new
-        ≡ made (offerAt input.now named at) area.old }
+    ensures { outcome (done_answer result) area.new
+        ≡ made (offer_at input.now named at) area.old }
 {
     let o = plan_read::read_offer(input, at, named);
     let destination = o.destination;
@@ -52,7 +52,7 @@ fn make_offer(input: &[u8], area: &mut [u8], named: bool, at: usize) -> Done
 
 // The number of a refusal, 0 where there is none.
 fn number_of(d: Done) -> u32
-    ensures { result ≡ number_of (doneAnswer d) }
+    ensures { result ≡ number_of (done_answer d) }
 {
     match d {
         Done::Refused(n) => n,
@@ -64,7 +64,7 @@ fn number_of(d: Done) -> u32
 fn put_offer(input: &[u8], named: bool, at: usize, t: u32, n: u32, out: &mut [u8]) -> usize
     requires { (lies input.now named at ≡ true) × (2048 ≤ length out.old) }
     ensures { written result out.new
-        ≡ puts out.old 0 (offerLine (offerAt input.now named at) t n) }
+        ≡ puts out.old 0 (offer_line (offer_at input.now named at) t n) }
 {
     if n == 0 {
         return 0;
@@ -85,8 +85,8 @@ fn made_piece(
 ) -> Handed
     requires { (lies input.now g.named at ≡ true) × (k < 64) × (2048 ≤ length out.old) }
     ensures { handing result area.new out.new
-        ≡ given out.old (decisionPiece g (madeThen (offerAt input.now g.named at) k t g.fates
-        (made (offerAt input.now g.named at) area.old))) }
+        ≡ given out.old (decision_piece g (made_then (offer_at input.now g.named at) k t g.fates
+        (made (offer_at input.now g.named at) area.old))) }
 {
     let done = make_offer(input, area, g.named, at);
     let n = number_of(done);
@@ -101,11 +101,11 @@ fn made_piece(
 // Offer k, which begins at `at`, is dropped before step t.
 fn dropped_piece(input: &[u8], out: &mut [u8], g: Progress, at: usize, k: usize, t: u32) -> Handed
     requires { (lies input.now g.named at ≡ true) × (k < 64) × (2048 ≤ length out.old) }
-    ensures piece { pieceAnswer result.piece
-        ≡ accepted (length (droppedOffer t (offerAt input.now g.named at).station) ∷ []) }
+    ensures piece { piece_answer result.piece
+        ≡ accepted (length (dropped_offer t (offer_at input.now g.named at).station) ∷ []) }
     ensures progress { result.progress ≡ onward g g.times false (set g.fates k lost) }
     ensures text { out.new
-        ≡ sets out.old 0 (droppedOffer t (offerAt input.now g.named at).station) }
+        ≡ sets out.old 0 (dropped_offer t (offer_at input.now g.named at).station) }
 {
     let station = report_due::station_of(input, g.named, at);
     let end = report_text::put_lone(out, 0, t, station, b"dropped\n");
@@ -124,10 +124,10 @@ fn offer_piece(
     d: Ready,
     t: u32,
 ) -> Handed
-    requires at_value { (lies input.now g.named d.at ≡ true) × (d.number < 64) × (t ≡ clockAt area.old) }
+    requires at_value { (lies input.now g.named d.at ≡ true) × (d.number < 64) × (t ≡ clock_at area.old) }
     requires in_bounds { 2048 ≤ length out.old }
     ensures { handing result area.new out.new
-        ≡ given out.old (offerPiece input.now g area.old d) }
+        ≡ given out.old (offer_piece input.now g area.old d) }
 {
     let fates = g.fates;
     let fate = report_due::named_fate(input, g.named, d.at, fates);
@@ -139,10 +139,10 @@ fn offer_piece(
 
 // Steps are made until one has an event or an offer is due, and the last one's lines handed out.
 fn step_piece(input: &[u8], area: &mut [u8], out: &mut [u8], g: Progress, t: u32) -> Handed
-    requires area_size_in_bounds { (areaSize ≤ length area.old) × Runnable g.times area.old × (0 < g.times) }
-    requires g_value { (offersShort input.now g ≡ false) × (t ≡ clockAt area.old) × (2048 ≤ length out.old) }
+    requires area_size_in_bounds { (area_size ≤ length area.old) × Runnable g.times area.old × (0 < g.times) }
+    requires g_value { (offers_short input.now g ≡ false) × (t ≡ clock_at area.old) × (2048 ≤ length out.old) }
     ensures { handing result area.new out.new
-        ≡ given out.old (stepPiece input.now g area.old) }
+        ≡ given out.old (step_piece input.now g area.old) }
 {
     let n = report_due::span(input, t, g);
     let s = fast_advance::until::until_event(area, n);
@@ -165,10 +165,10 @@ fn step_piece(input: &[u8], area: &mut [u8], out: &mut [u8], g: Progress, t: u32
 
 // A decision, or steps where there is none to make.
 fn next_piece(input: &[u8], area: &mut [u8], out: &mut [u8], g: Progress) -> Handed
-    requires area_size_in_bounds { (areaSize ≤ length area.old) × Runnable g.times area.old × (0 < g.times) }
-    requires g_value { (offersShort input.now g ≡ false) × (2048 ≤ length out.old) }
+    requires area_size_in_bounds { (area_size ≤ length area.old) × Runnable g.times area.old × (0 < g.times) }
+    requires g_value { (offers_short input.now g ≡ false) × (2048 ≤ length out.old) }
     ensures { handing result area.new out.new
-        ≡ given out.old (nextPiece input.now g area.old) }
+        ≡ given out.old (next_piece input.now g area.old) }
 {
     let clock = area::read_clock(area);
     let d = report_due::next_ready(input, clock, g);
@@ -180,9 +180,9 @@ fn next_piece(input: &[u8], area: &mut [u8], out: &mut [u8], g: Progress) -> Han
 
 // The next piece, on an area of just the octets that one must have.
 fn advance_on(input: &[u8], area: &mut [u8], out: &mut [u8], g: Progress) -> Handed
-    requires { areaSize ≤ length area.old }
+    requires { area_size ≤ length area.old }
     ensures { handing result area.new out.new
-        ≡ advancedOn input.now area.old out.old g }
+        ≡ advanced_on input.now area.old out.old g }
 {
     let number = report_spec::refusal(input, area, out.len(), g);
     if number != 0 {

@@ -3,53 +3,53 @@
 use Rattle.std.specs.Prelude.{ℕ, zero, suc, ◌+◌, ◌-◌, min, Bool, true, false, not, ◌&&◌, ◌||◌, List, [], ◌∷◌, ◌++◌, eqb, ltb, leb, length, get_or, take, drop}
 use Rattle.std.proofs.lemmas.List.Edits.{sets}
 use Rattle.octets.specs.Base.{pick, Answer, refused, accepted, number_of, values_of}
-use Rattle.area.specs.Offsets.{areaSize}
-use Rattle.area.specs.Area.{clockAt}
-use Rattle.area_check.specs.Valid.{areaRefusal}
+use Rattle.area.specs.Offsets.{area_size}
+use Rattle.area.specs.Area.{clock_at}
+use Rattle.area_check.specs.Valid.{area_refusal}
 use Rattle.bus_spec.specs.Run.{stops}
-use Rattle.bus_spec.specs.Until.{Stretched, untilEvent}
-use Rattle.report_text.specs.Text.{refusedLine, endLine}
-use Rattle.report_lines.specs.Events.{stepLines}
-use Rattle.plan_read.specs.Plan.{nextOffer, PlannedOffer, offerAt, offersOf, Planned, planRead}
+use Rattle.bus_spec.specs.Until.{Stretched, until_event}
+use Rattle.report_text.specs.Text.{refused_line, end_line}
+use Rattle.report_lines.specs.Events.{step_lines}
+use Rattle.plan_read.specs.Plan.{next_offer, PlannedOffer, offer_at, offers_of, Planned, plan_as_read}
 use Rattle.report_spec.specs.declared.Progress.{Progress}
 use Rattle.report_spec.specs.declared.Ready.{Ready}
 use Rattle.report_spec.specs.declared.Piece.{Piece}
 use Rattle.report_spec.specs.declared.Piece.TheVariants.{Refused, Text}
 use Rattle.report_spec.specs.declared.Handed.{Handed}
-use Rattle.report_spec.specs.Printed.{ahead, allAhead, fateAt, isReady, Decided, decision, after, Course, course}
-use Rattle.report_spec.specs.Printed.{runOn, firstText, startArea}
-use Rattle.sheet_layout.specs.Limits.{lastClock}
+use Rattle.report_spec.specs.Printed.{ahead, all_ahead, fate_at, is_ready, Decided, decision, after, Course, course}
+use Rattle.report_spec.specs.Printed.{run_on, first_text, start_area}
+use Rattle.sheet_layout.specs.Limits.{last_clock}
 
 -- ---- the offers of an input, by their places
 
 -- whether the offer at p lies within the input
 unfoldable pub lies : List ℕ → (b : Bool) (p : ℕ) → Bool
-lies l b p = leb (p + 15) (length l) && leb (nextOffer l b p) (length l)
+lies l b p = leb (p + 15) (length l) && leb (next_offer l b p) (length l)
 
 -- whether n offers from octet p on do
-unfoldable pub allLie : List ℕ → (b : Bool) (p n : ℕ) → Bool
-allLie l b p zero = true
-allLie l b p (suc n) = lies l b p && allLie l b (nextOffer l b p) n
+unfoldable pub all_lie : List ℕ → (b : Bool) (p n : ℕ) → Bool
+all_lie l b p zero = true
+all_lie l b p (suc n) = lies l b p && all_lie l b (next_offer l b p) n
 
-abbrev pub noneReady : Ready
-noneReady = record { found = false; at = 0; number = 0 }
+abbrev pub none_ready : Ready
+none_ready = record { found = false; at = 0; number = 0 }
 
 -- the first of n offers from octet p on, of which the first has number k, that is decided before step t: whether there
 -- is one, the octet at which it begins, and its number
-unfoldable pub firstReady : List ℕ → (b : Bool) (p n k t : ℕ) → List ℕ → Ready
-firstReady l b p zero k t fs = noneReady
-firstReady l b p (suc n) k t fs =
-    pick (isReady (offerAt l b p) k t fs) (record { found = true; at = p; number = k })
-    (firstReady l b (nextOffer l b p) n (suc k) t fs)
+unfoldable pub first_ready : List ℕ → (b : Bool) (p n k t : ℕ) → List ℕ → Ready
+first_ready l b p zero k t fs = none_ready
+first_ready l b p (suc n) k t fs =
+    pick (is_ready (offer_at l b p) k t fs) (record { found = true; at = p; number = k })
+    (first_ready l b (next_offer l b p) n (suc k) t fs)
 
 -- of m steps from time t on those that may be made before the time of offer o, with number k, if it is ahead and its
 -- time is still to come
-unfoldable pub stepsTo : PlannedOffer → (k t : ℕ) → List ℕ → (m : ℕ) → ℕ
-stepsTo o k t fs m = pick (eqb (fateAt fs k) ahead && ltb t o.time) (min (o.time - t) m) m
+unfoldable pub steps_to : PlannedOffer → (k t : ℕ) → List ℕ → (m : ℕ) → ℕ
+steps_to o k t fs m = pick (eqb (fate_at fs k) ahead && ltb t o.time) (min (o.time - t) m) m
 
-unfoldable pub stepsFrom : List PlannedOffer → (k t : ℕ) → List ℕ → (m : ℕ) → ℕ
-stepsFrom [] k t fs m = m
-stepsFrom (o ∷ os) k t fs m = stepsFrom os (suc k) t fs (stepsTo o k t fs m)
+unfoldable pub steps_from : List PlannedOffer → (k t : ℕ) → List ℕ → (m : ℕ) → ℕ
+steps_from [] k t fs m = m
+steps_from (o ∷ os) k t fs m = steps_from os (suc k) t fs (steps_to o k t fs m)
 
 -- ---- the next piece
 
@@ -71,49 +71,49 @@ abbrev pub onward : Progress → (times : ℕ) (ended : Bool) (fates : List ℕ)
 onward g times ended fates = standing g.at g.offers g.named times ended fates
 
 -- its offers
-abbrev pub offersAt : List ℕ → Progress → List PlannedOffer
-offersAt l g = offersOf l g.named g.at g.offers
+abbrev pub offers_at : List ℕ → Progress → List PlannedOffer
+offers_at l g = offers_of l g.named g.at g.offers
 
 -- the offer that is decided next
-unfoldable pub readyIn : List ℕ → Progress → List ℕ → Ready
-readyIn l g a = firstReady l g.named g.at g.offers 0 (clockAt a) g.fates
+unfoldable pub ready_in : List ℕ → Progress → List ℕ → Ready
+ready_in l g a = first_ready l g.named g.at g.offers 0 (clock_at a) g.fates
 
 -- the steps that may be made before the next offer's time
 unfoldable pub span_of : List ℕ → Progress → List ℕ → ℕ
-span_of l g a = stepsFrom (offersAt l g) 0 (clockAt a) g.fates g.times
+span_of l g a = steps_from (offers_at l g) 0 (clock_at a) g.fates g.times
 
 -- no bit times are left: the last line
-unfoldable pub lastPiece : Progress → List ℕ → Moved
-lastPiece g a = moved (endLine (clockAt a)) (onward g 0 true g.fates) a
+unfoldable pub last_piece : Progress → List ℕ → Moved
+last_piece g a = moved (end_line (clock_at a)) (onward g 0 true g.fates) a
 
 -- an offer is made or dropped
-unfoldable pub decisionPiece : Progress → Decided → Moved
-decisionPiece g d = moved d.text (onward g g.times false d.fates) d.octets
+unfoldable pub decision_piece : Progress → Decided → Moved
+decision_piece g d = moved d.text (onward g g.times false d.fates) d.octets
 
-unfoldable pub offerPiece : List ℕ → Progress → List ℕ → Ready → Moved
-offerPiece l g a r =
-    decisionPiece g (decision (offerAt l g.named r.at) r.number (clockAt a) g.fates a)
+unfoldable pub offer_piece : List ℕ → Progress → List ℕ → Ready → Moved
+offer_piece l g a r =
+    decision_piece g (decision (offer_at l g.named r.at) r.number (clock_at a) g.fates a)
 
 -- the bit times left of n: none after a late collision
-unfoldable pub timesLeft : (n : ℕ) → Stretched → ℕ
-timesLeft n s = pick (stops s.events) 0 (n - s.steps)
+unfoldable pub times_left : (n : ℕ) → Stretched → ℕ
+times_left n s = pick (stops s.events) 0 (n - s.steps)
 
 -- steps are made, and the last one's lines handed out
-unfoldable pub stretchPiece : List ℕ → Progress → Stretched → Moved
-stretchPiece l g s =
-    moved (stepLines (clockAt s.octets - 1) s.events 16)
-    (onward g (timesLeft g.times s) false (after (offersAt l g) 0 s.events g.fates)) s.octets
+unfoldable pub stretch_piece : List ℕ → Progress → Stretched → Moved
+stretch_piece l g s =
+    moved (step_lines (clock_at s.octets - 1) s.events 16)
+    (onward g (times_left g.times s) false (after (offers_at l g) 0 s.events g.fates)) s.octets
 
-abbrev pub stepPiece : List ℕ → Progress → List ℕ → Moved
-stepPiece l g a = stretchPiece l g (untilEvent (span_of l g a) a)
+abbrev pub step_piece : List ℕ → Progress → List ℕ → Moved
+step_piece l g a = stretch_piece l g (until_event (span_of l g a) a)
 
 -- a decision, or steps where there is none to make
-unfoldable pub nextPiece : List ℕ → Progress → List ℕ → Moved
-nextPiece l g a = pick (readyIn l g a).found (offerPiece l g a (readyIn l g a)) (stepPiece l g a)
+unfoldable pub next_piece : List ℕ → Progress → List ℕ → Moved
+next_piece l g a = pick (ready_in l g a).found (offer_piece l g a (ready_in l g a)) (step_piece l g a)
 
 -- after the last line there is nothing
 unfoldable pub move : List ℕ → Progress → List ℕ → Moved
-move l g a = pick g.ended (moved [] g a) (pick (eqb g.times 0) (lastPiece g a) (nextPiece l g a))
+move l g a = pick g.ended (moved [] g a) (pick (eqb g.times 0) (last_piece g a) (next_piece l g a))
 
 -- ---- what is handed out
 
@@ -124,12 +124,12 @@ pub record Hand : Type 0 where
   pub octets : List ℕ
   pub out : List ℕ
 
-abbrev pub pieceAnswer : Piece → Answer
-pieceAnswer (Refused n) = refused n
-pieceAnswer (Text n) = accepted (n ∷ [])
+abbrev pub piece_answer : Piece → Answer
+piece_answer (Refused n) = refused n
+piece_answer (Text n) = accepted (n ∷ [])
 
 abbrev pub handing : Handed → (a o : List ℕ) → Hand
-handing r a o = record { answer = pieceAnswer r.piece; progress = r.progress; octets = a; out = o }
+handing r a o = record { answer = piece_answer r.piece; progress = r.progress; octets = a; out = o }
 
 -- a piece, at the front of the output
 abbrev pub given : (o : List ℕ) → Moved → Hand
@@ -145,58 +145,58 @@ abbrev pub withheld : (n : ℕ) → Progress → (a o : List ℕ) → Hand
 withheld n g a o = record { answer = refused n; progress = g; octets = a; out = o }
 
 -- no piece is longer
-abbrev pub pieceRoom : ℕ
-pieceRoom = 2048
+abbrev pub piece_room : ℕ
+piece_room = 2048
 
 -- whether there are over 64 offers, or one does not lie within the input
-unfoldable pub offersShort : List ℕ → Progress → Bool
-offersShort l g = ltb 64 g.offers || not (allLie l g.named g.at g.offers)
+unfoldable pub offers_short : List ℕ → Progress → Bool
+offers_short l g = ltb 64 g.offers || not (all_lie l g.named g.at g.offers)
 
 -- 2, 13 ("Clock plus the bit times asked"), 15 ("The lent output is too short"), 16 ("The plan .. is short")
-unfoldable pub moveRefusal : List ℕ → (a : List ℕ) (room : ℕ) → Progress → ℕ
-moveRefusal l a room g =
-    pick (eqb (areaRefusal a) 0)
-    (pick (ltb lastClock (clockAt a + g.times)) 13 (pick (ltb room pieceRoom) 15 (pick (offersShort l g) 16 0)))
-    (areaRefusal a)
+unfoldable pub move_refusal : List ℕ → (a : List ℕ) (room : ℕ) → Progress → ℕ
+move_refusal l a room g =
+    pick (eqb (area_refusal a) 0)
+    (pick (ltb last_clock (clock_at a + g.times)) 13 (pick (ltb room piece_room) 15 (pick (offers_short l g) 16 0)))
+    (area_refusal a)
 
 -- on an area of just the octets that one must have
-unfoldable pub advancedOn : List ℕ → (a o : List ℕ) → Progress → Hand
-advancedOn l a o g =
-    pick (eqb (moveRefusal l a (length o) g) 0) (given o (move l g a)) (withheld (moveRefusal l a (length o) g) g a o)
+unfoldable pub advanced_on : List ℕ → (a o : List ℕ) → Progress → Hand
+advanced_on l a o g =
+    pick (eqb (move_refusal l a (length o) g) 0) (given o (move l g a)) (withheld (move_refusal l a (length o) g) g a o)
 
 -- of a longer area the octets after those stay
-abbrev pub onFront : (a : List ℕ) → Hand → Hand
-onFront a h = record { answer = h.answer; progress = h.progress; octets = h.octets ++ drop areaSize a; out = h.out }
+abbrev pub on_front : (a : List ℕ) → Hand → Hand
+on_front a h = record { answer = h.answer; progress = h.progress; octets = h.octets ++ drop area_size a; out = h.out }
 
 unfoldable pub advanced : List ℕ → (a o : List ℕ) → Progress → Hand
-advanced l a o g = pick (ltb (length a) areaSize) (withheld 1 g a o) (onFront a (advancedOn l (take areaSize a) o g))
+advanced l a o g = pick (ltb (length a) area_size) (withheld 1 g a o) (on_front a (advanced_on l (take area_size a) o g))
 
 -- ---- the first piece
 
-abbrev pub noProgress : Progress
-noProgress = standing 0 0 false 0 true allAhead
+abbrev pub no_progress : Progress
+no_progress = standing 0 0 false 0 true all_ahead
 
 -- the first line, and a fresh start
-unfoldable pub startPiece : List ℕ → Planned → List ℕ → Moved
-startPiece l r a =
-    moved (firstText r.layout) (standing r.first r.offers r.named r.times false allAhead)
-    (startArea l r a)
+unfoldable pub start_piece : List ℕ → Planned → List ℕ → Moved
+start_piece l r a =
+    moved (first_text r.layout) (standing r.first r.offers r.named r.times false all_ahead)
+    (start_area l r a)
 
-unfoldable pub firstPiece : List ℕ → List ℕ → Moved
-firstPiece l a =
-    pick (eqb (number_of (planRead l).answer) 0) (startPiece l (planRead l) a)
-    (moved (refusedLine (number_of (planRead l).answer)) noProgress a)
+unfoldable pub first_piece : List ℕ → List ℕ → Moved
+first_piece l a =
+    pick (eqb (number_of (plan_as_read l).answer) 0) (start_piece l (plan_as_read l) a)
+    (moved (refused_line (number_of (plan_as_read l).answer)) no_progress a)
 
 unfoldable pub begun : List ℕ → (a o : List ℕ) → Hand
 begun l a o =
-    pick (ltb (length a) areaSize) (withheld 1 noProgress a o)
-    (pick (ltb (length o) pieceRoom) (withheld 15 noProgress a o)
-    (onFront a (given o (firstPiece l (take areaSize a)))))
+    pick (ltb (length a) area_size) (withheld 1 no_progress a o)
+    (pick (ltb (length o) piece_room) (withheld 15 no_progress a o)
+    (on_front a (given o (first_piece l (take area_size a)))))
 
 -- ---- what is still to come
 
 unfoldable pub remaining : List ℕ → Progress → List ℕ → Course
-remaining l g a = pick g.ended (course [] a) (runOn (offersAt l g) g.times g.fates a)
+remaining l g a = pick g.ended (course [] a) (run_on (offers_at l g) g.times g.fates a)
 
 -- ---- what a caller gets who goes on to the end, each call on the area and the output as the call before left them
 

@@ -3,10 +3,10 @@
 ghost use Rattle.std.specs.Prelude.{◌≡◌, false, ◌-◌, ◌<◌, ◌≤◌, length, set};
 ghost use Rattle.octets.specs.Base.{pick, some, refused};
 ghost use Rattle.octets.specs.NumberLaws.{Octets};
-ghost use Rattle.bus_spec.specs.Run.{lateAt, stops};
-ghost use Rattle.plan_read.specs.Plan.{nextOffer};
-ghost use Rattle.report_spec.specs.Pieces.{lies, allLie, onward, pieceAnswer, offersShort, moveRefusal};
-ghost use Rattle.area.specs.Offsets.{areaSize};
+ghost use Rattle.bus_spec.specs.Run.{late_at, stops};
+ghost use Rattle.plan_read.specs.Plan.{next_offer};
+ghost use Rattle.report_spec.specs.Pieces.{lies, all_lie, onward, piece_answer, offers_short, move_refusal};
+ghost use Rattle.area.specs.Offsets.{area_size};
 
 use bus_spec::Events;
 
@@ -67,7 +67,7 @@ fn is_late(events: [Events; 16]) -> bool
 
 // Where the offer that begins at `at` ends, 0 where it does not lie within the input.
 fn end_within(input: &[u8], named: bool, at: usize) -> usize
-    ensures { result ≡ pick (lies input.now named at) (nextOffer input.now named at) 0 }
+    ensures { result ≡ pick (lies input.now named at) (next_offer input.now named at) 0 }
 {
     let n = input.len();
     if n < at {
@@ -86,7 +86,7 @@ fn end_within(input: &[u8], named: bool, at: usize) -> usize
 
 // Whether all of the offers from `at` on lie within the input.
 fn offers_lie(input: &[u8], named: bool, at: usize, count: usize) -> bool
-    ensures { result ≡ allLie input.now named at count }
+    ensures { result ≡ all_lie input.now named at count }
 {
     let mut place = at;
     let mut k: usize = 0;
@@ -103,8 +103,8 @@ fn offers_lie(input: &[u8], named: bool, at: usize, count: usize) -> bool
 
 // Where an offer that lies within the input ends.
 pub fn end_of(input: &[u8], named: bool, at: usize) -> usize
-    requires { nextOffer input.now named at ≤ length input.now }
-    ensures { result ≡ nextOffer input.now named at }
+    requires { next_offer input.now named at ≤ length input.now }
+    ensures { result ≡ next_offer input.now named at }
 {
     let size = octets_words::get16(input, at + 13) as usize;
     at + 15 + size + plan_read::name_size(named)
@@ -112,7 +112,7 @@ pub fn end_of(input: &[u8], named: bool, at: usize) -> usize
 
 // Whether there are over 64 offers, or one does not lie within the input.
 fn offers_short(input: &[u8], g: Progress) -> bool
-    ensures { result ≡ offersShort input.now g }
+    ensures { result ≡ offers_short input.now g }
 {
     if 64 < g.offers {
         return true;
@@ -122,8 +122,8 @@ fn offers_short(input: &[u8], g: Progress) -> bool
 
 // Refusals 2, 13, 15 and 16, by their number; 0 where there is none.
 pub fn refusal(input: &[u8], area: &[u8], room: usize, g: Progress) -> u32
-    requires { areaSize ≤ length area.now }
-    ensures value { result ≡ moveRefusal input.now area.now room g }
+    requires { area_size ≤ length area.now }
+    ensures value { result ≡ move_refusal input.now area.now room g }
     ensures octets { Octets area.now }
 {
     let number = bus_spec::ready::refusal(area);
@@ -144,7 +144,7 @@ pub fn refusal(input: &[u8], area: &[u8], room: usize, g: Progress) -> u32
 
 // Nothing is handed out.
 pub fn withhold(number: u32, g: Progress) -> Handed
-    ensures { (pieceAnswer result.piece ≡ refused number) × (result.progress ≡ g) }
+    ensures { (piece_answer result.piece ≡ refused number) × (result.progress ≡ g) }
 {
     Handed {
         piece: Piece::Refused(number),

@@ -65,44 +65,44 @@ unfoldable pub lone : (t i : ℕ) (word : List ℕ) → List ℕ
 lone t i word = placed t i ++ word
 
 -- `stations`
-abbrev pub stationsWord : List ℕ
-stationsWord = 115 ∷ 116 ∷ 97 ∷ 116 ∷ 105 ∷ 111 ∷ 110 ∷ 115 ∷ []
+abbrev pub stations_word : List ℕ
+stations_word = 115 ∷ 116 ∷ 97 ∷ 116 ∷ 105 ∷ 111 ∷ 110 ∷ 115 ∷ []
 
 -- `fit yes`, `fit no`
-abbrev pub fitYes : List ℕ
-fitYes = 102 ∷ 105 ∷ 116 ∷ 32 ∷ 121 ∷ 101 ∷ 115 ∷ newline ∷ []
+abbrev pub fit_yes : List ℕ
+fit_yes = 102 ∷ 105 ∷ 116 ∷ 32 ∷ 121 ∷ 101 ∷ 115 ∷ newline ∷ []
 
-abbrev pub fitNo : List ℕ
-fitNo = 102 ∷ 105 ∷ 116 ∷ 32 ∷ 110 ∷ 111 ∷ newline ∷ []
+abbrev pub fit_no : List ℕ
+fit_no = 102 ∷ 105 ∷ 116 ∷ 32 ∷ 110 ∷ 111 ∷ newline ∷ []
 
 -- `refused`
-abbrev pub refusedWord : List ℕ
-refusedWord = 114 ∷ 101 ∷ 102 ∷ 117 ∷ 115 ∷ 101 ∷ 100 ∷ []
+abbrev pub refused_word : List ℕ
+refused_word = 114 ∷ 101 ∷ 102 ∷ 117 ∷ 115 ∷ 101 ∷ 100 ∷ []
 
 -- `dropped`
-abbrev pub droppedWord : List ℕ
-droppedWord = 100 ∷ 114 ∷ 111 ∷ 112 ∷ 112 ∷ 101 ∷ 100 ∷ newline ∷ []
+abbrev pub dropped_word : List ℕ
+dropped_word = 100 ∷ 114 ∷ 111 ∷ 112 ∷ 112 ∷ 101 ∷ 100 ∷ newline ∷ []
 
 -- `end`
 abbrev pub end_word : List ℕ
 end_word = 101 ∷ 110 ∷ 100 ∷ []
 
 -- "The first line gives N and whether the layout fits, `yes` or `no`."
-unfoldable pub firstLine : (n : ℕ) → (fit : List ℕ) → List ℕ
-firstLine n fit = counted stationsWord n space ++ fit
+unfoldable pub first_line : (n : ℕ) → (fit : List ℕ) → List ℕ
+first_line n fit = counted stations_word n space ++ fit
 
 -- "A refused input prints `refused n`."
-unfoldable pub refusedLine : (n : ℕ) → List ℕ
-refusedLine n = counted refusedWord n newline
+unfoldable pub refused_line : (n : ℕ) → List ℕ
+refused_line n = counted refused_word n newline
 
 -- "refused, it prints `time station refused n`"
-unfoldable pub refusedOffer : (t i n : ℕ) → List ℕ
-refusedOffer t i n = line t i refusedWord n
+unfoldable pub refused_offer : (t i n : ℕ) → List ℕ
+refused_offer t i n = line t i refused_word n
 
 -- N12: "`time station dropped` is printed where a refusal would be"
-unfoldable pub droppedOffer : (t i : ℕ) → List ℕ
-droppedOffer t i = lone t i droppedWord
+unfoldable pub dropped_offer : (t i : ℕ) → List ℕ
+dropped_offer t i = lone t i dropped_word
 
 -- "`end` gives the clock."
-unfoldable pub endLine : (t : ℕ) → List ℕ
-endLine t = counted end_word t newline
+unfoldable pub end_line : (t : ℕ) → List ℕ
+end_line t = counted end_word t newline

@@ -2,7 +2,7 @@
 
 ghost use Rattle.std.specs.Prelude.{◌≡◌, [], ◌∷◌, ◌++◌, ◌+◌, ◌<◌, ◌≤◌, length, drop};
 ghost use Rattle.report_text.specs.Text.{written, puts, digits, lean, decimal, numbered, counted, placed, line};
-ghost use Rattle.report_text.specs.Text.{lone, firstLine, space};
+ghost use Rattle.report_text.specs.Text.{lone, first_line, space};
 
 // The ten digits of n, zeros leading.
 fn spell(n: u32) -> [u8; 10]
@@ -115,7 +115,7 @@ pub fn put_lone(out: &mut [u8], at: usize, t: u32, i: u32, word: &[u8]) -> usize
 // The first line: N, and whether the layout fits.
 pub fn put_first(out: &mut [u8], n: u32, fit: &[u8]) -> usize
     requires { 20 + length fit.now ≤ length out.old }
-    ensures text { written result out.new ≡ puts out.old 0 (firstLine n fit.now) }
+    ensures text { written result out.new ≡ puts out.old 0 (first_line n fit.now) }
     ensures small { result ≤ 20 + length fit.now }
 {
     let middle = put_counted(out, 0, b"stations", n, b' ');

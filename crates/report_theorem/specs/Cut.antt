@@ -6,56 +6,56 @@ use Rattle.std.proofs.Math.Nat.{mul-le-mul}
 use borrow.Author.Tests.{ne_eqb, lt-ltb, le-ltb, eqb-false, ltb-true, ltb-false}
 use Rattle.std.proofs.Math.ListN.{length-append, get_or-append}
 use Rattle.octets.specs.Base.{pick, outside, number_of}
-use Rattle.octets.specs.BaseLaws.{by-test, within}
-use Rattle.octets.specs.NumberLaws.{Octets, octets-take}
-use Rattle.sheet_read.specs.Sheet.{stands, width, field_at, countPlace, countIn, layoutIn, sheetSize, Reading}
-use Rattle.sheet_read.specs.Sheet.{fieldCount}
-use Rattle.sheet_read.specs.SheetLaws.{width-most}
-use Rattle.sheet_read.specs.SheetTheorems.{sheet-front, size-front, count-front}
-use Rattle.report_text.specs.Text.{refusedLine}
-use Rattle.plan_read.specs.Plan.{depthIn, offersPlace, drawsWrong, planWrong, lastRefusal, afterSheet, sheetRefusal}
-use Rattle.plan_read.specs.Plan.{planRefusal, Planned, unplanned, wholeFrom, unless, planRead}
+use Rattle.octets.specs.BaseLaws.{by_test, within}
+use Rattle.octets.specs.NumberLaws.{Octets, octets_take}
+use Rattle.sheet_read.specs.Sheet.{stands, width, field_at, count_place, count_in, layout_in, sheet_size, Reading}
+use Rattle.sheet_read.specs.Sheet.{field_count}
+use Rattle.sheet_read.specs.SheetLaws.{width_most}
+use Rattle.sheet_read.specs.SheetTheorems.{sheet_front, size_front, count_front}
+use Rattle.report_text.specs.Text.{refused_line}
+use Rattle.plan_read.specs.Plan.{depth_in, offers_place, draws_wrong, plan_wrong, last_refusal, after_sheet, sheet_refusal}
+use Rattle.plan_read.specs.Plan.{plan_refusal, Planned, unplanned, whole_from, unless, plan_as_read}
 use Rattle.report_spec.specs.Printed.{printed}
-use Rattle.report_theorem.specs.Whole.{refused-print}
+use Rattle.report_theorem.specs.Whole.{refused_print}
 
 -- ---- a refused input prints its number
 
-unless-number : (n : ℕ) (r : Planned) → (n ≡ 0 → ⊥) → number_of (unless n r).answer ≡ n
-unless-number n r h = ap (λ (b : Bool). number_of (pick b r (unplanned n)).answer) (ne_eqb n 0 h)
+unless_number : (n : ℕ) (r : Planned) → (n ≡ 0 → ⊥) → number_of (unless n r).answer ≡ n
+unless_number n r h = ap (λ (b : Bool). number_of (pick b r (unplanned n)).answer) (ne_eqb n 0 h)
 
-refusal-print : (l : List ℕ) → (planRefusal l ≡ 0 → ⊥) → printed l ≡ refusedLine (planRefusal l)
-unfolding planRead
-refusal-print l h =
-    let e : number_of (unless (planRefusal l) (wholeFrom l (layoutIn l) (sheetSize l))).answer
-    ≡ planRefusal l = unless-number (planRefusal l) (wholeFrom l (layoutIn l) (sheetSize l)) h in
-    refused-print l (λ z. h (sym e ∙ z)) ∙ ap refusedLine e
+refusal_print : (l : List ℕ) → (plan_refusal l ≡ 0 → ⊥) → printed l ≡ refused_line (plan_refusal l)
+unfolding plan_as_read
+refusal_print l h =
+    let e : number_of (unless (plan_refusal l) (whole_from l (layout_in l) (sheet_size l))).answer
+    ≡ plan_refusal l = unless_number (plan_refusal l) (whole_from l (layout_in l) (sheet_size l)) h in
+    refused_print l (λ z. h (sym e ∙ z)) ∙ ap refused_line e
 
 -- ---- what is refused of more than 16,384 octets
 
-long-last : (l : List ℕ) (c : ℕ) → 16384 < length l → lastRefusal l c ≡ 16
-unfolding lastRefusal planWrong
-long-last l c h = rw (lt-ltb 16384 (length l) h)
+long_last : (l : List ℕ) (c : ℕ) → 16384 < length l → last_refusal l c ≡ 16
+unfolding last_refusal plan_wrong
+long_last l c h = rw (lt-ltb 16384 (length l) h)
 
-long-refusal : (l : List ℕ) → 16384 < length l
-    → planRefusal l ≡ pick (eqb (sheetRefusal l) 0) (pick (drawsWrong l (sheetSize l) (countIn l)) 9 16)
-    (sheetRefusal l)
-unfolding planRefusal afterSheet
-long-refusal l h = rw (long-last l (offersPlace l (sheetSize l) (countIn l)) h)
+long_refusal : (l : List ℕ) → 16384 < length l
+    → plan_refusal l ≡ pick (eqb (sheet_refusal l) 0) (pick (draws_wrong l (sheet_size l) (count_in l)) 9 16)
+    (sheet_refusal l)
+unfolding plan_refusal after_sheet
+long_refusal l h = rw (long_last l (offers_place l (sheet_size l) (count_in l)) h)
 
-long-some : (l : List ℕ) → 16384 < length l → planRefusal l ≡ 0 → ⊥
-long-some l h e = go (eqb (sheetRefusal l) 0) (drawsWrong l (sheetSize l) (countIn l)) refl (sym (long-refusal l h) ∙ e)
+long_some : (l : List ℕ) → 16384 < length l → plan_refusal l ≡ 0 → ⊥
+long_some l h e = go (eqb (sheet_refusal l) 0) (draws_wrong l (sheet_size l) (count_in l)) refl (sym (long_refusal l h) ∙ e)
   where
-    go : (b c : Bool) → eqb (sheetRefusal l) 0 ≡ b → pick b (pick c 9 16) (sheetRefusal l) ≡ 0 → ⊥
+    go : (b c : Bool) → eqb (sheet_refusal l) 0 ≡ b → pick b (pick c 9 16) (sheet_refusal l) ≡ 0 → ⊥
     go true true p q = omega arith
     go true false p q = omega arith
-    go false c p q = eqb-false (sheetRefusal l) 0 p q
+    go false c p q = eqb-false (sheet_refusal l) 0 p q
 
 -- ---- where the draws end
 
-field-most : (m k : ℕ) → field_at m k ≤ 1 + 2 * k
+field_most : (m k : ℕ) → field_at m k ≤ 1 + 2 * k
 unfolding field_at
-field-most m zero = omega arith
-field-most m (suc k) = go (stands m k) (width-most k) (field-most m k)
+field_most m zero = omega arith
+field_most m (suc k) = go (stands m k) (width_most k) (field_most m k)
   where
     go : (b : Bool) → width k ≤ 2 → field_at m k ≤ 1 + 2 * k → field_at m k + pick b (width k) 0 ≤ 1 + 2 * suc k
     go true p q = omega arith
@@ -66,62 +66,62 @@ module _ (l : List ℕ) (o : Octets l) where
   unfolding Octets
   octet k = o k
 
-  size-most : sheetSize l ≤ 1801
-  unfolding sheetSize
-  size-most = omega (arith, field-most (get_or l 0 0) fieldCount, octet (countPlace l))
+  size_most : sheet_size l ≤ 1801
+  unfolding sheet_size
+  size_most = omega (arith, field_most (get_or l 0 0) field_count, octet (count_place l))
 
 module _ (a z : List ℕ) (h : length a ≡ 16385) (o : Octets a) where
-  small : sheetSize a ≤ length a
-  small = omega (arith, size-most a o)
+  small : sheet_size a ≤ length a
+  small = omega (arith, size_most a o)
 
-  sheet-same : sheetRefusal (a ++ z) ≡ sheetRefusal a
-  sheet-same = ap (λ (r : Reading). number_of r.answer) (sheet-front a z small)
+  sheet_same : sheet_refusal (a ++ z) ≡ sheet_refusal a
+  sheet_same = ap (λ (r : Reading). number_of r.answer) (sheet_front a z small)
 
-  depth_same : (u : ℕ) → u ≤ 1801 → depthIn (a ++ z) u ≡ depthIn a u
+  depth_same : (u : ℕ) → u ≤ 1801 → depth_in (a ++ z) u ≡ depth_in a u
   depth_same u p = get_or-append a z 0 u (omega arith)
 
-  draws-same : (u n : ℕ) → u ≤ 1801 → n ≤ 255 → drawsWrong (a ++ z) u n ≡ drawsWrong a u n
-  unfolding drawsWrong
-  draws-same u n p q =
+  draws_same : (u n : ℕ) → u ≤ 1801 → n ≤ 255 → draws_wrong (a ++ z) u n ≡ draws_wrong a u n
+  unfolding draws_wrong
+  draws_same u n p q =
       let w = length-append a z in
       rw (depth_same u p, le-ltb (length (a ++ z)) (u + 1) (omega arith), le-ltb (length a) (u + 1) (omega arith))
-      (by-test (outside (depthIn a u) 1 16)
+      (by_test (outside (depth_in a u) 1 16)
       (λ b. rw b)
-      (λ b. let d = within (depthIn a u) 1 16 b in
-      let m : n * depthIn a u ≤ 255 * 16 = mul-le-mul q d.1 in
+      (λ b. let d = within (depth_in a u) 1 16 b in
+      let m : n * depth_in a u ≤ 255 * 16 = mul-le-mul q d.1 in
       rw (
         b,
-        le-ltb (length (a ++ z)) (u + 1 + 2 * (n * depthIn a u)) (omega arith),
+        le-ltb (length (a ++ z)) (u + 1 + 2 * (n * depth_in a u)) (omega arith),
         le-ltb (length a)
-            (u + 1 + 2 * (n * depthIn a u)) (omega arith),
+            (u + 1 + 2 * (n * depth_in a u)) (omega arith),
       )))
 
-  refusal-same : planRefusal (a ++ z) ≡ planRefusal a
-  refusal-same =
+  refusal_same : plan_refusal (a ++ z) ≡ plan_refusal a
+  refusal_same =
       let w = length-append a z in
-      let n : countIn a ≤ 255 = omega (arith, octet a o (countPlace a)) in
-      long-refusal (a ++ z) (omega arith)
+      let n : count_in a ≤ 255 = omega (arith, octet a o (count_place a)) in
+      long_refusal (a ++ z) (omega arith)
       ∙ rw (
-        sheet-same,
-        size-front a z small,
-        count-front a z small,
-        draws-same (sheetSize a) (countIn a)
-            (size-most a o) n,
+        sheet_same,
+        size_front a z small,
+        count_front a z small,
+        draws_same (sheet_size a) (count_in a)
+            (size_most a o) n,
       )
-      (sym (long-refusal a (omega arith)))
+      (sym (long_refusal a (omega arith)))
 
-  print-same : printed (a ++ z) ≡ printed a
-  print-same =
+  print_same : printed (a ++ z) ≡ printed a
+  print_same =
       let w = length-append a z in
-      refusal-print (a ++ z) (long-some (a ++ z) (omega arith))
-      ∙ ap refusedLine refusal-same
-      ∙ sym (refusal-print a (long-some a (omega arith)))
+      refusal_print (a ++ z) (long_some (a ++ z) (omega arith))
+      ∙ ap refused_line refusal_same
+      ∙ sym (refusal_print a (long_some a (omega arith)))
 
 -- Any octets print what their first 16,385 print.
-pub cut-same : (l : List ℕ) → Octets l → printed (take 16385 l) ≡ printed l
-cut-same l o =
-    by-test (ltb 16385 (length l))
+pub cut_same : (l : List ℕ) → Octets l → printed (take 16385 l) ≡ printed l
+cut_same l o =
+    by_test (ltb 16385 (length l))
     (λ b. let p = ltb-true 16385 (length l) b in
-    sym (print-same (take 16385 l) (drop 16385 l) (length-take-le 16385 l (omega arith)) (octets-take 16385 l o))
+    sym (print_same (take 16385 l) (drop 16385 l) (length-take-le 16385 l (omega arith)) (octets_take 16385 l o))
     ∙ ap printed (take-append-drop 16385 l))
     (λ b. let p = ltb-false 16385 (length l) b in ap printed (take_all 16385 l (omega arith)))

@@ -13,205 +13,205 @@ use Rattle.std.proofs.lemmas.List.{get_or-replicate}
 use Rattle.std.proofs.lemmas.List.Edits.{sets}
 use Rattle.std.proofs.Math.Seq.{length-sets}
 use Rattle.octets.specs.Base.{pick, accepted, number_of, Outcome}
-use Rattle.octets.specs.Store.{take-sets}
-use Rattle.octets.specs.Turns.{blanked, length-blanked, blanked-same}
-use Rattle.sheet_layout.specs.Layout.{fitsWell}
-use Rattle.octets.specs.BaseLaws.{by-test, by-eq, neither, none_below, below_none}
+use Rattle.octets.specs.Store.{take_sets}
+use Rattle.octets.specs.Turns.{blanked, length_blanked, blanked_same}
+use Rattle.sheet_layout.specs.Layout.{fits_well}
+use Rattle.octets.specs.BaseLaws.{by_test, by_eq, neither, none_below, below_none}
 use Rattle.station_spec.specs.declared.ReceiveEvent.{ReceiveEvent}
 use Rattle.station_spec.specs.declared.ReceiveEvent.TheVariants.{NoReceive, GotOk, GotTooLong, GotAlignment}
 use Rattle.station_spec.specs.declared.ReceiveEvent.TheVariants.{GotCheck, GotLength}
 use Rattle.station_spec.specs.declared.TransmitEvent.{TransmitEvent}
 use Rattle.station_spec.specs.declared.TransmitEvent.TheVariants.{NoTransmit, Collision, Late, Sent, GivenUp}
 use Rattle.station_spec.specs.declared.TransmitEvent.TheVariants.{LateEnded}
-use Rattle.area.specs.Area.{clockAt, countAt}
-use Rattle.bus_start.specs.Fresh.{withPlan, fresh}
-use Rattle.bus_start.specs.FreshLaws.{fresh-length, fresh-clock}
-use Rattle.area_check.specs.Valid.{areaRefusal}
+use Rattle.area.specs.Area.{clock_at, count_at}
+use Rattle.bus_start.specs.Fresh.{with_plan, fresh}
+use Rattle.bus_start.specs.FreshLaws.{fresh_length, fresh_clock}
+use Rattle.area_check.specs.Valid.{area_refusal}
 use Rattle.bus_spec.specs.declared.Events.{Events}
-use Rattle.bus_spec.specs.BitTime.{noEvents, eventsAt, stepArea}
-use Rattle.bus_spec.specs.Passes.{Passing, ready-passes}
-use Rattle.bus_spec.specs.Stays.{step-clock, step-length, step-passing}
-use Rattle.delivery.specs.Passing.{start-passing, offered-passes, offered-keeps}
-use Rattle.bus_spec.specs.Run.{lateAt, stops}
-use Rattle.bus_spec.specs.Until.{hasEvent, eventful, Stretched, oneMore, untilEvent}
-use Rattle.bus_spec.specs.UntilLaws.{none-eventful, stretch-steps, stretch-some}
-use Rattle.report_text.specs.Text.{fitYes, fitNo, refusedLine, endLine}
-use Rattle.report_lines.specs.Sizes.{first-size, refused-size, refused-offer-size, dropped-size, end-size, step-size}
-use Rattle.report_lines.specs.Events.{eventLine, stationLines, stepLines}
-use Rattle.plan_draws.specs.Draws.{drawsIn}
-use Rattle.plan_read.specs.Plan.{PlannedOffer, offerAt, Planned, planRead}
-use Rattle.plan_read.specs.PlanTheorems.{Right, read_right, read-passes, read-formed}
+use Rattle.bus_spec.specs.BitTime.{no_events, events_at, step_area}
+use Rattle.bus_spec.specs.Passes.{Passing, ready_passes}
+use Rattle.bus_spec.specs.Stays.{step_clock, step_length, step_passing}
+use Rattle.delivery.specs.Passing.{start_passing, offered_passes, offered_keeps}
+use Rattle.bus_spec.specs.Run.{late_at, stops}
+use Rattle.bus_spec.specs.Until.{has_event, eventful, Stretched, one_more, until_event}
+use Rattle.bus_spec.specs.UntilLaws.{none_eventful, stretch_steps, stretch_some}
+use Rattle.report_text.specs.Text.{fit_yes, fit_no, refused_line, end_line}
+use Rattle.report_lines.specs.Sizes.{first_size, refused_size, refused_offer_size, dropped_size, end_size, step_size}
+use Rattle.report_lines.specs.Events.{event_line, station_lines, step_lines}
+use Rattle.plan_draws.specs.Draws.{draws_in}
+use Rattle.plan_read.specs.Plan.{PlannedOffer, offer_at, Planned, plan_as_read}
+use Rattle.plan_read.specs.PlanTheorems.{Right, read_right, read_passes, read_formed}
 use Rattle.report_spec.specs.declared.Progress.{Progress}
 use Rattle.report_spec.specs.declared.Ready.{Ready}
-use Rattle.report_spec.specs.Printed.{sent, allAhead, namedFate, Decided, and_then, made, offerLine, madeThen}
-use Rattle.report_spec.specs.Printed.{droppedThen, decision, decided, after, Course, course, before, atEnd, stepThen}
-use Rattle.report_spec.specs.Printed.{runOn, firstText, startArea, planOffers, planCourse, inputCourse, zeros, printed}
-use Rattle.report_spec.specs.Pieces.{allLie, Moved, moved, standing, onward, offersAt, readyIn, span_of, lastPiece}
-use Rattle.report_spec.specs.Pieces.{decisionPiece, offerPiece, timesLeft, stretchPiece, stepPiece, nextPiece, move, given}
-use Rattle.report_spec.specs.Pieces.{offersShort, moveRefusal, advancedOn, onFront}
-use Rattle.report_spec.specs.Pieces.{advanced, noProgress, startPiece, firstPiece, begun, remaining, told}
-use Rattle.report_spec.specs.PieceLaws.{move-last, move-offer, move_step, span-most, span-some, short-is}
-use Rattle.report_theorem.specs.Decide.{ready-ahead, Settled, decision-settles, decision-keeps, anyReady}
-use Rattle.report_theorem.specs.Decide.{none-decided, namesAbove, found-is, Found, found-one, split, names-low}
-use Rattle.report_theorem.specs.Decide.{lie-all, six, idle-on, after-calm, blank-mute, calm-mute, aheads}
-use Rattle.report_theorem.specs.Decide.{aheads-most, aheads-set, aheads-after, after-long, settled-long}
-use Rattle.sheet_layout.specs.Limits.{lastClock, maxStations}
-use Rattle.area.specs.Offsets.{areaSize}
-use Rattle.station_tally.specs.Words.{transmitWord, transmitValue, receiveWord, receiveValue, endsRun, isTransmit}
-use Rattle.station_tally.specs.Words.{isReceive}
+use Rattle.report_spec.specs.Printed.{sent, all_ahead, named_fate, Decided, and_then, made, offer_line, made_then}
+use Rattle.report_spec.specs.Printed.{dropped_then, decision, decided, after, Course, course, before, at_end, step_then}
+use Rattle.report_spec.specs.Printed.{run_on, first_text, start_area, plan_offers, plan_course, input_course, zeros, printed}
+use Rattle.report_spec.specs.Pieces.{all_lie, Moved, moved, standing, onward, offers_at, ready_in, span_of, last_piece}
+use Rattle.report_spec.specs.Pieces.{decision_piece, offer_piece, times_left, stretch_piece, step_piece, next_piece, move, given}
+use Rattle.report_spec.specs.Pieces.{offers_short, move_refusal, advanced_on, on_front}
+use Rattle.report_spec.specs.Pieces.{advanced, no_progress, start_piece, first_piece, begun, remaining, told}
+use Rattle.report_spec.specs.PieceLaws.{move_last, move_offer, move_step, span_most, span_some, short_is}
+use Rattle.report_theorem.specs.Decide.{ready_ahead, Settled, decision_settles, decision_keeps, any_ready}
+use Rattle.report_theorem.specs.Decide.{none_decided, names_above, found_is, Found, found_one, split, names_low}
+use Rattle.report_theorem.specs.Decide.{lie_all, six, idle_on, after_calm, blank_mute, calm_mute, aheads}
+use Rattle.report_theorem.specs.Decide.{aheads_most, aheads_set, aheads_after, after_long, settled_long}
+use Rattle.sheet_layout.specs.Limits.{last_clock, max_stations}
+use Rattle.area.specs.Offsets.{area_size}
+use Rattle.station_tally.specs.Words.{transmit_word, transmit_value, receive_word, receive_value, ends_run, is_transmit}
+use Rattle.station_tally.specs.Words.{is_receive}
 
 -- ---- a step without an event has no lines, and no late collision
 
-event-silent : (t i w v : ℕ) → not (eqb w 0) ≡ false → eventLine t i w v ≡ []
-unfolding eventLine
-event-silent t i w v h = by-test (eqb w 0) (λ e. rw e) (λ e. absurd (true≢false (rw e at h)))
+event_silent : (t i w v : ℕ) → not (eqb w 0) ≡ false → event_line t i w v ≡ []
+unfolding event_line
+event_silent t i w v h = by_test (eqb w 0) (λ e. rw e) (λ e. absurd (true≢false (rw e at h)))
 
-station-silent : (t i : ℕ) (e : Events) → hasEvent e ≡ false → stationLines t i e ≡ []
-unfolding hasEvent stationLines
-station-silent t i e h =
-    let b = neither (isTransmit e.sent) (isReceive e.got) h in
+station_silent : (t i : ℕ) (e : Events) → has_event e ≡ false → station_lines t i e ≡ []
+unfolding has_event station_lines
+station_silent t i e h =
+    let b = neither (is_transmit e.sent) (is_receive e.got) h in
     ap₂ (λ (x y : List ℕ). x ++ y)
-    (event-silent t i (transmitWord e.sent) (transmitValue e.sent) b.0)
-    (event-silent t i (receiveWord e.got) (receiveValue e.got) b.1)
+    (event_silent t i (transmit_word e.sent) (transmit_value e.sent) b.0)
+    (event_silent t i (receive_word e.got) (receive_value e.got) b.1)
 
-lines-silent : (t : ℕ) (es : List Events) (n : ℕ) → ((i : ℕ) → i < n → hasEvent (get_or es i noEvents) ≡ false)
-    → stepLines t es n ≡ []
-unfolding stepLines
-lines-silent t es zero h = refl
-lines-silent t es (suc n) h =
-    ap₂ (λ (x y : List ℕ). x ++ y) (lines-silent t es n (λ i g. h i (omega arith)))
-    (station-silent t n (get_or es n noEvents) (h n (omega arith)))
+lines_silent : (t : ℕ) (es : List Events) (n : ℕ) → ((i : ℕ) → i < n → has_event (get_or es i no_events) ≡ false)
+    → step_lines t es n ≡ []
+unfolding step_lines
+lines_silent t es zero h = refl
+lines_silent t es (suc n) h =
+    ap₂ (λ (x y : List ℕ). x ++ y) (lines_silent t es n (λ i g. h i (omega arith)))
+    (station_silent t n (get_or es n no_events) (h n (omega arith)))
 
-late-transmits : (e : TransmitEvent) → isTransmit e ≡ false → endsRun e ≡ false
-late-transmits NoTransmit h = refl
-late-transmits (Collision k) h = refl
-late-transmits (Late k closes) h = absurd (true≢false h)
-late-transmits (Sent n) h = refl
-late-transmits (GivenUp n) h = refl
-late-transmits (LateEnded n) h = refl
+late_transmits : (e : TransmitEvent) → is_transmit e ≡ false → ends_run e ≡ false
+late_transmits NoTransmit h = refl
+late_transmits (Collision k) h = refl
+late_transmits (Late k closes) h = absurd (true≢false h)
+late_transmits (Sent n) h = refl
+late_transmits (GivenUp n) h = refl
+late_transmits (LateEnded n) h = refl
 
-calm-late : (es : List Events) (i : ℕ) → hasEvent (get_or es i noEvents) ≡ false → lateAt es i ≡ false
-unfolding hasEvent lateAt
-calm-late es i h =
-    late-transmits (get_or es i noEvents).sent
-    (neither (isTransmit (get_or es i noEvents).sent) (isReceive (get_or es i noEvents).got) h).0
+calm_late : (es : List Events) (i : ℕ) → has_event (get_or es i no_events) ≡ false → late_at es i ≡ false
+unfolding has_event late_at
+calm_late es i h =
+    late_transmits (get_or es i no_events).sent
+    (neither (is_transmit (get_or es i no_events).sent) (is_receive (get_or es i no_events).got) h).0
 
 module _ (es : List Events) (h : eventful es ≡ false) where
-  each : (i : ℕ) → i < maxStations → hasEvent (get_or es i noEvents) ≡ false
+  each : (i : ℕ) → i < max_stations → has_event (get_or es i no_events) ≡ false
   unfolding eventful
-  each i g = none_below (λ k. hasEvent (get_or es k noEvents)) 16 i h g
+  each i g = none_below (λ k. has_event (get_or es k no_events)) 16 i h g
 
-  no_lines : (t : ℕ) → stepLines t es 16 ≡ []
-  no_lines t = lines-silent t es 16 each
+  no_lines : (t : ℕ) → step_lines t es 16 ≡ []
+  no_lines t = lines_silent t es 16 each
 
-  no-late : stops es ≡ false
-  no-late = below_none (lateAt es) 16 (λ i g. calm-late es i (each i g))
+  no_late : stops es ≡ false
+  no_late = below_none (late_at es) 16 (λ i g. calm_late es i (each i g))
 
 -- ---- what is still to come, by what is decided before the next step
 
 abbrev from : (os : List PlannedOffer) (n : ℕ) → Decided → Course
 from os n d =
     before d.text
-    (stepThen d.octets (runOn os n (after os 0 (eventsAt d.octets) d.fates) (stepArea d.octets)))
+    (step_then d.octets (run_on os n (after os 0 (events_at d.octets) d.fates) (step_area d.octets)))
 
-run_on : (os : List PlannedOffer) (n : ℕ) (fs a : List ℕ)
-    → runOn os (suc n) fs a ≡ from os n (decided os 0 (clockAt a) fs a)
-unfolding runOn
-run_on os n fs a = refl
+run_on_lem : (os : List PlannedOffer) (n : ℕ) (fs a : List ℕ)
+    → run_on os (suc n) fs a ≡ from os n (decided os 0 (clock_at a) fs a)
+unfolding run_on
+run_on_lem os n fs a = refl
 
-run_none : (os : List PlannedOffer) (fs a : List ℕ) → runOn os 0 fs a ≡ atEnd a
-unfolding runOn
+run_none : (os : List PlannedOffer) (fs a : List ℕ) → run_on os 0 fs a ≡ at_end a
+unfolding run_on
 run_none os fs a = refl
 
-before-both : (s t : List ℕ) (c : Course) → before (s ++ t) c ≡ before s (before t c)
-before-both s t c = ap (λ (x : List ℕ). course x c.octets) (append_assoc s t c.text)
+before_both : (s t : List ℕ) (c : Course) → before (s ++ t) c ≡ before s (before t c)
+before_both s t c = ap (λ (x : List ℕ). course x c.octets) (append_assoc s t c.text)
 
 -- a decision comes first
-run-decision : (os : List PlannedOffer) (n : ℕ) (fs a : List ℕ) (d : Decided)
-    → decided os 0 (clockAt a) fs a ≡ and_then d (decided os 0 (clockAt a) d.fates d.octets)
-    → clockAt d.octets ≡ clockAt a
-    → runOn os (suc n) fs a ≡ before d.text (runOn os (suc n) d.fates d.octets)
-run-decision os n fs a d e c =
-    run_on os n fs a
+run_decision : (os : List PlannedOffer) (n : ℕ) (fs a : List ℕ) (d : Decided)
+    → decided os 0 (clock_at a) fs a ≡ and_then d (decided os 0 (clock_at a) d.fates d.octets)
+    → clock_at d.octets ≡ clock_at a
+    → run_on os (suc n) fs a ≡ before d.text (run_on os (suc n) d.fates d.octets)
+run_decision os n fs a d e c =
+    run_on_lem os n fs a
     ∙ ap (from os n) e
-    ∙ before-both d.text (decided os 0 (clockAt a) d.fates d.octets).text _
+    ∙ before_both d.text (decided os 0 (clock_at a) d.fates d.octets).text _
     ∙ ap (before d.text)
     (ap (λ (t : ℕ). from os n (decided os 0 t d.fates d.octets)) (sym c)
-    ∙ sym (run_on os n d.fates d.octets))
+    ∙ sym (run_on_lem os n d.fates d.octets))
 
 -- ---- a stretch of steps
 
-run_step : (os : List PlannedOffer) (n : ℕ) (fs a : List ℕ) → anyReady os 0 (clockAt a) fs ≡ false
-    → runOn os (suc n) fs a ≡ stepThen a (runOn os n (after os 0 (eventsAt a) fs) (stepArea a))
-run_step os n fs a h = run_on os n fs a ∙ ap (from os n) (none-decided os 0 (clockAt a) fs a h)
+run_step : (os : List PlannedOffer) (n : ℕ) (fs a : List ℕ) → any_ready os 0 (clock_at a) fs ≡ false
+    → run_on os (suc n) fs a ≡ step_then a (run_on os n (after os 0 (events_at a) fs) (step_area a))
+run_step os n fs a h = run_on_lem os n fs a ∙ ap (from os n) (none_decided os 0 (clock_at a) fs a h)
 
 abbrev Stretches : (os : List PlannedOffer) (n : ℕ) (fs a : List ℕ) → Stretched → Type 0
 Stretches os n fs a s =
-    runOn os n fs a ≡ before (stepLines (clockAt s.octets - 1) s.events 16)
-    (runOn os (timesLeft n s) (after os 0 s.events fs) s.octets)
+    run_on os n fs a ≡ before (step_lines (clock_at s.octets - 1) s.events 16)
+    (run_on os (times_left n s) (after os 0 s.events fs) s.octets)
 
-first-calm : (os : List PlannedOffer) (n : ℕ) (fs a : List ℕ) → Stretches os n fs a (untilEvent 0 a)
-unfolding untilEvent timesLeft
-first-calm os n fs a =
+first_calm : (os : List PlannedOffer) (n : ℕ) (fs a : List ℕ) → Stretches os n fs a (until_event 0 a)
+unfolding until_event times_left
+first_calm os n fs a =
     let z : n - 0 ≡ n = omega arith in
     rw (
-      no_lines (replicate 16 noEvents) none-eventful (clockAt a - 1),
-      no-late
-          (replicate 16 noEvents) none-eventful,
+      no_lines (replicate 16 no_events) none_eventful (clock_at a - 1),
+      no_late
+          (replicate 16 no_events) none_eventful,
       z,
-      after-calm os 0 (replicate 16 noEvents) fs blank-mute,
+      after_calm os 0 (replicate 16 no_events) fs blank_mute,
     )
 
-module _ (os : List PlannedOffer) (n : ℕ) (fs a : List ℕ) (h : anyReady os 0 (clockAt a) fs ≡ false)
-    (t : clockAt (stepArea a) ≡ clockAt a + 1) where
+module _ (os : List PlannedOffer) (n : ℕ) (fs a : List ℕ) (h : any_ready os 0 (clock_at a) fs ≡ false)
+    (t : clock_at (step_area a) ≡ clock_at a + 1) where
   -- the step has an event: its lines, and then the rest or the end
-  step-hit : Stretches os (suc n) fs a (record { steps = 1; events = eventsAt a; octets = stepArea a })
-  unfolding timesLeft
-  step-hit =
-      let c : clockAt (stepArea a) - 1 ≡ clockAt a = omega arith in
+  step_hit : Stretches os (suc n) fs a (record { steps = 1; events = events_at a; octets = step_area a })
+  unfolding times_left
+  step_hit =
+      let c : clock_at (step_area a) - 1 ≡ clock_at a = omega arith in
       let k : suc n - 1 ≡ n = omega arith in
       run_step os n fs a h
       ∙ rw (c, k)
-      (by-test (stops (eventsAt a))
-      (λ b. rw b (ap (before (stepLines (clockAt a) (eventsAt a) 16))
-      (sym (run_none os (after os 0 (eventsAt a) fs) (stepArea a)))))
+      (by_test (stops (events_at a))
+      (λ b. rw b (ap (before (step_lines (clock_at a) (events_at a) 16))
+      (sym (run_none os (after os 0 (events_at a) fs) (step_area a)))))
       (λ b. rw b))
 
   -- it has none: the rest alone
-  step-calm : (s : Stretched) → countAt a ≤ maxStations → eventful (eventsAt a) ≡ false
-      → Stretches os n fs (stepArea a) s
-      → Stretches os (suc n) fs a (oneMore s)
-  unfolding timesLeft
-  step-calm s few e r =
+  step_calm : (s : Stretched) → count_at a ≤ max_stations → eventful (events_at a) ≡ false
+      → Stretches os n fs (step_area a) s
+      → Stretches os (suc n) fs a (one_more s)
+  unfolding times_left
+  step_calm s few e r =
       let k : suc n - (s.steps + 1) ≡ n - s.steps = omega arith in
       run_step os n fs a h
       ∙ rw (
-        no_lines (eventsAt a) e (clockAt a),
-        no-late (eventsAt a) e,
+        no_lines (events_at a) e (clock_at a),
+        no_late (events_at a) e,
         k,
-        after-calm os 0 (eventsAt a) fs (calm-mute a few e),
+        after_calm os 0 (events_at a) fs (calm_mute a few e),
       ) r
 
 -- none of the offers is decided in the k steps from time t on
 abbrev Far : (os : List PlannedOffer) (fs : List ℕ) (t k : ℕ) → Type 0
-Far os fs t k = (i : ℕ) → i < k → anyReady os 0 (t + i) fs ≡ false
+Far os fs t k = (i : ℕ) → i < k → any_ready os 0 (t + i) fs ≡ false
 
-stretch-text : (os : List PlannedOffer) (k n : ℕ) (fs a : List ℕ) → Passing a → clockAt a + k ≤ lastClock → k ≤ n
-    → Far os fs (clockAt a) k → Stretches os n fs a (untilEvent k a)
-unfolding untilEvent
-stretch-text os zero n fs a v c q f = first-calm os n fs a
-stretch-text os (suc k) zero fs a v c q f = absurd (omega arith)
-stretch-text os (suc k) (suc n) fs a v c q f =
-    let t : clockAt (stepArea a) ≡ clockAt a + 1 = step-clock a v.ready in
-    let z : clockAt a + 0 ≡ clockAt a = omega arith in
-    let h : anyReady os 0 (clockAt a) fs ≡ false = subst (λ (x : ℕ). anyReady os 0 x fs ≡ false) z (f 0 (omega arith)) in
-    let r : Stretches os n fs (stepArea a) (untilEvent k (stepArea a)) =
-    stretch-text os k n fs (stepArea a) (step-passing a v (omega arith)) (omega arith) (omega arith)
-    (λ i g. let y : clockAt a + suc i ≡ clockAt (stepArea a)
-    + i = omega arith in subst (λ (x : ℕ). anyReady os 0 x fs ≡ false) y (f (suc i) (omega arith))) in
-    by-test (eventful (eventsAt a))
-    (λ b. rw b (step-hit os n fs a h t))
-    (λ b. rw b (step-calm os n fs a h t (untilEvent k (stepArea a)) v.ready.spread.few b r))
+stretch_text : (os : List PlannedOffer) (k n : ℕ) (fs a : List ℕ) → Passing a → clock_at a + k ≤ last_clock → k ≤ n
+    → Far os fs (clock_at a) k → Stretches os n fs a (until_event k a)
+unfolding until_event
+stretch_text os zero n fs a v c q f = first_calm os n fs a
+stretch_text os (suc k) zero fs a v c q f = absurd (omega arith)
+stretch_text os (suc k) (suc n) fs a v c q f =
+    let t : clock_at (step_area a) ≡ clock_at a + 1 = step_clock a v.ready in
+    let z : clock_at a + 0 ≡ clock_at a = omega arith in
+    let h : any_ready os 0 (clock_at a) fs ≡ false = subst (λ (x : ℕ). any_ready os 0 x fs ≡ false) z (f 0 (omega arith)) in
+    let r : Stretches os n fs (step_area a) (until_event k (step_area a)) =
+    stretch_text os k n fs (step_area a) (step_passing a v (omega arith)) (omega arith) (omega arith)
+    (λ i g. let y : clock_at a + suc i ≡ clock_at (step_area a)
+    + i = omega arith in subst (λ (x : ℕ). any_ready os 0 x fs ≡ false) y (f (suc i) (omega arith))) in
+    by_test (eventful (events_at a))
+    (λ b. rw b (step_hit os n fs a h t))
+    (λ b. rw b (step_calm os n fs a h t (until_event k (step_area a)) v.ready.spread.few b r))
 
 -- ---- a run that goes on
 
@@ -219,21 +219,21 @@ stretch-text os (suc k) (suc n) fs a v c q f =
 -- fate for each
 pub record Going (l : List ℕ) (g : Progress) (a : List ℕ) : Type 0 where
   pub passing : Passing a
-  pub long : length a ≡ areaSize
-  pub clock : clockAt a + g.times ≤ lastClock
+  pub long : length a ≡ area_size
+  pub clock : clock_at a + g.times ≤ last_clock
   pub few : g.offers ≤ 64
-  pub lie : allLie l g.named g.at g.offers ≡ true
-  pub names : namesAbove (offersAt l g) 0 ≡ false
+  pub lie : all_lie l g.named g.at g.offers ≡ true
+  pub names : names_above (offers_at l g) 0 ≡ false
   pub fates : length g.fates ≡ 64
 
 module _ (l : List ℕ) (g : Progress) (a : List ℕ) where
-  remaining-on : g.ended ≡ false → remaining l g a ≡ runOn (offersAt l g) g.times g.fates a
+  remaining_on : g.ended ≡ false → remaining l g a ≡ run_on (offers_at l g) g.times g.fates a
   unfolding remaining
-  remaining-on h = ap (λ (b : Bool). pick b (course [] a) (runOn (offersAt l g) g.times g.fates a)) h
+  remaining_on h = ap (λ (b : Bool). pick b (course [] a) (run_on (offers_at l g) g.times g.fates a)) h
 
-  pub remaining-off : g.ended ≡ true → remaining l g a ≡ course [] a
+  pub remaining_off : g.ended ≡ true → remaining l g a ≡ course [] a
   unfolding remaining
-  remaining-off h = ap (λ (b : Bool). pick b (course [] a) (runOn (offersAt l g) g.times g.fates a)) h
+  remaining_off h = ap (λ (b : Bool). pick b (course [] a) (run_on (offers_at l g) g.times g.fates a)) h
 
 -- what a piece hands out comes first in what is still to come
 abbrev pub Onward : (l : List ℕ) (g : Progress) (a : List ℕ) → Moved → Type 0
@@ -241,19 +241,19 @@ Onward l g a m = remaining l g a ≡ before m.text (remaining l m.progress m.oct
 
 -- ---- the last line
 
-last_on : (l : List ℕ) (g : Progress) (a : List ℕ) → g.ended ≡ false → g.times ≡ 0 → Onward l g a (lastPiece g a)
-unfolding lastPiece
+last_on : (l : List ℕ) (g : Progress) (a : List ℕ) → g.ended ≡ false → g.times ≡ 0 → Onward l g a (last_piece g a)
+unfolding last_piece
 last_on l g a h t =
-    remaining-on l g a h
-    ∙ ap (λ (n : ℕ). runOn (offersAt l g) n g.fates a) t
-    ∙ run_none (offersAt l g) g.fates a
-    ∙ ap (λ (s : List ℕ). course s a) (sym (append-nil (endLine (clockAt a))))
-    ∙ ap (before (endLine (clockAt a))) (sym (remaining-off l (onward g 0 true g.fates) a refl))
+    remaining_on l g a h
+    ∙ ap (λ (n : ℕ). run_on (offers_at l g) n g.fates a) t
+    ∙ run_none (offers_at l g) g.fates a
+    ∙ ap (λ (s : List ℕ). course s a) (sym (append-nil (end_line (clock_at a))))
+    ∙ ap (before (end_line (clock_at a))) (sym (remaining_off l (onward g 0 true g.fates) a refl))
 
-last-going : (l : List ℕ) (g : Progress) (a : List ℕ) → Going l g a
-    → Going l (lastPiece g a).progress (lastPiece g a).octets
-unfolding lastPiece
-last-going l g a w =
+last_going : (l : List ℕ) (g : Progress) (a : List ℕ) → Going l g a
+    → Going l (last_piece g a).progress (last_piece g a).octets
+unfolding last_piece
+last_going l g a w =
     record {
       passing = w.passing;
       long = w.long;
@@ -266,46 +266,46 @@ last-going l g a w =
 
 -- ---- a decision
 
-module _ (l : List ℕ) (g : Progress) (a : List ℕ) (w : Going l g a) (f : (readyIn l g a).found ≡ true) where
+module _ (l : List ℕ) (g : Progress) (a : List ℕ) (w : Going l g a) (f : (ready_in l g a).found ≡ true) where
   abbrev found_at : Ready
-  found_at = readyIn l g a
+  found_at = ready_in l g a
 
   abbrev chosen : PlannedOffer
-  chosen = offerAt l g.named found_at.at
+  chosen = offer_at l g.named found_at.at
 
   abbrev verdict : Decided
-  verdict = decision chosen found_at.number (clockAt a) g.fates a
+  verdict = decision chosen found_at.number (clock_at a) g.fates a
 
-  it-is : Found l g.named g.offers 0 (clockAt a) g.fates found_at
-  unfolding readyIn
-  it-is = found-one l g.named g.at g.offers 0 (clockAt a) g.fates w.lie f
+  it_is : Found l g.named g.offers 0 (clock_at a) g.fates found_at
+  unfolding ready_in
+  it_is = found_one l g.named g.at g.offers 0 (clock_at a) g.fates w.lie f
 
-  keeps : (Passing verdict.octets) × ((clockAt verdict.octets ≡ clockAt a) × (length verdict.octets ≡ length a))
+  keeps : (Passing verdict.octets) × ((clock_at verdict.octets ≡ clock_at a) × (length verdict.octets ≡ length a))
   keeps =
-      decision-keeps chosen found_at.number (clockAt a) g.fates a
-      (six l g.named found_at.at it-is.inside) w.passing
+      decision_keeps chosen found_at.number (clock_at a) g.fates a
+      (six l g.named found_at.at it_is.inside) w.passing
 
   settles : Settled found_at.number g.fates verdict.fates
-  settles = decision-settles chosen found_at.number (clockAt a) g.fates a
+  settles = decision_settles chosen found_at.number (clock_at a) g.fates a
 
-  splits : decided (offersAt l g) 0 (clockAt a) g.fates a
-      ≡ and_then verdict (decided (offersAt l g) 0 (clockAt a) verdict.fates verdict.octets)
-  unfolding readyIn
-  splits = split l g.named (clockAt a) g.fates a g.at g.offers 0 (omega (arith, w.few, w.fates)) w.names f
+  splits : decided (offers_at l g) 0 (clock_at a) g.fates a
+      ≡ and_then verdict (decided (offers_at l g) 0 (clock_at a) verdict.fates verdict.octets)
+  unfolding ready_in
+  splits = split l g.named (clock_at a) g.fates a g.at g.offers 0 (omega (arith, w.few, w.fates)) w.names f
 
-  offer-on : (n : ℕ) → g.times ≡ suc n → g.ended ≡ false → Onward l g a (offerPiece l g a found_at)
-  unfolding offerPiece decisionPiece
-  offer-on n t h =
-      remaining-on l g a h
-      ∙ ap (λ (x : ℕ). runOn (offersAt l g) x g.fates a) t
-      ∙ run-decision (offersAt l g) n g.fates a verdict splits keeps.1.0
+  offer_on : (n : ℕ) → g.times ≡ suc n → g.ended ≡ false → Onward l g a (offer_piece l g a found_at)
+  unfolding offer_piece decision_piece
+  offer_on n t h =
+      remaining_on l g a h
+      ∙ ap (λ (x : ℕ). run_on (offers_at l g) x g.fates a) t
+      ∙ run_decision (offers_at l g) n g.fates a verdict splits keeps.1.0
       ∙ ap (before verdict.text)
-      (ap (λ (x : ℕ). runOn (offersAt l g) x verdict.fates verdict.octets) (sym t)
-      ∙ sym (remaining-on l (onward g g.times false verdict.fates) verdict.octets refl))
+      (ap (λ (x : ℕ). run_on (offers_at l g) x verdict.fates verdict.octets) (sym t)
+      ∙ sym (remaining_on l (onward g g.times false verdict.fates) verdict.octets refl))
 
-  offer-going : Going l (offerPiece l g a found_at).progress (offerPiece l g a found_at).octets
-  unfolding offerPiece decisionPiece
-  offer-going =
+  offer_going : Going l (offer_piece l g a found_at).progress (offer_piece l g a found_at).octets
+  unfolding offer_piece decision_piece
+  offer_going =
       let v = keeps in
       record {
         passing = v.0;
@@ -314,66 +314,66 @@ module _ (l : List ℕ) (g : Progress) (a : List ℕ) (w : Going l g a) (f : (re
         few = w.few;
         lie = w.lie;
         names = w.names;
-        fates = settled-long found_at.number g.fates verdict.fates settles ∙ w.fates;
+        fates = settled_long found_at.number g.fates verdict.fates settles ∙ w.fates;
       }
 
-  offer-fewer : aheads g.offers verdict.fates + 1 ≡ aheads g.offers g.fates
-  offer-fewer =
+  offer_fewer : aheads g.offers verdict.fates + 1 ≡ aheads g.offers g.fates
+  offer_fewer =
       ap (λ (x : List ℕ). aheads g.offers x + 1) settles.only
-      ∙ aheads-set g.offers found_at.number settles.fate g.fates (omega (arith, it-is.low))
-      (omega (arith, it-is.low, w.few, w.fates))
-      (ready-ahead chosen found_at.number (clockAt a) g.fates it-is.ready) settles.some
+      ∙ aheads_set g.offers found_at.number settles.fate g.fates (omega (arith, it_is.low))
+      (omega (arith, it_is.low, w.few, w.fates))
+      (ready_ahead chosen found_at.number (clock_at a) g.fates it_is.ready) settles.some
 
 -- ---- steps
 
-none-ready : (l : List ℕ) (g : Progress) (a : List ℕ) → (readyIn l g a).found ≡ false
-    → anyReady (offersAt l g) 0 (clockAt a) g.fates ≡ false
-unfolding readyIn
-none-ready l g a d = sym (found-is l g.named g.at g.offers 0 (clockAt a) g.fates) ∙ d
+none_ready_lem : (l : List ℕ) (g : Progress) (a : List ℕ) → (ready_in l g a).found ≡ false
+    → any_ready (offers_at l g) 0 (clock_at a) g.fates ≡ false
+unfolding ready_in
+none_ready_lem l g a d = sym (found_is l g.named g.at g.offers 0 (clock_at a) g.fates) ∙ d
 
-far : (l : List ℕ) (g : Progress) (a : List ℕ) → (readyIn l g a).found ≡ false
-    → Far (offersAt l g) g.fates (clockAt a) (span_of l g a)
+far : (l : List ℕ) (g : Progress) (a : List ℕ) → (ready_in l g a).found ≡ false
+    → Far (offers_at l g) g.fates (clock_at a) (span_of l g a)
 unfolding span_of
-far l g a d i h = idle-on (offersAt l g) 0 (clockAt a) i g.times g.fates (none-ready l g a d) h
+far l g a d i h = idle_on (offers_at l g) 0 (clock_at a) i g.times g.fates (none_ready_lem l g a d) h
 
-stretch-going : (k : ℕ) (a : List ℕ) → Passing a → clockAt a + k ≤ lastClock
-    → (Passing (untilEvent k a).octets)
-    × ((clockAt (untilEvent k a).octets ≡ clockAt a + (untilEvent k a).steps) ×
-    (length (untilEvent k a).octets ≡ length a))
-unfolding untilEvent
-stretch-going zero a v c = (v, (omega arith, refl))
-stretch-going (suc k) a v c =
-    let t : clockAt (stepArea a) ≡ clockAt a + 1 = step-clock a v.ready in
-    let r = stretch-going k (stepArea a) (step-passing a v (omega arith)) (omega arith) in
-    by-test (eventful (eventsAt a))
-    (λ b. rw b (step-passing a v (omega arith), (t, step-length a v.ready)))
-    (λ b. rw b (r.0, (omega (arith, r.1.0), r.1.1 ∙ step-length a v.ready)))
+stretch_going : (k : ℕ) (a : List ℕ) → Passing a → clock_at a + k ≤ last_clock
+    → (Passing (until_event k a).octets)
+    × ((clock_at (until_event k a).octets ≡ clock_at a + (until_event k a).steps) ×
+    (length (until_event k a).octets ≡ length a))
+unfolding until_event
+stretch_going zero a v c = (v, (omega arith, refl))
+stretch_going (suc k) a v c =
+    let t : clock_at (step_area a) ≡ clock_at a + 1 = step_clock a v.ready in
+    let r = stretch_going k (step_area a) (step_passing a v (omega arith)) (omega arith) in
+    by_test (eventful (events_at a))
+    (λ b. rw b (step_passing a v (omega arith), (t, step_length a v.ready)))
+    (λ b. rw b (r.0, (omega (arith, r.1.0), r.1.1 ∙ step_length a v.ready)))
 
 module _ (l : List ℕ) (g : Progress) (a : List ℕ) (w : Going l g a) where
-  few : clockAt a + span_of l g a ≤ lastClock
-  few = let c = w.clock in omega (arith, span-most l g a)
+  few : clock_at a + span_of l g a ≤ last_clock
+  few = let c = w.clock in omega (arith, span_most l g a)
 
-  step-on : g.ended ≡ false → (readyIn l g a).found ≡ false → Onward l g a (stepPiece l g a)
-  unfolding stretchPiece
-  step-on h d =
-      let s = untilEvent (span_of l g a) a in
-      remaining-on l g a h
-      ∙ stretch-text (offersAt l g) (span_of l g a) g.times g.fates a w.passing few (span-most l g a)
+  step_on : g.ended ≡ false → (ready_in l g a).found ≡ false → Onward l g a (step_piece l g a)
+  unfolding stretch_piece
+  step_on h d =
+      let s = until_event (span_of l g a) a in
+      remaining_on l g a h
+      ∙ stretch_text (offers_at l g) (span_of l g a) g.times g.fates a w.passing few (span_most l g a)
       (far l g a d)
-      ∙ ap (before (stepLines (clockAt (untilEvent (span_of l g a) a).octets - 1)
-      (untilEvent (span_of l g a) a).events 16))
-      (sym (remaining-on l (onward g (timesLeft g.times (untilEvent (span_of l g a) a)) false
-      (after (offersAt l g) 0 (untilEvent (span_of l g a) a).events g.fates))
-      (untilEvent (span_of l g a) a).octets refl))
+      ∙ ap (before (step_lines (clock_at (until_event (span_of l g a) a).octets - 1)
+      (until_event (span_of l g a) a).events 16))
+      (sym (remaining_on l (onward g (times_left g.times (until_event (span_of l g a) a)) false
+      (after (offers_at l g) 0 (until_event (span_of l g a) a).events g.fates))
+      (until_event (span_of l g a) a).octets refl))
 
-  left-most : (s : Stretched) → timesLeft g.times s ≤ g.times - s.steps
-  unfolding timesLeft
-  left-most s = by-test (stops s.events) (λ b. rw b (omega arith)) (λ b. rw b (omega arith))
+  left_most : (s : Stretched) → times_left g.times s ≤ g.times - s.steps
+  unfolding times_left
+  left_most s = by_test (stops s.events) (λ b. rw b (omega arith)) (λ b. rw b (omega arith))
 
-  step-going : Going l (stepPiece l g a).progress (stepPiece l g a).octets
-  unfolding stretchPiece
-  step-going =
-      let v = stretch-going (span_of l g a) a w.passing few in
+  step_going : Going l (step_piece l g a).progress (step_piece l g a).octets
+  unfolding stretch_piece
+  step_going =
+      let v = stretch_going (span_of l g a) a w.passing few in
       record {
         passing = v.0;
         long = v.1.1 ∙ w.long;
@@ -381,15 +381,15 @@ module _ (l : List ℕ) (g : Progress) (a : List ℕ) (w : Going l g a) where
             (let c = w.clock in omega (
               arith,
               v.1.0,
-              left-most (untilEvent (span_of l g a) a),
-              stretch-steps
+              left_most (until_event (span_of l g a) a),
+              stretch_steps
                   (span_of l g a) a,
-              span-most l g a,
+              span_most l g a,
             ));
         few = w.few;
         lie = w.lie;
         names = w.names;
-        fates = after-long (offersAt l g) 0 (untilEvent (span_of l g a) a).events g.fates ∙ w.fates;
+        fates = after_long (offers_at l g) 0 (until_event (span_of l g a) a).events g.fates ∙ w.fates;
       }
 
 -- ---- the next piece, whichever it is
@@ -402,13 +402,13 @@ positive (suc k) f = omega arith
 unfoldable pub pieces : Progress → ℕ
 pieces g = pick g.ended 0 (g.times + aheads g.offers g.fates + 1)
 
-pieces-on : (g : Progress) → g.ended ≡ false → pieces g ≡ g.times + aheads g.offers g.fates + 1
+pieces_on : (g : Progress) → g.ended ≡ false → pieces g ≡ g.times + aheads g.offers g.fates + 1
 unfolding pieces
-pieces-on g h = ap (λ (b : Bool). pick b 0 (g.times + aheads g.offers g.fates + 1)) h
+pieces_on g h = ap (λ (b : Bool). pick b 0 (g.times + aheads g.offers g.fates + 1)) h
 
-pieces-off : (g : Progress) → g.ended ≡ true → pieces g ≡ 0
+pieces_off : (g : Progress) → g.ended ≡ true → pieces g ≡ 0
 unfolding pieces
-pieces-off g h = ap (λ (b : Bool). pick b 0 (g.times + aheads g.offers g.fates + 1)) h
+pieces_off g h = ap (λ (b : Bool). pick b 0 (g.times + aheads g.offers g.fates + 1)) h
 
 -- what holds of a piece m handed out where the run stands at g on area a: it comes first in what is still to come, the
 -- run goes on, and there are fewer pieces left
@@ -418,234 +418,234 @@ pub record Next (l : List ℕ) (g : Progress) (a : List ℕ) (m : Moved) : Type 
   pub fewer : pieces m.progress < pieces g
 
 module _ (l : List ℕ) (g : Progress) (a : List ℕ) (w : Going l g a) (h : g.ended ≡ false) where
-  last-next : g.times ≡ 0 → Next l g a (lastPiece g a)
-  unfolding lastPiece
-  last-next t =
+  last_next : g.times ≡ 0 → Next l g a (last_piece g a)
+  unfolding last_piece
+  last_next t =
       record {
         onward = last_on l g a h t;
-        going = last-going l g a w;
-        fewer = omega (arith, pieces-off (onward g 0 true g.fates) refl, pieces-on g h);
+        going = last_going l g a w;
+        fewer = omega (arith, pieces_off (onward g 0 true g.fates) refl, pieces_on g h);
       }
 
-  decision-fewer : (readyIn l g a).found ≡ true → pieces (offerPiece l g a (readyIn l g a)).progress < pieces g
-  unfolding offerPiece decisionPiece
-  decision-fewer d =
+  decision_fewer : (ready_in l g a).found ≡ true → pieces (offer_piece l g a (ready_in l g a)).progress < pieces g
+  unfolding offer_piece decision_piece
+  decision_fewer d =
       omega (
         arith,
-        pieces-on (onward g g.times false (verdict l g a w d).fates) refl,
-        pieces-on g h,
-        offer-fewer l g a w d,
+        pieces_on (onward g g.times false (verdict l g a w d).fates) refl,
+        pieces_on g h,
+        offer_fewer l g a w d,
       )
 
-  offer-next : (g.times ≡ 0 → ⊥) → (readyIn l g a).found ≡ true → Next l g a (offerPiece l g a (readyIn l g a))
-  offer-next t d =
+  offer_next : (g.times ≡ 0 → ⊥) → (ready_in l g a).found ≡ true → Next l g a (offer_piece l g a (ready_in l g a))
+  offer_next t d =
       let p = positive g.times t in
       let n : g.times ≡ suc (g.times - 1) = omega arith in
       record {
-        onward = offer-on l g a w d (g.times - 1) n h;
-        going = offer-going l g a w d;
-        fewer = decision-fewer d;
+        onward = offer_on l g a w d (g.times - 1) n h;
+        going = offer_going l g a w d;
+        fewer = decision_fewer d;
       }
 
-  step-next : (g.times ≡ 0 → ⊥) → (readyIn l g a).found ≡ false → Next l g a (stepPiece l g a)
-  unfolding stretchPiece
-  step-next t d =
+  step_next : (g.times ≡ 0 → ⊥) → (ready_in l g a).found ≡ false → Next l g a (step_piece l g a)
+  unfolding stretch_piece
+  step_next t d =
       let p = positive g.times t in
-      let s = span-some l g a p in
+      let s = span_some l g a p in
       record {
-        onward = step-on l g a w h d;
-        going = step-going l g a w;
+        onward = step_on l g a w h d;
+        going = step_going l g a w;
         fewer =
             omega (
               arith,
-              pieces-on (onward g (timesLeft g.times (untilEvent (span_of l g a) a)) false
-                  (after (offersAt l g) 0 (untilEvent (span_of l g a) a).events g.fates)) refl,
-              pieces-on g h,
-              left-most l g a w
-                  (untilEvent (span_of l g a) a),
-              stretch-some (span_of l g a) a s,
-              aheads-after g.offers (offersAt l g) 0 (untilEvent (span_of l g a) a).events g.fates,
+              pieces_on (onward g (times_left g.times (until_event (span_of l g a) a)) false
+                  (after (offers_at l g) 0 (until_event (span_of l g a) a).events g.fates)) refl,
+              pieces_on g h,
+              left_most l g a w
+                  (until_event (span_of l g a) a),
+              stretch_some (span_of l g a) a s,
+              aheads_after g.offers (offers_at l g) 0 (until_event (span_of l g a) a).events g.fates,
             );
       }
 
   pub next : Next l g a (move l g a)
   next =
-      by-eq g.times 0
-      (λ t. subst (Next l g a) (move-last l g a h t) (last-next t))
-      (λ t. by-test (readyIn l g a).found
-      (λ d. subst (Next l g a) (move-offer l g a h t d) (offer-next t d))
-      (λ d. subst (Next l g a) (move_step l g a h t d) (step-next t d)))
+      by_eq g.times 0
+      (λ t. subst (Next l g a) (move_last l g a h t) (last_next t))
+      (λ t. by_test (ready_in l g a).found
+      (λ d. subst (Next l g a) (move_offer l g a h t d) (offer_next t d))
+      (λ d. subst (Next l g a) (move_step l g a h t d) (step_next t d)))
 
 -- No advance is refused.
-pub not-refused : (l : List ℕ) (g : Progress) (a : List ℕ) (room : ℕ) → Going l g a → 2048 ≤ room
-    → moveRefusal l a room g ≡ 0
-unfolding moveRefusal
-not-refused l g a room w h =
+pub not_refused : (l : List ℕ) (g : Progress) (a : List ℕ) (room : ℕ) → Going l g a → 2048 ≤ room
+    → move_refusal l a room g ≡ 0
+unfolding move_refusal
+not_refused l g a room w h =
     let c = w.clock in
     rw (
-      eq-eqb (areaRefusal a) 0 (ready-passes a w.passing),
-      le-ltb lastClock
-          (clockAt a + g.times) c,
+      eq-eqb (area_refusal a) 0 (ready_passes a w.passing),
+      le-ltb last_clock
+          (clock_at a + g.times) c,
       le-ltb room 2048 h,
       whole,
     )
   where
-    whole : offersShort l g ≡ false
-    whole = sym (short-is l g true w.few (sym w.lie))
+    whole : offers_short l g ≡ false
+    whole = sym (short_is l g true w.few (sym w.lie))
 
 -- ---- a piece has room
 
-last-size : (g : Progress) (a : List ℕ) → length (lastPiece g a).text ≤ 2048
-unfolding lastPiece
-last-size g a = omega (arith, end-size (clockAt a))
+last_size : (g : Progress) (a : List ℕ) → length (last_piece g a).text ≤ 2048
+unfolding last_piece
+last_size g a = omega (arith, end_size (clock_at a))
 
-made-size : (o : PlannedOffer) (k t : ℕ) (fs : List ℕ) (r : Outcome) → length (madeThen o k t fs r).text ≤ 2048
-unfolding madeThen offerLine
-made-size o k t fs r =
-    by-test (eqb (number_of r.answer) 0)
+made_size : (o : PlannedOffer) (k t : ℕ) (fs : List ℕ) (r : Outcome) → length (made_then o k t fs r).text ≤ 2048
+unfolding made_then offer_line
+made_size o k t fs r =
+    by_test (eqb (number_of r.answer) 0)
     (λ b. rw b (omega arith))
-    (λ b. rw b (omega (arith, refused-offer-size t o.station (number_of r.answer))))
+    (λ b. rw b (omega (arith, refused_offer_size t o.station (number_of r.answer))))
 
-decision-size : (o : PlannedOffer) (k t : ℕ) (fs a : List ℕ) → length (decision o k t fs a).text ≤ 2048
-unfolding decision droppedThen
-decision-size o k t fs a =
-    by-test (eqb (namedFate fs o) sent)
-    (λ b. rw b (made-size o k t fs (made o a)))
-    (λ b. rw b (omega (arith, dropped-size t o.station)))
+decision_size : (o : PlannedOffer) (k t : ℕ) (fs a : List ℕ) → length (decision o k t fs a).text ≤ 2048
+unfolding decision dropped_then
+decision_size o k t fs a =
+    by_test (eqb (named_fate fs o) sent)
+    (λ b. rw b (made_size o k t fs (made o a)))
+    (λ b. rw b (omega (arith, dropped_size t o.station)))
 
-offer-size : (l : List ℕ) (g : Progress) (a : List ℕ) (r : Ready) → length (offerPiece l g a r).text ≤ 2048
-unfolding offerPiece decisionPiece
-offer-size l g a r = decision-size (offerAt l g.named r.at) r.number (clockAt a) g.fates a
+offer_size_lem : (l : List ℕ) (g : Progress) (a : List ℕ) (r : Ready) → length (offer_piece l g a r).text ≤ 2048
+unfolding offer_piece decision_piece
+offer_size_lem l g a r = decision_size (offer_at l g.named r.at) r.number (clock_at a) g.fates a
 
-stretch-size : (l : List ℕ) (g : Progress) (s : Stretched) → length (stretchPiece l g s).text ≤ 2048
-unfolding stretchPiece
-stretch-size l g s = omega (arith, step-size (clockAt s.octets - 1) s.events 16)
+stretch_size : (l : List ℕ) (g : Progress) (s : Stretched) → length (stretch_piece l g s).text ≤ 2048
+unfolding stretch_piece
+stretch_size l g s = omega (arith, step_size (clock_at s.octets - 1) s.events 16)
 
-start-size : (l : List ℕ) (r : Planned) (a : List ℕ) → length (startPiece l r a).text ≤ 2048
-unfolding startPiece firstText
-start-size l r a =
-    by-test (fitsWell r.layout)
-    (λ b. rw b (omega (arith, first-size r.layout.count fitYes)))
-    (λ b. rw b (omega (arith, first-size r.layout.count fitNo)))
+start_size : (l : List ℕ) (r : Planned) (a : List ℕ) → length (start_piece l r a).text ≤ 2048
+unfolding start_piece first_text
+start_size l r a =
+    by_test (fits_well r.layout)
+    (λ b. rw b (omega (arith, first_size r.layout.count fit_yes)))
+    (λ b. rw b (omega (arith, first_size r.layout.count fit_no)))
 
-pub move-size : (l : List ℕ) (g : Progress) (a : List ℕ) → length (move l g a).text ≤ 2048
-unfolding move nextPiece
-move-size l g a = go g.ended (eqb g.times 0) (readyIn l g a).found
+pub move_size : (l : List ℕ) (g : Progress) (a : List ℕ) → length (move l g a).text ≤ 2048
+unfolding move next_piece
+move_size l g a = go g.ended (eqb g.times 0) (ready_in l g a).found
   where
     go : (b c d : Bool) → length (pick b (moved [] g a)
-        (pick c (lastPiece g a) (pick d (offerPiece l g a (readyIn l g a)) (stepPiece l g a)))).text ≤ 2048
+        (pick c (last_piece g a) (pick d (offer_piece l g a (ready_in l g a)) (step_piece l g a)))).text ≤ 2048
     go true c d = omega arith
-    go false true d = last-size g a
-    go false false true = offer-size l g a (readyIn l g a)
-    go false false false = stretch-size l g (untilEvent (span_of l g a) a)
+    go false true d = last_size g a
+    go false false true = offer_size_lem l g a (ready_in l g a)
+    go false false false = stretch_size l g (until_event (span_of l g a) a)
 
-pub first-room : (l a : List ℕ) → length (firstPiece l a).text ≤ 2048
-unfolding firstPiece
-first-room l a = go (eqb (number_of (planRead l).answer) 0)
+pub first_room : (l a : List ℕ) → length (first_piece l a).text ≤ 2048
+unfolding first_piece
+first_room l a = go (eqb (number_of (plan_as_read l).answer) 0)
   where
-    go : (b : Bool) → length (pick b (startPiece l (planRead l) a)
-        (moved (refusedLine (number_of (planRead l).answer)) noProgress a)).text ≤ 2048
-    go true = start-size l (planRead l) a
-    go false = omega (arith, refused-size (number_of (planRead l).answer))
+    go : (b : Bool) → length (pick b (start_piece l (plan_as_read l) a)
+        (moved (refused_line (number_of (plan_as_read l).answer)) no_progress a)).text ≤ 2048
+    go true = start_size l (plan_as_read l) a
+    go false = omega (arith, refused_size (number_of (plan_as_read l).answer))
 
 -- ---- the first piece
 
-zeros-same : (n : ℕ) (l : List ℕ) → length l ≡ n → blanked n l ≡ replicate n 0
-zeros-same n l h =
-    ext_get_or 0 (blanked n l) (replicate n 0) (length-blanked n l ∙ h ∙ sym (length-replicate n 0))
-    (λ i g. let k : i < n = omega (arith, length-blanked n l) in blanked-same n i l k (omega arith)
+zeros_same : (n : ℕ) (l : List ℕ) → length l ≡ n → blanked n l ≡ replicate n 0
+zeros_same n l h =
+    ext_get_or 0 (blanked n l) (replicate n 0) (length_blanked n l ∙ h ∙ sym (length-replicate n 0))
+    (λ i g. let k : i < n = omega (arith, length_blanked n l) in blanked_same n i l k (omega arith)
     ∙ sym (get_or-replicate n i 0 0 k))
 
 -- a fresh start is the same over any area of that length
-start-same : (l : List ℕ) (r : Planned) (a b : List ℕ) → length a ≡ areaSize → length b ≡ areaSize
-    → startArea l r a ≡ startArea l r b
-unfolding startArea fresh
-start-same l r a b h k =
-    ap (withPlan r.layout r.depth (drawsIn l r.drawn r.layout.count r.depth))
-    (zeros-same areaSize a h ∙ sym (zeros-same areaSize b k))
+start_same : (l : List ℕ) (r : Planned) (a b : List ℕ) → length a ≡ area_size → length b ≡ area_size
+    → start_area l r a ≡ start_area l r b
+unfolding start_area fresh
+start_same l r a b h k =
+    ap (with_plan r.layout r.depth (draws_in l r.drawn r.layout.count r.depth))
+    (zeros_same area_size a h ∙ sym (zeros_same area_size b k))
 
-zeros-long : length zeros ≡ areaSize
-zeros-long = length-replicate {A = ℕ} areaSize 0
+zeros_long : length zeros ≡ area_size
+zeros_long = length-replicate {A = ℕ} area_size 0
 
-pub read-course : (l a : List ℕ) → number_of (planRead l).answer ≡ 0 → inputCourse l a ≡ planCourse l (planRead l) a
-unfolding inputCourse
-read-course l a e =
-    ap (λ (b : Bool). pick b (planCourse l (planRead l) a) (course (refusedLine (number_of (planRead l).answer)) a))
-    (eq-eqb (number_of (planRead l).answer) 0 e)
+pub read_course : (l a : List ℕ) → number_of (plan_as_read l).answer ≡ 0 → input_course l a ≡ plan_course l (plan_as_read l) a
+unfolding input_course
+read_course l a e =
+    ap (λ (b : Bool). pick b (plan_course l (plan_as_read l) a) (course (refused_line (number_of (plan_as_read l).answer)) a))
+    (eq-eqb (number_of (plan_as_read l).answer) 0 e)
 
-pub refused-course : (l a : List ℕ) → (number_of (planRead l).answer ≡ 0 → ⊥)
-    → inputCourse l a ≡ course (refusedLine (number_of (planRead l).answer)) a
-unfolding inputCourse
-refused-course l a e =
-    ap (λ (b : Bool). pick b (planCourse l (planRead l) a) (course (refusedLine (number_of (planRead l).answer)) a))
-    (ne_eqb (number_of (planRead l).answer) 0 e)
+pub refused_course : (l a : List ℕ) → (number_of (plan_as_read l).answer ≡ 0 → ⊥)
+    → input_course l a ≡ course (refused_line (number_of (plan_as_read l).answer)) a
+unfolding input_course
+refused_course l a e =
+    ap (λ (b : Bool). pick b (plan_course l (plan_as_read l) a) (course (refused_line (number_of (plan_as_read l).answer)) a))
+    (ne_eqb (number_of (plan_as_read l).answer) 0 e)
 
-pub refused-print : (l : List ℕ) → (number_of (planRead l).answer ≡ 0 → ⊥)
-    → printed l ≡ refusedLine (number_of (planRead l).answer)
+pub refused_print : (l : List ℕ) → (number_of (plan_as_read l).answer ≡ 0 → ⊥)
+    → printed l ≡ refused_line (number_of (plan_as_read l).answer)
 unfolding printed
-refused-print l e = ap (λ (c : Course). c.text) (refused-course l zeros e)
+refused_print l e = ap (λ (c : Course). c.text) (refused_course l zeros e)
 
-plan-same : (l a : List ℕ) → length a ≡ areaSize
-    → (planCourse l (planRead l) a).text ≡ (planCourse l (planRead l) zeros).text
-unfolding planCourse
-plan-same l a h =
-    ap (λ (x : List ℕ). firstText (planRead l).layout
-    ++ (runOn (planOffers l (planRead l)) (planRead l).times allAhead x).text)
-    (start-same l (planRead l) a zeros h zeros-long)
+plan_same : (l a : List ℕ) → length a ≡ area_size
+    → (plan_course l (plan_as_read l) a).text ≡ (plan_course l (plan_as_read l) zeros).text
+unfolding plan_course
+plan_same l a h =
+    ap (λ (x : List ℕ). first_text (plan_as_read l).layout
+    ++ (run_on (plan_offers l (plan_as_read l)) (plan_as_read l).times all_ahead x).text)
+    (start_same l (plan_as_read l) a zeros h zeros_long)
 
 -- so the text is too
-pub course-same : (l a : List ℕ) → length a ≡ areaSize → (inputCourse l a).text ≡ printed l
+pub course_same : (l a : List ℕ) → length a ≡ area_size → (input_course l a).text ≡ printed l
 unfolding printed
-course-same l a h =
-    by-eq (number_of (planRead l).answer) 0
-    (λ e. ap (λ (c : Course). c.text) (read-course l a e) ∙ plan-same l a h ∙ ap (λ (c : Course). c.text)
-    (sym (read-course l zeros e)))
-    (λ e. ap (λ (c : Course). c.text) (refused-course l a e) ∙ ap (λ (c : Course). c.text)
-    (sym (refused-course l zeros e)))
+course_same l a h =
+    by_eq (number_of (plan_as_read l).answer) 0
+    (λ e. ap (λ (c : Course). c.text) (read_course l a e) ∙ plan_same l a h ∙ ap (λ (c : Course). c.text)
+    (sym (read_course l zeros e)))
+    (λ e. ap (λ (c : Course). c.text) (refused_course l a e) ∙ ap (λ (c : Course). c.text)
+    (sym (refused_course l zeros e)))
 
-module _ (l a : List ℕ) (h : length a ≡ areaSize) (n : number_of (planRead l).answer ≡ 0) where
-  y : Right l (planRead l)
+module _ (l a : List ℕ) (h : length a ≡ area_size) (n : number_of (plan_as_read l).answer ≡ 0) where
+  y : Right l (plan_as_read l)
   y = read_right l n
 
-  pub start-on : inputCourse l a ≡ before (startPiece l (planRead l) a).text
-      (remaining l (startPiece l (planRead l) a).progress (startPiece l (planRead l) a).octets)
-  unfolding planCourse startPiece
-  start-on =
-      read-course l a n
-      ∙ (ap (before (firstText (planRead l).layout))
-      (sym (remaining-on l (standing (planRead l).first (planRead l).offers (planRead l).named (planRead l).times
-      false allAhead) (startArea l (planRead l) a) refl)))
+  pub start_on : input_course l a ≡ before (start_piece l (plan_as_read l) a).text
+      (remaining l (start_piece l (plan_as_read l) a).progress (start_piece l (plan_as_read l) a).octets)
+  unfolding plan_course start_piece
+  start_on =
+      read_course l a n
+      ∙ (ap (before (first_text (plan_as_read l).layout))
+      (sym (remaining_on l (standing (plan_as_read l).first (plan_as_read l).offers (plan_as_read l).named (plan_as_read l).times
+      false all_ahead) (start_area l (plan_as_read l) a) refl)))
 
-  pub start-going : Going l (startPiece l (planRead l) a).progress (startPiece l (planRead l) a).octets
-  unfolding startPiece startArea
-  start-going =
-      let big : areaSize ≤ length a = omega arith in
+  pub start_going : Going l (start_piece l (plan_as_read l) a).progress (start_piece l (plan_as_read l) a).octets
+  unfolding start_piece start_area
+  start_going =
+      let big : area_size ≤ length a = omega arith in
       let few = y.sound.count.1 in
       let d = y.depth in
-      let formed = read-formed l n in
-      let ds = drawsIn l (planRead l).drawn (planRead l).layout.count (planRead l).depth in
+      let formed = read_formed l n in
+      let ds = draws_in l (plan_as_read l).drawn (plan_as_read l).layout.count (plan_as_read l).depth in
       record {
         passing =
-            start-passing (planRead l).layout (planRead l).depth ds a big (read-passes l n) d.0 d.1 formed;
-        long = fresh-length (planRead l).layout (planRead l).depth ds a big few d.1 formed ∙ h;
+            start_passing (plan_as_read l).layout (plan_as_read l).depth ds a big (read_passes l n) d.0 d.1 formed;
+        long = fresh_length (plan_as_read l).layout (plan_as_read l).depth ds a big few d.1 formed ∙ h;
         clock =
-            omega (arith, fresh-clock (planRead l).layout (planRead l).depth ds a big few d.1 formed, y.times);
+            omega (arith, fresh_clock (plan_as_read l).layout (plan_as_read l).depth ds a big few d.1 formed, y.times);
         few = y.many;
-        lie = lie-all l (planRead l).named (planRead l).first (planRead l).offers y.offer;
+        lie = lie_all l (plan_as_read l).named (plan_as_read l).first (plan_as_read l).offers y.offer;
         names =
-            names-low l (planRead l).named (planRead l).first (planRead l).offers 0
+            names_low l (plan_as_read l).named (plan_as_read l).first (plan_as_read l).offers 0
             (λ k g. omega (arith, y.names k g));
         fates = length-replicate {A = ℕ} 64 0;
       }
 
-  start-pieces : pieces (startPiece l (planRead l) a).progress ≤ 16777281
-  unfolding startPiece
-  start-pieces =
+  start_pieces : pieces (start_piece l (plan_as_read l) a).progress ≤ 16777281
+  unfolding start_piece
+  start_pieces =
       omega (
         arith,
-        pieces-on (standing (planRead l).first (planRead l).offers (planRead l).named (planRead l).times false allAhead)
+        pieces_on (standing (plan_as_read l).first (plan_as_read l).offers (plan_as_read l).named (plan_as_read l).times false all_ahead)
             refl,
-        aheads-most (planRead l).offers allAhead,
+        aheads_most (plan_as_read l).offers all_ahead,
         y.times,
         y.many,
       )
@@ -653,102 +653,102 @@ module _ (l a : List ℕ) (h : length a ≡ areaSize) (n : number_of (planRead l
 -- ---- what a caller gets
 
 module _ (l b z o : List ℕ) (g : Progress) (w : Going l g b) (h : 2048 ≤ length o) where
-  front : take areaSize (b ++ z) ≡ b
-  front = take_at b z areaSize w.long
+  front : take area_size (b ++ z) ≡ b
+  front = take_at b z area_size w.long
 
-  back : drop areaSize (b ++ z) ≡ z
-  back = drop_at b z areaSize w.long
+  back : drop area_size (b ++ z) ≡ z
+  back = drop_at b z area_size w.long
 
-  given-on : advancedOn l b o g ≡ given o (move l g b)
-  unfolding advancedOn
-  given-on = rw (not-refused l g b (length o) w h)
+  given_on : advanced_on l b o g ≡ given o (move l g b)
+  unfolding advanced_on
+  given_on = rw (not_refused l g b (length o) w h)
 
-  pub advance-on : advanced l (b ++ z) o g ≡ record {
+  pub advance_on : advanced l (b ++ z) o g ≡ record {
     answer = accepted (length (move l g b).text ∷ []);
     progress = (move l g b).progress;
     octets = (move l g b).octets ++ z;
     out = sets o 0 (move l g b).text;
   }
   unfolding advanced
-  advance-on =
-      let k : areaSize ≤ length (b ++ z) = omega (arith, length-append b z, w.long) in
-      rw (le-ltb (length (b ++ z)) areaSize k, front, back, given-on)
+  advance_on =
+      let k : area_size ≤ length (b ++ z) = omega (arith, length-append b z, w.long) in
+      rw (le-ltb (length (b ++ z)) area_size k, front, back, given_on)
 
-told-on : (n : ℕ) (l b z o : List ℕ) (g : Progress) → Going l g b → g.ended ≡ false → 2048 ≤ length o → pieces g ≤ n
+told_on : (n : ℕ) (l b z o : List ℕ) (g : Progress) → Going l g b → g.ended ≡ false → 2048 ≤ length o → pieces g ≤ n
     → told n l (advanced l (b ++ z) o g) ≡ (remaining l g b).text
 unfolding told
-told-on zero l b z o g w e h p = absurd (omega (arith, pieces-on g e))
-told-on (suc n) l b z o g w e h p =
+told_on zero l b z o g w e h p = absurd (omega (arith, pieces_on g e))
+told_on (suc n) l b z o g w e h p =
     let m = next l g b w e in
     let k : 2048 ≤ length (sets o 0 (move l g b).text) = omega (arith, length-sets o 0 (move l g b).text) in
-    rw (advance-on l b z o g w h)
+    rw (advance_on l b z o g w h)
     (ap₂ (λ (x y : List ℕ). x ++ y)
-    (take-sets (move l g b).text o (length (move l g b).text) refl (omega (arith, move-size l g b)))
-    (by-test (move l g b).progress.ended
-    (λ q. rw q (ap (λ (c : Course). c.text) (sym (remaining-off l (move l g b).progress (move l g b).octets q))))
-    (λ q. rw q (told-on n l (move l g b).octets z (sets o 0 (move l g b).text) (move l g b).progress m.going q k
+    (take_sets (move l g b).text o (length (move l g b).text) refl (omega (arith, move_size l g b)))
+    (by_test (move l g b).progress.ended
+    (λ q. rw q (ap (λ (c : Course). c.text) (sym (remaining_off l (move l g b).progress (move l g b).octets q))))
+    (λ q. rw q (told_on n l (move l g b).octets z (sets o 0 (move l g b).text) (move l g b).progress m.going q k
     (let f = m.fewer in omega arith))))
     ∙ ap (λ (c : Course). c.text) (sym m.onward))
 
-pub started-first : (l a : List ℕ) → number_of (planRead l).answer ≡ 0 → firstPiece l a ≡ startPiece l (planRead l) a
-unfolding firstPiece
-started-first l a e = rw (eq-eqb (number_of (planRead l).answer) 0 e)
+pub started_first : (l a : List ℕ) → number_of (plan_as_read l).answer ≡ 0 → first_piece l a ≡ start_piece l (plan_as_read l) a
+unfolding first_piece
+started_first l a e = rw (eq-eqb (number_of (plan_as_read l).answer) 0 e)
 
-pub refused-first : (l a : List ℕ) → (number_of (planRead l).answer ≡ 0 → ⊥)
-    → firstPiece l a ≡ moved (refusedLine (number_of (planRead l).answer)) noProgress a
-unfolding firstPiece
-refused-first l a e = rw (ne_eqb (number_of (planRead l).answer) 0 e)
+pub refused_first : (l a : List ℕ) → (number_of (plan_as_read l).answer ≡ 0 → ⊥)
+    → first_piece l a ≡ moved (refused_line (number_of (plan_as_read l).answer)) no_progress a
+unfolding first_piece
+refused_first l a e = rw (ne_eqb (number_of (plan_as_read l).answer) 0 e)
 
 -- After the first piece there are no more than 16,777,281.
-pub first_pieces : (l a : List ℕ) → length a ≡ areaSize → pieces (firstPiece l a).progress ≤ 16777281
+pub first_pieces : (l a : List ℕ) → length a ≡ area_size → pieces (first_piece l a).progress ≤ 16777281
 first_pieces l a h =
-    by-eq (number_of (planRead l).answer) 0
-    (λ e. subst (λ (m : Moved). pieces m.progress ≤ 16777281) (sym (started-first l a e)) (start-pieces l a h e))
-    (λ e. subst (λ (m : Moved). pieces m.progress ≤ 16777281) (sym (refused-first l a e))
-    (omega (arith, pieces-off noProgress refl)))
+    by_eq (number_of (plan_as_read l).answer) 0
+    (λ e. subst (λ (m : Moved). pieces m.progress ≤ 16777281) (sym (started_first l a e)) (start_pieces l a h e))
+    (λ e. subst (λ (m : Moved). pieces m.progress ≤ 16777281) (sym (refused_first l a e))
+    (omega (arith, pieces_off no_progress refl)))
 
-module _ (n : ℕ) (l a o : List ℕ) (h : areaSize ≤ length a) (k : 2048 ≤ length o) where
-  cut : length (take areaSize a) ≡ areaSize
-  cut = length-take-le areaSize a h
+module _ (n : ℕ) (l a o : List ℕ) (h : area_size ≤ length a) (k : 2048 ≤ length o) where
+  cut : length (take area_size a) ≡ area_size
+  cut = length-take-le area_size a h
 
-  pub begin-on : begun l a o ≡ onFront a (given o (firstPiece l (take areaSize a)))
+  pub begin_on : begun l a o ≡ on_front a (given o (first_piece l (take area_size a)))
   unfolding begun
-  begin-on = rw (le-ltb (length a) areaSize h, le-ltb (length o) 2048 k)
+  begin_on = rw (le-ltb (length a) area_size h, le-ltb (length o) 2048 k)
 
   -- an input that is refused has one piece
-  told-refused : (number_of (planRead l).answer ≡ 0 → ⊥) → told (suc n) l (begun l a o) ≡ printed l
+  told_refused : (number_of (plan_as_read l).answer ≡ 0 → ⊥) → told (suc n) l (begun l a o) ≡ printed l
   unfolding told
-  told-refused e =
-      let f : firstPiece l (take areaSize a) ≡ moved (refusedLine (number_of (planRead l).answer)) noProgress
-      (take areaSize a) = refused-first l (take areaSize a) e in
-      rw (begin-on, f)
+  told_refused e =
+      let f : first_piece l (take area_size a) ≡ moved (refused_line (number_of (plan_as_read l).answer)) no_progress
+      (take area_size a) = refused_first l (take area_size a) e in
+      rw (begin_on, f)
       (append-nil _
-      ∙ take-sets (refusedLine (number_of (planRead l).answer)) o
-      (length (refusedLine (number_of (planRead l).answer))) refl
-      (omega (arith, refused-size (number_of (planRead l).answer)))
-      ∙ sym (refused-print l e))
+      ∙ take_sets (refused_line (number_of (plan_as_read l).answer)) o
+      (length (refused_line (number_of (plan_as_read l).answer))) refl
+      (omega (arith, refused_size (number_of (plan_as_read l).answer)))
+      ∙ sym (refused_print l e))
 
-  told-whole : 16777281 ≤ n → number_of (planRead l).answer ≡ 0 → told (suc n) l (begun l a o) ≡ printed l
-  unfolding told startPiece
-  told-whole q e =
-      let f : firstPiece l (take areaSize a) ≡ startPiece l (planRead l) (take areaSize a) = started-first l
-      (take areaSize a) e in
-      let t = firstText (planRead l).layout in
-      rw (begin-on, f)
+  told_whole : 16777281 ≤ n → number_of (plan_as_read l).answer ≡ 0 → told (suc n) l (begun l a o) ≡ printed l
+  unfolding told start_piece
+  told_whole q e =
+      let f : first_piece l (take area_size a) ≡ start_piece l (plan_as_read l) (take area_size a) = started_first l
+      (take area_size a) e in
+      let t = first_text (plan_as_read l).layout in
+      rw (begin_on, f)
       (ap₂ (λ (x y : List ℕ). x ++ y)
-      (take-sets (firstText (planRead l).layout) o (length (firstText (planRead l).layout)) refl
-      (omega (arith, start-size l (planRead l) (take areaSize a))))
-      (told-on n l (startArea l (planRead l) (take areaSize a)) (drop areaSize a)
-      (sets o 0 (firstText (planRead l).layout))
-      (standing (planRead l).first (planRead l).offers (planRead l).named (planRead l).times false allAhead)
-      (start-going l (take areaSize a) cut e) refl (omega (arith, length-sets o 0 (firstText (planRead l).layout)))
-      (omega (arith, start-pieces l (take areaSize a) cut e)))
-      ∙ ap (λ (c : Course). c.text) (sym (start-on l (take areaSize a) cut e))
-      ∙ course-same l (take areaSize a) cut)
+      (take_sets (first_text (plan_as_read l).layout) o (length (first_text (plan_as_read l).layout)) refl
+      (omega (arith, start_size l (plan_as_read l) (take area_size a))))
+      (told_on n l (start_area l (plan_as_read l) (take area_size a)) (drop area_size a)
+      (sets o 0 (first_text (plan_as_read l).layout))
+      (standing (plan_as_read l).first (plan_as_read l).offers (plan_as_read l).named (plan_as_read l).times false all_ahead)
+      (start_going l (take area_size a) cut e) refl (omega (arith, length-sets o 0 (first_text (plan_as_read l).layout)))
+      (omega (arith, start_pieces l (take area_size a) cut e)))
+      ∙ ap (λ (c : Course). c.text) (sym (start_on l (take area_size a) cut e))
+      ∙ course_same l (take area_size a) cut)
 
 -- From `begin` on, over any work area and any output that are long enough, the pieces are just what is printed. Of the
 -- calls none is refused, and there are no more than 16,777,282.
-pub told-printed : (l a o : List ℕ) → areaSize ≤ length a → 2048 ≤ length o → told 16777282 l (begun l a o) ≡ printed l
-told-printed l a o h k =
-    by-eq (number_of (planRead l).answer) 0 (λ e. told-whole 16777281 l a o h k (omega arith) e)
-    (λ e. told-refused 16777281 l a o h k e)
+pub told_printed : (l a o : List ℕ) → area_size ≤ length a → 2048 ≤ length o → told 16777282 l (begun l a o) ≡ printed l
+told_printed l a o h k =
+    by_eq (number_of (plan_as_read l).answer) 0 (λ e. told_whole 16777281 l a o h k (omega arith) e)
+    (λ e. told_refused 16777281 l a o h k e)

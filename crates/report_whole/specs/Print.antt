@@ -3,8 +3,8 @@
 use Rattle.std.specs.Prelude.{ℕ, List, [], ◌∷◌, ◌++◌, ltb, length, take, drop}
 use Rattle.std.proofs.lemmas.List.Edits.{sets}
 use Rattle.octets.specs.Base.{pick, Answer, refused, accepted}
-use Rattle.area.specs.Offsets.{areaSize}
-use Rattle.report_spec.specs.Printed.{inputCourse, printed}
+use Rattle.area.specs.Offsets.{area_size}
+use Rattle.report_spec.specs.Printed.{input_course, printed}
 
 -- what the call leaves: its answer, the area, the lent output
 pub record Print : Type 0 where
@@ -17,9 +17,9 @@ print r a o = record { answer = r; area = a; out = o }
 
 -- 1, and 15 ("The lent output is too short"); else how many octets are printed, with the text at the front of the
 -- output and the area that the run leaves. "Octets past what is written stay", of the output and of a longer area.
-unfoldable pub printedInto : List ℕ → (a o : List ℕ) → Print
-printedInto l a o =
-    pick (ltb (length a) areaSize) (print (refused 1) a o)
+unfoldable pub printed_into : List ℕ → (a o : List ℕ) → Print
+printed_into l a o =
+    pick (ltb (length a) area_size) (print (refused 1) a o)
     (pick (ltb (length o) (length (printed l))) (print (refused 15) a o)
-    (print (accepted (length (printed l) ∷ [])) ((inputCourse l (take areaSize a)).octets ++ drop areaSize a)
+    (print (accepted (length (printed l) ∷ [])) ((input_course l (take area_size a)).octets ++ drop area_size a)
     (sets o 0 (printed l))))

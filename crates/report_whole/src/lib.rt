@@ -5,11 +5,11 @@ pub mod parts;
 
 ghost use Rattle.std.specs.Prelude.{◌≡◌, false, ◌≤◌, leb, length, drop};
 ghost use Rattle.std.proofs.lemmas.List.Edits.{sets};
-ghost use Rattle.report_spec.specs.Printed.{inputCourse, printed};
-ghost use Rattle.report_spec.specs.Pieces.{pieceAnswer, remaining};
+ghost use Rattle.report_spec.specs.Printed.{input_course, printed};
+ghost use Rattle.report_spec.specs.Pieces.{piece_answer, remaining};
 ghost use Rattle.report_theorem.specs.Along.{Along};
-ghost use Rattle.report_whole.specs.Print.{print, printedInto};
-ghost use Rattle.area.specs.Offsets.{areaSize};
+ghost use Rattle.report_whole.specs.Print.{print, printed_into};
+ghost use Rattle.area.specs.Offsets.{area_size};
 
 use report_spec::{Piece, Progress};
 
@@ -69,10 +69,10 @@ fn store_rest(input: &[u8], area: &mut [u8], out: &mut [u8], at: usize, g: Progr
 
 // Stores all that is printed for the input into `out`, and answers where it ends.
 fn store_run(input: &[u8], area: &mut [u8], out: &mut [u8]) -> usize
-    requires { (length area.old ≡ areaSize) × (length (printed input.now) ≤ length out.old) }
+    requires { (length area.old ≡ area_size) × (length (printed input.now) ≤ length out.old) }
     ensures end { result ≡ length (printed input.now) }
     ensures text { out.new ≡ sets out.old 0 (printed input.now) }
-    ensures area { area.new ≡ (inputCourse input.now area.old).octets }
+    ensures area { area.new ≡ (input_course input.now area.old).octets }
 {
     let mut buf = [0u8; 2048];
     let p = crate::parts::first(input, area, &mut buf);
@@ -84,8 +84,8 @@ fn store_run(input: &[u8], area: &mut [u8], out: &mut [u8]) -> usize
 
 // Puts the whole text of a run input at the front of `out`, and answers how many octets it has. Refusals 1, 15.
 pub fn print(input: &[u8], area: &mut [u8], out: &mut [u8]) -> Piece
-    ensures { print (pieceAnswer result) area.new out.new
-        ≡ printedInto input.now area.old out.old }
+    ensures { print (piece_answer result) area.new out.new
+        ≡ printed_into input.now area.old out.old }
 {
     if area.len() < area::AREA {
         return Piece::Refused(1);

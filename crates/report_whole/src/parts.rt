@@ -2,9 +2,9 @@
 
 ghost use Rattle.std.specs.Prelude.{◌≡◌, ◌≤◌, length, get_or, take};
 ghost use Rattle.octets.specs.Base.{values_of};
-ghost use Rattle.report_spec.specs.Pieces.{pieceAnswer, moved, move, firstPiece};
+ghost use Rattle.report_spec.specs.Pieces.{piece_answer, moved, move, first_piece};
 ghost use Rattle.report_theorem.specs.Whole.{Going};
-ghost use Rattle.area.specs.Offsets.{areaSize};
+ghost use Rattle.area.specs.Offsets.{area_size};
 
 use report_spec::{Piece, Progress};
 
@@ -17,7 +17,7 @@ pub struct Part {
 
 // The octets of a piece, none of a refusal.
 fn size_of(piece: Piece) -> usize
-    ensures { result ≡ get_or (values_of (pieceAnswer piece)) 0 0 }
+    ensures { result ≡ get_or (values_of (piece_answer piece)) 0 0 }
 {
     match piece {
         Piece::Refused(_) => 0,
@@ -27,9 +27,9 @@ fn size_of(piece: Piece) -> usize
 
 // The first piece.
 pub fn first(input: &[u8], area: &mut [u8], buf: &mut [u8]) -> Part
-    requires { (length area.old ≡ areaSize) × (2048 ≤ length buf.old) }
+    requires { (length area.old ≡ area_size) × (2048 ≤ length buf.old) }
     ensures piece { moved (take result.size buf.new) result.progress area.new
-        ≡ firstPiece input.now area.old }
+        ≡ first_piece input.now area.old }
     ensures size { result.size ≤ length buf.new }
 {
     let h = report_begin::begin(input, area, buf);

@@ -8,17 +8,17 @@ use Rattle.std.proofs.lemmas.Bool.{lt-leb}
 use Rattle.std.proofs.Math.Dec.{leb, eqb}
 use Rattle.std.proofs.Math.ListN.{get_or}
 use Rattle.octets.specs.Base.{pick, some, outside}
-use Rattle.octets.specs.BaseLaws.{by-test, by-eq, within, some_same, some_more, some-hit}
+use Rattle.octets.specs.BaseLaws.{by_test, by_eq, within, some_same, some_more, some_hit}
 use Rattle.octets.specs.Equal.{equal}
-use Rattle.octets.specs.EqualLaws.{equal-refl, equal-true}
+use Rattle.octets.specs.EqualLaws.{equal_refl, equal_true}
 use Rattle.octets.specs.Number.{get}
 use Rattle.octets.specs.NumberLaws.{Octets}
 use Rattle.sheet_layout.specs.declared.Tap.{Tap}
 use Rattle.sheet_layout.specs.declared.Layout.{Layout}
-use Rattle.sheet_layout.specs.Layout.{tapAt, addressAt}
-use Rattle.sheet_layout.specs.Check.{figuresOut, positionOut, falls, is_group, sameAddress, addressWrong, refusalOf}
-use Rattle.sheet_check.specs.Plain.{Spelled, Laid, highAt, dropsAt, sameAt, wrongAt, plainRefusal}
-use Rattle.sheet_layout.specs.Limits.{maxPosition, maxStations}
+use Rattle.sheet_layout.specs.Layout.{tap_at, address_at}
+use Rattle.sheet_layout.specs.Check.{figures_out, position_out, falls, is_group, same_address, address_wrong, refusal_of}
+use Rattle.sheet_check.specs.Plain.{Spelled, Laid, high_at, drops_at, same_at, wrong_at, plain_refusal}
+use Rattle.sheet_layout.specs.Limits.{max_position, max_stations}
 
 -- ---- an address and its number
 
@@ -27,17 +27,17 @@ unfolding get
 number_is a x y p q = omega arith
 
 -- numbers that are equal have equal octets
-same-octets : (w : ℕ) (a b : List ℕ) → Octets a → Octets b → get w a 0 ≡ get w b 0 → (k : ℕ) → k < w
+same_octets : (w : ℕ) (a b : List ℕ) → Octets a → Octets b → get w a 0 ≡ get w b 0 → (k : ℕ) → k < w
     → get_or a k 0 ≡ get_or b k 0
 unfolding get Octets
-same-octets zero a b o p e k h = absurd (not-suc-le-zero h)
-same-octets (suc zero) a b o p e k h = let z : k ≡ 0 = omega arith in rw z e
-same-octets (suc (suc w)) a b o p e k h =
+same_octets zero a b o p e k h = absurd (not-suc-le-zero h)
+same_octets (suc zero) a b o p e k h = let z : k ≡ 0 = omega arith in rw z e
+same_octets (suc (suc w)) a b o p e k h =
     let f : get (suc w) a 0 * 256 + get_or a (suc w) 0 ≡ get (suc w) b 0 * 256 + get_or b (suc w) 0 = rw zero-add at e in
     let x = o (suc w) in
     let y = p (suc w) in
     let last : get_or a (suc w) 0 ≡ get_or b (suc w) 0 = omega arith in
-    go (dec_lt k (suc w)) (λ j. same-octets (suc w) a b o p (omega arith) k j) last
+    go (dec_lt k (suc w)) (λ j. same_octets (suc w) a b o p (omega arith) k j) last
   where
     go : Dec (k < suc w) → (k < suc w → get_or a k 0 ≡ get_or b k 0) → get_or a (suc w) 0 ≡ get_or b (suc w) 0
         → get_or a k 0 ≡ get_or b k 0
@@ -48,18 +48,18 @@ same-octets (suc (suc w)) a b o p e k h =
 same_number : (a b : List ℕ) → Octets a → Octets b → length a ≡ 6 → length b ≡ 6
     → eqb (get 6 a 0) (get 6 b 0) ≡ equal a b
 same_number a b o p la lb =
-    by-eq (get 6 a 0) (get 6 b 0)
-    (λ e. eq-eqb (get 6 a 0) (get 6 b 0) e ∙ sym (ap (equal a) (sym (same e)) ∙ equal-refl a))
-    (λ n. ne_eqb (get 6 a 0) (get 6 b 0) n ∙ by-test (equal a b)
-    (λ t. absurd (n (ap (λ (l : List ℕ). get 6 l 0) (equal-true a b t)))) sym)
+    by_eq (get 6 a 0) (get 6 b 0)
+    (λ e. eq-eqb (get 6 a 0) (get 6 b 0) e ∙ sym (ap (equal a) (sym (same e)) ∙ equal_refl a))
+    (λ n. ne_eqb (get 6 a 0) (get 6 b 0) n ∙ by_test (equal a b)
+    (λ t. absurd (n (ap (λ (l : List ℕ). get 6 l 0) (equal_true a b t)))) sym)
   where
     same : get 6 a 0 ≡ get 6 b 0 → a ≡ b
-    same e = ext_get_or 0 a b (la ∙ sym lb) (λ i h. same-octets 6 a b o p e i (omega arith))
+    same e = ext_get_or 0 a b (la ∙ sym lb) (λ i h. same_octets 6 a b o p e i (omega arith))
 
 -- the first octet
-group-number : (a : List ℕ) → Octets a → eqb (get 6 a 0 / 1099511627776 % 2) 1 ≡ is_group a
+group_number : (a : List ℕ) → Octets a → eqb (get 6 a 0 / 1099511627776 % 2) 1 ≡ is_group a
 unfolding get Octets
-group-number a o =
+group_number a o =
     let e : get 6 a 0 / 1099511627776 % 2 ≡ get_or a 0 0 % 2 = omega (arith, o 0, o 1, o 2, o 3, o 4, o 5) in
     ap (λ (n : ℕ). eqb n 1) e
 
@@ -77,7 +77,7 @@ pub laid_more : (y : Layout) (i : ℕ) (ps qs : List ℕ) (t : Tap) (q : ℕ) �
     → t ≡ get_or y.stations i (record { position = 0; address = [] })
     → q ≡ get 6 t.address 0 → Octets t.address → length t.address ≡ 6
     → Laid y i ps qs → Laid y (i + 1) (set ps i t.position) (set qs i q)
-unfolding Laid tapAt
+unfolding Laid tap_at
 laid_more y i ps qs t q h k e n o s l j b = go (dec_lt j i)
   where
     here : Spelled y i t.position q
@@ -99,122 +99,122 @@ laid_more y i ps qs t q h k e n o s l j b = go (dec_lt j i)
 -- ---- each check
 
 module _ (y : Layout) (n : ℕ) (ps qs : List ℕ) (l : Laid y n ps qs) where
-  laid-high : some (highAt ps) n ≡ some (positionOut y) n
+  laid_high : some (high_at ps) n ≡ some (position_out y) n
   unfolding Laid
-  laid-high = some_same (highAt ps) (positionOut y) n (λ i h. ap (ltb maxPosition) (l i h).position)
+  laid_high = some_same (high_at ps) (position_out y) n (λ i h. ap (ltb max_position) (l i h).position)
 
-  laid-drops : some (dropsAt ps) (n - 1) ≡ some (falls y) (n - 1)
+  laid_drops : some (drops_at ps) (n - 1) ≡ some (falls y) (n - 1)
   unfolding Laid
-  laid-drops =
-      some_same (dropsAt ps) (falls y) (n - 1)
+  laid_drops =
+      some_same (drops_at ps) (falls y) (n - 1)
       (λ i h. ap₂ leb (ap (λ (k : ℕ). get_or ps k 0) (add-one i) ∙ (l (suc i) (omega arith)).position)
       (l i (omega arith)).position)
 
-  laid_same : (i j : ℕ) → i < n → j < n → sameAt qs i j ≡ sameAddress y i j
+  laid_same : (i j : ℕ) → i < n → j < n → same_at qs i j ≡ same_address y i j
   unfolding Laid
   laid_same i j h k =
       let a = l j k in
       let b = l i h in
       ap₂ eqb a.number b.number
-      ∙ same_number (addressAt y j) (addressAt y i) a.octets b.octets a.six b.six
+      ∙ same_number (address_at y j) (address_at y i) a.octets b.octets a.six b.six
 
-  laid-wrong : some (wrongAt qs) n ≡ some (addressWrong y) n
-  unfolding Laid wrongAt addressWrong
-  laid-wrong =
+  laid_wrong : some (wrong_at qs) n ≡ some (address_wrong y) n
+  unfolding Laid wrong_at address_wrong
+  laid_wrong =
       some_same _ _ n
       (λ i h. ap₂ (λ (a b : Bool). a || b)
-      (ap (λ (q : ℕ). eqb (q / 1099511627776 % 2) 1) (l i h).number ∙ group-number (addressAt y i) (l i h).octets)
-      (some_same (sameAt qs i) (sameAddress y i) i (λ j k. laid_same i j h (omega arith))))
+      (ap (λ (q : ℕ). eqb (q / 1099511627776 % 2) 1) (l i h).number ∙ group_number (address_at y i) (l i h).octets)
+      (some_same (same_at qs i) (same_address y i) i (λ j k. laid_same i j h (omega arith))))
 
 -- ---- the loops
 
 module _ (l : List ℕ) where
-  pub high-more : (i : ℕ) → get_or l i 0 ≤ maxPosition → some (highAt l) i ≡ false → some (highAt l) (i + 1) ≡ false
-  high-more i p r = some_more (highAt l) i false (sym (le-ltb maxPosition (get_or l i 0) p)) refl r
+  pub high_more : (i : ℕ) → get_or l i 0 ≤ max_position → some (high_at l) i ≡ false → some (high_at l) (i + 1) ≡ false
+  high_more i p r = some_more (high_at l) i false (sym (le-ltb max_position (get_or l i 0) p)) refl r
 
-  pub high-hit : (n i : ℕ) → maxPosition < get_or l i 0 → i < n → true ≡ some (highAt l) n
-  high-hit n i p h = some-hit (highAt l) n i true (sym (lt-ltb maxPosition (get_or l i 0) p)) refl h
+  pub high_hit : (n i : ℕ) → max_position < get_or l i 0 → i < n → true ≡ some (high_at l) n
+  high_hit n i p h = some_hit (high_at l) n i true (sym (lt-ltb max_position (get_or l i 0) p)) refl h
 
-  pub drops-more : (i : ℕ) → get_or l i 0 < get_or l (i + 1) 0 → some (dropsAt l) i ≡ false
-      → some (dropsAt l) (i + 1) ≡ false
-  drops-more i p r = some_more (dropsAt l) i false (sym (lt-leb (get_or l (i + 1) 0) (get_or l i 0) p)) refl r
+  pub drops_more : (i : ℕ) → get_or l i 0 < get_or l (i + 1) 0 → some (drops_at l) i ≡ false
+      → some (drops_at l) (i + 1) ≡ false
+  drops_more i p r = some_more (drops_at l) i false (sym (lt-leb (get_or l (i + 1) 0) (get_or l i 0) p)) refl r
 
-  pub drops-hit : (n i : ℕ) → get_or l (i + 1) 0 ≤ get_or l i 0 → i < n → true ≡ some (dropsAt l) n
-  drops-hit n i p h = some-hit (dropsAt l) n i true (sym (le-leb (get_or l (i + 1) 0) (get_or l i 0) p)) refl h
+  pub drops_hit : (n i : ℕ) → get_or l (i + 1) 0 ≤ get_or l i 0 → i < n → true ≡ some (drops_at l) n
+  drops_hit n i p h = some_hit (drops_at l) n i true (sym (le-leb (get_or l (i + 1) 0) (get_or l i 0) p)) refl h
 
-  pub same_more : (i j : ℕ) → (get_or l j 0 ≡ get_or l i 0 → ⊥) → some (sameAt l i) j ≡ false
-      → some (sameAt l i) (j + 1) ≡ false
-  same_more i j p r = some_more (sameAt l i) j false (sym (ne_eqb (get_or l j 0) (get_or l i 0) p)) refl r
+  pub same_more : (i j : ℕ) → (get_or l j 0 ≡ get_or l i 0 → ⊥) → some (same_at l i) j ≡ false
+      → some (same_at l i) (j + 1) ≡ false
+  same_more i j p r = some_more (same_at l i) j false (sym (ne_eqb (get_or l j 0) (get_or l i 0) p)) refl r
 
-  pub same-hit : (i j : ℕ) → get_or l j 0 ≡ get_or l i 0 → j < i → true ≡ some (sameAt l i) i
-  same-hit i j p h = some-hit (sameAt l i) i j true (sym (eq-eqb (get_or l j 0) (get_or l i 0) p)) refl h
+  pub same_hit : (i j : ℕ) → get_or l j 0 ≡ get_or l i 0 → j < i → true ≡ some (same_at l i) i
+  same_hit i j p h = some_hit (same_at l i) i j true (sym (eq-eqb (get_or l j 0) (get_or l i 0) p)) refl h
 
-  pub wrong-is : (i : ℕ) (q r : Bool) → r ≡ (eqb (get_or l i 0 / 1099511627776 % 2) 1 || q) → q ≡ some (sameAt l i) i
-      → r ≡ wrongAt l i
-  unfolding wrongAt
-  wrong-is i q r p e = p ∙ rw e
+  pub wrong_is : (i : ℕ) (q r : Bool) → r ≡ (eqb (get_or l i 0 / 1099511627776 % 2) 1 || q) → q ≡ some (same_at l i) i
+      → r ≡ wrong_at l i
+  unfolding wrong_at
+  wrong_is i q r p e = p ∙ rw e
 
 -- ---- the order of the checks
 
 module _ (count n : ℕ) (ps qs : List ℕ) (b₁ b₂ b₃ b₄ : Bool) where
-  pub plain-position : n ≡ min count 16 → b₁ ≡ some (highAt ps) n → b₁ ≡ true → 5 ≡ plainRefusal count ps qs
-  unfolding plainRefusal
-  plain-position e p q = rw (← e, ← p, q)
+  pub plain_position : n ≡ min count 16 → b₁ ≡ some (high_at ps) n → b₁ ≡ true → 5 ≡ plain_refusal count ps qs
+  unfolding plain_refusal
+  plain_position e p q = rw (← e, ← p, q)
 
-  pub plain-count : n ≡ min count 16 → b₁ ≡ some (highAt ps) n → b₁ ≡ false → b₂ ≡ outside count 2 16 → b₂ ≡ true
-      → 6 ≡ plainRefusal count ps qs
-  unfolding plainRefusal
-  plain-count e p q r s = rw (← e, ← p, q, ← r, s)
+  pub plain_count : n ≡ min count 16 → b₁ ≡ some (high_at ps) n → b₁ ≡ false → b₂ ≡ outside count 2 16 → b₂ ≡ true
+      → 6 ≡ plain_refusal count ps qs
+  unfolding plain_refusal
+  plain_count e p q r s = rw (← e, ← p, q, ← r, s)
 
-  pub plain-order : n ≡ min count 16 → b₁ ≡ some (highAt ps) n → b₁ ≡ false → b₂ ≡ outside count 2 16 → b₂ ≡ false
-      → b₃ ≡ some (dropsAt ps) (count - 1) → b₃ ≡ true → 7 ≡ plainRefusal count ps qs
-  unfolding plainRefusal
-  plain-order e p q r s t u = rw (← e, ← p, q, ← r, s, ← t, u)
+  pub plain_order : n ≡ min count 16 → b₁ ≡ some (high_at ps) n → b₁ ≡ false → b₂ ≡ outside count 2 16 → b₂ ≡ false
+      → b₃ ≡ some (drops_at ps) (count - 1) → b₃ ≡ true → 7 ≡ plain_refusal count ps qs
+  unfolding plain_refusal
+  plain_order e p q r s t u = rw (← e, ← p, q, ← r, s, ← t, u)
 
-  pub plain-address : n ≡ min count 16 → b₁ ≡ some (highAt ps) n → b₁ ≡ false → b₂ ≡ outside count 2 16 → b₂ ≡ false
-      → b₃ ≡ some (dropsAt ps) (count - 1) → b₃ ≡ false → b₄ ≡ some (wrongAt qs) count → b₄ ≡ true
-      → 8 ≡ plainRefusal count ps qs
-  unfolding plainRefusal
-  plain-address e p q r s t u v w = rw (← e, ← p, q, ← r, s, ← t, u, ← v, w)
+  pub plain_address : n ≡ min count 16 → b₁ ≡ some (high_at ps) n → b₁ ≡ false → b₂ ≡ outside count 2 16 → b₂ ≡ false
+      → b₃ ≡ some (drops_at ps) (count - 1) → b₃ ≡ false → b₄ ≡ some (wrong_at qs) count → b₄ ≡ true
+      → 8 ≡ plain_refusal count ps qs
+  unfolding plain_refusal
+  plain_address e p q r s t u v w = rw (← e, ← p, q, ← r, s, ← t, u, ← v, w)
 
-  pub plain-none : n ≡ min count 16 → b₁ ≡ some (highAt ps) n → b₁ ≡ false → b₂ ≡ outside count 2 16 → b₂ ≡ false
-      → b₃ ≡ some (dropsAt ps) (count - 1) → b₃ ≡ false → b₄ ≡ some (wrongAt qs) count → b₄ ≡ false
-      → 0 ≡ plainRefusal count ps qs
-  unfolding plainRefusal
-  plain-none e p q r s t u v w = rw (← e, ← p, q, ← r, s, ← t, u, ← v, w)
+  pub plain_none : n ≡ min count 16 → b₁ ≡ some (high_at ps) n → b₁ ≡ false → b₂ ≡ outside count 2 16 → b₂ ≡ false
+      → b₃ ≡ some (drops_at ps) (count - 1) → b₃ ≡ false → b₄ ≡ some (wrong_at qs) count → b₄ ≡ false
+      → 0 ≡ plain_refusal count ps qs
+  unfolding plain_refusal
+  plain_none e p q r s t u v w = rw (← e, ← p, q, ← r, s, ← t, u, ← v, w)
 
 -- the places that the later checks read
-pub count-above : (count : ℕ) (b : Bool) → b ≡ outside count 2 16 → b ≡ false → 1 ≤ count
-count-above count b p q = let w = within count 2 16 (sym p ∙ q) in omega arith
+pub count_above : (count : ℕ) (b : Bool) → b ≡ outside count 2 16 → b ≡ false → 1 ≤ count
+count_above count b p q = let w = within count 2 16 (sym p ∙ q) in omega arith
 
-pub count-below : (count n : ℕ) (b : Bool) → b ≡ outside count 2 16 → b ≡ false → n ≡ 16 → count - 1 < n
-count-below count n b p q e = let w = within count 2 16 (sym p ∙ q) in omega arith
+pub count_below : (count n : ℕ) (b : Bool) → b ≡ outside count 2 16 → b ≡ false → n ≡ 16 → count - 1 < n
+count_below count n b p q e = let w = within count 2 16 (sym p ∙ q) in omega arith
 
 pub count_most : (count n : ℕ) (b : Bool) → b ≡ outside count 2 16 → b ≡ false → n ≡ 16 → count ≤ n
 count_most count n b p q e = let w = within count 2 16 (sym p ∙ q) in omega arith
 
-pub refusal-figures : (y : Layout) (b : Bool) → b ≡ figuresOut y.figures → b ≡ true → 5 ≡ refusalOf y
-unfolding refusalOf
-refusal-figures y b p q = rw (← p, q)
+pub refusal_figures : (y : Layout) (b : Bool) → b ≡ figures_out y.figures → b ≡ true → 5 ≡ refusal_of y
+unfolding refusal_of
+refusal_figures y b p q = rw (← p, q)
 
 -- there are places enough where the number of stations passes
-pub refusal-plain : (y : Layout) (n : ℕ) (ps qs : List ℕ) (b : Bool) (r : ℕ) → b ≡ figuresOut y.figures → b ≡ false
+pub refusal_plain : (y : Layout) (n : ℕ) (ps qs : List ℕ) (b : Bool) (r : ℕ) → b ≡ figures_out y.figures → b ≡ false
     → n ≡ min y.count 16
-    → Laid y n ps qs → r ≡ plainRefusal y.count ps qs → r ≡ refusalOf y
-unfolding refusalOf plainRefusal
-refusal-plain y n ps qs b r p q e l t =
-    t ∙ rw (← p, q, ← e, laid-high y n ps qs l) (ap (λ (k : ℕ). pick (some (positionOut y) n) 5 k) later)
+    → Laid y n ps qs → r ≡ plain_refusal y.count ps qs → r ≡ refusal_of y
+unfolding refusal_of plain_refusal
+refusal_plain y n ps qs b r p q e l t =
+    t ∙ rw (← p, q, ← e, laid_high y n ps qs l) (ap (λ (k : ℕ). pick (some (position_out y) n) 5 k) later)
   where
-    rest : y.count ≤ maxStations
-        → ◌≡◌ {A = ℕ} (pick (some (dropsAt ps) (y.count - 1)) 7 (pick (some (wrongAt qs) y.count) 8 0))
-        (pick (some (falls y) (y.count - 1)) 7 (pick (some (addressWrong y) y.count) 8 0))
+    rest : y.count ≤ max_stations
+        → ◌≡◌ {A = ℕ} (pick (some (drops_at ps) (y.count - 1)) 7 (pick (some (wrong_at qs) y.count) 8 0))
+        (pick (some (falls y) (y.count - 1)) 7 (pick (some (address_wrong y) y.count) 8 0))
     rest h =
         let m : n ≡ y.count = omega arith in
         let k : Laid y y.count ps qs = rw m at l in
-        rw (laid-drops y y.count ps qs k, laid-wrong y y.count ps qs k)
+        rw (laid_drops y y.count ps qs k, laid_wrong y y.count ps qs k)
 
     later : ◌≡◌ {A = ℕ} (pick (outside y.count 2 16) 6
-        (pick (some (dropsAt ps) (y.count - 1)) 7 (pick (some (wrongAt qs) y.count) 8 0)))
+        (pick (some (drops_at ps) (y.count - 1)) 7 (pick (some (wrong_at qs) y.count) 8 0)))
         (pick (outside y.count 2 16) 6
-        (pick (some (falls y) (y.count - 1)) 7 (pick (some (addressWrong y) y.count) 8 0)))
-    later = by-test (outside y.count 2 16) (λ o. rw o) (λ o. rw o (rest (within y.count 2 16 o).1))
+        (pick (some (falls y) (y.count - 1)) 7 (pick (some (address_wrong y) y.count) 8 0)))
+    later = by_test (outside y.count 2 16) (λ o. rw o) (λ o. rw o (rest (within y.count 2 16 o).1))

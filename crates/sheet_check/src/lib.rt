@@ -4,14 +4,14 @@ ghost use Rattle.std.specs.Prelude.{◌≡◌, ◌<◌, ◌≤◌, length};
 ghost use Rattle.octets.specs.Base.{some};
 ghost use Rattle.octets.specs.Number.{get};
 ghost use Rattle.octets.specs.NumberLaws.{Octets};
-ghost use Rattle.sheet_layout.specs.Check.{gap1Out, figuresOut, refusalOf};
-ghost use Rattle.sheet_check.specs.Plain.{Laid, highAt, dropsAt, sameAt, wrongAt, plainRefusal};
-ghost use Rattle.sheet_layout.specs.Limits.{maxStations};
+ghost use Rattle.sheet_layout.specs.Check.{gap1_out, figures_out, refusal_of};
+ghost use Rattle.sheet_check.specs.Plain.{Laid, high_at, drops_at, same_at, wrong_at, plain_refusal};
+ghost use Rattle.sheet_layout.specs.Limits.{max_stations};
 
 use sheet_layout::{Figures, Layout};
 
 fn gap1_out(f: Figures) -> bool
-    ensures { result ≡ gap1Out f }
+    ensures { result ≡ gap1_out f }
 {
     let beyond = octets::out_of(f.gap1, 0, 255);
     octets::either(beyond, 2 * (f.gap2 as u64) < f.gap1 as u64)
@@ -19,7 +19,7 @@ fn gap1_out(f: Figures) -> bool
 
 // Whether a figure is outside its range.
 fn figures_out(f: Figures) -> bool
-    ensures { result ≡ figuresOut f }
+    ensures { result ≡ figures_out f }
 {
     let slot = octets::out_of(f.slot, 64, sheet_layout::MAX_SLOT);
     let gap1 = gap1_out(f);
@@ -48,7 +48,7 @@ fn number(a: [u8; 6]) -> u64
 // Lays out the positions and the addresses of the first n stations as plain numbers: an index into those copies
 // nothing.
 fn lay_out(y: Layout, n: usize, positions: &mut [u32], addresses: &mut [u64])
-    requires { (n ≤ maxStations) × (length positions.old ≡ 16) × (length addresses.old ≡ 16) }
+    requires { (n ≤ max_stations) × (length positions.old ≡ 16) × (length addresses.old ≡ 16) }
     ensures { Laid y n positions.new addresses.new }
 {
     let mut i: usize = 0;
@@ -64,7 +64,7 @@ fn lay_out(y: Layout, n: usize, positions: &mut [u32], addresses: &mut [u64])
 // Whether one of the first n positions is outside its range.
 fn positions_out(positions: &[u32], n: usize) -> bool
     requires { n ≤ length positions.now }
-    ensures { result ≡ some (highAt positions.now) n }
+    ensures { result ≡ some (high_at positions.now) n }
 {
     let mut i: usize = 0;
     while i < n {
@@ -79,7 +79,7 @@ fn positions_out(positions: &[u32], n: usize) -> bool
 // Whether one of the first n positions is not below the one after it.
 fn unordered(positions: &[u32], n: usize) -> bool
     requires { n < length positions.now }
-    ensures { result ≡ some (dropsAt positions.now) n }
+    ensures { result ≡ some (drops_at positions.now) n }
 {
     let mut i: usize = 0;
     while i < n {
@@ -94,7 +94,7 @@ fn unordered(positions: &[u32], n: usize) -> bool
 // Whether the address of station i stands at a station before it.
 fn repeats(addresses: &[u64], i: usize) -> bool
     requires { i < length addresses.now }
-    ensures { result ≡ some (sameAt addresses.now i) i }
+    ensures { result ≡ some (same_at addresses.now i) i }
 {
     let mut j: usize = 0;
     while j < i {
@@ -109,7 +109,7 @@ fn repeats(addresses: &[u64], i: usize) -> bool
 // Whether address i has the low bit of its first octet set, or repeats.
 fn address_wrong(addresses: &[u64], i: usize) -> bool
     requires { i < length addresses.now }
-    ensures { result ≡ wrongAt addresses.now i }
+    ensures { result ≡ wrong_at addresses.now i }
 {
     let group = addresses[i] / 1099511627776 % 2 == 1;
     octets::either(group, repeats(addresses, i))
@@ -118,7 +118,7 @@ fn address_wrong(addresses: &[u64], i: usize) -> bool
 // Whether one of the first n addresses is wrong.
 fn addresses_wrong(addresses: &[u64], n: usize) -> bool
     requires { n ≤ length addresses.now }
-    ensures { result ≡ some (wrongAt addresses.now) n }
+    ensures { result ≡ some (wrong_at addresses.now) n }
 {
     let mut i: usize = 0;
     while i < n {
@@ -133,7 +133,7 @@ fn addresses_wrong(addresses: &[u64], n: usize) -> bool
 // The number of the check that refuses so many stations with these positions and addresses, or 0.
 fn stations_refusal(count: u32, positions: &[u32], addresses: &[u64]) -> u32
     requires { (length positions.now ≡ 16) × (length addresses.now ≡ 16) }
-    ensures { result ≡ plainRefusal count positions.now addresses.now }
+    ensures { result ≡ plain_refusal count positions.now addresses.now }
 {
     if positions_out(positions, sheet_layout::places(count)) {
         return 5;
@@ -153,7 +153,7 @@ fn stations_refusal(count: u32, positions: &[u32], addresses: &[u64]) -> u32
 
 // The number of the check, 5 to 8, that refuses a layout, or 0.
 pub fn refusal(y: Layout) -> u32
-    ensures { result ≡ refusalOf y }
+    ensures { result ≡ refusal_of y }
 {
     let f = y.figures;
     if figures_out(f) {

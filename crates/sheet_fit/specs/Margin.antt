@@ -4,38 +4,38 @@ use Rattle.std.specs.Prelude.{ℕ, ◌+◌, ◌-◌, ◌*◌, ◌/◌, min, [], 
 use Rattle.octets.specs.Base.{pick, Answer, refused, accepted}
 use Rattle.sheet_layout.specs.declared.Figures.{Figures}
 use Rattle.sheet_layout.specs.declared.Layout.{Layout}
-use Rattle.sheet_layout.specs.Layout.{positionAt, addressAt, span_of, shortestPacket, fitsWell}
-use Rattle.sheet_layout.specs.Check.{refusalOf}
-use Rattle.sheet_layout.specs.Limits.{maxPosition}
+use Rattle.sheet_layout.specs.Layout.{position_at, address_at, span_of, shortest_packet, fits_well}
+use Rattle.sheet_layout.specs.Check.{refusal_of}
+use Rattle.sheet_layout.specs.Limits.{max_position}
 use Rattle.sheet_fit.specs.declared.MarginAnswer.{MarginAnswer}
 use Rattle.sheet_fit.specs.declared.MarginAnswer.TheVariants.{Refused, NoFit, Outward}
 
 -- the layout with its last tap d bit times farther out
-unfoldable pub movedOut : Layout → ℕ → Layout
-movedOut y d =
+unfoldable pub moved_out : Layout → ℕ → Layout
+moved_out y d =
     record {
       figures = y.figures;
       count = y.count;
       stations =
           set y.stations (y.count - 1)
-          (record { position = positionAt y (y.count - 1) + d; address = addressAt y (y.count - 1) });
+          (record { position = position_at y (y.count - 1) + d; address = address_at y (y.count - 1) });
     }
 
 -- the largest 2 × S that fits
 unfoldable pub longest : Figures → ℕ
-longest f = min f.slot (shortestPacket f)
+longest f = min f.slot (shortest_packet f)
 
 -- half of what 2 × S leaves of it, or what is left of the largest position
-unfoldable pub outwardOf : Layout → ℕ
-outwardOf y = min ((longest y.figures - 2 * span_of y) / 2) (maxPosition - positionAt y (y.count - 1))
+unfoldable pub outward_of : Layout → ℕ
+outward_of y = min ((longest y.figures - 2 * span_of y) / 2) (max_position - position_at y (y.count - 1))
 
 -- what each case of the code's answer stands for
-abbrev pub marginAnswer : MarginAnswer → Answer
-marginAnswer (Refused n) = refused n
-marginAnswer NoFit = accepted []
-marginAnswer (Outward d) = accepted (d ∷ [])
+abbrev pub margin_answer : MarginAnswer → Answer
+margin_answer (Refused n) = refused n
+margin_answer NoFit = accepted []
+margin_answer (Outward d) = accepted (d ∷ [])
 
 -- so many bit times where the layout fits; none where it does not; the refusal of one that does not pass 5 to 8
-unfoldable pub marginOf : Layout → Answer
-marginOf y =
-    pick (eqb (refusalOf y) 0) (pick (fitsWell y) (accepted (outwardOf y ∷ [])) (accepted [])) (refused (refusalOf y))
+unfoldable pub margin_of : Layout → Answer
+margin_of y =
+    pick (eqb (refusal_of y) 0) (pick (fits_well y) (accepted (outward_of y ∷ [])) (accepted [])) (refused (refusal_of y))

@@ -1,11 +1,11 @@
 // Whether a layout fits (document 01, "The sheet"), and how far its last tap may move outward.
 
 ghost use Rattle.std.specs.Prelude.{◌≡◌, true, ◌<◌, ◌≤◌};
-ghost use Rattle.sheet_layout.specs.Layout.{gap_of, span_of, shortestPacket, fitsWell};
-ghost use Rattle.sheet_layout.specs.Check.{refusalOf};
-ghost use Rattle.sheet_layout.specs.Fit.{fitAnswer, fitOf};
-ghost use Rattle.sheet_layout.specs.Limits.{maxStations};
-ghost use Rattle.sheet_fit.specs.Margin.{longest, outwardOf, marginAnswer, marginOf};
+ghost use Rattle.sheet_layout.specs.Layout.{gap_of, span_of, shortest_packet, fits_well};
+ghost use Rattle.sheet_layout.specs.Check.{refusal_of};
+ghost use Rattle.sheet_layout.specs.Fit.{fit_answer, fit_of};
+ghost use Rattle.sheet_layout.specs.Limits.{max_stations};
+ghost use Rattle.sheet_fit.specs.Margin.{longest, outward_of, margin_answer, margin_of};
 
 use sheet_layout::{Figures, Fit, Layout};
 
@@ -20,7 +20,7 @@ pub enum MarginAnswer {
 
 // Last position less first.
 fn span(y: Layout) -> u32
-    requires { (0 < y.count) × (y.count ≤ maxStations) }
+    requires { (0 < y.count) × (y.count ≤ max_stations) }
     ensures { result ≡ span_of y }
 {
     let n = y.count as usize;
@@ -43,15 +43,15 @@ fn gap(f: Figures) -> u64
 
 // The bits of the shortest packet.
 fn shortest_packet(f: Figures) -> u32
-    ensures { result ≡ shortestPacket f }
+    ensures { result ≡ shortest_packet f }
 {
     576
 }
 
 // Whether a layout of 1 to 16 stations fits.
 pub fn fits_well(y: Layout) -> bool
-    requires { (0 < y.count) × (y.count ≤ maxStations) }
-    ensures { result ≡ fitsWell y }
+    requires { (0 < y.count) × (y.count ≤ max_stations) }
+    ensures { result ≡ fits_well y }
 {
     let f = y.figures;
     let round = 2 * (span(y) as u64);
@@ -64,7 +64,7 @@ pub fn fits_well(y: Layout) -> bool
 
 // Whether a layout fits, or which of the checks 5 to 8 refuses it.
 pub fn fits(y: Layout) -> Fit
-    ensures { fitAnswer result ≡ fitOf y }
+    ensures { fit_answer result ≡ fit_of y }
 {
     let n = sheet_check::refusal(y);
     if n != 0 {
@@ -86,8 +86,8 @@ fn longest_round(f: Figures) -> u32
 
 // Half of what is left of the longest way there and back, or what is left of the largest position.
 fn outward(y: Layout) -> u32
-    requires { (0 < y.count) × (y.count ≤ maxStations) × (refusalOf y ≡ 0) × (fitsWell y ≡ true) }
-    ensures { result ≡ outwardOf y }
+    requires { (0 < y.count) × (y.count ≤ max_stations) × (refusal_of y ≡ 0) × (fits_well y ≡ true) }
+    ensures { result ≡ outward_of y }
 {
     let round = 2 * (span(y) as u64);
     let half = (longest_round(y.figures) as u64 - round) / 2;
@@ -99,7 +99,7 @@ fn outward(y: Layout) -> u32
 // How far the last tap of a layout may move outward so that it still fits; or that it does not fit, or which of the
 // checks 5 to 8 refuses it.
 pub fn margin(y: Layout) -> MarginAnswer
-    ensures { marginAnswer result ≡ marginOf y }
+    ensures { margin_answer result ≡ margin_of y }
 {
     let n = sheet_check::refusal(y);
     if n != 0 {

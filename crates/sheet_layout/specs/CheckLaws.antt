@@ -8,68 +8,68 @@ use borrow.Author.Tests.{ltb-false, leb-false, ne_eqb}
 use Rattle.octets.specs.Base.{pick, some, outside, refused, accepted}
 use Rattle.octets.specs.BaseLaws.{neither, within, none_below, some_same}
 use Rattle.octets.specs.Equal.{equal}
-use Rattle.octets.specs.EqualLaws.{equal-refl}
+use Rattle.octets.specs.EqualLaws.{equal_refl}
 use Rattle.sheet_layout.specs.declared.Figures.{Figures}
 use Rattle.sheet_layout.specs.declared.Tap.{Tap}
 use Rattle.sheet_layout.specs.declared.Layout.{Layout}
-use Rattle.sheet_layout.specs.Layout.{tapAt, positionAt, addressAt, gap_of, span_of, shortestPacket, fitsWell}
-use Rattle.sheet_layout.specs.Fit.{fitOf}
-use Rattle.sheet_layout.specs.Check.{gap1Out, figuresOut, positionOut, falls, is_group, sameAddress, addressWrong}
-use Rattle.sheet_layout.specs.Check.{refusalOf}
-use Rattle.sheet_layout.specs.Limits.{maxSlot, maxStations, maxPosition, maxAttempts}
+use Rattle.sheet_layout.specs.Layout.{tap_at, position_at, address_at, gap_of, span_of, shortest_packet, fits_well}
+use Rattle.sheet_layout.specs.Fit.{fit_of}
+use Rattle.sheet_layout.specs.Check.{gap1_out, figures_out, position_out, falls, is_group, same_address, address_wrong}
+use Rattle.sheet_layout.specs.Check.{refusal_of}
+use Rattle.sheet_layout.specs.Limits.{max_slot, max_stations, max_position, max_attempts}
 
 -- ---- the code's tests
 
-pub gap1-is : (f : Figures) (b r : Bool) → r ≡ (b || ltb (2 * f.gap2) f.gap1) → b ≡ outside f.gap1 0 255
-    → r ≡ gap1Out f
-unfolding gap1Out
-gap1-is f b r p q = rw q at p
+pub gap1_is : (f : Figures) (b r : Bool) → r ≡ (b || ltb (2 * f.gap2) f.gap1) → b ≡ outside f.gap1 0 255
+    → r ≡ gap1_out f
+unfolding gap1_out
+gap1_is f b r p q = rw q at p
 
-pub figures-is : (f : Figures) (s g h j l b e be lb r₃ r₂ r₁ r : Bool) → r ≡ (s || r₁) → r₁ ≡ (g || r₂) → r₂ ≡ (h || r₃)
+pub figures_is : (f : Figures) (s g h j l b e be lb r₃ r₂ r₁ r : Bool) → r ≡ (s || r₁) → r₁ ≡ (g || r₂) → r₂ ≡ (h || r₃)
     → r₃ ≡ (j || lb) → lb ≡ (l || be) → be ≡ (b || e) → e ≡ outside f.ends 0 1
-    → b ≡ outside f.backoff 1 10 → l ≡ outside f.limit 1 maxAttempts → j ≡ outside f.jam 1 64
-    → h ≡ outside f.gap2 1 255 → g ≡ gap1Out f
-    → s ≡ outside f.slot 64 maxSlot → r ≡ figuresOut f
-unfolding figuresOut
-figures-is f s g h j l b e be lb r₃ r₂ r₁ r p p₁ p₂ p₃ q qe ee eb el ej eh eg es =
+    → b ≡ outside f.backoff 1 10 → l ≡ outside f.limit 1 max_attempts → j ≡ outside f.jam 1 64
+    → h ≡ outside f.gap2 1 255 → g ≡ gap1_out f
+    → s ≡ outside f.slot 64 max_slot → r ≡ figures_out f
+unfolding figures_out
+figures_is f s g h j l b e be lb r₃ r₂ r₁ r p p₁ p₂ p₃ q qe ee eb el ej eh eg es =
     p ∙ rw (p₁, p₂, p₃, q, qe, ee, eb, el, ej, eh, eg, es)
 
 -- ---- what a layout that passes is known to be
 
 -- a figure within its range
 pub record Figured (f : Figures) : Type 0 where
-  pub slot : (64 ≤ f.slot) × (f.slot ≤ maxSlot)
+  pub slot : (64 ≤ f.slot) × (f.slot ≤ max_slot)
   pub gap1 : (f.gap1 ≤ 255) × (f.gap1 ≤ 2 * f.gap2)
   pub gap2 : (1 ≤ f.gap2) × (f.gap2 ≤ 255)
   pub jam : (1 ≤ f.jam) × (f.jam ≤ 64)
-  pub limit : (1 ≤ f.limit) × (f.limit ≤ maxAttempts)
+  pub limit : (1 ≤ f.limit) × (f.limit ≤ max_attempts)
   pub backoff : (1 ≤ f.backoff) × (f.backoff ≤ 10)
   pub ends : f.ends ≤ 1
 
 pub record Sound (y : Layout) : Type 0 where
   pub figures : Figured y.figures
-  pub count : (2 ≤ y.count) × (y.count ≤ maxStations)
-  pub position : (i : ℕ) → i < y.count → positionAt y i ≤ maxPosition
-  pub rising : (i : ℕ) → suc i < y.count → positionAt y i < positionAt y (suc i)
-  pub individual : (i : ℕ) → i < y.count → is_group (addressAt y i) ≡ false
-  pub distinct : (i j : ℕ) → i < y.count → j < i → addressAt y j ≡ addressAt y i → ⊥
+  pub count : (2 ≤ y.count) × (y.count ≤ max_stations)
+  pub position : (i : ℕ) → i < y.count → position_at y i ≤ max_position
+  pub rising : (i : ℕ) → suc i < y.count → position_at y i < position_at y (suc i)
+  pub individual : (i : ℕ) → i < y.count → is_group (address_at y i) ≡ false
+  pub distinct : (i j : ℕ) → i < y.count → j < i → address_at y j ≡ address_at y i → ⊥
 
-figured : (f : Figures) → figuresOut f ≡ false → Figured f
-unfolding figuresOut gap1Out
+figured : (f : Figures) → figures_out f ≡ false → Figured f
+unfolding figures_out gap1_out
 figured f h =
-    let a = neither (outside f.slot 64 maxSlot) _ h in
+    let a = neither (outside f.slot 64 max_slot) _ h in
     let b = neither (outside f.gap1 0 255 || ltb (2 * f.gap2) f.gap1) _ a.1 in
     let c = neither (outside f.gap2 1 255) _ b.1 in
     let d = neither (outside f.jam 1 64) _ c.1 in
-    let e = neither (outside f.limit 1 maxAttempts) _ d.1 in
+    let e = neither (outside f.limit 1 max_attempts) _ d.1 in
     let k = neither (outside f.backoff 1 10) (outside f.ends 0 1) e.1 in
     let g = neither (outside f.gap1 0 255) (ltb (2 * f.gap2) f.gap1) b.0 in
     record {
-      slot = within f.slot 64 maxSlot a.0;
+      slot = within f.slot 64 max_slot a.0;
       gap1 = ((within f.gap1 0 255 g.0).1, ltb-false (2 * f.gap2) f.gap1 g.1);
       gap2 = within f.gap2 1 255 c.0;
       jam = within f.jam 1 64 d.0;
-      limit = within f.limit 1 maxAttempts e.0;
+      limit = within f.limit 1 max_attempts e.0;
       backoff = within f.backoff 1 10 k.0;
       ends = (within f.ends 0 1 k.1).1;
     }
@@ -79,51 +79,51 @@ passed : (b : Bool) (k r : ℕ) → (k ≡ 0 → ⊥) → pick b k r ≡ 0 → (
 passed true k r h p = absurd (h p)
 passed false k r h p = (refl, p)
 
-pub sound : (y : Layout) → refusalOf y ≡ 0 → Sound y
-unfolding refusalOf addressWrong
+pub sound : (y : Layout) → refusal_of y ≡ 0 → Sound y
+unfolding refusal_of address_wrong
 sound y h =
-    let a = passed (figuresOut y.figures) 5 _ (λ z. omega arith) h in
-    let b = passed (some (positionOut y) (min y.count maxStations)) 5 _ (λ z. omega arith) a.1 in
+    let a = passed (figures_out y.figures) 5 _ (λ z. omega arith) h in
+    let b = passed (some (position_out y) (min y.count max_stations)) 5 _ (λ z. omega arith) a.1 in
     let c = passed (outside y.count 2 16) 6 _ (λ z. omega arith) b.1 in
     let d = passed (some (falls y) (y.count - 1)) 7 _ (λ z. omega arith) c.1 in
-    let e = passed (some (addressWrong y) y.count) 8 0 (λ z. omega arith) d.1 in
+    let e = passed (some (address_wrong y) y.count) 8 0 (λ z. omega arith) d.1 in
     let n = within y.count 2 16 c.0 in
     record {
       figures = figured y.figures a.0;
       count = n;
       position =
-          λ i p. ltb-false maxPosition (positionAt y i)
-          (none_below (positionOut y) (min y.count maxStations) i b.0 (omega arith));
+          λ i p. ltb-false max_position (position_at y i)
+          (none_below (position_out y) (min y.count max_stations) i b.0 (omega arith));
       rising =
-          λ i p. leb-false (positionAt y (suc i)) (positionAt y i)
+          λ i p. leb-false (position_at y (suc i)) (position_at y i)
           (none_below (falls y) (y.count - 1) i d.0 (omega arith));
       individual =
-          λ i p. (neither (is_group (addressAt y i)) (some (sameAddress y i) i)
-          (none_below (addressWrong y) y.count i e.0 p)).0;
+          λ i p. (neither (is_group (address_at y i)) (some (same_address y i) i)
+          (none_below (address_wrong y) y.count i e.0 p)).0;
       distinct =
-          λ i j p q r. unequal (addressAt y j) (addressAt y i)
-          (none_below (sameAddress y i) i j
-          (neither (is_group (addressAt y i)) (some (sameAddress y i) i)
-          (none_below (addressWrong y) y.count i e.0 p)).1 q) r;
+          λ i j p q r. unequal (address_at y j) (address_at y i)
+          (none_below (same_address y i) i j
+          (neither (is_group (address_at y i)) (some (same_address y i) i)
+          (none_below (address_wrong y) y.count i e.0 p)).1 q) r;
     }
   where
     unequal : (a b : List ℕ) → equal a b ≡ false → a ≡ b → ⊥
-    unequal a b p q = true≢false (sym (equal-refl a) ∙ ap (equal a) q ∙ p)
+    unequal a b p q = true≢false (sym (equal_refl a) ∙ ap (equal a) q ∙ p)
 
 -- only the stations that are counted matter
-pub refusal-same : (y z : Layout) → y.figures ≡ z.figures → y.count ≡ z.count → y.count ≤ maxStations
-    → ((i : ℕ) → i < y.count → tapAt y i ≡ tapAt z i)
-    → refusalOf y ≡ refusalOf z
-unfolding refusalOf addressWrong
-refusal-same y z ef en few et =
-    λ i. pick (figuresOut (ef i)) 5
-    (pick (positions i) 5 (pick (outside (en i) 2 maxStations) 6 (pick (order i) 7 (pick (addresses i) 8 0))))
+pub refusal_same : (y z : Layout) → y.figures ≡ z.figures → y.count ≡ z.count → y.count ≤ max_stations
+    → ((i : ℕ) → i < y.count → tap_at y i ≡ tap_at z i)
+    → refusal_of y ≡ refusal_of z
+unfolding refusal_of address_wrong
+refusal_same y z ef en few et =
+    λ i. pick (figures_out (ef i)) 5
+    (pick (positions i) 5 (pick (outside (en i) 2 max_stations) 6 (pick (order i) 7 (pick (addresses i) 8 0))))
   where
-    positions : some (positionOut y) (min y.count maxStations) ≡ some (positionOut z) (min z.count maxStations)
+    positions : some (position_out y) (min y.count max_stations) ≡ some (position_out z) (min z.count max_stations)
     positions =
-        some_same (positionOut y) (positionOut z) (min y.count maxStations)
-        (λ i h. ap (λ (t : Tap). ltb maxPosition t.position) (et i (omega arith)))
-        ∙ ap (λ (n : ℕ). some (positionOut z) (min n maxStations)) en
+        some_same (position_out y) (position_out z) (min y.count max_stations)
+        (λ i h. ap (λ (t : Tap). ltb max_position t.position) (et i (omega arith)))
+        ∙ ap (λ (n : ℕ). some (position_out z) (min n max_stations)) en
 
     order : some (falls y) (y.count - 1) ≡ some (falls z) (z.count - 1)
     order =
@@ -132,24 +132,24 @@ refusal-same y z ef en few et =
         ∙ ap (λ (n : ℕ). some (falls z) (n - 1)) en
 
     wrong : (i : ℕ) → i < y.count
-        → (is_group (addressAt y i) || some (sameAddress y i) i) ≡ (is_group (addressAt z i) || some (sameAddress z i) i)
+        → (is_group (address_at y i) || some (same_address y i) i) ≡ (is_group (address_at z i) || some (same_address z i) i)
     wrong i h =
         ap₂ (λ (a b : Bool). a || b) (ap (λ (t : Tap). is_group t.address) (et i h))
-        (some_same (sameAddress y i) (sameAddress z i) i
+        (some_same (same_address y i) (same_address z i) i
         (λ j p. ap₂ (λ (t u : Tap). equal u.address t.address) (et i h) (et j (omega arith))))
 
-    addresses : some (λ i. is_group (addressAt y i) || some (sameAddress y i) i) y.count ≡ some
-        (λ i. is_group (addressAt z i) || some (sameAddress z i) i) z.count
+    addresses : some (λ i. is_group (address_at y i) || some (same_address y i) i) y.count ≡ some
+        (λ i. is_group (address_at z i) || some (same_address z i) i) z.count
     addresses =
         some_same _ _ y.count wrong
-        ∙ ap (λ (n : ℕ). some (λ i. is_group (addressAt z i) || some (sameAddress z i) i) n) en
+        ∙ ap (λ (n : ℕ). some (λ i. is_group (address_at z i) || some (same_address z i) i) n) en
 
 -- for the fit: there is a first and a last station
-pub counted-low : (y : Layout) (n : ℕ) → n ≡ refusalOf y → n ≡ 0 → 0 < y.count
-counted-low y n p q = let c = (sound y (sym p ∙ q)).count in omega arith
+pub counted_low : (y : Layout) (n : ℕ) → n ≡ refusal_of y → n ≡ 0 → 0 < y.count
+counted_low y n p q = let c = (sound y (sym p ∙ q)).count in omega arith
 
-pub counted-high : (y : Layout) (n : ℕ) → n ≡ refusalOf y → n ≡ 0 → y.count ≤ maxStations
-counted-high y n p q = (sound y (sym p ∙ q)).count.1
+pub counted_high : (y : Layout) (n : ℕ) → n ≡ refusal_of y → n ≡ 0 → y.count ≤ max_stations
+counted_high y n p q = (sound y (sym p ∙ q)).count.1
 
 -- ---- the fit
 
@@ -158,35 +158,35 @@ unfolding gap_of
 gap_is f = refl
 
 module _ (y : Layout) where
-  pub span-apart : (get_or y.stations (y.count - 1) (record {
+  pub span_apart : (get_or y.stations (y.count - 1) (record {
     position = 0;
     address = [];
   })).position - (get_or y.stations 0 (record { position = 0; address = [] })).position ≡ span_of y
-  unfolding span_of tapAt
-  span-apart = refl
+  unfolding span_of tap_at
+  span_apart = refl
 
   pub span_none : (get_or y.stations (y.count - 1) (record {
     position = 0;
     address = [];
   })).position ≤ (get_or y.stations 0 (record { position = 0; address = [] })).position → 0 ≡ span_of y
-  unfolding span_of tapAt
+  unfolding span_of tap_at
   span_none h = omega arith
 
-pub fits-is : (y : Layout) (g s k : ℕ) (q r : Bool) → r ≡ (leb (2 * s) y.figures.slot && q)
-    → q ≡ (leb (2 * s) k && leb g (64 + y.figures.jam)) → s ≡ span_of y → k ≡ shortestPacket y.figures
-    → g ≡ gap_of y.figures → r ≡ fitsWell y
-unfolding fitsWell
-fits-is y g s k q r p e es ek eg = p ∙ rw (e, es, ek, eg)
+pub fits_is : (y : Layout) (g s k : ℕ) (q r : Bool) → r ≡ (leb (2 * s) y.figures.slot && q)
+    → q ≡ (leb (2 * s) k && leb g (64 + y.figures.jam)) → s ≡ span_of y → k ≡ shortest_packet y.figures
+    → g ≡ gap_of y.figures → r ≡ fits_well y
+unfolding fits_well
+fits_is y g s k q r p e es ek eg = p ∙ rw (e, es, ek, eg)
 
 module _ (y : Layout) (n : ℕ) where
-  pub fit_refused : n ≡ refusalOf y → (n ≡ 0 → ⊥) → refused n ≡ fitOf y
-  unfolding fitOf
+  pub fit_refused : n ≡ refusal_of y → (n ≡ 0 → ⊥) → refused n ≡ fit_of y
+  unfolding fit_of
   fit_refused p q = rw (← p, ne_eqb n 0 q)
 
-  pub fit-yes : (b : Bool) → n ≡ refusalOf y → n ≡ 0 → b ≡ fitsWell y → b ≡ true → accepted (1 ∷ []) ≡ fitOf y
-  unfolding fitOf
-  fit-yes b p q r s = rw (← p, q, ← r, s)
+  pub fit_yes_lem : (b : Bool) → n ≡ refusal_of y → n ≡ 0 → b ≡ fits_well y → b ≡ true → accepted (1 ∷ []) ≡ fit_of y
+  unfolding fit_of
+  fit_yes_lem b p q r s = rw (← p, q, ← r, s)
 
-  pub fit-no : (b : Bool) → n ≡ refusalOf y → n ≡ 0 → b ≡ fitsWell y → b ≡ false → accepted (0 ∷ []) ≡ fitOf y
-  unfolding fitOf
-  fit-no b p q r s = rw (← p, q, ← r, s)
+  pub fit_no_lem : (b : Bool) → n ≡ refusal_of y → n ≡ 0 → b ≡ fits_well y → b ≡ false → accepted (0 ∷ []) ≡ fit_of y
+  unfolding fit_of
+  fit_no_lem b p q r s = rw (← p, q, ← r, s)

@@ -2,25 +2,25 @@
 use Rattle.std.specs.Prelude.{ℕ}
 
 -- "N is outside 2..16": the most stations
-abbrev pub maxStations : ℕ
-maxStations = 16
+abbrev pub max_stations : ℕ
+max_stations = 16
 
 -- "position (1 octet, ..)": the largest
-abbrev pub maxPosition : ℕ
-maxPosition = 255
+abbrev pub max_position : ℕ
+max_position = 255
 
 -- the largest slot
-abbrev pub maxSlot : ℕ
-maxSlot = 512
+abbrev pub max_slot : ℕ
+max_slot = 512
 
 -- "attempt limit", 1..16: the largest
-abbrev pub maxAttempts : ℕ
-maxAttempts = 16
+abbrev pub max_attempts : ℕ
+max_attempts = 16
 
 -- "D is outside 1..16": the most draws of a station
-abbrev pub maxDraws : ℕ
-maxDraws = 16
+abbrev pub max_draws : ℕ
+max_draws = 16
 
 -- "Clock plus the bit times asked exceeds 16,777,216."
-abbrev pub lastClock : ℕ
-lastClock = 16777216
+abbrev pub last_clock : ℕ
+last_clock = 16777216

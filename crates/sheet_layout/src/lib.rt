@@ -1,7 +1,7 @@
 // The layout that a sheet describes: figures and stations. `sheet_check` and `sheet_fit` judge it.
 
 ghost use Rattle.std.specs.Prelude.{◌≡◌, ◌<◌, ◌≤◌, min};
-ghost use Rattle.sheet_layout.specs.Limits.{maxStations};
+ghost use Rattle.sheet_layout.specs.Limits.{max_stations};
 
 // The most stations: "N is outside 2..16."
 pub const MAX_STATIONS: usize = 16;
@@ -52,8 +52,8 @@ pub enum Fit {
 
 // The places that a count of stations takes.
 pub fn places(count: u32) -> usize
-    ensures value { result ≡ min count maxStations }
-    ensures most { result ≤ maxStations }
+    ensures value { result ≡ min count max_stations }
+    ensures most { result ≤ max_stations }
 {
     if (count as usize) < MAX_STATIONS {
         count as usize

@@ -10,15 +10,15 @@ use Rattle.sheet_layout.specs.declared.Layout.{Layout}
 use Rattle.sheet_read.specs.declared.SheetRead.{SheetRead}
 use Rattle.sheet_read.specs.declared.SheetRead.TheVariants.{Refused, Used}
 use Rattle.sheet_read.specs.declared.Sheet.{Sheet}
-use Rattle.sheet_layout.specs.Layout.{blankTap, blankLayout, places_of}
-use Rattle.sheet_layout.specs.Check.{refusalOf}
-use Rattle.sheet_layout.specs.Limits.{maxStations}
+use Rattle.sheet_layout.specs.Layout.{blank_tap, blank_layout, places_of}
+use Rattle.sheet_layout.specs.Check.{refusal_of}
+use Rattle.sheet_layout.specs.Limits.{max_stations}
 
 -- ---- the map and its fields
 
 -- "Octet 0 is a map."
-abbrev pub mapOf : List ℕ → ℕ
-mapOf l = get_or l 0 0
+abbrev pub map_of : List ℕ → ℕ
+map_of l = get_or l 0 0
 
 -- whether bit k stands
 abbrev pub stands : ℕ → ℕ → Bool
@@ -40,8 +40,8 @@ fields =
     ∷ record { width = 1; absent = 0 }
     ∷ []
 
-abbrev pub fieldCount : ℕ
-fieldCount = 7
+abbrev pub field_count : ℕ
+field_count = 7
 
 abbrev pub row : ℕ → Field
 row k = get_or fields k (record { width = 0; absent = 0 })
@@ -56,11 +56,11 @@ field_at m (suc k) = field_at m k + pick (stands m k) (width k) 0
 
 -- the field of bit k, "high octet first", or what stands for it
 unfoldable pub field : List ℕ → ℕ → ℕ
-field l k = pick (stands (mapOf l) k) (get (width k) l (field_at (mapOf l) k)) (row k).absent
+field l k = pick (stands (map_of l) k) (get (width k) l (field_at (map_of l) k)) (row k).absent
 
 -- the fields by their bits
-unfoldable pub figuresIn : List ℕ → Figures
-figuresIn l =
+unfoldable pub figures_in : List ℕ → Figures
+figures_in l =
     record {
       slot = field l 0;
       gap1 = field l 1;
@@ -74,34 +74,34 @@ figuresIn l =
 -- ---- the stations
 
 -- "Then one octet N": where it stands, and N
-abbrev pub countPlace : List ℕ → ℕ
-countPlace l = field_at (mapOf l) fieldCount
+abbrev pub count_place : List ℕ → ℕ
+count_place l = field_at (map_of l) field_count
 
-abbrev pub countIn : List ℕ → ℕ
-countIn l = get_or l (countPlace l) 0
+abbrev pub count_in : List ℕ → ℕ
+count_in l = get_or l (count_place l) 0
 
 -- "then N stations: position (1 octet ..) and a six-octet address": the station that begins at octet `at`
-unfoldable pub tapIn : List ℕ → ℕ → Tap
-tapIn l at = record { position = get_or l at 0; address = part l (at + 1) 6 }
+unfoldable pub tap_in : List ℕ → ℕ → Tap
+tap_in l at = record { position = get_or l at 0; address = part l (at + 1) 6 }
 
 -- station i, of those that begin at octet `at`
-abbrev pub tapsFrom : List ℕ → ℕ → ℕ → Tap
-tapsFrom l at i = tapIn l (at + 7 * i)
+abbrev pub taps_from : List ℕ → ℕ → ℕ → Tap
+taps_from l at i = tap_in l (at + 7 * i)
 
 -- the layout as it is written; of more than sixteen stations the first sixteen
-unfoldable pub layoutIn : List ℕ → Layout
-layoutIn l =
+unfoldable pub layout_in : List ℕ → Layout
+layout_in l =
     record {
-      figures = figuresIn l;
-      count = countIn l;
-      stations = places_of (tapsFrom l (countPlace l + 1)) (min (countIn l) maxStations);
+      figures = figures_in l;
+      count = count_in l;
+      stations = places_of (taps_from l (count_place l + 1)) (min (count_in l) max_stations);
     }
 
 -- ---- reading
 
 -- what the map and N require: the map, the fields, N and the stations
-unfoldable pub sheetSize : List ℕ → ℕ
-sheetSize l = countPlace l + 1 + 7 * countIn l
+unfoldable pub sheet_size : List ℕ → ℕ
+sheet_size l = count_place l + 1 + 7 * count_in l
 
 -- what reading gives: the answer, with the octets used, and the layout; with a refusal a blank one
 pub record Reading : Type 0 where
@@ -109,22 +109,22 @@ pub record Reading : Type 0 where
   pub layout : Layout
 
 abbrev pub unread : ℕ → Reading
-unread n = record { answer = refused n; layout = blankLayout }
+unread n = record { answer = refused n; layout = blank_layout }
 
 -- 3: "The sheet is shorter than its map and N require (unknown map bits adding nothing; no octet for the map or N
 -- counts as short)." 4: "Map bit 6 or 7 stands", since N1 bit 7 alone. Then 5 to 8 of the layout, its defaults filled
 -- in.
-unfoldable pub readSheet : List ℕ → Reading
-readSheet l =
-    pick (ltb (length l) (sheetSize l)) (unread 3)
-    (pick (stands (mapOf l) 7) (unread 4)
-    (pick (eqb (refusalOf (layoutIn l)) 0) (record { answer = accepted (sheetSize l ∷ []); layout = layoutIn l })
-    (unread (refusalOf (layoutIn l)))))
+unfoldable pub read_sheet : List ℕ → Reading
+read_sheet l =
+    pick (ltb (length l) (sheet_size l)) (unread 3)
+    (pick (stands (map_of l) 7) (unread 4)
+    (pick (eqb (refusal_of (layout_in l)) 0) (record { answer = accepted (sheet_size l ∷ []); layout = layout_in l })
+    (unread (refusal_of (layout_in l)))))
 
 -- what the code's answer stands for
-abbrev pub sheetAnswer : SheetRead → Answer
-sheetAnswer (Refused n) = refused n
-sheetAnswer (Used n) = accepted (n ∷ [])
+abbrev pub sheet_answer : SheetRead → Answer
+sheet_answer (Refused n) = refused n
+sheet_answer (Used n) = accepted (n ∷ [])
 
-abbrev pub sheetReading : Sheet → Reading
-sheetReading r = record { answer = sheetAnswer r.read; layout = r.layout }
+abbrev pub sheet_reading : Sheet → Reading
+sheet_reading r = record { answer = sheet_answer r.read; layout = r.layout }

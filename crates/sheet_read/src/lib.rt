@@ -3,9 +3,9 @@
 ghost use Rattle.std.specs.Prelude.{◌≡◌, ◌+◌, ◌*◌, ◌/◌, ◌%◌, ◌<◌, ◌≤◌, eqb, length};
 ghost use Rattle.octets.specs.Base.{pick};
 ghost use Rattle.sheet_layout.specs.Layout.{places_of};
-ghost use Rattle.sheet_read.specs.Sheet.{tapIn, tapsFrom, unread, readSheet, sheetReading};
-ghost use Rattle.sheet_read.specs.SheetLaws.{sizesOf, ends, field_of, figuresOf, layout_of};
-ghost use Rattle.sheet_layout.specs.Limits.{maxStations};
+ghost use Rattle.sheet_read.specs.Sheet.{tap_in, taps_from, unread, read_sheet, sheet_reading};
+ghost use Rattle.sheet_read.specs.SheetLaws.{sizes_of, ends, field_of, figures_of, layout_of};
+ghost use Rattle.sheet_layout.specs.Limits.{max_stations};
 
 use sheet_layout::{Figures, Layout, Tap};
 
@@ -45,7 +45,7 @@ fn field_size(map: u32, unit: u32, width: usize) -> usize
 }
 
 fn map_sizes(map: u32) -> Sizes
-    ensures value { result ≡ sizesOf map }
+    ensures value { result ≡ sizes_of map }
     ensures most { (result.slot ≤ 2) × (result.gap1 ≤ 1) × (result.gap2 ≤ 1) × (result.jam ≤ 1) × (result.limit ≤ 1)
         × (result.backoff ≤ 1) × (result.ends ≤ 1) }
 {
@@ -88,7 +88,7 @@ fn read_figures(s: &[u8], z: Sizes) -> Figures
     requires slot_bound { (z.slot ≤ 2) × (z.gap1 ≤ 1) × (z.gap2 ≤ 1) × (z.jam ≤ 1) × (z.limit ≤ 1) }
     requires backoff_bound { (z.backoff ≤ 1) × (z.ends ≤ 1) }
     requires ends_in_bounds { 1 + z.slot + z.gap1 + z.gap2 + z.jam + z.limit + z.backoff + z.ends ≤ length s.now }
-    ensures { result ≡ figuresOf s.now z }
+    ensures { result ≡ figures_of s.now z }
 {
     let gap1_at = 1 + z.slot;
     let gap2_at = gap1_at + z.gap1;
@@ -110,7 +110,7 @@ fn read_figures(s: &[u8], z: Sizes) -> Figures
 // The station whose seven octets begin at `at`.
 fn read_tap(s: &[u8], at: usize) -> Tap
     requires { at + 7 ≤ length s.now }
-    ensures { result ≡ tapIn s.now at }
+    ensures { result ≡ tap_in s.now at }
 {
     let address = octets_copies::six(s, at + 1);
     let position = octets::wide(s[at]);
@@ -119,8 +119,8 @@ fn read_tap(s: &[u8], at: usize) -> Tap
 
 // The n stations from octet `at` on, and blank places after them.
 fn read_taps(s: &[u8], at: usize, n: usize) -> [Tap; 16]
-    requires { (n ≤ maxStations) × (at + 7 * n ≤ length s.now) }
-    ensures { result ≡ places_of (tapsFrom s.now at) n }
+    requires { (n ≤ max_stations) × (at + 7 * n ≤ length s.now) }
+    ensures { result ≡ places_of (taps_from s.now at) n }
 {
     let blank = Tap {
         position: 0,
@@ -155,7 +155,7 @@ fn read_layout(s: &[u8], z: Sizes, end: usize, count: u32) -> Layout
 
 // What is answered with a refusal.
 fn unread_sheet(n: u32) -> Sheet
-    ensures { sheetReading result ≡ unread n }
+    ensures { sheet_reading result ≡ unread n }
 {
     let blank = Tap {
         position: 0,
@@ -182,7 +182,7 @@ fn unread_sheet(n: u32) -> Sheet
 
 // The sheet at the front of s, with the octets used, or a refusal (3 to 8). More may follow it.
 pub fn read_sheet(s: &[u8]) -> Sheet
-    ensures { sheetReading result ≡ readSheet s.now }
+    ensures { sheet_reading result ≡ read_sheet s.now }
 {
     let n = s.len();
     if n == 0 {

@@ -11,26 +11,26 @@ use native.Mathlib.Omega.{arith}
 use Rattle.std.proofs.Math.ListN.{length, get_or, length-append}
 use Rattle.std.proofs.Math.Seq.{get_or_at}
 use Rattle.octets.specs.Base.{pick, Answer, refused, accepted}
-use Rattle.octets.specs.BaseLaws.{by-test, refused_none}
-use Rattle.octets.specs.Filled.{filled_at, filled-same}
+use Rattle.octets.specs.BaseLaws.{by_test, refused_none}
+use Rattle.octets.specs.Filled.{filled_at, filled_same}
 use Rattle.octets.specs.Number.{get, spelled}
-use Rattle.octets.specs.NumberLaws.{length-spelled, get-spelled, get_after, get-front}
+use Rattle.octets.specs.NumberLaws.{length_spelled, get_spelled, get_after, get_front}
 use Rattle.octets.specs.Store.{part}
 use Rattle.sheet_layout.specs.declared.Figures.{Figures}
 use Rattle.sheet_layout.specs.declared.Tap.{Tap}
 use Rattle.sheet_layout.specs.declared.Layout.{Layout}
-use Rattle.sheet_layout.specs.Layout.{blankTap, places_of, tapAt, positionAt, addressAt}
-use Rattle.sheet_layout.specs.Limits.{maxStations}
-use Rattle.sheet_layout.specs.Check.{refusalOf}
-use Rattle.sheet_layout.specs.CheckLaws.{Figured, Sound, sound, refusal-same}
-use Rattle.sheet_read.specs.Sheet.{mapOf, stands, fieldCount, row, width, field_at, field, figuresIn, countPlace}
-use Rattle.sheet_read.specs.Sheet.{countIn, tapIn, tapsFrom, layoutIn, sheetSize, Reading, unread, readSheet}
-use Rattle.sheet_read.specs.SheetLaws.{width-most}
-use Rattle.sheet_read.specs.SheetTheorems.{read-sound, read-passes, read-formed, refused-empty, accepted-size}
-use Rattle.sheet_read.specs.SheetTheorems.{sheet-front}
-use Rattle.sheet_write.specs.Write.{joined, values_of, isAbsent, mapFrom, fieldOctets, fieldsOctets, headOctets}
-use Rattle.sheet_write.specs.Write.{tapOctets, tapsOctets, written}
-use Rattle.sheet_write.specs.WriteLaws.{bit-low, map-small, fields_at, tap-size, head-length, written-length}
+use Rattle.sheet_layout.specs.Layout.{blank_tap, places_of, tap_at, position_at, address_at}
+use Rattle.sheet_layout.specs.Limits.{max_stations}
+use Rattle.sheet_layout.specs.Check.{refusal_of}
+use Rattle.sheet_layout.specs.CheckLaws.{Figured, Sound, sound, refusal_same}
+use Rattle.sheet_read.specs.Sheet.{map_of, stands, field_count, row, width, field_at, field, figures_in, count_place}
+use Rattle.sheet_read.specs.Sheet.{count_in, tap_in, taps_from, layout_in, sheet_size, Reading, unread, read_sheet}
+use Rattle.sheet_read.specs.SheetLaws.{width_most}
+use Rattle.sheet_read.specs.SheetTheorems.{read_sound, read_passes, read_formed, refused_empty, accepted_size}
+use Rattle.sheet_read.specs.SheetTheorems.{sheet_front}
+use Rattle.sheet_write.specs.Write.{joined, values_of, is_absent, map_from, field_octets, fields_octets, head_octets}
+use Rattle.sheet_write.specs.Write.{tap_octets, taps_octets, written}
+use Rattle.sheet_write.specs.WriteLaws.{bit_low, map_small, fields_at, tap_size, head_length, written_length}
 
 -- ---- parts, one after the other
 
@@ -39,14 +39,14 @@ unfoldable after : (ℕ → List ℕ) → ℕ → ℕ → List ℕ
 after t i zero = []
 after t i (suc n) = after t i n ++ t (suc (n + i))
 
-joined_at : (t : ℕ → List ℕ) (i n : ℕ) → joined t (suc (n + i)) ≡ joined t i ++ (t i ++ after t i n)
+joined_at_lem : (t : ℕ → List ℕ) (i n : ℕ) → joined t (suc (n + i)) ≡ joined t i ++ (t i ++ after t i n)
 unfolding joined after
-joined_at t i zero =
+joined_at_lem t i zero =
     let e : 0 + i ≡ i = omega arith in rw e (ap (λ (l : List ℕ). joined t i ++ l) (sym (append-nil (t i))))
-joined_at t i (suc n) =
+joined_at_lem t i (suc n) =
     let e : suc n + i ≡ suc (n + i) = omega arith in
     rw e
-    (ap (λ (l : List ℕ). l ++ t (suc (n + i))) (joined_at t i n)
+    (ap (λ (l : List ℕ). l ++ t (suc (n + i))) (joined_at_lem t i n)
     ∙ append_assoc (joined t i) (t i ++ after t i n) (t (suc (n + i)))
     ∙ ap (λ (l : List ℕ). joined t i ++ l) (append_assoc (t i) (after t i n) (t (suc (n + i)))))
 
@@ -61,7 +61,7 @@ part_of : (t : ℕ → List ℕ) (i n : ℕ) (m z : List ℕ) → i < n
     → (m ++ joined t n) ++ z ≡ (m ++ joined t i) ++ (t i ++ (after t i (n - suc i) ++ z))
 part_of t i n m z h =
     let e : suc (n - suc i + i) ≡ n = omega arith in
-    ap (λ (l : List ℕ). (m ++ l) ++ z) (sym (ap (joined t) e) ∙ joined_at t i (n - suc i))
+    ap (λ (l : List ℕ). (m ++ l) ++ z) (sym (ap (joined t) e) ∙ joined_at_lem t i (n - suc i))
     ∙ append_assoc m (joined t i ++ (t i ++ after t i (n - suc i))) z
     ∙ ap (λ (l : List ℕ). m ++ l)
     (append_assoc (joined t i) (t i ++ after t i (n - suc i)) z
@@ -75,30 +75,30 @@ half b r u h =
     let e : (b + 2 * r) / 2 ≡ r = omega arith in
     sym (div-div-eq-div-mul (b + 2 * r) 2 u) ∙ ap (λ (x : ℕ). x / u) e
 
-map-bit : (vs : List ℕ) (k j n : ℕ) → k < n
-    → mapFrom vs j n / 2 ^ k % 2 ≡ pick (isAbsent (get_or vs (j + k) 0) (j + k)) 0 1
-unfolding mapFrom
-map-bit vs k j zero h = absurd (omega arith)
-map-bit vs zero j (suc n) h =
-    let e : j + 0 ≡ j = omega arith in rw e (omega (arith, bit-low (isAbsent (get_or vs j 0) j)))
-map-bit vs (suc k) j (suc n) h =
+map_bit : (vs : List ℕ) (k j n : ℕ) → k < n
+    → map_from vs j n / 2 ^ k % 2 ≡ pick (is_absent (get_or vs (j + k) 0) (j + k)) 0 1
+unfolding map_from
+map_bit vs k j zero h = absurd (omega arith)
+map_bit vs zero j (suc n) h =
+    let e : j + 0 ≡ j = omega arith in rw e (omega (arith, bit_low (is_absent (get_or vs j 0) j)))
+map_bit vs (suc k) j (suc n) h =
     let e : suc j + k ≡ j + suc k = omega arith in
-    ap (λ (u : ℕ). (pick (isAbsent (get_or vs j 0) j) 0 1 + 2 * mapFrom vs (suc j) n) / u % 2) (pow-succ' 2 k)
+    ap (λ (u : ℕ). (pick (is_absent (get_or vs j 0) j) 0 1 + 2 * map_from vs (suc j) n) / u % 2) (pow-succ' 2 k)
     ∙ ap (λ (x : ℕ). x % 2)
-    (half (pick (isAbsent (get_or vs j 0) j) 0 1) (mapFrom vs (suc j) n) (2 ^ k) (bit-low (isAbsent (get_or vs j 0) j)))
-    ∙ map-bit vs k (suc j) n (omega arith)
-    ∙ ap (λ (i : ℕ). pick (isAbsent (get_or vs i 0) i) 0 1) e
+    (half (pick (is_absent (get_or vs j 0) j) 0 1) (map_from vs (suc j) n) (2 ^ k) (bit_low (is_absent (get_or vs j 0) j)))
+    ∙ map_bit vs k (suc j) n (omega arith)
+    ∙ ap (λ (i : ℕ). pick (is_absent (get_or vs i 0) i) 0 1) e
 
 -- the map of fields that hold vs
-abbrev mapFor : List ℕ → ℕ
-mapFor vs = mapFrom vs 0 fieldCount
+abbrev map_for : List ℕ → ℕ
+map_for vs = map_from vs 0 field_count
 
-stands-is : (vs : List ℕ) (k : ℕ) → k < fieldCount
-    → stands (mapFor vs) k ≡ pick (isAbsent (get_or vs k 0) k) false true
-stands-is vs k h = ap (λ (x : ℕ). eqb x 1) bit ∙ go (isAbsent (get_or vs k 0) k)
+stands_is : (vs : List ℕ) (k : ℕ) → k < field_count
+    → stands (map_for vs) k ≡ pick (is_absent (get_or vs k 0) k) false true
+stands_is vs k h = ap (λ (x : ℕ). eqb x 1) bit ∙ go (is_absent (get_or vs k 0) k)
   where
-    bit : mapFrom vs 0 fieldCount / 2 ^ k % 2 ≡ pick (isAbsent (get_or vs k 0) k) 0 1
-    bit = let z : 0 + k ≡ k = omega arith in rw z at (map-bit vs k 0 fieldCount h)
+    bit : map_from vs 0 field_count / 2 ^ k % 2 ≡ pick (is_absent (get_or vs k 0) k) 0 1
+    bit = let z : 0 + k ≡ k = omega arith in rw z at (map_bit vs k 0 field_count h)
 
     go : (b : Bool) → eqb (pick b 0 1) 1 ≡ pick b false true
     go true = refl
@@ -106,76 +106,76 @@ stands-is vs k h = ap (λ (x : ℕ). eqb x 1) bit ∙ go (isAbsent (get_or vs k 
 
 -- ---- the fields
 
-field-length : (v k : ℕ) → length (fieldOctets v k) ≡ pick (isAbsent v k) 0 (width k)
-unfolding fieldOctets
-field-length v k = go (isAbsent v k)
+field_length : (v k : ℕ) → length (field_octets v k) ≡ pick (is_absent v k) 0 (width k)
+unfolding field_octets
+field_length v k = go (is_absent v k)
   where
     go : (b : Bool) → length (pick b [] (spelled (width k) v)) ≡ pick b 0 (width k)
     go true = refl
-    go false = length-spelled (width k) v
+    go false = length_spelled (width k) v
 
-fields-length : (vs : List ℕ) (k : ℕ)
-    → length (fieldsOctets vs (suc k)) ≡ length (fieldsOctets vs k) + pick (isAbsent (get_or vs k 0) k) 0 (width k)
+fields_length : (vs : List ℕ) (k : ℕ)
+    → length (fields_octets vs (suc k)) ≡ length (fields_octets vs k) + pick (is_absent (get_or vs k 0) k) 0 (width k)
 unfolding joined
-fields-length vs k =
-    length-append (fieldsOctets vs k) (fieldOctets (get_or vs k 0) k)
-    ∙ ap (λ (n : ℕ). length (fieldsOctets vs k) + n) (field-length (get_or vs k 0) k)
+fields_length vs k =
+    length-append (fields_octets vs k) (field_octets (get_or vs k 0) k)
+    ∙ ap (λ (n : ℕ). length (fields_octets vs k) + n) (field_length (get_or vs k 0) k)
 
-fields-most : (vs : List ℕ) (k : ℕ) → length (fieldsOctets vs k) ≤ 2 * k
-fields-most vs zero = omega (arith, fields_at vs)
-fields-most vs (suc k) = omega (arith, fields-most vs k, fields-length vs k, most (isAbsent (get_or vs k 0) k))
+fields_most : (vs : List ℕ) (k : ℕ) → length (fields_octets vs k) ≤ 2 * k
+fields_most vs zero = omega (arith, fields_at vs)
+fields_most vs (suc k) = omega (arith, fields_most vs k, fields_length vs k, most (is_absent (get_or vs k 0) k))
   where
     most : (b : Bool) → pick b 0 (width k) ≤ 2
     most true = omega arith
-    most false = width-most k
+    most false = width_most k
 
 turned : (b : Bool) (w : ℕ) → pick (pick b false true) w 0 ≡ pick b 0 w
 turned true w = refl
 turned false w = refl
 
 -- where the field of bit k begins
-field-place : (vs : List ℕ) (k : ℕ) → k ≤ fieldCount → field_at (mapFor vs) k ≡ 1 + length (fieldsOctets vs k)
+field_place : (vs : List ℕ) (k : ℕ) → k ≤ field_count → field_at (map_for vs) k ≡ 1 + length (fields_octets vs k)
 unfolding field_at
-field-place vs zero h = fields_at vs
-field-place vs (suc k) h =
-    ap₂ (λ (a : ℕ) (b : Bool). a + pick b (width k) 0) (field-place vs k (omega arith)) (stands-is vs k (omega arith))
-    ∙ ap (λ (n : ℕ). 1 + length (fieldsOctets vs k) + n) (turned (isAbsent (get_or vs k 0) k) (width k))
-    ∙ omega (arith, fields-length vs k)
+field_place vs zero h = fields_at vs
+field_place vs (suc k) h =
+    ap₂ (λ (a : ℕ) (b : Bool). a + pick b (width k) 0) (field_place vs k (omega arith)) (stands_is vs k (omega arith))
+    ∙ ap (λ (n : ℕ). 1 + length (fields_octets vs k) + n) (turned (is_absent (get_or vs k 0) k) (width k))
+    ∙ omega (arith, fields_length vs k)
 
 -- a row's octets have room for its values
-pub field-most : (f : Figures) → Figured f → (k : ℕ) → k < fieldCount → get_or (values_of f) k 0 < 256 ^ width k
-field-most f s zero h = omega (arith, s.slot)
-field-most f s (suc zero) h = omega (arith, s.gap1)
-field-most f s (suc (suc zero)) h = omega (arith, s.gap2)
-field-most f s (suc (suc (suc zero))) h = omega (arith, s.jam)
-field-most f s (suc (suc (suc (suc zero)))) h = omega (arith, s.limit)
-field-most f s (suc (suc (suc (suc (suc zero))))) h = omega (arith, s.backoff)
-field-most f s (suc (suc (suc (suc (suc (suc zero)))))) h = omega (arith, s.ends)
-field-most f s (suc (suc (suc (suc (suc (suc (suc k))))))) h = absurd (omega arith)
+pub field_most : (f : Figures) → Figured f → (k : ℕ) → k < field_count → get_or (values_of f) k 0 < 256 ^ width k
+field_most f s zero h = omega (arith, s.slot)
+field_most f s (suc zero) h = omega (arith, s.gap1)
+field_most f s (suc (suc zero)) h = omega (arith, s.gap2)
+field_most f s (suc (suc (suc zero))) h = omega (arith, s.jam)
+field_most f s (suc (suc (suc (suc zero)))) h = omega (arith, s.limit)
+field_most f s (suc (suc (suc (suc (suc zero))))) h = omega (arith, s.backoff)
+field_most f s (suc (suc (suc (suc (suc (suc zero)))))) h = omega (arith, s.ends)
+field_most f s (suc (suc (suc (suc (suc (suc (suc k))))))) h = absurd (omega arith)
 
 -- ---- reading what is written
 
 -- the layout as a reader gives it: blank after N
 abbrev pub trimmed : Layout → Layout
-trimmed y = record { figures = y.figures; count = y.count; stations = places_of (tapAt y) y.count }
+trimmed y = record { figures = y.figures; count = y.count; stations = places_of (tap_at y) y.count }
 
 -- each address has six octets
 abbrev pub Formed : Layout → Type 0
-Formed y = (i : ℕ) → i < y.count → length (addressAt y i) ≡ 6
+Formed y = (i : ℕ) → i < y.count → length (address_at y i) ≡ 6
 
-trimmed-at : (y : Layout) (i : ℕ) → i < y.count → tapAt (trimmed y) i ≡ tapAt y i
-unfolding tapAt
-trimmed-at y i h =
-    filled_at blankTap (λ j. get_or y.stations j (record { position = 0; address = [] })) y.count i (record {
+trimmed_at : (y : Layout) (i : ℕ) → i < y.count → tap_at (trimmed y) i ≡ tap_at y i
+unfolding tap_at
+trimmed_at y i h =
+    filled_at blank_tap (λ j. get_or y.stations j (record { position = 0; address = [] })) y.count i (record {
       position = 0;
       address = [];
     }) h
 
 -- a list that reads as a layout that passes, and is as long as it requires
-read_whole : (l : List ℕ) (z : Layout) → sheetSize l ≡ length l → stands (mapOf l) 7 ≡ false → layoutIn l ≡ z
-    → refusalOf z ≡ 0
-    → readSheet l ≡ record { answer = accepted (length l ∷ []); layout = z }
-unfolding readSheet
+read_whole : (l : List ℕ) (z : Layout) → sheet_size l ≡ length l → stands (map_of l) 7 ≡ false → layout_in l ≡ z
+    → refusal_of z ≡ 0
+    → read_sheet l ≡ record { answer = accepted (length l ∷ []); layout = z }
+unfolding read_sheet
 read_whole l z e t g r =
     rw (e, le-ltb (length l) (length l) (omega arith), t, g, r)
 
@@ -186,71 +186,71 @@ module _ (y : Layout) where
 
   -- the stations' octets
   stations : ℕ → List ℕ
-  stations i = tapOctets (tapAt y i)
+  stations i = tap_octets (tap_at y i)
 
-  fieldIn : ℕ → List ℕ
-  fieldIn k = fieldOctets (get_or vs k 0) k
+  field_in : ℕ → List ℕ
+  field_in k = field_octets (get_or vs k 0) k
 
   tail : List ℕ
-  tail = spelled 1 y.count ++ tapsOctets y y.count
+  tail = spelled 1 y.count ++ taps_octets y y.count
 
-  map-small-octet : mapFor vs % 256 ≡ mapFor vs
-  map-small-octet = omega (arith, map-small vs 0 fieldCount)
+  map_small_octet : map_for vs % 256 ≡ map_for vs
+  map_small_octet = omega (arith, map_small vs 0 field_count)
 
-  map_back : mapOf (written y) ≡ mapFor vs
-  unfolding written headOctets spelled
-  map_back = map-small-octet
+  map_back : map_of (written y) ≡ map_for vs
+  unfolding written head_octets spelled
+  map_back = map_small_octet
 
-  map-top : stands (mapOf (written y)) 7 ≡ false
-  map-top =
-      ne_eqb (mapOf (written y) / 2 ^ 7 % 2) 1
-      (λ e. omega (arith, map-small vs 0 fieldCount, map_back, e))
+  map_top : stands (map_of (written y)) 7 ≡ false
+  map_top =
+      ne_eqb (map_of (written y) / 2 ^ 7 % 2) 1
+      (λ e. omega (arith, map_small vs 0 field_count, map_back, e))
 
-  place-back : countPlace (written y) ≡ length (headOctets y.figures)
-  place-back =
-      ap (λ (m : ℕ). field_at m fieldCount) map_back
-      ∙ field-place vs fieldCount (omega arith)
-      ∙ sym (head-length y.figures)
+  place_back : count_place (written y) ≡ length (head_octets y.figures)
+  place_back =
+      ap (λ (m : ℕ). field_at m field_count) map_back
+      ∙ field_place vs field_count (omega arith)
+      ∙ sym (head_length y.figures)
 
   -- the octets around field k
-  field_in : (k : ℕ) → k < fieldCount
-      → written y ≡ (spelled 1 (mapFor vs) ++ fieldsOctets vs k)
-      ++ (fieldIn k ++ (after fieldIn k (fieldCount - suc k) ++ tail))
-  unfolding written headOctets fieldIn tail
-  field_in k h =
-      part_of (λ j. fieldOctets (get_or vs j 0) j) k fieldCount (spelled 1 (mapFor vs))
-      (spelled 1 y.count ++ tapsOctets y y.count) h
+  field_in_lem : (k : ℕ) → k < field_count
+      → written y ≡ (spelled 1 (map_for vs) ++ fields_octets vs k)
+      ++ (field_in k ++ (after field_in k (field_count - suc k) ++ tail))
+  unfolding written head_octets field_in tail
+  field_in_lem k h =
+      part_of (λ j. field_octets (get_or vs j 0) j) k field_count (spelled 1 (map_for vs))
+      (spelled 1 y.count ++ taps_octets y y.count) h
 
   module _ (s : Sound y) where
-    field-there : (k : ℕ) → k < fieldCount → isAbsent (get_or vs k 0) k ≡ false
-        → get (width k) (written y) (1 + length (fieldsOctets vs k)) ≡ get_or vs k 0
-    unfolding fieldIn fieldOctets
-    field-there k h p =
-        ap (λ (l : List ℕ). get (width k) l (1 + length (fieldsOctets vs k))) (field_in k h)
-        ∙ get_after (width k) (spelled 1 (mapFor vs) ++ fieldsOctets vs k) _ _
+    field_there : (k : ℕ) → k < field_count → is_absent (get_or vs k 0) k ≡ false
+        → get (width k) (written y) (1 + length (fields_octets vs k)) ≡ get_or vs k 0
+    unfolding field_in field_octets
+    field_there k h p =
+        ap (λ (l : List ℕ). get (width k) l (1 + length (fields_octets vs k))) (field_in_lem k h)
+        ∙ get_after (width k) (spelled 1 (map_for vs) ++ fields_octets vs k) _ _
         (omega (
           arith,
-          length-append (spelled 1 (mapFor vs)) (fieldsOctets vs k),
-          length-spelled 1 (mapFor vs),
+          length-append (spelled 1 (map_for vs)) (fields_octets vs k),
+          length_spelled 1 (map_for vs),
         ))
         ∙ rw p
-        (get-front (width k) (spelled (width k) (get_or vs k 0)) _ 0
-        (omega (arith, length-spelled (width k) (get_or vs k 0)))
-        ∙ get-spelled (width k) (get_or vs k 0) (field-most y.figures s.figures k h))
+        (get_front (width k) (spelled (width k) (get_or vs k 0)) _ 0
+        (omega (arith, length_spelled (width k) (get_or vs k 0)))
+        ∙ get_spelled (width k) (get_or vs k 0) (field_most y.figures s.figures k h))
 
-    field_back : (k : ℕ) → k < fieldCount → field (written y) k ≡ get_or vs k 0
+    field_back : (k : ℕ) → k < field_count → field (written y) k ≡ get_or vs k 0
     unfolding field
     field_back k h =
         ap (λ (m : ℕ). pick (stands m k) (get (width k) (written y) (field_at m k)) (row k).absent) map_back
         ∙ ap₂ (λ (b : Bool) (a : ℕ). pick b (get (width k) (written y) a) (row k).absent)
-        (stands-is vs k h) (field-place vs k (omega arith))
-        ∙ by-test (isAbsent (get_or vs k 0) k)
+        (stands_is vs k h) (field_place vs k (omega arith))
+        ∙ by_test (is_absent (get_or vs k 0) k)
         (λ e. rw e (sym (eqb-true (get_or vs k 0) (row k).absent e)))
-        (λ e. rw e (field-there k h e))
+        (λ e. rw e (field_there k h e))
 
-    figures-back : figuresIn (written y) ≡ y.figures
-    unfolding figuresIn
-    figures-back =
+    figures_back : figures_in (written y) ≡ y.figures
+    unfolding figures_in
+    figures_back =
         λ i. record {
           slot = field_back 0 (omega arith) i;
           gap1 = field_back 1 (omega arith) i;
@@ -261,112 +261,112 @@ module _ (y : Layout) where
           ends = field_back 6 (omega arith) i;
         }
 
-    count-back : countIn (written y) ≡ y.count
+    count_back : count_in (written y) ≡ y.count
     unfolding written spelled
-    count-back =
-        ap (λ (k : ℕ). get_or (headOctets y.figures ++ ((y.count % 256) ∷ tapsOctets y y.count)) k 0) place-back
-        ∙ get_or_at (headOctets y.figures) (y.count % 256) (tapsOctets y y.count) 0 _ refl
+    count_back =
+        ap (λ (k : ℕ). get_or (head_octets y.figures ++ ((y.count % 256) ∷ taps_octets y y.count)) k 0) place_back
+        ∙ get_or_at (head_octets y.figures) (y.count % 256) (taps_octets y y.count) 0 _ refl
         ∙ omega (arith, s.count)
 
     module _ (f : Formed y) where
-      taps-length : (n : ℕ) → n ≤ y.count → length (tapsOctets y n) ≡ 7 * n
+      taps_length : (n : ℕ) → n ≤ y.count → length (taps_octets y n) ≡ 7 * n
       unfolding joined
-      taps-length zero h = refl
-      taps-length (suc n) h =
-          length-append (tapsOctets y n) (tapOctets (tapAt y n))
-          ∙ omega (arith, taps-length n (omega arith), tap-size (tapAt y n) (f n (omega arith)))
+      taps_length zero h = refl
+      taps_length (suc n) h =
+          length-append (taps_octets y n) (tap_octets (tap_at y n))
+          ∙ omega (arith, taps_length n (omega arith), tap_size (tap_at y n) (f n (omega arith)))
 
       -- The written sheet has as many octets as its map and N require.
-      pub length-written : length (written y) ≡ length (headOctets y.figures) + 1 + 7 * y.count
-      length-written = omega (arith, written-length y, taps-length y.count (omega arith))
+      pub length_written : length (written y) ≡ length (head_octets y.figures) + 1 + 7 * y.count
+      length_written = omega (arith, written_length y, taps_length y.count (omega arith))
 
-      size_back : sheetSize (written y) ≡ length (written y)
-      unfolding sheetSize
-      size_back = ap₂ (λ (p n : ℕ). p + 1 + 7 * n) place-back count-back ∙ sym length-written
+      size_back : sheet_size (written y) ≡ length (written y)
+      unfolding sheet_size
+      size_back = ap₂ (λ (p n : ℕ). p + 1 + 7 * n) place_back count_back ∙ sym length_written
 
       -- the octets around station i
       front : ℕ → List ℕ
-      front i = (headOctets y.figures ++ spelled 1 y.count) ++ tapsOctets y i
+      front i = (head_octets y.figures ++ spelled 1 y.count) ++ taps_octets y i
 
-      front_length : (i : ℕ) → i ≤ y.count → length (front i) ≡ length (headOctets y.figures) + 1 + 7 * i
+      front_length : (i : ℕ) → i ≤ y.count → length (front i) ≡ length (head_octets y.figures) + 1 + 7 * i
       unfolding front
       front_length i h =
-          length-append (headOctets y.figures ++ spelled 1 y.count) (tapsOctets y i)
+          length-append (head_octets y.figures ++ spelled 1 y.count) (taps_octets y i)
           ∙ omega (
             arith,
-            length-append (headOctets y.figures) (spelled 1 y.count),
-            length-spelled 1 y.count,
-            taps-length i h,
+            length-append (head_octets y.figures) (spelled 1 y.count),
+            length_spelled 1 y.count,
+            taps_length i h,
           )
 
-      tap-in : (i : ℕ) → i < y.count
+      tap_in_lem : (i : ℕ) → i < y.count
           → written y ≡ front i ++ (stations i ++ (after stations i (y.count - suc i) ++ []))
       unfolding written front stations
-      tap-in i h =
-          sym (append_assoc (headOctets y.figures) (spelled 1 y.count) (tapsOctets y y.count))
+      tap_in_lem i h =
+          sym (append_assoc (head_octets y.figures) (spelled 1 y.count) (taps_octets y y.count))
           ∙ sym (append-nil _)
-          ∙ part_of (λ j. tapOctets (tapAt y j)) i y.count (headOctets y.figures ++ spelled 1 y.count) [] h
+          ∙ part_of (λ j. tap_octets (tap_at y j)) i y.count (head_octets y.figures ++ spelled 1 y.count) [] h
 
       -- where station i begins
       abbrev place : ℕ → ℕ
-      place i = countPlace (written y) + 1 + 7 * i
+      place i = count_place (written y) + 1 + 7 * i
 
       behind : ℕ → List ℕ
       behind i = after stations i (y.count - suc i) ++ []
 
       module _ (i : ℕ) (h : i < y.count) where
         front_ends : length (front i) ≡ place i
-        front_ends = front_length i (omega arith) ∙ omega (arith, place-back)
+        front_ends = front_length i (omega arith) ∙ omega (arith, place_back)
 
-        split : written y ≡ front i ++ ((positionAt y i % 256) ∷ (addressAt y i ++ behind i))
-        unfolding behind stations tapOctets spelled
-        split = tap-in i h
+        split : written y ≡ front i ++ ((position_at y i % 256) ∷ (address_at y i ++ behind i))
+        unfolding behind stations tap_octets spelled
+        split = tap_in_lem i h
 
-        position-back : get_or (written y) (place i) 0 ≡ positionAt y i
-        position-back =
+        position_back : get_or (written y) (place i) 0 ≡ position_at y i
+        position_back =
             ap (λ (l : List ℕ). get_or l (place i) 0) split
-            ∙ get_or_at (front i) (positionAt y i % 256) (addressAt y i ++ behind i) 0 (place i) front_ends
+            ∙ get_or_at (front i) (position_at y i % 256) (address_at y i ++ behind i) 0 (place i) front_ends
             ∙ omega (arith, s.position i h)
 
-        after-position : drop (place i + 1) (written y) ≡ addressAt y i ++ behind i
-        after-position =
+        after_position : drop (place i + 1) (written y) ≡ address_at y i ++ behind i
+        after_position =
             ap (drop (place i + 1))
-            (split ∙ sym (append_assoc (front i) ((positionAt y i % 256) ∷ []) (addressAt y i ++ behind i)))
-            ∙ drop_at (front i ++ ((positionAt y i % 256) ∷ [])) (addressAt y i ++ behind i) (place i + 1)
-            (length-append (front i) ((positionAt y i % 256) ∷ []) ∙ omega (arith, front_ends))
+            (split ∙ sym (append_assoc (front i) ((position_at y i % 256) ∷ []) (address_at y i ++ behind i)))
+            ∙ drop_at (front i ++ ((position_at y i % 256) ∷ [])) (address_at y i ++ behind i) (place i + 1)
+            (length-append (front i) ((position_at y i % 256) ∷ []) ∙ omega (arith, front_ends))
 
-        address-back : part (written y) (place i + 1) 6 ≡ addressAt y i
-        address-back = ap (take 6) after-position ∙ take_at (addressAt y i) (behind i) 6 (f i h)
+        address_back : part (written y) (place i + 1) 6 ≡ address_at y i
+        address_back = ap (take 6) after_position ∙ take_at (address_at y i) (behind i) 6 (f i h)
 
-        tap-back : tapsFrom (written y) (countPlace (written y) + 1) i ≡ tapAt y i
-        unfolding tapIn
-        tap-back = λ j. record { position = position-back j; address = address-back j }
+        tap_back : taps_from (written y) (count_place (written y) + 1) i ≡ tap_at y i
+        unfolding tap_in
+        tap_back = λ j. record { position = position_back j; address = address_back j }
 
-      layout-back : layoutIn (written y) ≡ trimmed y
-      unfolding layoutIn
-      layout-back =
-          let few : min (countIn (written y)) maxStations ≡ y.count = omega (arith, count-back, s.count) in
+      layout_back : layout_in (written y) ≡ trimmed y
+      unfolding layout_in
+      layout_back =
+          let few : min (count_in (written y)) max_stations ≡ y.count = omega (arith, count_back, s.count) in
           λ j. record {
-            figures = figures-back j;
-            count = count-back j;
+            figures = figures_back j;
+            count = count_back j;
             stations =
-                (ap (places_of (tapsFrom (written y) (countPlace (written y) + 1))) few
-                ∙ filled-same blankTap (tapsFrom (written y) (countPlace (written y) + 1)) (tapAt y) y.count
-                tap-back)
+                (ap (places_of (taps_from (written y) (count_place (written y) + 1))) few
+                ∙ filled_same blank_tap (taps_from (written y) (count_place (written y) + 1)) (tap_at y) y.count
+                tap_back)
                 j;
           }
 
       -- What is written reads as the layout, and uses just those octets, whatever follows.
-      pub reads-back : refusalOf y ≡ 0 → (rest : List ℕ)
-          → readSheet (written y ++ rest) ≡ record { answer = accepted (length (written y) ∷ []); layout = trimmed y }
-      reads-back r rest = sheet-front (written y) rest (omega (arith, size_back)) ∙ alone
+      pub reads_back : refusal_of y ≡ 0 → (rest : List ℕ)
+          → read_sheet (written y ++ rest) ≡ record { answer = accepted (length (written y) ∷ []); layout = trimmed y }
+      reads_back r rest = sheet_front (written y) rest (omega (arith, size_back)) ∙ alone
         where
-          same : refusalOf (trimmed y) ≡ refusalOf y
+          same : refusal_of (trimmed y) ≡ refusal_of y
           same =
-              refusal-same (trimmed y) y refl refl s.count.1 (λ i h. trimmed-at y i h)
+              refusal_same (trimmed y) y refl refl s.count.1 (λ i h. trimmed_at y i h)
 
-          alone : readSheet (written y) ≡ record { answer = accepted (length (written y) ∷ []); layout = trimmed y }
-          alone = read_whole (written y) (trimmed y) size_back map-top layout-back (same ∙ r)
+          alone : read_sheet (written y) ≡ record { answer = accepted (length (written y) ∷ []); layout = trimmed y }
+          alone = read_whole (written y) (trimmed y) size_back map_top layout_back (same ∙ r)
 
 -- ---- equal layouts, equal octets
 
@@ -374,17 +374,17 @@ module _ (y : Layout) where
 pub record Alike (y z : Layout) : Type 0 where
   pub figures : y.figures ≡ z.figures
   pub count : y.count ≡ z.count
-  pub stations : (i : ℕ) → i < y.count → tapAt y i ≡ tapAt z i
+  pub stations : (i : ℕ) → i < y.count → tap_at y i ≡ tap_at z i
 
 -- "Equal layouts give equal octets."
-pub same-octets : (y z : Layout) → Alike y z → written y ≡ written z
+pub same_octets : (y z : Layout) → Alike y z → written y ≡ written z
 unfolding written
-same-octets y z a =
-    ap₂ (λ (h t : List ℕ). h ++ t) (ap headOctets a.figures)
+same_octets y z a =
+    ap₂ (λ (h t : List ℕ). h ++ t) (ap head_octets a.figures)
     (ap₂ (λ (n t : List ℕ). n ++ t) (ap (spelled 1) a.count)
-    (joined_same (λ i. tapOctets (tapAt y i)) (λ i. tapOctets (tapAt z i)) y.count
-    (λ i h. ap tapOctets (a.stations i h))
-    ∙ ap (tapsOctets z) a.count))
+    (joined_same (λ i. tap_octets (tap_at y i)) (λ i. tap_octets (tap_at z i)) y.count
+    (λ i h. ap tap_octets (a.stations i h))
+    ∙ ap (taps_octets z) a.count))
 
 -- what reading gives tells the layout
 alike : (y z : Layout) → trimmed y ≡ trimmed z → Alike y z
@@ -394,91 +394,91 @@ alike y z e =
       count = ap (λ (x : Layout). x.count) e;
       stations =
           λ i h. let n : y.count ≡ z.count = ap (λ (x : Layout). x.count) e in
-          sym (trimmed-at y i h)
-          ∙ ap (λ (x : Layout). tapAt x i) e
-          ∙ trimmed-at z i (omega (arith, n));
+          sym (trimmed_at y i h)
+          ∙ ap (λ (x : Layout). tap_at x i) e
+          ∙ trimmed_at z i (omega (arith, n));
     }
 
 -- A layout that can be written: its values pass, and its addresses have six octets.
 pub record Writable (y : Layout) : Type 0 where
-  pub passes : refusalOf y ≡ 0
+  pub passes : refusal_of y ≡ 0
   pub formed : Formed y
 
-pub read-written : (y : Layout) → Writable y → (rest : List ℕ)
-    → readSheet (written y ++ rest) ≡ record { answer = accepted (length (written y) ∷ []); layout = trimmed y }
-read-written y w rest = reads-back y (sound y w.passes) w.formed w.passes rest
+pub read_written : (y : Layout) → Writable y → (rest : List ℕ)
+    → read_sheet (written y ++ rest) ≡ record { answer = accepted (length (written y) ∷ []); layout = trimmed y }
+read_written y w rest = reads_back y (sound y w.passes) w.formed w.passes rest
 
 -- It has at most 128 octets.
-pub written-most : (y : Layout) → Writable y → length (written y) ≤ 128
-written-most y w =
+pub written_most : (y : Layout) → Writable y → length (written y) ≤ 128
+written_most y w =
     let s = sound y w.passes in
     omega (
       arith,
-      length-written y s w.formed,
-      head-length y.figures,
-      fields-most (values_of y.figures) fieldCount,
+      length_written y s w.formed,
+      head_length y.figures,
+      fields_most (values_of y.figures) field_count,
       s.count,
     )
 
 -- "unequal layouts unequal ones": equal octets come from equal layouts
-pub same-layouts : (y z : Layout) → Writable y → Writable z → written y ≡ written z → Alike y z
-same-layouts y z u v e =
+pub same_layouts : (y z : Layout) → Writable y → Writable z → written y ≡ written z → Alike y z
+same_layouts y z u v e =
     alike y z
     (ap (λ (r : Reading). r.layout)
-    (sym (read-written y u []) ∙ ap (λ (l : List ℕ). readSheet (l ++ [])) e ∙ read-written z v []))
+    (sym (read_written y u []) ∙ ap (λ (l : List ℕ). read_sheet (l ++ [])) e ∙ read_written z v []))
 
 -- ---- a sheet that was read
 
-six-of : (y : Layout) (i : ℕ) → length (get_or y.stations i (record { position = 0; address = [] })).address ≡ 6
-    → length (addressAt y i) ≡ 6
-unfolding tapAt
-six-of y i p = p
+six_of : (y : Layout) (i : ℕ) → length (get_or y.stations i (record { position = 0; address = [] })).address ≡ 6
+    → length (address_at y i) ≡ 6
+unfolding tap_at
+six_of y i p = p
 
-figures-in : (l : List ℕ) → (layoutIn l).figures ≡ figuresIn l
-unfolding layoutIn
-figures-in l = refl
+figures_in_lem : (l : List ℕ) → (layout_in l).figures ≡ figures_in l
+unfolding layout_in
+figures_in_lem l = refl
 
-count-in : (l : List ℕ) → (layoutIn l).count ≡ countIn l
-unfolding layoutIn
-count-in l = refl
+count_in_lem : (l : List ℕ) → (layout_in l).count ≡ count_in l
+unfolding layout_in
+count_in_lem l = refl
 
-size_of : (l : List ℕ) → sheetSize l ≡ countPlace l + 1 + 7 * countIn l
-unfolding sheetSize
+size_of : (l : List ℕ) → sheet_size l ≡ count_place l + 1 + 7 * count_in l
+unfolding sheet_size
 size_of l = refl
 
 -- the fields as they are read, by their bits
-field-values : (l : List ℕ) (k : ℕ) → k < fieldCount → get_or (values_of (figuresIn l)) k 0 ≡ field l k
-unfolding figuresIn
-field-values l zero h = refl
-field-values l (suc zero) h = refl
-field-values l (suc (suc zero)) h = refl
-field-values l (suc (suc (suc zero))) h = refl
-field-values l (suc (suc (suc (suc zero)))) h = refl
-field-values l (suc (suc (suc (suc (suc zero))))) h = refl
-field-values l (suc (suc (suc (suc (suc (suc zero)))))) h = refl
-field-values l (suc (suc (suc (suc (suc (suc (suc k))))))) h = absurd (omega arith)
+field_values : (l : List ℕ) (k : ℕ) → k < field_count → get_or (values_of (figures_in l)) k 0 ≡ field l k
+unfolding figures_in
+field_values l zero h = refl
+field_values l (suc zero) h = refl
+field_values l (suc (suc zero)) h = refl
+field_values l (suc (suc (suc zero))) h = refl
+field_values l (suc (suc (suc (suc zero)))) h = refl
+field_values l (suc (suc (suc (suc (suc zero))))) h = refl
+field_values l (suc (suc (suc (suc (suc (suc zero)))))) h = refl
+field_values l (suc (suc (suc (suc (suc (suc (suc k))))))) h = absurd (omega arith)
 
 -- a field whose bit does not stand is absent
-field-unwritten : (l : List ℕ) (k : ℕ) → stands (mapOf l) k ≡ false → isAbsent (field l k) k ≡ true
+field_unwritten : (l : List ℕ) (k : ℕ) → stands (map_of l) k ≡ false → is_absent (field l k) k ≡ true
 unfolding field
-field-unwritten l k p = rw p (eq-eqb (row k).absent (row k).absent refl)
+field_unwritten l k p = rw p (eq-eqb (row k).absent (row k).absent refl)
 
 -- a field that is not its default has its bit in every map: so its place is no lower
-places-least : (l : List ℕ) (f : Figures) → figuresIn l ≡ f → (k : ℕ) → k ≤ fieldCount
-    → 1 + length (fieldsOctets (values_of f) k) ≤ field_at (mapOf l) k
+places_least : (l : List ℕ) (f : Figures) → figures_in l ≡ f → (k : ℕ) → k ≤ field_count
+    → 1 + length (fields_octets (values_of f) k) ≤ field_at (map_of l) k
 unfolding field_at
-places-least l f e zero h = omega (arith, fields_at (values_of f))
-places-least l f e (suc k) h =
-    go (stands (mapOf l) k) (isAbsent (get_or (values_of f) k 0) k) refl refl (places-least l f e k (omega arith))
-    (fields-length (values_of f) k)
+places_least l f e zero h = omega (arith, fields_at (values_of f))
+places_least l f e (suc k) h =
+    go (stands (map_of l) k) (is_absent (get_or (values_of f) k 0) k) refl refl (places_least l f e k (omega arith))
+    (fields_length (values_of f) k)
   where
     held : get_or (values_of f) k 0 ≡ field l k
-    held = ap (λ (g : Figures). get_or (values_of g) k 0) (sym e) ∙ field-values l k (omega arith)
+    held = ap (λ (g : Figures). get_or (values_of g) k 0) (sym e) ∙ field_values l k (omega arith)
 
-    go : (b a : Bool) → stands (mapOf l) k ≡ b → isAbsent (get_or (values_of f) k 0) k ≡ a
-        → 1 + length (fieldsOctets (values_of f) k) ≤ field_at (mapOf l) k
-        → length (fieldsOctets (values_of f) (suc k)) ≡ length (fieldsOctets (values_of f) k) + pick a 0 (width k)
-        → 1 + length (fieldsOctets (values_of f) (suc k)) ≤ field_at (mapOf l) k + pick b (width k) 0
+    go : (b a : Bool) → stands (map_of l) k ≡ b → is_absent (get_or (values_of f) k 0) k ≡ a
+        → 1 + length (fields_octets (values_of f) k) ≤ field_at (map_of l) k
+        → length (fields_octets (values_of f) (suc k)) ≡ length (fields_octets (values_of f) k) + pick a 0 (width k)
+        → 1 + length (fields_octets (values_of f) (suc k)) ≤ field_at (map_of l) k + pick b (width k) 0
     go true a p q i g = omega (arith, i, g, most a)
       where
         most : (c : Bool) → pick c 0 (width k) ≤ width k
@@ -486,45 +486,45 @@ places-least l f e (suc k) h =
         most false = omega arith
     go false true p q i g = omega (arith, i, g)
     go false false p q i g =
-        absurd (true≢false (sym (ap (λ (v : ℕ). isAbsent v k) held ∙ field-unwritten l k p) ∙ q))
+        absurd (true≢false (sym (ap (λ (v : ℕ). is_absent v k) held ∙ field_unwritten l k p) ∙ q))
 
 -- what a reader gives has addresses of six octets, refused or not
-pub always-formed : (l : List ℕ) → Formed (readSheet l).layout
-always-formed l i g = six-of (readSheet l).layout i (go (readSheet l).answer refl)
+pub always_formed : (l : List ℕ) → Formed (read_sheet l).layout
+always_formed l i g = six_of (read_sheet l).layout i (go (read_sheet l).answer refl)
   where
-    go : (r : Answer) → (readSheet l).answer ≡ r
-        → length (get_or (readSheet l).layout.stations i (record { position = 0; address = [] })).address ≡ 6
-    go (accepted vs) e = read-formed l (sheetSize l) (accepted-size l vs e) i g
-    go (refused n) e = absurd (omega (arith, refused-empty l n e))
+    go : (r : Answer) → (read_sheet l).answer ≡ r
+        → length (get_or (read_sheet l).layout.stations i (record { position = 0; address = [] })).address ≡ 6
+    go (accepted vs) e = read_formed l (sheet_size l) (accepted_size l vs e) i g
+    go (refused n) e = absurd (omega (arith, refused_empty l n e))
 
-module _ (l : List ℕ) (n : ℕ) (h : (readSheet l).answer ≡ accepted (n ∷ [])) where
+module _ (l : List ℕ) (n : ℕ) (h : (read_sheet l).answer ≡ accepted (n ∷ [])) where
   -- what was read can be written
-  pub read-writable : Writable (readSheet l).layout
-  read-writable = record { passes = read-passes l n h; formed = read-six }
+  pub read_writable : Writable (read_sheet l).layout
+  read_writable = record { passes = read_passes l n h; formed = read_six }
     where
-      read-six : (i : ℕ) → i < (readSheet l).layout.count → length (addressAt (readSheet l).layout i) ≡ 6
-      read-six i g = six-of (readSheet l).layout i (read-formed l n h i g)
+      read_six : (i : ℕ) → i < (read_sheet l).layout.count → length (address_at (read_sheet l).layout i) ≡ 6
+      read_six i g = six_of (read_sheet l).layout i (read_formed l n h i g)
 
   -- "a sheet read and written twice stays as after the first writing"
   pub twice : (rest : List ℕ)
-      → written (readSheet (written (readSheet l).layout ++ rest)).layout ≡ written (readSheet l).layout
+      → written (read_sheet (written (read_sheet l).layout ++ rest)).layout ≡ written (read_sheet l).layout
   twice rest =
-      ap (λ (r : Reading). written r.layout) (read-written (readSheet l).layout read-writable rest)
-      ∙ same-octets (trimmed (readSheet l).layout) (readSheet l).layout
-      (record { figures = refl; count = refl; stations = λ i g. trimmed-at (readSheet l).layout i g })
+      ap (λ (r : Reading). written r.layout) (read_written (read_sheet l).layout read_writable rest)
+      ∙ same_octets (trimmed (read_sheet l).layout) (read_sheet l).layout
+      (record { figures = refl; count = refl; stations = λ i g. trimmed_at (read_sheet l).layout i g })
 
   -- "shortest": no sheet that reads as the layout has fewer octets
-  pub shortest : (y : Layout) → Writable y → Alike y (readSheet l).layout → length (written y) ≤ n
+  pub shortest : (y : Layout) → Writable y → Alike y (read_sheet l).layout → length (written y) ≤ n
   shortest y w a =
-      let r = read-sound l n h in
-      let e : figuresIn l ≡ y.figures =
-      sym (a.figures ∙ ap (λ (x : Layout). x.figures) r.layout ∙ figures-in l) in
-      let c : countIn l ≡ y.count = sym (a.count ∙ ap (λ (x : Layout). x.count) r.layout ∙ count-in l) in
-      let p = places-least l y.figures e fieldCount (omega arith) in
+      let r = read_sound l n h in
+      let e : figures_in l ≡ y.figures =
+      sym (a.figures ∙ ap (λ (x : Layout). x.figures) r.layout ∙ figures_in_lem l) in
+      let c : count_in l ≡ y.count = sym (a.count ∙ ap (λ (x : Layout). x.count) r.layout ∙ count_in_lem l) in
+      let p = places_least l y.figures e field_count (omega arith) in
       omega (
         arith,
-        length-written y (sound y w.passes) w.formed,
-        head-length y.figures,
+        length_written y (sound y w.passes) w.formed,
+        head_length y.figures,
         size_of l,
         r.used,
         p,

@@ -4,10 +4,10 @@ ghost use Rattle.std.specs.Prelude.{◌≡◌, ◌+◌, ◌*◌, ◌-◌, ◌<�
 ghost use Rattle.std.proofs.lemmas.List.Edits.{sets};
 ghost use Rattle.octets.specs.Base.{pick, outcome};
 ghost use Rattle.octets.specs.Number.{spelled};
-ghost use Rattle.sheet_read.specs.Sheet.{fieldCount, row, width};
-ghost use Rattle.sheet_layout.specs.Limits.{maxStations};
-ghost use Rattle.sheet_write.specs.Write.{values_of, isAbsent, mapFrom, fieldOctets, fieldsOctets, headOctets};
-ghost use Rattle.sheet_write.specs.Write.{tapsOctets, written, sheetWritten, writtenAnswer};
+ghost use Rattle.sheet_read.specs.Sheet.{field_count, row, width};
+ghost use Rattle.sheet_layout.specs.Limits.{max_stations};
+ghost use Rattle.sheet_write.specs.Write.{values_of, is_absent, map_from, field_octets, fields_octets, head_octets};
+ghost use Rattle.sheet_write.specs.Write.{taps_octets, written, sheet_written, written_answer};
 
 use sheet_layout::{Figures, Layout};
 
@@ -33,7 +33,7 @@ fn values(f: Figures) -> [u32; 7]
 
 // What the field of bit k is if absent.
 fn absent(k: usize) -> u32
-    requires { k < fieldCount }
+    requires { k < field_count }
     ensures { result ≡ (row k).absent }
 {
     ABSENT[k]
@@ -41,7 +41,7 @@ fn absent(k: usize) -> u32
 
 // The octets of the field of bit k.
 fn field_width(k: usize) -> usize
-    requires { k < fieldCount }
+    requires { k < field_count }
     ensures value { result ≡ width k }
     ensures range { (1 ≤ result) × (result ≤ 2) }
 {
@@ -50,8 +50,8 @@ fn field_width(k: usize) -> usize
 
 // The bit in the map of a field that holds v: 0 where that is its default.
 fn bit(v: u32, k: usize) -> u32
-    requires { k < fieldCount }
-    ensures value { result ≡ pick (isAbsent v k) 0 1 }
+    requires { k < field_count }
+    ensures value { result ≡ pick (is_absent v k) 0 1 }
     ensures most { result ≤ 1 }
 {
     if v == absent(k) { 0 } else { 1 }
@@ -59,7 +59,7 @@ fn bit(v: u32, k: usize) -> u32
 
 // The map.
 fn map_octet(f: Figures) -> u32
-    ensures value { result ≡ mapFrom (values_of f) 0 fieldCount }
+    ensures value { result ≡ map_from (values_of f) 0 field_count }
     ensures most { result < 128 }
 {
     let all = values(f);
@@ -74,8 +74,8 @@ fn map_octet(f: Figures) -> u32
 
 // The octets of the field of bit k that holds v.
 fn field_size(v: u32, k: usize) -> usize
-    requires { k < fieldCount }
-    ensures value { result ≡ length (fieldOctets v k) }
+    requires { k < field_count }
+    ensures value { result ≡ length (field_octets v k) }
     ensures most { result ≤ 2 }
 {
     if v == absent(k) {
@@ -86,7 +86,7 @@ fn field_size(v: u32, k: usize) -> usize
 
 // The octets of all fields.
 fn fields_size(f: Figures) -> usize
-    ensures value { result ≡ length (fieldsOctets (values_of f) fieldCount) }
+    ensures value { result ≡ length (fields_octets (values_of f) field_count) }
     ensures most { result ≤ 14 }
 {
     let all = values(f);
@@ -101,9 +101,9 @@ fn fields_size(f: Figures) -> usize
 
 // Writes the field of bit k that holds v at `at`. Answers where it ends.
 fn put_field(out: &mut [u8], at: usize, v: u32, k: usize) -> usize
-    requires { (k < fieldCount) × (at + 2 ≤ length out.old) }
-    ensures end { result ≡ at + length (fieldOctets v k) }
-    ensures octets { out.new ≡ sets out.old at (fieldOctets v k) }
+    requires { (k < field_count) × (at + 2 ≤ length out.old) }
+    ensures end { result ≡ at + length (field_octets v k) }
+    ensures octets { out.new ≡ sets out.old at (field_octets v k) }
     ensures most { result ≤ at + 2 }
 {
     if v == absent(k) {
@@ -121,8 +121,8 @@ fn put_field(out: &mut [u8], at: usize, v: u32, k: usize) -> usize
 // Writes all fields from octet 1 on. Answers where they end.
 fn put_fields(out: &mut [u8], f: Figures) -> usize
     requires { 15 ≤ length out.old }
-    ensures end { result ≡ 1 + length (fieldsOctets (values_of f) fieldCount) }
-    ensures octets { out.new ≡ sets out.old 1 (fieldsOctets (values_of f) fieldCount) }
+    ensures end { result ≡ 1 + length (fields_octets (values_of f) field_count) }
+    ensures octets { out.new ≡ sets out.old 1 (fields_octets (values_of f) field_count) }
     ensures most { result ≤ 15 }
 {
     let all = values(f);
@@ -138,8 +138,8 @@ fn put_fields(out: &mut [u8], f: Figures) -> usize
 // Writes the map and the fields. Answers where they end.
 fn put_head(out: &mut [u8], f: Figures) -> usize
     requires { 15 ≤ length out.old }
-    ensures end { result ≡ length (headOctets f) }
-    ensures octets { out.new ≡ sets out.old 0 (headOctets f) }
+    ensures end { result ≡ length (head_octets f) }
+    ensures octets { out.new ≡ sets out.old 0 (head_octets f) }
 {
     let map = map_octet(f);
     let end = put_fields(out, f);
@@ -159,8 +159,8 @@ fn put_tap(out: &mut [u8], at: usize, position: u32, address: [u8; 6])
 
 // Writes the first n stations from `at` on.
 fn put_taps(out: &mut [u8], at: usize, y: Layout, n: usize)
-    requires { (n ≤ maxStations) × (at + 7 * n ≤ length out.old) }
-    ensures { out.new ≡ sets out.old at (tapsOctets y n) }
+    requires { (n ≤ max_stations) × (at + 7 * n ≤ length out.old) }
+    ensures { out.new ≡ sets out.old at (taps_octets y n) }
 {
     let mut i: usize = 0;
     while i < n {
@@ -173,9 +173,9 @@ fn put_taps(out: &mut [u8], at: usize, y: Layout, n: usize)
 
 // Writes N at `at`, and the stations behind it.
 fn put_stations(out: &mut [u8], at: usize, y: Layout)
-    requires { (y.count ≤ maxStations) × (at + 1 + 7 * y.count ≤ length out.old) }
+    requires { (y.count ≤ max_stations) × (at + 1 + 7 * y.count ≤ length out.old) }
     ensures { out.new
-        ≡ sets out.old at (spelled 1 y.count ++ tapsOctets y y.count) }
+        ≡ sets out.old at (spelled 1 y.count ++ taps_octets y y.count) }
 {
     put_taps(out, at + 1, y, y.count as usize);
     out[at] = (y.count % 256) as u8;
@@ -191,8 +191,8 @@ fn tap_size(address: [u8; 6]) -> usize
 
 // The octets of the first n stations.
 fn taps_size(y: Layout, n: usize) -> usize
-    requires { n ≤ maxStations }
-    ensures value { result ≡ length (tapsOctets y n) }
+    requires { n ≤ max_stations }
+    ensures value { result ≡ length (taps_octets y n) }
     ensures seven { result ≡ 7 * n }
 {
     let mut size: usize = 0;
@@ -208,9 +208,9 @@ fn taps_size(y: Layout, n: usize) -> usize
 
 // The octets of the sheet.
 fn sheet_size(y: Layout) -> usize
-    requires { y.count ≤ maxStations }
+    requires { y.count ≤ max_stations }
     ensures value { result ≡ length (written y) }
-    ensures parts { result ≡ length (headOctets y.figures) + 1 + 7 * y.count }
+    ensures parts { result ≡ length (head_octets y.figures) + 1 + 7 * y.count }
     ensures most { result ≤ 128 }
 {
     let stations = taps_size(y, y.count as usize);
@@ -219,8 +219,8 @@ fn sheet_size(y: Layout) -> usize
 
 // Writes the sheet, where there is room for it.
 fn put_sheet(out: &mut [u8], y: Layout)
-    requires le_count { (2 ≤ y.count) × (y.count ≤ maxStations) }
-    requires count_in_bounds { length (headOctets y.figures) + 1 + 7 * y.count ≤ length out.old }
+    requires le_count { (2 ≤ y.count) × (y.count ≤ max_stations) }
+    requires count_in_bounds { length (head_octets y.figures) + 1 + 7 * y.count ≤ length out.old }
     ensures { out.new ≡ sets out.old 0 (written y) }
 {
     let end = put_head(out, y.figures);
@@ -229,7 +229,7 @@ fn put_sheet(out: &mut [u8], y: Layout)
 
 // The shortest sheet that reads as the layout, at the front of `out`, or a refusal (5 to 8, 15).
 pub fn write_sheet(y: Layout, out: &mut [u8]) -> Written
-    ensures { outcome (writtenAnswer result) out.new ≡ sheetWritten y out.old }
+    ensures { outcome (written_answer result) out.new ≡ sheet_written y out.old }
 {
     let number = sheet_check::refusal(y);
     if number != 0 {

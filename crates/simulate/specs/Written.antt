@@ -5,11 +5,11 @@ use Rattle.std.proofs.Common.{sym, ◌∙◌, subst, true≢false, arith}
 use Rattle.std.proofs.lemmas.Bool.{not-true, not-false}
 use Rattle.report_spec.specs.declared.Progress.{Progress}
 use Rattle.report_spec.specs.Printed.{printed}
-use Rattle.report_spec.specs.Pieces.{Moved, moved, move, firstPiece}
+use Rattle.report_spec.specs.Pieces.{Moved, moved, move, first_piece}
 use Rattle.report_theorem.specs.Whole.{pieces, first_pieces}
-use Rattle.report_theorem.specs.Along.{Along, end-place}
-use Rattle.report_whole.specs.PartLaws.{part-size, begun-along, along-more, along-less}
-use Rattle.area.specs.Offsets.{areaSize}
+use Rattle.report_theorem.specs.Along.{Along, end_place_lem}
+use Rattle.report_whole.specs.PartLaws.{part_size, begun_along, along_more, along_less}
+use Rattle.area.specs.Offsets.{area_size}
 
 -- 16,777,282 pieces of 2,048 octets
 abbrev pub most : ℕ
@@ -17,41 +17,41 @@ most = 34359873536
 
 -- ---- the first piece, of k octets in buffer x, ends at v
 
-module _ (l a c x : List ℕ) (k v : ℕ) (h : Progress) (z : k ≤ length x) (q : length a ≡ areaSize)
-    (e : moved (take k x) h c ≡ firstPiece l a) where
-  pub first-end : v ≡ 0 + length (take (k - 0) x) → Along l v h c
-  first-end t =
-      let m : v ≡ k = omega (arith, part-size x k z) in subst (λ (i : ℕ). Along l i h c) (sym m)
-      (begun-along l a c x k h z q e)
+module _ (l a c x : List ℕ) (k v : ℕ) (h : Progress) (z : k ≤ length x) (q : length a ≡ area_size)
+    (e : moved (take k x) h c ≡ first_piece l a) where
+  pub first_end : v ≡ 0 + length (take (k - 0) x) → Along l v h c
+  first_end t =
+      let m : v ≡ k = omega (arith, part_size x k z) in subst (λ (i : ℕ). Along l i h c) (sym m)
+      (begun_along l a c x k h z q e)
 
-  pub first-most : length x ≡ 2048 → v ≡ 0 + length (take (k - 0) x) → v + 2048 * pieces h ≤ most
-  first-most y t =
+  pub first_most : length x ≡ 2048 → v ≡ 0 + length (take (k - 0) x) → v + 2048 * pieces h ≤ most
+  first_most y t =
       omega (
         arith,
-        part-size x k z,
+        part_size x k z,
         subst (λ (m : Moved). pieces m.progress ≤ 16777281) (sym e)
             (first_pieces l a q),
       )
 
 pub first_fits : (x : List ℕ) (k : ℕ) → k ≤ length x → length x ≡ 2048 → 0 + length (take (k - 0) x) ≤ most
-first_fits x k z y = omega (arith, part-size x k z)
+first_fits x k z y = omega (arith, part_size x k z)
 
 -- ---- a piece after it, from n on
 
 module _ (l b c x : List ℕ) (n k : ℕ) (g h : Progress) (w : Along l n g b) (o : not g.ended ≡ true)
     (z : k ≤ length x)
     (e : moved (take k x) h c ≡ move l g b) where
-  pub next-room : length x ≡ 2048 → n + 2048 * pieces g ≤ most → n + length (take (k - 0) x) ≤ most
-  next-room y t = omega (arith, part-size x k z, along-less l b c x n k g h w o z e)
+  pub next_room : length x ≡ 2048 → n + 2048 * pieces g ≤ most → n + length (take (k - 0) x) ≤ most
+  next_room y t = omega (arith, part_size x k z, along_less l b c x n k g h w o z e)
 
-  pub next-end : (v : ℕ) → v ≡ n + length (take (k - 0) x) → Along l v h c
-  next-end v t =
-      let m : v ≡ n + k = omega (arith, part-size x k z) in subst (λ (i : ℕ). Along l i h c) (sym m)
-      (along-more l b c x n k g h w o z e)
+  pub next_end : (v : ℕ) → v ≡ n + length (take (k - 0) x) → Along l v h c
+  next_end v t =
+      let m : v ≡ n + k = omega (arith, part_size x k z) in subst (λ (i : ℕ). Along l i h c) (sym m)
+      (along_more l b c x n k g h w o z e)
 
-  pub next-most : (v : ℕ) → length x ≡ 2048 → n + 2048 * pieces g ≤ most → v ≡ n + length (take (k - 0) x)
+  pub next_most : (v : ℕ) → length x ≡ 2048 → n + 2048 * pieces g ≤ most → v ≡ n + length (take (k - 0) x)
       → v + 2048 * pieces h ≤ most
-  next-most v y t u = omega (arith, part-size x k z, along-less l b c x n k g h w o z e)
+  next_most v y t u = omega (arith, part_size x k z, along_less l b c x n k g h w o z e)
 
 -- ---- the end
 
@@ -60,4 +60,4 @@ not_done d v l o t = absurd (true≢false (sym t ∙ not-true d o))
 
 pub all_done : (l b : List ℕ) (n : ℕ) (g : Progress) → Along l n g b → not g.ended ≡ false → true ≡ true
     → n ≡ length (printed l)
-all_done l b n g w o t = end-place l n g b (not-false g.ended o) w
+all_done l b n g w o t = end_place_lem l n g b (not-false g.ended o) w

@@ -8,7 +8,7 @@ ghost use Rattle.report_spec.specs.Printed.{printed};
 ghost use Rattle.report_theorem.specs.Whole.{pieces};
 ghost use Rattle.report_theorem.specs.Along.{Along};
 ghost use Rattle.simulate.specs.Written.{most};
-ghost use Rattle.area.specs.Offsets.{areaSize};
+ghost use Rattle.area.specs.Offsets.{area_size};
 
 use libc::{STDIN_FILENO, STDOUT_FILENO};
 use report_spec::Progress;
@@ -58,7 +58,7 @@ fn write_rest(input: &[u8], area: &mut [u8], at: usize, g: Progress) -> Written
 // Writes all that is printed for the input: where every write call answered true, what was handed to them is the whole
 // text.
 fn write_run(input: &[u8], area: &mut [u8]) -> Written
-    requires { length area.old ≡ areaSize }
+    requires { length area.old ≡ area_size }
     ensures { result.done ≡ true → result.at ≡ length (printed input.now) }
 {
     let mut buf = [0u8; 2048];

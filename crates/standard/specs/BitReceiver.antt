@@ -3,8 +3,8 @@ use Rattle.std.specs.Prelude.{◌+◌, ◌-◌, Bool, true, false, not, List, []
 use Rattle.octets.specs.Base.{pick}
 use Rattle.standard.specs.Language.{Test, Statement, ◌≔◌, ◌≔#◌, keep, row, skip, ◌⨾◌, test, while, repeat}
 use Rattle.standard.specs.Language.{cycle, call, await, bit, over, flag, number, receiving, spoiled, overlapped}
-use Rattle.standard.specs.Language.{currentReceiveBit, frameSize}
-use Rattle.standard.specs.Reading.{carrierHeard, bit_of, nextSymbols, noteSymbol, keptBit}
+use Rattle.standard.specs.Language.{current_receive_bit, frame_size}
+use Rattle.standard.specs.Reading.{carrier_heard, bit_of, next_symbols, note_symbol, kept_bit}
 
 -- ---- PhysicalSignalDecap (4.2.9): symbols are passed over until the delimiter is found
 
@@ -12,47 +12,47 @@ use Rattle.standard.specs.Reading.{carrierHeard, bit_of, nextSymbols, noteSymbol
 abbrev pub delimiter : List Bool
 delimiter = true ∷ true ∷ false ∷ true ∷ false ∷ true ∷ false ∷ true ∷ []
 
-abbrev pub sameBit : Bool → Bool → Bool
-sameBit true b = b
-sameBit false b = not b
+abbrev pub same_bit : Bool → Bool → Bool
+same_bit true b = b
+same_bit false b = not b
 
-abbrev pub sameBits : List Bool → List Bool → Bool
-sameBits [] [] = true
-sameBits [] (y ∷ u) = false
-sameBits (x ∷ w) [] = false
-sameBits (x ∷ w) (y ∷ u) = pick (sameBit x y) (sameBits w u) false
+abbrev pub same_bits : List Bool → List Bool → Bool
+same_bits [] [] = true
+same_bits [] (y ∷ u) = false
+same_bits (x ∷ w) [] = false
+same_bits (x ∷ w) (y ∷ u) = pick (same_bit x y) (same_bits w u) false
 
 abbrev pub forget : Statement
 forget = spoiled ≔ (λ s. false) ⨾ overlapped ≔ (λ s. false) ⨾ row (λ s. [])
 
-abbrev pub seekSymbol : Statement
-seekSymbol =
-    test carrierHeard (noteSymbol ⨾ row (λ s. nextSymbols s.signals.heard s.reception.row)) forget
+abbrev pub seek_symbol : Statement
+seek_symbol =
+    test carrier_heard (note_symbol ⨾ row (λ s. next_symbols s.signals.heard s.reception.row)) forget
 
-abbrev pub isDelimiter : Test
-isDelimiter s = sameBits s.reception.row delimiter
+abbrev pub is_delimiter : Test
+is_delimiter s = same_bits s.reception.row delimiter
 
-abbrev pub physicalSignalDecap : Statement
-physicalSignalDecap = forget ⨾ repeat (await bit ⨾ seekSymbol) isDelimiter
+abbrev pub physical_signal_decap : Statement
+physical_signal_decap = forget ⨾ repeat (await bit ⨾ seek_symbol) is_delimiter
 
 -- ---- BitReceiver (4.2.9)
 
-abbrev pub appendBit : Statement
-appendBit =
-    noteSymbol ⨾
-    keep (λ s. keptBit (number currentReceiveBit s - 1) (bit_of s.signals.heard)) ⨾
-    currentReceiveBit ≔# (λ s. number currentReceiveBit s + 1)
+abbrev pub append_bit : Statement
+append_bit =
+    note_symbol ⨾
+    keep (λ s. kept_bit (number current_receive_bit s - 1) (bit_of s.signals.heard)) ⨾
+    current_receive_bit ≔# (λ s. number current_receive_bit s + 1)
 
-abbrev pub takeBit : Statement
-takeBit = test carrierHeard appendBit skip ⨾ receiving ≔ carrierHeard
+abbrev pub take_bit : Statement
+take_bit = test carrier_heard append_bit skip ⨾ receiving ≔ carrier_heard
 
-abbrev pub receiveBits : Statement
-receiveBits =
+abbrev pub receive_bits : Statement
+receive_bits =
     while (flag receiving)
-    (test (λ s. eqb (number currentReceiveBit s) 1) (call physicalSignalDecap) skip ⨾ await bit ⨾ takeBit)
+    (test (λ s. eqb (number current_receive_bit s) 1) (call physical_signal_decap) skip ⨾ await bit ⨾ take_bit)
 
-abbrev pub closeFrame : Statement
-closeFrame = frameSize ≔# (λ s. number currentReceiveBit s - 1) ⨾ await over
+abbrev pub close_frame : Statement
+close_frame = frame_size ≔# (λ s. number current_receive_bit s - 1) ⨾ await over
 
-abbrev pub bitReceiver : Statement
-bitReceiver = cycle (receiveBits ⨾ closeFrame)
+abbrev pub bit_receiver : Statement
+bit_receiver = cycle (receive_bits ⨾ close_frame)

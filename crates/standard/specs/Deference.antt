@@ -2,50 +2,50 @@
 use Rattle.std.specs.Prelude.{true, false, not, ◌||◌}
 use Rattle.sheet_layout.specs.declared.Figures.{Figures}
 use Rattle.standard.specs.Language.{Statement, ◌≔◌, skip, ◌⨾◌, test, while, repeat, cycle, flag, deferring}
-use Rattle.standard.specs.Language.{wasTransmitting, transmitting, frameWaiting}
-use Rattle.standard.specs.Reading.{carrierSense, nothing, startRealTimeDelay, realTimeDelay}
+use Rattle.standard.specs.Language.{was_transmitting, transmitting, frame_waiting}
+use Rattle.standard.specs.Reading.{carrier_sense, nothing, start_real_time_delay, real_time_delay}
 
 -- watch for a carrier
-abbrev pub watchCarrier : Statement
-watchCarrier = while (λ s. not (carrierSense s)) nothing
+abbrev pub watch_carrier : Statement
+watch_carrier = while (λ s. not (carrier_sense s)) nothing
 
 -- a frame passes
-abbrev pub passFrame : Statement
-passFrame =
-    while (λ s. carrierSense s || flag transmitting s)
-    (wasTransmitting ≔ (λ s. flag wasTransmitting s || flag transmitting s) ⨾ nothing)
+abbrev pub pass_frame : Statement
+pass_frame =
+    while (λ s. carrier_sense s || flag transmitting s)
+    (was_transmitting ≔ (λ s. flag was_transmitting s || flag transmitting s) ⨾ nothing)
 
 -- the first part of the gap after a transmission of its own
-abbrev pub firstPartOwn : Figures → Statement
-firstPartOwn f = startRealTimeDelay ⨾ while (realTimeDelay f.gap1) nothing
+abbrev pub first_part_own : Figures → Statement
+first_part_own f = start_real_time_delay ⨾ while (real_time_delay f.gap1) nothing
 
 -- and after others: it starts again with a carrier
 abbrev pub restart : Statement
-restart = while carrierSense (nothing ⨾ startRealTimeDelay)
+restart = while carrier_sense (nothing ⨾ start_real_time_delay)
 
-abbrev pub firstPart : Figures → Statement
-firstPart f =
-    repeat (restart ⨾ test (realTimeDelay f.gap1) nothing skip) (λ s. not (realTimeDelay f.gap1 s))
+abbrev pub first_part : Figures → Statement
+first_part f =
+    repeat (restart ⨾ test (real_time_delay f.gap1) nothing skip) (λ s. not (real_time_delay f.gap1 s))
 
-abbrev pub firstPartOther : Figures → Statement
-firstPartOther f = startRealTimeDelay ⨾ firstPart f
+abbrev pub first_part_other : Figures → Statement
+first_part_other f = start_real_time_delay ⨾ first_part f
 
 -- the second part
-abbrev pub secondPart : Figures → Statement
-secondPart f = while (realTimeDelay f.gap2) nothing
+abbrev pub second_part : Figures → Statement
+second_part f = while (real_time_delay f.gap2) nothing
 
 -- new transmissions may start, and a waiting one does
-abbrev pub letStart : Statement
-letStart = deferring ≔ (λ s. false) ⨾ while (flag frameWaiting) nothing
+abbrev pub let_start : Statement
+let_start = deferring ≔ (λ s. false) ⨾ while (flag frame_waiting) nothing
 
-abbrev pub lastGap : Figures → Statement
-lastGap f = startRealTimeDelay ⨾ secondPart f ⨾ letStart
+abbrev pub last_gap : Figures → Statement
+last_gap f = start_real_time_delay ⨾ second_part f ⨾ let_start
 
 abbrev pub gap : Figures → Statement
-gap f = test (flag wasTransmitting) (firstPartOwn f) (firstPartOther f) ⨾ lastGap f
+gap f = test (flag was_transmitting) (first_part_own f) (first_part_other f) ⨾ last_gap f
 
 abbrev pub busy : Figures → Statement
-busy f = deferring ≔ (λ s. true) ⨾ wasTransmitting ≔ flag transmitting ⨾ passFrame ⨾ gap f
+busy f = deferring ≔ (λ s. true) ⨾ was_transmitting ≔ flag transmitting ⨾ pass_frame ⨾ gap f
 
 abbrev pub deference : Figures → Statement
-deference f = cycle (watchCarrier ⨾ busy f)
+deference f = cycle (watch_carrier ⨾ busy f)

@@ -10,7 +10,7 @@ use Rattle.station_spec.specs.declared.ReceiveEvent.TheVariants.{NoReceive}
 use Rattle.station_spec.specs.declared.Stored.TheVariants.{NoStore}
 use Rattle.standard.specs.Language.{Draws}
 use Rattle.standard.specs.Interpreter.{execute, turn}
-use Rattle.standard.specs.Reading.{Machine, Input, Output, goesOn, everyone, passes, begins, bitTime, outputOf}
+use Rattle.standard.specs.Reading.{Machine, Input, Output, goes_on, everyone, passes, begins, bit_time, output_of}
 use Rattle.standard.specs.Reading.{executed}
 use Rattle.standard.specs.Initialize.{initialize}
 
@@ -32,41 +32,41 @@ shows e v = record { emission = e; sent = v; got = NoReceive; stored = NoStore }
 
 -- a frame of 64 octets that is offered to a quiet station goes out at once; another that is heard with bit 3 is its
 -- collision, and the header goes on
-pub starts-at-once :
+pub starts_at_once :
     executed start
     (record { offered = 64; heard = Nothing } ∷ quietly ∷ record { offered = 0; heard = Clean true } ∷ quietly ∷ [])
     ≡ (shows (PacketBit 1) NoTransmit ∷ shows (PacketBit 2) NoTransmit ∷ shows (PacketBit 3) (Collision 3)
     ∷ shows (PacketBit 4) NoTransmit ∷ [])
-unfolding executed bitTime begins passes everyone goesOn turn execute initialize
-starts-at-once = refl
+unfolding executed bit_time begins passes everyone goes_on turn execute initialize
+starts_at_once = refl
 
 -- a station that hears another defers
 pub defers :
     executed start (record { offered = 64; heard = Clean true } ∷ quietly ∷ quietly ∷ [])
     ≡ (shows Rest NoTransmit ∷ shows Rest NoTransmit ∷ shows Rest NoTransmit ∷ [])
-unfolding executed bitTime begins passes everyone goesOn turn execute initialize
+unfolding executed bit_time begins passes everyone goes_on turn execute initialize
 defers = refl
 
 -- so many quiet bit times
 unfoldable pub times : ℕ → Machine → Machine
 times zero x = x
-times (suc n) x = times n (bitTime quietly x)
+times (suc n) x = times n (bit_time quietly x)
 
 -- and starts when the gap of 96 quiet bit times is over, in bit time 97
-pub gap-is-over :
-    outputOf (times 96 (bitTime (record { offered = 64; heard = Clean true }) start)).state ≡ shows Rest NoTransmit
-unfolding times bitTime begins passes everyone goesOn turn execute initialize
-gap-is-over = refl
+pub gap_is_over :
+    output_of (times 96 (bit_time (record { offered = 64; heard = Clean true }) start)).state ≡ shows Rest NoTransmit
+unfolding times bit_time begins passes everyone goes_on turn execute initialize
+gap_is_over = refl
 
-pub gap-then-start :
-    outputOf (times 97 (bitTime (record { offered = 64; heard = Clean true }) start)).state
+pub gap_then_start :
+    output_of (times 97 (bit_time (record { offered = 64; heard = Clean true }) start)).state
     ≡ shows (PacketBit 1) NoTransmit
-unfolding times bitTime begins passes everyone goesOn turn execute initialize
-gap-then-start = refl
+unfolding times bit_time begins passes everyone goes_on turn execute initialize
+gap_then_start = refl
 
 -- its 576th bit reports sent, after one attempt
-pub sent-once :
-    outputOf (times 575 (bitTime (record { offered = 64; heard = Nothing }) start)).state
+pub sent_once :
+    output_of (times 575 (bit_time (record { offered = 64; heard = Nothing }) start)).state
     ≡ shows (PacketBit 576) (Sent 1)
-unfolding times bitTime begins passes everyone goesOn turn execute initialize
-sent-once = refl
+unfolding times bit_time begins passes everyone goes_on turn execute initialize
+sent_once = refl

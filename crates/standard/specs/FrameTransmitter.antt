@@ -2,115 +2,115 @@
 use Rattle.std.specs.Prelude.{◌+◌, ◌*◌, true, false, not, ◌&&◌, ltb, leb, eqb}
 use Rattle.sheet_layout.specs.declared.Figures.{Figures}
 use Rattle.station_spec.specs.declared.TransmitEvent.TheVariants.{Collision, Late, Sent, GivenUp, LateEnded}
-use Rattle.station_spec.specs.Transmit.{closesFrame}
+use Rattle.station_spec.specs.Transmit.{closes_frame}
 use Rattle.standard.specs.Language.{Test, Term, Statement, ◌≔◌, ◌≔#◌, report, skip, ◌⨾◌, test, while, repeat}
 use Rattle.standard.specs.Language.{cycle, call, await, offer, look, bit, over, flag, number, deferring}
-use Rattle.standard.specs.Language.{frameWaiting, transmitting, transmitSucceeding, newCollision}
-use Rattle.standard.specs.Language.{lateCollisionError, jamming, deferred, attempts, currentTransmitBit}
-use Rattle.standard.specs.Language.{lastTransmitBit, lastHeaderBit, headerBits, maxBackOff, lateCollisionCount}
-use Rattle.standard.specs.Language.{outgoingSize, waitLeft}
-use Rattle.standard.specs.Reading.{collisionDetect, random, nextDraw, waitOut}
+use Rattle.standard.specs.Language.{frame_waiting, transmitting, transmit_succeeding, new_collision}
+use Rattle.standard.specs.Language.{late_collision_error, jamming, deferred, attempts, current_transmit_bit}
+use Rattle.standard.specs.Language.{last_transmit_bit, last_header_bit, header_bits, max_back_off, late_collision_count}
+use Rattle.standard.specs.Language.{outgoing_size, wait_left}
+use Rattle.standard.specs.Reading.{collision_detect, random, next_draw, wait_out}
 
 -- ---- WatchForCollision (4.2.8)
 
 -- the number in its packet of the bit that goes out
-abbrev pub packetBitNow : Term
-packetBitNow s = number headerBits s + number currentTransmitBit s
+abbrev pub packet_bit_now : Term
+packet_bit_now s = number header_bits s + number current_transmit_bit s
 
-abbrev pub isLate : Figures → Test
-isLate f s = ltb f.slot (packetBitNow s)
+abbrev pub is_late : Figures → Test
+is_late f s = ltb f.slot (packet_bit_now s)
 
 abbrev pub collide : Figures → Statement
 collide f =
-    test (isLate f) (lateCollisionError ≔ (λ s. true) ⨾ report (λ s. Late (packetBitNow s) (closesFrame f)))
-    (report (λ s. Collision (packetBitNow s))) ⨾
-    newCollision ≔ (λ s. true) ⨾
-    transmitSucceeding ≔ (λ s. false)
+    test (is_late f) (late_collision_error ≔ (λ s. true) ⨾ report (λ s. Late (packet_bit_now s) (closes_frame f)))
+    (report (λ s. Collision (packet_bit_now s))) ⨾
+    new_collision ≔ (λ s. true) ⨾
+    transmit_succeeding ≔ (λ s. false)
 
-abbrev pub watchNow : Figures → Statement
-watchNow f = test (λ s. flag transmitSucceeding s && collisionDetect s) (collide f) skip ⨾ await over
+abbrev pub watch_now : Figures → Statement
+watch_now f = test (λ s. flag transmit_succeeding s && collision_detect s) (collide f) skip ⨾ await over
 
-abbrev pub watchForCollision : Figures → Statement
-watchForCollision f = await bit ⨾ watchNow f
+abbrev pub watch_for_collision : Figures → Statement
+watch_for_collision f = await bit ⨾ watch_now f
 
 -- ---- StartTransmit (4.2.8)
 
-abbrev pub startTransmit : Statement
-startTransmit =
-    currentTransmitBit ≔# (λ s. 1) ⨾
-    lastTransmitBit ≔# (λ s. 8 * number outgoingSize s) ⨾
-    transmitSucceeding ≔ (λ s. true) ⨾
+abbrev pub start_transmit : Statement
+start_transmit =
+    current_transmit_bit ≔# (λ s. 1) ⨾
+    last_transmit_bit ≔# (λ s. 8 * number outgoing_size s) ⨾
+    transmit_succeeding ≔ (λ s. true) ⨾
     transmitting ≔ (λ s. true) ⨾
-    lastHeaderBit ≔# (λ s. 64) ⨾
-    headerBits ≔# (λ s. 0) ⨾
+    last_header_bit ≔# (λ s. 64) ⨾
+    header_bits ≔# (λ s. 0) ⨾
     jamming ≔ (λ s. false)
 
 -- ---- BackOff (4.2.8)
 
-abbrev pub backOff : Figures → Statement
-backOff f =
-    test (λ s. eqb (number attempts s) 1) (maxBackOff ≔# (λ s. 2))
-    (test (λ s. leb (number attempts s) f.backoff) (maxBackOff ≔# (λ s. number maxBackOff s * 2)) skip) ⨾
-    waitLeft ≔# (λ s. f.slot * random s) ⨾
-    nextDraw ⨾
-    waitOut
+abbrev pub back_off : Figures → Statement
+back_off f =
+    test (λ s. eqb (number attempts s) 1) (max_back_off ≔# (λ s. 2))
+    (test (λ s. leb (number attempts s) f.backoff) (max_back_off ≔# (λ s. number max_back_off s * 2)) skip) ⨾
+    wait_left ≔# (λ s. f.slot * random s) ⨾
+    next_draw ⨾
+    wait_out
 
 -- ---- TransmitLinkMgmt (4.2.8)
 
 -- the option to end after a late collision
-abbrev pub lateEnd : Figures → Test
-lateEnd f s = closesFrame f && ltb 0 (number lateCollisionCount s)
+abbrev pub late_end : Figures → Test
+late_end f s = closes_frame f && ltb 0 (number late_collision_count s)
 
-abbrev pub whileDeferring : Statement
-whileDeferring = while (flag deferring) (deferred ≔ (λ s. true) ⨾ await look)
+abbrev pub while_deferring : Statement
+while_deferring = while (flag deferring) (deferred ≔ (λ s. true) ⨾ await look)
 
 abbrev pub watching : Figures → Statement
-watching f = while (flag transmitting) (call (watchForCollision f))
+watching f = while (flag transmitting) (call (watch_for_collision f))
 
 abbrev pub counting : Statement
 counting =
-    test (flag lateCollisionError) (lateCollisionCount ≔# (λ s. number lateCollisionCount s + 1)) skip ⨾
+    test (flag late_collision_error) (late_collision_count ≔# (λ s. number late_collision_count s + 1)) skip ⨾
     attempts ≔# (λ s. number attempts s + 1)
 
-abbrev pub sendFrame : Figures → Statement
-sendFrame f = frameWaiting ≔ (λ s. false) ⨾ call startTransmit ⨾ watching f ⨾ counting
+abbrev pub send_frame : Figures → Statement
+send_frame f = frame_waiting ≔ (λ s. false) ⨾ call start_transmit ⨾ watching f ⨾ counting
 
-abbrev pub awaitMedium : Figures → Statement
-awaitMedium f =
-    frameWaiting ≔ (λ s. true) ⨾
-    lateCollisionError ≔ (λ s. false) ⨾
-    (await look ⨾ whileDeferring) ⨾
-    sendFrame f
+abbrev pub await_medium : Figures → Statement
+await_medium f =
+    frame_waiting ≔ (λ s. true) ⨾
+    late_collision_error ≔ (λ s. false) ⨾
+    (await look ⨾ while_deferring) ⨾
+    send_frame f
 
 abbrev pub trying : Figures → Statement
 trying f =
-    while (λ s. (ltb (number attempts s) f.limit && not (flag transmitSucceeding s)) && not (lateEnd f s))
-    (test (λ s. ltb 0 (number attempts s)) (call (backOff f)) skip ⨾ awaitMedium f)
+    while (λ s. (ltb (number attempts s) f.limit && not (flag transmit_succeeding s)) && not (late_end f s))
+    (test (λ s. ltb 0 (number attempts s)) (call (back_off f)) skip ⨾ await_medium f)
 
 abbrev pub status : Figures → Statement
 status f =
-    test (flag transmitSucceeding) (report (λ s. Sent (number attempts s)))
-    (test (lateEnd f) (report (λ s. LateEnded (number attempts s))) (report (λ s. GivenUp (number attempts s))))
+    test (flag transmit_succeeding) (report (λ s. Sent (number attempts s)))
+    (test (late_end f) (report (λ s. LateEnded (number attempts s))) (report (λ s. GivenUp (number attempts s))))
 
-abbrev pub transmitLinkMgmt : Figures → Statement
-transmitLinkMgmt f =
+abbrev pub transmit_link_mgmt : Figures → Statement
+transmit_link_mgmt f =
     attempts ≔# (λ s. 0) ⨾
-    transmitSucceeding ≔ (λ s. false) ⨾
-    lateCollisionCount ≔# (λ s. 0) ⨾
+    transmit_succeeding ≔ (λ s. false) ⨾
+    late_collision_count ≔# (λ s. 0) ⨾
     deferred ≔ (λ s. false) ⨾
     trying f ⨾
     status f
 
 -- ---- TransmitDataEncap and TransmitFrame (4.2.8), and the client that calls it
 
-abbrev pub transmitDataEncap : Statement
-transmitDataEncap = outgoingSize ≔# (λ s. s.signals.offered)
+abbrev pub transmit_data_encap : Statement
+transmit_data_encap = outgoing_size ≔# (λ s. s.signals.offered)
 
-abbrev pub transmitFrame : Figures → Statement
-transmitFrame f = call transmitDataEncap ⨾ call (transmitLinkMgmt f)
+abbrev pub transmit_frame : Figures → Statement
+transmit_frame f = call transmit_data_encap ⨾ call (transmit_link_mgmt f)
 
-abbrev pub isOffered : Test
-isOffered s = ltb 0 s.signals.offered
+abbrev pub is_offered : Test
+is_offered s = ltb 0 s.signals.offered
 
-abbrev pub frameTransmitter : Figures → Statement
-frameTransmitter f = cycle (repeat (await offer) isOffered ⨾ call (transmitFrame f))
+abbrev pub frame_transmitter : Figures → Statement
+frame_transmitter f = cycle (repeat (await offer) is_offered ⨾ call (transmit_frame f))

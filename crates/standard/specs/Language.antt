@@ -1,6 +1,6 @@
 -- The language in which section 4.2's procedures are written down as data: variables and statements. Variables have
--- the section's own names (4.2.7.2 to 4.2.7.4); `jamming`, `spoiled`, `overlapped`, `realTime`, `headerBits`,
--- `outgoingSize`, `waitLeft` and `drawn` are added (docs/STANDARD.md). Assumes nothing.
+-- the section's own names (4.2.7.2 to 4.2.7.4); `jamming`, `spoiled`, `overlapped`, `real_time`, `header_bits`,
+-- `outgoing_size`, `wait_left` and `drawn` are added (docs/STANDARD.md). Assumes nothing.
 use Rattle.std.specs.Prelude.{ℕ, Bool, List, ltb, eqb}
 use Rattle.octets.specs.Base.{pick}
 use Rattle.station_symbols.specs.declared.Heard.{Heard}
@@ -13,59 +13,59 @@ use Rattle.station_spec.specs.declared.Stored.{Stored}
 
 -- the flags: of deference, of transmission, of reception; each by its place
 pub data Flag : Type 0 where
-  deferring wasTransmitting : Flag
-  frameWaiting transmitting transmitSucceeding newCollision lateCollisionError jamming deferred : Flag
-  receiving receiveSucceeding spoiled overlapped : Flag
+  deferring was_transmitting : Flag
+  frame_waiting transmitting transmit_succeeding new_collision late_collision_error jamming deferred : Flag
+  receiving receive_succeeding spoiled overlapped : Flag
 
-abbrev pub flagPlace : Flag → ℕ
-flagPlace deferring = 0
-flagPlace wasTransmitting = 1
-flagPlace frameWaiting = 10
-flagPlace transmitting = 11
-flagPlace transmitSucceeding = 12
-flagPlace newCollision = 13
-flagPlace lateCollisionError = 14
-flagPlace jamming = 15
-flagPlace deferred = 16
-flagPlace receiving = 20
-flagPlace receiveSucceeding = 21
-flagPlace spoiled = 22
-flagPlace overlapped = 23
+abbrev pub flag_place : Flag → ℕ
+flag_place deferring = 0
+flag_place was_transmitting = 1
+flag_place frame_waiting = 10
+flag_place transmitting = 11
+flag_place transmit_succeeding = 12
+flag_place new_collision = 13
+flag_place late_collision_error = 14
+flag_place jamming = 15
+flag_place deferred = 16
+flag_place receiving = 20
+flag_place receive_succeeding = 21
+flag_place spoiled = 22
+flag_place overlapped = 23
 
 -- the numbers: of deference, of transmission, of reception
 pub data Number : Type 0 where
-  realTime : Number
-  attempts currentTransmitBit lastTransmitBit lastHeaderBit headerBits maxBackOff : Number
-  lateCollisionCount outgoingSize waitLeft drawn : Number
-  currentReceiveBit frameSize excessBits : Number
+  real_time : Number
+  attempts current_transmit_bit last_transmit_bit last_header_bit header_bits max_back_off : Number
+  late_collision_count outgoing_size wait_left drawn : Number
+  current_receive_bit frame_size excess_bits : Number
 
-abbrev pub numberPlace : Number → ℕ
-numberPlace realTime = 0
-numberPlace attempts = 10
-numberPlace currentTransmitBit = 11
-numberPlace lastTransmitBit = 12
-numberPlace lastHeaderBit = 13
-numberPlace headerBits = 14
-numberPlace maxBackOff = 15
-numberPlace lateCollisionCount = 16
-numberPlace outgoingSize = 17
-numberPlace waitLeft = 18
-numberPlace drawn = 19
-numberPlace currentReceiveBit = 20
-numberPlace frameSize = 21
-numberPlace excessBits = 22
+abbrev pub number_place : Number → ℕ
+number_place real_time = 0
+number_place attempts = 10
+number_place current_transmit_bit = 11
+number_place last_transmit_bit = 12
+number_place last_header_bit = 13
+number_place header_bits = 14
+number_place max_back_off = 15
+number_place late_collision_count = 16
+number_place outgoing_size = 17
+number_place wait_left = 18
+number_place drawn = 19
+number_place current_receive_bit = 20
+number_place frame_size = 21
+number_place excess_bits = 22
 
 pub record Variables : Type 0 where
   pub flags : Flag → Bool
   pub numbers : Number → ℕ
 
-abbrev pub withFlag : Flag → Bool → Variables → Variables
-withFlag x v p =
-    record { flags = λ y. pick (eqb (flagPlace x) (flagPlace y)) v (p.flags y); numbers = p.numbers }
+abbrev pub with_flag : Flag → Bool → Variables → Variables
+with_flag x v p =
+    record { flags = λ y. pick (eqb (flag_place x) (flag_place y)) v (p.flags y); numbers = p.numbers }
 
 abbrev pub with_number : Number → ℕ → Variables → Variables
 with_number x v p =
-    record { flags = p.flags; numbers = λ y. pick (eqb (numberPlace x) (numberPlace y)) v (p.numbers y) }
+    record { flags = p.flags; numbers = λ y. pick (eqb (number_place x) (number_place y)) v (p.numbers y) }
 
 -- What the station has: the variables of its three parts; what it emits and reports in this bit time; of the reception
 -- the symbols before the frame, the newest first, and the frame's octets.
@@ -140,8 +140,8 @@ pub data Statement : Type 0 where
 abbrev pub part_at : ℕ → Store → Variables
 part_at n s = pick (ltb n 10) s.deference (pick (ltb n 20) s.transmission.variables s.reception.variables)
 
-abbrev pub withPart : ℕ → Variables → Store → Store
-withPart n p s =
+abbrev pub with_part : ℕ → Variables → Store → Store
+with_part n p s =
     pick (ltb n 10) (store p s.transmission s.reception s.signals)
     (pick (ltb n 20)
     (store s.deference
@@ -159,13 +159,13 @@ withPart n p s =
     s.signals))
 
 abbrev pub flag : Flag → Test
-flag x s = (part_at (flagPlace x) s).flags x
+flag x s = (part_at (flag_place x) s).flags x
 
 abbrev pub number : Number → Term
-number x s = (part_at (numberPlace x) s).numbers x
+number x s = (part_at (number_place x) s).numbers x
 
-abbrev pub putFlag : Flag → Bool → Store → Store
-putFlag x v s = withPart (flagPlace x) (withFlag x v (part_at (flagPlace x) s)) s
+abbrev pub put_flag : Flag → Bool → Store → Store
+put_flag x v s = with_part (flag_place x) (with_flag x v (part_at (flag_place x) s)) s
 
-abbrev pub putNumber : Number → ℕ → Store → Store
-putNumber x v s = withPart (numberPlace x) (with_number x v (part_at (numberPlace x) s)) s
+abbrev pub put_number : Number → ℕ → Store → Store
+put_number x v s = with_part (number_place x) (with_number x v (part_at (number_place x) s)) s

@@ -7,15 +7,15 @@ use Rattle.sheet_layout.specs.declared.Figures.{Figures}
 use Rattle.station_state.specs.declared.Transmitter.{Transmitter}
 use Rattle.station_state.specs.declared.Transmitter.TheVariants.{NoFrame, Waiting, BackingOff, Sending, Heading}
 use Rattle.station_state.specs.declared.Transmitter.TheVariants.{Jamming}
-use Rattle.station_spec.specs.Transmit.{closesFrame}
-use Rattle.standard.specs.Language.{drawn, Variables, Reception, Signals, store, offer, frameWaiting}
-use Rattle.standard.specs.Language.{transmitting, newCollision}
+use Rattle.station_spec.specs.Transmit.{closes_frame}
+use Rattle.standard.specs.Language.{drawn, Variables, Reception, Signals, store, offer, frame_waiting}
+use Rattle.standard.specs.Language.{transmitting, new_collision}
 use Rattle.standard.specs.Interpreter.{Place, ran}
-use Rattle.standard.specs.Seen.{Ranges, isFree}
+use Rattle.standard.specs.Seen.{Ranges, is_free}
 use Rattle.standard.specs.RunLaws.{Turns, goes, waits, rest, num, seq, pass, enter, stay, again, yes₁, no₁}
 use Rattle.standard.specs.RunLaws.{set as put}
 use Rattle.standard.specs.TransmitLaws.{TransmitAt, idle, held, backing, sending as sendingAt, heading, jams}
-use Rattle.standard.specs.TransmitLaws.{fresh, atOffer, atDefer, atWait, atWatch, atRest}
+use Rattle.standard.specs.TransmitLaws.{fresh, at_offer, at_defer, at_wait, at_watch, at_rest}
 
 -- ---- an offer
 
@@ -29,24 +29,24 @@ pub record OfferTurn (f : Figures) (d : Variables) (s : Signals) (v : Variables)
   pub stands : TransmitAt f after n z pl x place bt
 
 module _ (f : Figures) (ok : Ranges f) (d : Variables) (s : Signals) (v : Variables) where
-  no-offer : (n z pl : ℕ) → s.offered ≡ 0 → v.flags transmitting ≡ false → v.flags frameWaiting ≡ false
-      → v.flags newCollision ≡ false → v.numbers drawn ≡ pl → OfferTurn f d s v n z pl NoFrame (atOffer f) (atRest f)
-  no-offer n z pl e tr fw nc dr =
+  no_offer : (n z pl : ℕ) → s.offered ≡ 0 → v.flags transmitting ≡ false → v.flags frame_waiting ≡ false
+      → v.flags new_collision ≡ false → v.numbers drawn ≡ pl → OfferTurn f d s v n z pl NoFrame (at_offer f) (at_rest f)
+  no_offer n z pl e tr fw nc dr =
       record {
         after = _;
-        place = atOffer f;
+        place = at_offer f;
         turns = λ r. goes (no₁ (ap (ltb 0) e) (again rest));
         stands = idle refl refl refl tr fw nc dr;
       }
 
-  an-offer : (pl : ℕ) (c : ltb 0 s.offered ≡ true) → v.flags transmitting ≡ false → v.flags newCollision ≡ false
-      → v.numbers drawn ≡ pl → OfferTurn f d s v 0 s.offered pl Waiting (atOffer f) (atRest f)
-  an-offer pl c tr nc dr =
-      let g : ((ltb 0 f.limit && true) && not (closesFrame f && false)) ≡ true =
-      ap₂ ◌&&◌ (ap (λ (b : Bool). b && true) (lt-ltb 0 f.limit ok.limit)) (ap not (and-false (closesFrame f))) in
+  an_offer : (pl : ℕ) (c : ltb 0 s.offered ≡ true) → v.flags transmitting ≡ false → v.flags new_collision ≡ false
+      → v.numbers drawn ≡ pl → OfferTurn f d s v 0 s.offered pl Waiting (at_offer f) (at_rest f)
+  an_offer pl c tr nc dr =
+      let g : ((ltb 0 f.limit && true) && not (closes_frame f && false)) ≡ true =
+      ap₂ ◌&&◌ (ap (λ (b : Bool). b && true) (lt-ltb 0 f.limit ok.limit)) (ap not (and-false (closes_frame f))) in
       record {
         after = _;
-        place = atDefer f;
+        place = at_defer f;
         turns = λ r.
             goes (yes₁ c (pass (enter (seq (enter (num (enter (seq (num (seq (put (seq (num (seq (put (seq (stay g
             (seq (no₁ refl (pass (seq (put (seq (put (seq (seq rest))))))))))))))))))))))))));
@@ -57,7 +57,7 @@ module _ (f : Figures) (ok : Ranges f) (d : Variables) (s : Signals) (v : Variab
               room = ok.limit;
               size = refl;
               some = ltb-true 0 s.offered c;
-              goeson = and-false (closesFrame f);
+              goeson = and-false (closes_frame f);
               range = λ k. absurd (omega arith);
               clean = nc;
               place = dr;
@@ -66,26 +66,26 @@ module _ (f : Figures) (ok : Ranges f) (d : Variables) (s : Signals) (v : Variab
       }
 
   -- wherever the transmitter stands
-  offer-idle : (n z pl : ℕ) → v.flags transmitting ≡ false → v.flags frameWaiting ≡ false → v.flags newCollision ≡
+  offer_idle : (n z pl : ℕ) → v.flags transmitting ≡ false → v.flags frame_waiting ≡ false → v.flags new_collision ≡
       false
       → v.numbers drawn ≡ pl → (c : Bool) → ltb 0 s.offered ≡ c
-      → OfferTurn f d s v (pick c 0 n) (pick c s.offered z) pl (pick c Waiting NoFrame) (atOffer f) (atRest f)
-  offer-idle n z pl tr fw nc dr true c = an-offer pl c tr nc dr
-  offer-idle n z pl tr fw nc dr false c = no-offer n z pl (omega (arith, ltb-false 0 s.offered c)) tr fw nc dr
+      → OfferTurn f d s v (pick c 0 n) (pick c s.offered z) pl (pick c Waiting NoFrame) (at_offer f) (at_rest f)
+  offer_idle n z pl tr fw nc dr true c = an_offer pl c tr nc dr
+  offer_idle n z pl tr fw nc dr false c = no_offer n z pl (omega (arith, ltb-false 0 s.offered c)) tr fw nc dr
 
   abbrev pub Offered : Transmitter → (n z pl : ℕ) → Place → Place → Type 0
   Offered x n z pl at bt =
-      OfferTurn f d s v (pick (isFree x && ltb 0 s.offered) 0 n) (pick (isFree x && ltb 0 s.offered)
+      OfferTurn f d s v (pick (is_free x && ltb 0 s.offered) 0 n) (pick (is_free x && ltb 0 s.offered)
       s.offered z) pl
-      (pick (isFree x && ltb 0 s.offered) Waiting x) at bt
+      (pick (is_free x && ltb 0 s.offered) Waiting x) at bt
 
   -- a station that holds a frame takes no other
-  offer-held : (n z pl : ℕ) (x y : Transmitter) (at to bt : Place) → x ≡ y → at ≡ to → isFree y ≡ false
+  offer_held : (n z pl : ℕ) (x y : Transmitter) (at to bt : Place) → x ≡ y → at ≡ to → is_free y ≡ false
       → ((r : Reception) → Turns offer to (store d (fresh v) r s) (ran to (store d (fresh v) r s)))
       → TransmitAt f v n z pl x at bt → Offered x n z pl at bt
-  offer-held n z pl x y at to bt p q i w k =
-      let b : (isFree x && ltb 0 s.offered) ≡ false =
-      ap (λ (a : Transmitter). isFree a && ltb 0 s.offered) p ∙ ap (λ (a : Bool). a && ltb 0 s.offered) i in
+  offer_held n z pl x y at to bt p q i w k =
+      let b : (is_free x && ltb 0 s.offered) ≡ false =
+      ap (λ (a : Transmitter). is_free a && ltb 0 s.offered) p ∙ ap (λ (a : Bool). a && ltb 0 s.offered) i in
       subst (λ (c : Bool). OfferTurn f d s v (pick c 0 n) (pick c s.offered z) pl (pick c Waiting x) at bt) (sym b)
       (record {
         after = v;
@@ -95,20 +95,20 @@ module _ (f : Figures) (ok : Ranges f) (d : Variables) (s : Signals) (v : Variab
         stands = k;
       })
 
-  pub offer-turn : (n z pl : ℕ) (x : Transmitter) (at bt : Place) → TransmitAt f v n z pl x at bt → Offered x n z pl
+  pub offer_turn : (n z pl : ℕ) (x : Transmitter) (at bt : Place) → TransmitAt f v n z pl x at bt → Offered x n z pl
       at bt
-  offer-turn n z pl x at bt (idle p q r tr fw nc dr) =
+  offer_turn n z pl x at bt (idle p q r tr fw nc dr) =
       subst (λ (a : Transmitter). Offered a n z pl at bt) (sym p)
       (subst₂ (λ (a b : Place). Offered NoFrame n z pl a b) (sym q) (sym r)
-      (offer-idle n z pl tr fw nc dr (ltb 0 s.offered) refl))
-  offer-turn n z pl x at bt (held p q r fw lt y) =
-      offer-held n z pl x Waiting at (atDefer f) bt p q refl (λ u. waits refl) (held p q r fw lt y)
-  offer-turn n z pl x at bt (backing w p q r fw g y) =
-      offer-held n z pl x (BackingOff w) at (atWait f) bt p q refl (λ u. waits refl) (backing w p q r fw g y)
-  offer-turn n z pl x at bt (sendingAt k p q sc nc lt nj b y) =
-      offer-held n z pl x (Sending k) at (atWatch f) bt p q refl (λ u. waits refl) (sendingAt k p q sc nc lt nj b y)
-  offer-turn n z pl x at bt (heading k p q r sc nc lt c g y) =
-      offer-held n z pl x (Heading k) at (atWatch f) bt p q refl (λ u. waits refl) (heading k p q r sc nc lt c g y)
-  offer-turn n z pl x at bt (jams left ends p q r sc nc j l c m g y) =
-      offer-held n z pl x (Jamming left ends) at (atWatch f) bt p q refl (λ u. waits refl)
+      (offer_idle n z pl tr fw nc dr (ltb 0 s.offered) refl))
+  offer_turn n z pl x at bt (held p q r fw lt y) =
+      offer_held n z pl x Waiting at (at_defer f) bt p q refl (λ u. waits refl) (held p q r fw lt y)
+  offer_turn n z pl x at bt (backing w p q r fw g y) =
+      offer_held n z pl x (BackingOff w) at (at_wait f) bt p q refl (λ u. waits refl) (backing w p q r fw g y)
+  offer_turn n z pl x at bt (sendingAt k p q sc nc lt nj b y) =
+      offer_held n z pl x (Sending k) at (at_watch f) bt p q refl (λ u. waits refl) (sendingAt k p q sc nc lt nj b y)
+  offer_turn n z pl x at bt (heading k p q r sc nc lt c g y) =
+      offer_held n z pl x (Heading k) at (at_watch f) bt p q refl (λ u. waits refl) (heading k p q r sc nc lt c g y)
+  offer_turn n z pl x at bt (jams left ends p q r sc nc j l c m g y) =
+      offer_held n z pl x (Jamming left ends) at (at_watch f) bt p q refl (λ u. waits refl)
       (jams left ends p q r sc nc j l c m g y)

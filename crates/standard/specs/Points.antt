@@ -4,14 +4,14 @@ use Rattle.std.proofs.Common.{sym, ◌∙◌, arith, lt-ltb, le-ltb}
 use Rattle.sheet_layout.specs.declared.Figures.{Figures}
 use Rattle.sheet_layout.specs.CheckLaws.{Figured}
 use Rattle.standard.specs.Seen.{Ranges}
-use Rattle.standard.specs.Language.{Variables, currentTransmitBit, headerBits}
+use Rattle.standard.specs.Language.{Variables, current_transmit_bit, header_bits}
 use Rattle.standard.specs.Interpreter.{Place}
-use Rattle.standard.specs.TransmitLaws.{Next, inHeader, inFrame, by_le}
+use Rattle.standard.specs.TransmitLaws.{Next, in_header, in_frame, by_le}
 
 -- ---- every layout that passes check 5 has what the theorem asks for
 
-pub figured-ranges : (f : Figures) → Figured f → Ranges f
-figured-ranges f h =
+pub figured_ranges : (f : Figures) → Figured f → Ranges f
+figured_ranges f h =
     record {
       slot = h.slot.0;
       gap2 = h.gap2.0;
@@ -24,15 +24,15 @@ figured-ranges f h =
 
 -- The page (4.2.8) compares the position in header or frame with minFrameSize - headerSize, 512 - 64; document 01
 -- compares the packet's bit with the slot. At the slot of 512 they agree, whatever bit is next.
-pub late-as-printed : (f : Figures) (v : Variables) (z k : ℕ) (bt : Place) → f.slot ≡ 512 → Next f v z k bt
-    → ltb (512 - 64) (v.numbers currentTransmitBit)
-    ≡ ltb f.slot (v.numbers headerBits + v.numbers currentTransmitBit)
-late-as-printed f v z k bt s (inHeader b c h g m) =
-    le-ltb 448 (v.numbers currentTransmitBit) (omega arith)
-    ∙ sym (le-ltb f.slot (v.numbers headerBits + v.numbers currentTransmitBit) (omega arith))
-late-as-printed f v z k bt s (inFrame b h c g i m) =
-    by_le (v.numbers currentTransmitBit) 448
-    (λ a. le-ltb 448 (v.numbers currentTransmitBit) a
-    ∙ sym (le-ltb f.slot (v.numbers headerBits + v.numbers currentTransmitBit) (omega arith)))
-    (λ a. lt-ltb 448 (v.numbers currentTransmitBit) a
-    ∙ sym (lt-ltb f.slot (v.numbers headerBits + v.numbers currentTransmitBit) (omega arith)))
+pub late_as_printed : (f : Figures) (v : Variables) (z k : ℕ) (bt : Place) → f.slot ≡ 512 → Next f v z k bt
+    → ltb (512 - 64) (v.numbers current_transmit_bit)
+    ≡ ltb f.slot (v.numbers header_bits + v.numbers current_transmit_bit)
+late_as_printed f v z k bt s (in_header b c h g m) =
+    le-ltb 448 (v.numbers current_transmit_bit) (omega arith)
+    ∙ sym (le-ltb f.slot (v.numbers header_bits + v.numbers current_transmit_bit) (omega arith))
+late_as_printed f v z k bt s (in_frame b h c g i m) =
+    by_le (v.numbers current_transmit_bit) 448
+    (λ a. le-ltb 448 (v.numbers current_transmit_bit) a
+    ∙ sym (le-ltb f.slot (v.numbers header_bits + v.numbers current_transmit_bit) (omega arith)))
+    (λ a. lt-ltb 448 (v.numbers current_transmit_bit) a
+    ∙ sym (lt-ltb f.slot (v.numbers header_bits + v.numbers current_transmit_bit) (omega arith)))

@@ -10,9 +10,9 @@ use Rattle.std.proofs.Math.ListN.{length}
 use borrow.Author.Tests.{ltb-true, ltb-false, le-leb, lt-leb, ne_eqb}
 use Rattle.octets.specs.Base.{pick, Answer, values_of}
 use Rattle.octets.specs.Equal.{equal}
-use Rattle.frame_build.specs.Limits.{bufferOctets, shortestFrame, maxFrame}
-use Rattle.frame_open.specs.Open.{destinationOf, value_of, dataField, checkWrong, lengthWrong, clientSize}
-use Rattle.station_symbols.specs.Packet.{hearsAny, isEmission}
+use Rattle.frame_build.specs.Limits.{buffer_octets, shortest_frame, max_frame}
+use Rattle.frame_open.specs.Open.{destination_of, value_of, data_field, check_wrong, length_wrong, client_size}
+use Rattle.station_symbols.specs.Packet.{hears_any, is_emission}
 use Rattle.station_symbols.specs.declared.Heard.{Heard}
 use Rattle.station_symbols.specs.declared.Heard.TheVariants.{Nothing, Clean, Spoiled}
 use Rattle.station_state.specs.declared.Receiver.{Receiver}
@@ -22,53 +22,53 @@ use Rattle.station_spec.specs.declared.ReceiveEvent.TheVariants.{NoReceive, GotO
 use Rattle.station_spec.specs.declared.ReceiveEvent.TheVariants.{GotCheck, GotLength}
 use Rattle.station_spec.specs.declared.Stored.TheVariants.{NoStore}
 use Rattle.station_spec.specs.declared.Received.{Received}
-use Rattle.station_spec.specs.Receive.{no_row, nextRow, delimiterRow, storedBit, hearing, seekBit, collectBit, seek}
-use Rattle.station_spec.specs.Receive.{collect, hear, addressed, openAnswer, gotEvent, readableAfter, deciding}
+use Rattle.station_spec.specs.Receive.{no_row, next_row, delimiter_row, stored_bit, hearing, seek_bit, collect_bit, seek}
+use Rattle.station_spec.specs.Receive.{collect, hear, addressed, open_answer, got_event, readable_after, deciding}
 use Rattle.station_spec.specs.Receive.{opening, decide, ended, receive}
-use Rattle.standard.specs.Language.{excessBits, Variables, withFlag, with_number, Transmission, Reception}
+use Rattle.standard.specs.Language.{excess_bits, Variables, with_flag, with_number, Transmission, Reception}
 use Rattle.standard.specs.Language.{Signals, store, Statement, bit, over, ◌⨾◌, test, skip, repeat, call, await}
-use Rattle.standard.specs.Language.{flag, receiving, receiveSucceeding, spoiled, overlapped, currentReceiveBit}
-use Rattle.standard.specs.Language.{frameSize}
-use Rattle.standard.specs.Interpreter.{Place, waiting, ran, keptIn}
+use Rattle.standard.specs.Language.{flag, receiving, receive_succeeding, spoiled, overlapped, current_receive_bit}
+use Rattle.standard.specs.Language.{frame_size}
+use Rattle.standard.specs.Interpreter.{Place, waiting, ran, kept_in}
 use Rattle.standard.specs.RunLaws.{Goes, Turns, goes, waits, rest, num, hands, keeps, rows, seq, pass, enter}
 use Rattle.standard.specs.RunLaws.{stay, leave, again, round, yes₁, no₁}
 use Rattle.standard.specs.RunLaws.{set as put}
-use Rattle.standard.specs.Reading.{bit_of, isSpoiled, nextSymbols, keptBit}
-use Rattle.standard.specs.BitReceiver.{delimiter, sameBits, seekSymbol, isDelimiter, takeBit, receiveBits}
-use Rattle.standard.specs.BitReceiver.{closeFrame, bitReceiver}
-use Rattle.standard.specs.FrameReceiver.{disassemble, whileReceiving, truncate, receiveLinkMgmt}
-use Rattle.standard.specs.FrameReceiver.{receiveDataDecap, receiveFrame, frameReceiver}
-use Rattle.standard.specs.ReceiveRules.{coded, same_coded, next-coded, opened-is}
+use Rattle.standard.specs.Reading.{bit_of, is_spoiled, next_symbols, kept_bit}
+use Rattle.standard.specs.BitReceiver.{delimiter, same_bits, seek_symbol, is_delimiter, take_bit, receive_bits}
+use Rattle.standard.specs.BitReceiver.{close_frame, bit_receiver}
+use Rattle.standard.specs.FrameReceiver.{disassemble, while_receiving, truncate, receive_link_mgmt}
+use Rattle.standard.specs.FrameReceiver.{receive_data_decap, receive_frame, frame_receiver}
+use Rattle.standard.specs.ReceiveRules.{coded, same_coded, next_coded, opened_is}
 
 -- ---- the places
 
 -- what follows the delimiter
-abbrev pub frameFollows : List Statement
-frameFollows = (await bit ⨾ takeBit) ∷ receiveBits ∷ closeFrame ∷ bitReceiver ∷ []
+abbrev pub frame_follows : List Statement
+frame_follows = (await bit ⨾ take_bit) ∷ receive_bits ∷ close_frame ∷ bit_receiver ∷ []
 
-abbrev pub atSeek : Place
-atSeek =
-    waiting bit (seekSymbol ∷ test isDelimiter skip (repeat (await bit ⨾ seekSymbol) isDelimiter) ∷ frameFollows)
+abbrev pub at_seek : Place
+at_seek =
+    waiting bit (seek_symbol ∷ test is_delimiter skip (repeat (await bit ⨾ seek_symbol) is_delimiter) ∷ frame_follows)
 
-abbrev pub atCollect : Place
-atCollect = waiting bit (takeBit ∷ receiveBits ∷ closeFrame ∷ bitReceiver ∷ [])
+abbrev pub at_collect : Place
+at_collect = waiting bit (take_bit ∷ receive_bits ∷ close_frame ∷ bit_receiver ∷ [])
 
-abbrev pub atClosed : Place
-atClosed = waiting over (bitReceiver ∷ [])
+abbrev pub at_closed : Place
+at_closed = waiting over (bit_receiver ∷ [])
 
-abbrev pub atListen : List ℕ → Place
-atListen a =
+abbrev pub at_listen : List ℕ → Place
+at_listen a =
     waiting over
-    (whileReceiving ∷ truncate ∷ test (flag receiveSucceeding) skip receiveLinkMgmt ∷ call (receiveDataDecap a)
-    ∷ test (flag receiveSucceeding) skip (receiveFrame a) ∷ frameReceiver a ∷ [])
+    (while_receiving ∷ truncate ∷ test (flag receive_succeeding) skip receive_link_mgmt ∷ call (receive_data_decap a)
+    ∷ test (flag receive_succeeding) skip (receive_frame a) ∷ frame_receiver a ∷ [])
 
 -- ---- where the two stand, and what document 01's receiver is then
 
-abbrev pub isCollecting : Receiver → Bool
-isCollecting Listening = false
-isCollecting (Readable n) = false
-isCollecting (Seeking row sp own) = false
-isCollecting (Collecting n sp own) = true
+abbrev pub is_collecting : Receiver → Bool
+is_collecting Listening = false
+is_collecting (Readable n) = false
+is_collecting (Seeking row sp own) = false
+is_collecting (Collecting n sp own) = true
 
 -- what a receiver that does not collect has before it: the row, and the two marks
 abbrev pub row_of : Receiver → ℕ
@@ -77,11 +77,11 @@ row_of (Readable n) = no_row
 row_of (Seeking row sp own) = row
 row_of (Collecting n sp own) = no_row
 
-abbrev pub spoiledOf : Receiver → Bool
-spoiledOf Listening = false
-spoiledOf (Readable n) = false
-spoiledOf (Seeking row sp own) = sp
-spoiledOf (Collecting n sp own) = sp
+abbrev pub spoiled_of : Receiver → Bool
+spoiled_of Listening = false
+spoiled_of (Readable n) = false
+spoiled_of (Seeking row sp own) = sp
+spoiled_of (Collecting n sp own) = sp
 
 abbrev pub own_of : Receiver → Bool
 own_of Listening = false
@@ -90,33 +90,33 @@ own_of (Seeking row sp own) = own
 own_of (Collecting n sp own) = own
 
 pub data ReceiveAt (v : Variables) (w : List Bool) (x : Receiver) (at : Place) : Type 0 where
-  seeks : isCollecting x ≡ false → at ≡ atSeek → coded w ≡ row_of x → length w ≤ 8
-      → v.flags spoiled ≡ spoiledOf x → v.flags overlapped ≡ own_of x → v.flags receiving ≡ true
-      → v.numbers currentReceiveBit ≡ 1 → ReceiveAt v w x at
-  collects : (n : ℕ) (sp own : Bool) → x ≡ Collecting n sp own → at ≡ atCollect → v.flags spoiled ≡ sp
-      → v.flags overlapped ≡ own → v.flags receiving ≡ true → v.numbers currentReceiveBit ≡ n + 1
+  seeks : is_collecting x ≡ false → at ≡ at_seek → coded w ≡ row_of x → length w ≤ 8
+      → v.flags spoiled ≡ spoiled_of x → v.flags overlapped ≡ own_of x → v.flags receiving ≡ true
+      → v.numbers current_receive_bit ≡ 1 → ReceiveAt v w x at
+  collects : (n : ℕ) (sp own : Bool) → x ≡ Collecting n sp own → at ≡ at_collect → v.flags spoiled ≡ sp
+      → v.flags overlapped ≡ own → v.flags receiving ≡ true → v.numbers current_receive_bit ≡ n + 1
       → ReceiveAt v w x at
 
 -- ---- the receiver's part of a bit time
 
-abbrev pub freshReception : Variables → List Bool → List ℕ → Reception
-freshReception v w l = record { variables = v; row = w; incoming = l; got = NoReceive; stored = NoStore }
+abbrev pub fresh_reception : Variables → List Bool → List ℕ → Reception
+fresh_reception v w l = record { variables = v; row = w; incoming = l; got = NoReceive; stored = NoStore }
 
 pub record ReceiveTurns (a : List ℕ) (d : Variables) (t : Transmission) (s : Signals) (v : Variables) (w : List Bool)
     (l : List ℕ) (at : Place) (o : Received) : Type 0 where
   pub taken : Reception
   pub decided : Reception
   pub closed : Reception
-  pub takePlace : Place
-  pub closePlace : Place
-  pub take-turn : Turns bit at (store d t (freshReception v w l) s) (ran takePlace (store d t taken s))
-  pub decide-turn : (u : Transmission)
-      → Turns over (atListen a) (store d u taken s) (ran (atListen a) (store d u decided s))
-  pub close-turn : (u : Transmission) → Turns over takePlace (store d u decided s) (ran closePlace (store d u closed s))
+  pub take_place : Place
+  pub close_place : Place
+  pub take_turn : Turns bit at (store d t (fresh_reception v w l) s) (ran take_place (store d t taken s))
+  pub decide_turn : (u : Transmission)
+      → Turns over (at_listen a) (store d u taken s) (ran (at_listen a) (store d u decided s))
+  pub close_turn : (u : Transmission) → Turns over take_place (store d u decided s) (ran close_place (store d u closed s))
   pub got : closed.got ≡ o.event
   pub stored : closed.stored ≡ o.stored
-  pub keeps : closed.incoming ≡ keptIn l o.stored
-  pub stands : ReceiveAt closed.variables closed.row o.receiver closePlace
+  pub keeps : closed.incoming ≡ kept_in l o.stored
+  pub stands : ReceiveAt closed.variables closed.row o.receiver close_place
 
 -- ---- the frame receiver decides
 
@@ -124,7 +124,7 @@ pub record ReceiveTurns (a : List ℕ) (d : Variables) (t : Transmission) (s : S
 abbrev listening : Reception → Reception
 listening r =
     record {
-      variables = withFlag receiving true (with_number currentReceiveBit 1 r.variables);
+      variables = with_flag receiving true (with_number current_receive_bit 1 r.variables);
       row = r.row;
       incoming = r.incoming;
       got = r.got;
@@ -136,56 +136,56 @@ abbrev nine : ℕ → ℕ
 nine n = suc (suc (suc (suc (suc (suc (suc (suc (suc n))))))))
 
 module _ (a : List ℕ) {d : Variables} {u : Transmission} {r : Reception} {s : Signals} {n : ℕ} where
-  link-listens : Goes (nine n)
-      (receiveLinkMgmt ∷ call (receiveDataDecap a) ∷ test (flag receiveSucceeding) skip
-      (receiveFrame a) ∷ frameReceiver a ∷ [])
-      (store d u r s) (ran (atListen a) (store d u (listening r) s))
-  link-listens = again (seq (enter (seq (num (put (seq (stay refl rest)))))))
+  link_listens : Goes (nine n)
+      (receive_link_mgmt ∷ call (receive_data_decap a) ∷ test (flag receive_succeeding) skip
+      (receive_frame a) ∷ frame_receiver a ∷ [])
+      (store d u r s) (ran (at_listen a) (store d u (listening r) s))
+  link_listens = again (seq (enter (seq (num (put (seq (stay refl rest)))))))
 
-  frame-listens : Goes (suc (suc (suc (nine n)))) (receiveFrame a ∷ frameReceiver a ∷ []) (store d u r s)
-      (ran (atListen a) (store d u (listening r) s))
-  frame-listens = again (seq (enter link-listens))
+  frame_listens : Goes (suc (suc (suc (nine n)))) (receive_frame a ∷ frame_receiver a ∷ []) (store d u r s)
+      (ran (at_listen a) (store d u (listening r) s))
+  frame_listens = again (seq (enter link_listens))
 
-  client-listens : Goes (suc (suc (suc (suc (suc (nine n)))))) (frameReceiver a ∷ []) (store d u r s)
-      (ran (atListen a) (store d u (listening r) s))
-  client-listens = round (enter frame-listens)
+  client_listens : Goes (suc (suc (suc (suc (suc (nine n)))))) (frame_receiver a ∷ []) (store d u r s)
+      (ran (at_listen a) (store d u (listening r) s))
+  client_listens = round (enter frame_listens)
 
 -- from r it reports g, and listens again
 record Decided (a : List ℕ) (d : Variables) (s : Signals) (r : Reception) (g : ReceiveEvent) : Type 0 where
   after : Reception
-  turn : (u : Transmission) → Turns over (atListen a) (store d u r s) (ran (atListen a) (store d u after s))
+  turn : (u : Transmission) → Turns over (at_listen a) (store d u r s) (ran (at_listen a) (store d u after s))
   receives : after.variables.flags receiving ≡ true
-  first : after.variables.numbers currentReceiveBit ≡ 1
+  first : after.variables.numbers current_receive_bit ≡ 1
   event : after.got ≡ g
   bits : after.stored ≡ r.stored
   octets : after.incoming ≡ r.incoming
 
 module _ (a : List ℕ) (d : Variables) (s : Signals) (v : Variables) (w : List Bool) (l : List ℕ)
     (rc : v.flags receiving ≡ false) where
-  abbrev wholeBits : ℕ
-  wholeBits = v.numbers frameSize - v.numbers frameSize % 8
+  abbrev whole_bits : ℕ
+  whole_bits = v.numbers frame_size - v.numbers frame_size % 8
 
-  abbrev octetsNow : ℕ
-  octetsNow = wholeBits / 8
+  abbrev octets_now : ℕ
+  octets_now = whole_bits / 8
 
-  abbrev frameNow : List ℕ
-  frameNow = take octetsNow l
+  abbrev frame_now : List ℕ
+  frame_now = take octets_now l
 
   abbrev long : Bool
-  long = leb 512 wholeBits && not (v.flags overlapped)
+  long = leb 512 whole_bits && not (v.flags overlapped)
 
   abbrev ours : Bool
-  ours = equal (destinationOf l) a || equal (destinationOf l) (replicate 6 255)
+  ours = equal (destination_of l) a || equal (destination_of l) (replicate 6 255)
 
   abbrev Says : ReceiveEvent → Type 0
-  Says g = Decided a d s (freshReception v w l) g
+  Says g = Decided a d s (fresh_reception v w l) g
 
-  short-frame : long ≡ false → Says NoReceive
-  short-frame c =
+  short_frame : long ≡ false → Says NoReceive
+  short_frame c =
       record {
         after = _;
         turn = λ u.
-            goes (leave rc (seq (num (seq (num (put (no₁ c (link-listens a))))))));
+            goes (leave rc (seq (num (seq (num (put (no₁ c (link_listens a))))))));
         receives = refl;
         first = refl;
         event = refl;
@@ -194,13 +194,13 @@ module _ (a : List ℕ) (d : Variables) (s : Signals) (v : Variables) (w : List 
       }
 
   module _ (c : long ≡ true) where
-    other-frame : ours ≡ false → Says NoReceive
-    other-frame o =
+    other_frame : ours ≡ false → Says NoReceive
+    other_frame o =
         record {
           after = _;
           turn = λ u.
               goes (leave rc (seq (num (seq (num (put (yes₁ c (pass (enter (seq (put (no₁ o (pass (no₁ o
-              (frame-listens a)))))))))))))));
+              (frame_listens a)))))))))))))));
           receives = refl;
           first = refl;
           event = refl;
@@ -214,22 +214,22 @@ module _ (a : List ℕ) (d : Variables) (s : Signals) (v : Variables) (w : List 
       judging g =
           record {
             variables =
-                withFlag receiveSucceeding ours
-                (withFlag receiveSucceeding long
-                (with_number frameSize wholeBits (with_number excessBits (v.numbers frameSize % 8) v)));
+                with_flag receive_succeeding ours
+                (with_flag receive_succeeding long
+                (with_number frame_size whole_bits (with_number excess_bits (v.numbers frame_size % 8) v)));
             row = w;
             incoming = l;
             got = g;
             stored = NoStore;
           }
 
-      status-says : (g : ReceiveEvent)
+      status_says : (g : ReceiveEvent)
           → ((u : Transmission)
           → Goes 52
-          (disassemble ∷ test (flag receiveSucceeding) skip (receiveFrame a) ∷ frameReceiver a ∷ [])
-          (store d u (judging NoReceive) s) (ran (atListen a) (store d u (listening (judging g)) s)))
+          (disassemble ∷ test (flag receive_succeeding) skip (receive_frame a) ∷ frame_receiver a ∷ [])
+          (store d u (judging NoReceive) s) (ran (at_listen a) (store d u (listening (judging g)) s)))
           → Says g
-      status-says g k =
+      status_says g k =
           record {
             after = listening (judging g);
             turn = λ u. goes (leave rc (seq (num (seq (num (put (yes₁ c (pass (enter (seq (put (yes₁ o
@@ -242,86 +242,86 @@ module _ (a : List ℕ) (d : Variables) (s : Signals) (v : Variables) (w : List 
           }
 
       -- the five statuses
-      too_long : (ltb bufferOctets octetsNow || ltb (maxFrame (value_of frameNow)) octetsNow) ≡ true
-          → Says (GotTooLong octetsNow)
-      too_long e = status-says _ (λ u. yes₁ e (hands (yes₁ o (pass (client-listens a)))))
+      too_long_lem : (ltb buffer_octets octets_now || ltb (max_frame (value_of frame_now)) octets_now) ≡ true
+          → Says (GotTooLong octets_now)
+      too_long_lem e = status_says _ (λ u. yes₁ e (hands (yes₁ o (pass (client_listens a)))))
 
-      module _ (e : (ltb bufferOctets octetsNow || ltb (maxFrame (value_of frameNow)) octetsNow) ≡ false) where
-        received-ok : not (checkWrong (v.flags spoiled) frameNow) ≡ true
-            → not (lengthWrong (value_of frameNow) (length (dataField frameNow))) ≡ true
-            → Says (GotOk (clientSize (value_of frameNow) (length (dataField frameNow))))
-        received-ok f g = status-says _ (λ u. no₁ e (yes₁ f (yes₁ g (hands (yes₁ o (pass (client-listens a)))))))
+      module _ (e : (ltb buffer_octets octets_now || ltb (max_frame (value_of frame_now)) octets_now) ≡ false) where
+        received_ok : not (check_wrong (v.flags spoiled) frame_now) ≡ true
+            → not (length_wrong (value_of frame_now) (length (data_field frame_now))) ≡ true
+            → Says (GotOk (client_size (value_of frame_now) (length (data_field frame_now))))
+        received_ok f g = status_says _ (λ u. no₁ e (yes₁ f (yes₁ g (hands (yes₁ o (pass (client_listens a)))))))
 
-        wrong-length : not (checkWrong (v.flags spoiled) frameNow) ≡ true
-            → not (lengthWrong (value_of frameNow) (length (dataField frameNow))) ≡ false → Says (GotLength octetsNow)
-        wrong-length f g = status-says _ (λ u. no₁ e (yes₁ f (no₁ g (hands (yes₁ o (pass (client-listens a)))))))
+        wrong_length : not (check_wrong (v.flags spoiled) frame_now) ≡ true
+            → not (length_wrong (value_of frame_now) (length (data_field frame_now))) ≡ false → Says (GotLength octets_now)
+        wrong_length f g = status_says _ (λ u. no₁ e (yes₁ f (no₁ g (hands (yes₁ o (pass (client_listens a)))))))
 
-        wrong-check : not (checkWrong (v.flags spoiled) frameNow) ≡ false → eqb (v.numbers frameSize % 8) 0 ≡ true
-            → Says (GotCheck octetsNow)
-        wrong-check f g = status-says _ (λ u. no₁ e (no₁ f (yes₁ g (hands (yes₁ o (pass (client-listens a)))))))
+        wrong_check : not (check_wrong (v.flags spoiled) frame_now) ≡ false → eqb (v.numbers frame_size % 8) 0 ≡ true
+            → Says (GotCheck octets_now)
+        wrong_check f g = status_says _ (λ u. no₁ e (no₁ f (yes₁ g (hands (yes₁ o (pass (client_listens a)))))))
 
-        wrong-alignment : not (checkWrong (v.flags spoiled) frameNow) ≡ false
-            → eqb (v.numbers frameSize % 8) 0 ≡ false → Says (GotAlignment octetsNow)
-        wrong-alignment f g = status-says _ (λ u. no₁ e (no₁ f (no₁ g (hands (yes₁ o (pass (client-listens a)))))))
+        wrong_alignment : not (check_wrong (v.flags spoiled) frame_now) ≡ false
+            → eqb (v.numbers frame_size % 8) 0 ≡ false → Says (GotAlignment octets_now)
+        wrong_alignment f g = status_says _ (λ u. no₁ e (no₁ f (no₁ g (hands (yes₁ o (pass (client_listens a)))))))
 
       -- the page's choice among them
-      statuses : (e f g h : Bool) → (ltb bufferOctets octetsNow || ltb (maxFrame (value_of frameNow)) octetsNow) ≡ e
-          → not (checkWrong (v.flags spoiled) frameNow) ≡ f
-          → not (lengthWrong (value_of frameNow) (length (dataField frameNow))) ≡ g
-          → eqb (v.numbers frameSize % 8) 0 ≡ h
+      statuses : (e f g h : Bool) → (ltb buffer_octets octets_now || ltb (max_frame (value_of frame_now)) octets_now) ≡ e
+          → not (check_wrong (v.flags spoiled) frame_now) ≡ f
+          → not (length_wrong (value_of frame_now) (length (data_field frame_now))) ≡ g
+          → eqb (v.numbers frame_size % 8) 0 ≡ h
           → Says
-          (pick e (GotTooLong octetsNow)
+          (pick e (GotTooLong octets_now)
           (pick f
-          (pick g (GotOk (clientSize (value_of frameNow) (length (dataField frameNow)))) (GotLength octetsNow))
-          (pick h (GotCheck octetsNow) (GotAlignment octetsNow))))
-      statuses true f g h i j k m = too_long i
-      statuses false true true h i j k m = received-ok i j k
-      statuses false true false h i j k m = wrong-length i j k
-      statuses false false g true i j k m = wrong-check i j m
-      statuses false false g false i j k m = wrong-alignment i j m
+          (pick g (GotOk (client_size (value_of frame_now) (length (data_field frame_now)))) (GotLength octets_now))
+          (pick h (GotCheck octets_now) (GotAlignment octets_now))))
+      statuses true f g h i j k m = too_long_lem i
+      statuses false true true h i j k m = received_ok i j k
+      statuses false true false h i j k m = wrong_length i j k
+      statuses false false g true i j k m = wrong_check i j m
+      statuses false false g false i j k m = wrong_alignment i j m
 
   -- document 01's decision
   abbrev choice_of : (c own o : Bool) → Received
   choice_of c own o =
       pick c (deciding Listening NoReceive)
       (pick own (deciding Listening NoReceive)
-      (pick o (opening l (v.numbers frameSize) (v.flags spoiled)) (deciding Listening NoReceive)))
+      (pick o (opening l (v.numbers frame_size) (v.flags spoiled)) (deciding Listening NoReceive)))
 
-  is-long : (n x : ℕ) → x ≡ n - n % 8 → 512 ≤ n → 512 ≤ x
-  is-long n x e h = omega arith
+  is_long : (n x : ℕ) → x ≡ n - n % 8 → 512 ≤ n → 512 ≤ x
+  is_long n x e h = omega arith
 
-  is-short : (n x : ℕ) → x ≡ n - n % 8 → n < 512 → x < 512
-  is-short n x e h = omega arith
+  is_short : (n x : ℕ) → x ≡ n - n % 8 → n < 512 → x < 512
+  is_short n x e h = omega arith
 
-  same-octets : (n m : ℕ) → m ≡ (n - n % 8) / 8 → m ≡ n / 8
-  same-octets n m e = omega arith
+  same_octets : (n m : ℕ) → m ≡ (n - n % 8) / 8 → m ≡ n / 8
+  same_octets n m e = omega arith
 
-  many-octets : (n m : ℕ) → m ≡ (n - n % 8) / 8 → 512 ≤ n → 64 ≤ m
-  many-octets n m e h = omega arith
+  many_octets : (n m : ℕ) → m ≡ (n - n % 8) / 8 → 512 ≤ n → 64 ≤ m
+  many_octets n m e h = omega arith
 
-  decides : bufferOctets ≤ length l → (c own o : Bool) → ltb (v.numbers frameSize) shortestFrame ≡ c
+  decides : buffer_octets ≤ length l → (c own o : Bool) → ltb (v.numbers frame_size) shortest_frame ≡ c
       → v.flags overlapped ≡ own → addressed a l ≡ o → Says (choice_of c own o).event
   unfolding addressed opening
   decides hl true own o i j k =
-      short-frame
+      short_frame
       (ap (λ (b : Bool). b && not (v.flags overlapped))
-      (lt-leb 512 wholeBits (is-short (v.numbers frameSize) wholeBits refl (ltb-true (v.numbers frameSize) 512 i))))
+      (lt-leb 512 whole_bits (is_short (v.numbers frame_size) whole_bits refl (ltb-true (v.numbers frame_size) 512 i))))
   decides hl false true o i j k =
-      short-frame (ap (λ (b : Bool). leb 512 wholeBits && not b) j ∙ and-false (leb 512 wholeBits))
+      short_frame (ap (λ (b : Bool). leb 512 whole_bits && not b) j ∙ and-false (leb 512 whole_bits))
   decides hl false false o i j k =
-      let g : 512 ≤ v.numbers frameSize = ltb-false (v.numbers frameSize) 512 i in
-      let c : long ≡ true = ap₂ ◌&&◌ (le-leb 512 wholeBits (is-long (v.numbers frameSize) wholeBits refl g))
+      let g : 512 ≤ v.numbers frame_size = ltb-false (v.numbers frame_size) 512 i in
+      let c : long ≡ true = ap₂ ◌&&◌ (le-leb 512 whole_bits (is_long (v.numbers frame_size) whole_bits refl g))
       (ap not j) in
       judged c g o k
     where
-      judged : long ≡ true → 512 ≤ v.numbers frameSize → (o : Bool) → addressed a l ≡ o
+      judged : long ≡ true → 512 ≤ v.numbers frame_size → (o : Bool) → addressed a l ≡ o
           → Says (choice_of false false o).event
-      judged c g false k = other-frame c k
+      judged c g false k = other_frame c k
       judged c g true k =
           subst Says
-          (sym (opened-is l (v.numbers frameSize) (v.flags spoiled) octetsNow (same-octets
-          (v.numbers frameSize) octetsNow refl)
-          hl (many-octets (v.numbers frameSize) octetsNow refl g)))
+          (sym (opened_is l (v.numbers frame_size) (v.flags spoiled) octets_now (same_octets
+          (v.numbers frame_size) octets_now refl)
+          hl (many_octets (v.numbers frame_size) octets_now refl g)))
           (statuses c k _ _ _ _ refl refl refl refl)
 
 module _ (a : List ℕ) (d : Variables) (t : Transmission) (s : Signals) (v : Variables) (w : List Bool)
@@ -331,61 +331,61 @@ module _ (a : List ℕ) (d : Variables) (t : Transmission) (s : Signals) (v : Va
 
   -- ---- before the delimiter
 
-  module _ (rc : v.flags receiving ≡ true) (cu : v.numbers currentReceiveBit ≡ 1) where
-    seek-none : (y : Receiver) → isCollecting y ≡ false → row_of y ≡ 1 → spoiledOf y ≡ false → own_of y ≡ false
-        → hearsAny s.heard ≡ false → All atSeek (deciding y NoReceive)
-    seek-none y i j k m h =
+  module _ (rc : v.flags receiving ≡ true) (cu : v.numbers current_receive_bit ≡ 1) where
+    seek_none : (y : Receiver) → is_collecting y ≡ false → row_of y ≡ 1 → spoiled_of y ≡ false → own_of y ≡ false
+        → hears_any s.heard ≡ false → All at_seek (deciding y NoReceive)
+    seek_none y i j k m h =
         record {
           taken = _;
           decided = _;
           closed = _;
-          takePlace = atSeek;
-          closePlace = atSeek;
-          take-turn = goes (no₁ h (seq (put (seq (put (rows (no₁ refl (again (seq rest)))))))));
-          decide-turn = λ u. goes (stay rc rest);
-          close-turn = λ u. waits refl;
+          take_place = at_seek;
+          close_place = at_seek;
+          take_turn = goes (no₁ h (seq (put (seq (put (rows (no₁ refl (again (seq rest)))))))));
+          decide_turn = λ u. goes (stay rc rest);
+          close_turn = λ u. waits refl;
           got = refl;
           stored = refl;
           keeps = refl;
           stands = seeks i refl (sym j) (omega arith) (sym k) (sym m) rc cu;
         }
 
-    module _ (sp own : Bool) (hs : (v.flags spoiled || isSpoiled s.heard) ≡ sp)
-        (ho : (v.flags overlapped || isEmission t.emission) ≡ own) (h : hearsAny s.heard ≡ true) where
-      seek-on : (row : ℕ) → coded (nextSymbols s.heard w) ≡ row → length (nextSymbols s.heard w) ≤ 8
-          → eqb row delimiterRow ≡ false → All atSeek (hearing (Seeking row sp own) NoStore)
-      seek-on row e k f =
-          let g : sameBits (nextSymbols s.heard w) delimiter ≡ false =
-          sym (same_coded (nextSymbols s.heard w) delimiter) ∙ ap (λ (n : ℕ). eqb n 427) e ∙ f in
+    module _ (sp own : Bool) (hs : (v.flags spoiled || is_spoiled s.heard) ≡ sp)
+        (ho : (v.flags overlapped || is_emission t.emission) ≡ own) (h : hears_any s.heard ≡ true) where
+      seek_on : (row : ℕ) → coded (next_symbols s.heard w) ≡ row → length (next_symbols s.heard w) ≤ 8
+          → eqb row delimiter_row ≡ false → All at_seek (hearing (Seeking row sp own) NoStore)
+      seek_on row e k f =
+          let g : same_bits (next_symbols s.heard w) delimiter ≡ false =
+          sym (same_coded (next_symbols s.heard w) delimiter) ∙ ap (λ (n : ℕ). eqb n 427) e ∙ f in
           record {
             taken = _;
             decided = _;
             closed = _;
-            takePlace = atSeek;
-            closePlace = atSeek;
-            take-turn = goes (yes₁ h (seq (seq (put (put (rows (no₁ g (again (seq rest)))))))));
-            decide-turn = λ u. goes (stay rc rest);
-            close-turn = λ u. waits refl;
+            take_place = at_seek;
+            close_place = at_seek;
+            take_turn = goes (yes₁ h (seq (seq (put (put (rows (no₁ g (again (seq rest)))))))));
+            decide_turn = λ u. goes (stay rc rest);
+            close_turn = λ u. waits refl;
             got = refl;
             stored = refl;
             keeps = refl;
             stands = seeks refl refl e k hs ho rc cu;
           }
 
-      seek_found : (row : ℕ) → coded (nextSymbols s.heard w) ≡ row → eqb row delimiterRow ≡ true
-          → All atSeek (hearing (Collecting 0 sp own) NoStore)
+      seek_found : (row : ℕ) → coded (next_symbols s.heard w) ≡ row → eqb row delimiter_row ≡ true
+          → All at_seek (hearing (Collecting 0 sp own) NoStore)
       seek_found row e f =
-          let g : sameBits (nextSymbols s.heard w) delimiter ≡ true =
-          sym (same_coded (nextSymbols s.heard w) delimiter) ∙ ap (λ (n : ℕ). eqb n 427) e ∙ f in
+          let g : same_bits (next_symbols s.heard w) delimiter ≡ true =
+          sym (same_coded (next_symbols s.heard w) delimiter) ∙ ap (λ (n : ℕ). eqb n 427) e ∙ f in
           record {
             taken = _;
             decided = _;
             closed = _;
-            takePlace = atCollect;
-            closePlace = atCollect;
-            take-turn = goes (yes₁ h (seq (seq (put (put (rows (yes₁ g (pass (seq rest)))))))));
-            decide-turn = λ u. goes (stay rc rest);
-            close-turn = λ u. waits refl;
+            take_place = at_collect;
+            close_place = at_collect;
+            take_turn = goes (yes₁ h (seq (seq (put (put (rows (yes₁ g (pass (seq rest)))))))));
+            decide_turn = λ u. goes (stay rc rest);
+            close_turn = λ u. waits refl;
             got = refl;
             stored = refl;
             keeps = refl;
@@ -394,47 +394,47 @@ module _ (a : List ℕ) (d : Variables) (t : Transmission) (s : Signals) (v : Va
 
   -- ---- behind the delimiter
 
-  module _ (n : ℕ) (rc : v.flags receiving ≡ true) (cu : v.numbers currentReceiveBit ≡ n + 1) where
-    collect-bit : (sp own : Bool) → (v.flags spoiled || isSpoiled s.heard) ≡ sp
-        → (v.flags overlapped || isEmission t.emission) ≡ own → hearsAny s.heard ≡ true
-        → All atCollect (hearing (Collecting (n + 1) sp own) (keptBit n (bit_of s.heard)))
-    collect-bit sp own hs ho h =
-        let m : v.numbers currentReceiveBit - 1 ≡ n = omega arith in
-        let f : eqb (v.numbers currentReceiveBit + 1) 1 ≡ false = ne_eqb (v.numbers currentReceiveBit + 1) 1
+  module _ (n : ℕ) (rc : v.flags receiving ≡ true) (cu : v.numbers current_receive_bit ≡ n + 1) where
+    collect_bit_lem : (sp own : Bool) → (v.flags spoiled || is_spoiled s.heard) ≡ sp
+        → (v.flags overlapped || is_emission t.emission) ≡ own → hears_any s.heard ≡ true
+        → All at_collect (hearing (Collecting (n + 1) sp own) (kept_bit n (bit_of s.heard)))
+    collect_bit_lem sp own hs ho h =
+        let m : v.numbers current_receive_bit - 1 ≡ n = omega arith in
+        let f : eqb (v.numbers current_receive_bit + 1) 1 ≡ false = ne_eqb (v.numbers current_receive_bit + 1) 1
         (λ e. omega arith) in
         record {
           taken = _;
           decided = _;
           closed = _;
-          takePlace = atCollect;
-          closePlace = atCollect;
-          take-turn =
+          take_place = at_collect;
+          close_place = at_collect;
+          take_turn =
               goes (seq (yes₁ h (seq (seq (put (put (seq (keeps (num (put (stay h (seq (no₁ f (pass
               (seq rest)))))))))))))));
-          decide-turn = λ u. goes (stay h rest);
-          close-turn = λ u. waits refl;
+          decide_turn = λ u. goes (stay h rest);
+          close_turn = λ u. waits refl;
           got = refl;
-          stored = ap (λ (k : ℕ). keptBit k (bit_of s.heard)) m;
-          keeps = ap (λ (k : ℕ). keptIn l (keptBit k (bit_of s.heard))) m;
+          stored = ap (λ (k : ℕ). kept_bit k (bit_of s.heard)) m;
+          keeps = ap (λ (k : ℕ). kept_in l (kept_bit k (bit_of s.heard))) m;
           stands = collects (n + 1) sp own refl refl hs ho h (ap (λ (k : ℕ). k + 1) cu);
         }
 
     -- the stretch is over
-    closing : (y : Receiver) (g : ReceiveEvent) → hearsAny s.heard ≡ false
+    closing : (y : Receiver) (g : ReceiveEvent) → hears_any s.heard ≡ false
         → Decided a d s
-        (freshReception
-        (with_number frameSize (v.numbers currentReceiveBit - 1) (withFlag receiving (hearsAny s.heard) v)) w l) g
-        → isCollecting y ≡ false → row_of y ≡ 1 → spoiledOf y ≡ false → own_of y ≡ false → All atCollect (deciding y g)
+        (fresh_reception
+        (with_number frame_size (v.numbers current_receive_bit - 1) (with_flag receiving (hears_any s.heard) v)) w l) g
+        → is_collecting y ≡ false → row_of y ≡ 1 → spoiled_of y ≡ false → own_of y ≡ false → All at_collect (deciding y g)
     closing y g h k i j p q =
         record {
           taken = _;
           decided = k.after;
           closed = _;
-          takePlace = atClosed;
-          closePlace = atSeek;
-          take-turn = goes (seq (no₁ h (pass (put (leave h (seq (num rest)))))));
-          decide-turn = k.turn;
-          close-turn = λ u.
+          take_place = at_closed;
+          close_place = at_seek;
+          take_turn = goes (seq (no₁ h (pass (put (leave h (seq (num rest)))))));
+          decide_turn = k.turn;
+          close_turn = λ u.
               goes (round (seq (stay k.receives (seq (yes₁ (ap (λ (m : ℕ). eqb m 1) k.first) (enter (seq (seq
               (put (seq (put (rows (again (seq rest))))))))))))));
           got = k.event;
@@ -445,146 +445,146 @@ module _ (a : List ℕ) (d : Variables) (t : Transmission) (s : Signals) (v : Va
 
   -- ---- document 01's receiver
 
-  by-rule : (at : Place) (o p : Received) → p ≡ o → All at o → All at p
-  by-rule at o p e k = subst (All at) (sym e) k
+  by_rule : (at : Place) (o p : Received) → p ≡ o → All at o → All at p
+  by_rule at o p e k = subst (All at) (sym e) k
 
-  module _ (hl : bufferOctets ≤ length l) where
+  module _ (hl : buffer_octets ≤ length l) where
     -- what becomes of a receiver that hears nothing before the delimiter
-    seek-ends : (x : Receiver) → isCollecting x ≡ false → v.flags receiving ≡ true → v.numbers currentReceiveBit ≡ 1
-        → s.heard ≡ Nothing → All atSeek (ended a l x)
+    seek_ends : (x : Receiver) → is_collecting x ≡ false → v.flags receiving ≡ true → v.numbers current_receive_bit ≡ 1
+        → s.heard ≡ Nothing → All at_seek (ended a l x)
     unfolding ended
-    seek-ends Listening i rc cu h = seek-none rc cu Listening refl refl refl refl (ap hearsAny h)
-    seek-ends (Readable n) i rc cu h = seek-none rc cu (Readable n) refl refl refl refl (ap hearsAny h)
-    seek-ends (Seeking row sp own) i rc cu h = seek-none rc cu Listening refl refl refl refl (ap hearsAny h)
-    seek-ends (Collecting n sp own) i rc cu h = absurd (true≢false i)
+    seek_ends Listening i rc cu h = seek_none rc cu Listening refl refl refl refl (ap hears_any h)
+    seek_ends (Readable n) i rc cu h = seek_none rc cu (Readable n) refl refl refl refl (ap hears_any h)
+    seek_ends (Seeking row sp own) i rc cu h = seek_none rc cu Listening refl refl refl refl (ap hears_any h)
+    seek_ends (Collecting n sp own) i rc cu h = absurd (true≢false i)
 
-    hear-is : (x : Receiver) (clean b e : Bool) → isCollecting x ≡ false
-        → hear x clean b e ≡ seek (row_of x) (spoiledOf x) (own_of x || e) clean b
+    hear_is : (x : Receiver) (clean b e : Bool) → is_collecting x ≡ false
+        → hear x clean b e ≡ seek (row_of x) (spoiled_of x) (own_of x || e) clean b
     unfolding hear
-    hear-is Listening clean b e i = refl
-    hear-is (Readable n) clean b e i = refl
-    hear-is (Seeking row sp own) clean b e i = refl
-    hear-is (Collecting n sp own) clean b e i = absurd (true≢false i)
+    hear_is Listening clean b e i = refl
+    hear_is (Readable n) clean b e i = refl
+    hear_is (Seeking row sp own) clean b e i = refl
+    hear_is (Collecting n sp own) clean b e i = absurd (true≢false i)
 
-    marks : (sp b : Bool) → s.heard ≡ Clean b → v.flags spoiled ≡ sp → (v.flags spoiled || isSpoiled s.heard) ≡ sp
-    marks sp b h e = ap₂ (λ (x : Bool) (y : Heard). x || isSpoiled y) e h ∙ or-false sp
+    marks : (sp b : Bool) → s.heard ≡ Clean b → v.flags spoiled ≡ sp → (v.flags spoiled || is_spoiled s.heard) ≡ sp
+    marks sp b h e = ap₂ (λ (x : Bool) (y : Heard). x || is_spoiled y) e h ∙ or-false sp
 
-    spoils : (sp : Bool) → s.heard ≡ Spoiled → v.flags spoiled ≡ sp → (v.flags spoiled || isSpoiled
+    spoils : (sp : Bool) → s.heard ≡ Spoiled → v.flags spoiled ≡ sp → (v.flags spoiled || is_spoiled
         s.heard) ≡ true
-    spoils sp h e = ap₂ (λ (x : Bool) (y : Heard). x || isSpoiled y) e h ∙ or-true sp
+    spoils sp h e = ap₂ (λ (x : Bool) (y : Heard). x || is_spoiled y) e h ∙ or-true sp
 
     new_row : (row : ℕ) (b : Bool) → s.heard ≡ Clean b → coded w ≡ row → length w ≤ 8
-        → coded (nextSymbols s.heard w) ≡ nextRow row b
+        → coded (next_symbols s.heard w) ≡ next_row row b
     new_row row b h e k =
-        ap (λ (y : Heard). coded (nextSymbols y w)) h ∙ next-coded w b k ∙ ap (λ (n : ℕ). nextRow n b) e
+        ap (λ (y : Heard). coded (next_symbols y w)) h ∙ next_coded w b k ∙ ap (λ (n : ℕ). next_row n b) e
 
-    new-few : (b : Bool) → s.heard ≡ Clean b → length (nextSymbols s.heard w) ≤ 8
-    new-few b h = subst (λ (y : Heard). length (nextSymbols y w) ≤ 8) (sym h) (omega (arith, length-take 7 w))
+    new_few : (b : Bool) → s.heard ≡ Clean b → length (next_symbols s.heard w) ≤ 8
+    new_few b h = subst (λ (y : Heard). length (next_symbols y w) ≤ 8) (sym h) (omega (arith, length-take 7 w))
 
-    seek-clean : (row : ℕ) (b sp own : Bool) → v.flags receiving ≡ true → v.numbers currentReceiveBit ≡ 1
-        → s.heard ≡ Clean b → v.flags spoiled ≡ sp → (v.flags overlapped || isEmission t.emission) ≡ own
-        → coded w ≡ row → length w ≤ 8 → (c : Bool) → eqb (nextRow row b) delimiterRow ≡ c
-        → All atSeek (hearing (pick c (Collecting 0 sp own) (Seeking (nextRow row b) sp own)) NoStore)
-    seek-clean row b sp own rc cu h hs ho e k true c =
-        seek_found rc cu sp own (marks sp b h hs) ho (ap hearsAny h) (nextRow row b) (new_row row b h e k) c
-    seek-clean row b sp own rc cu h hs ho e k false c =
-        seek-on rc cu sp own (marks sp b h hs) ho (ap hearsAny h) (nextRow row b) (new_row row b h e k) (new-few b h) c
+    seek_clean : (row : ℕ) (b sp own : Bool) → v.flags receiving ≡ true → v.numbers current_receive_bit ≡ 1
+        → s.heard ≡ Clean b → v.flags spoiled ≡ sp → (v.flags overlapped || is_emission t.emission) ≡ own
+        → coded w ≡ row → length w ≤ 8 → (c : Bool) → eqb (next_row row b) delimiter_row ≡ c
+        → All at_seek (hearing (pick c (Collecting 0 sp own) (Seeking (next_row row b) sp own)) NoStore)
+    seek_clean row b sp own rc cu h hs ho e k true c =
+        seek_found rc cu sp own (marks sp b h hs) ho (ap hears_any h) (next_row row b) (new_row row b h e k) c
+    seek_clean row b sp own rc cu h hs ho e k false c =
+        seek_on rc cu sp own (marks sp b h hs) ho (ap hears_any h) (next_row row b) (new_row row b h e k) (new_few b h) c
 
-    seek-turns : (x : Receiver) (h : Heard) → s.heard ≡ h → isCollecting x ≡ false → coded w ≡ row_of x → length w ≤ 8
-        → v.flags spoiled ≡ spoiledOf x → v.flags overlapped ≡ own_of x → v.flags receiving ≡ true
-        → v.numbers currentReceiveBit ≡ 1 → All atSeek (receive a l x h (isEmission t.emission))
-    unfolding receive seek seekBit
-    seek-turns x Nothing h i e k hs ho rc cu = seek-ends x i rc cu h
-    seek-turns x (Clean b) h i e k hs ho rc cu =
-        by-rule atSeek _ _ (hear-is x true b (isEmission t.emission) i)
-        (seek-clean (row_of x) b (spoiledOf x) (own_of x || isEmission t.emission) rc cu h hs
-        (ap (λ (z : Bool). z || isEmission t.emission) ho) e k (eqb (nextRow (row_of x) b) delimiterRow) refl)
-    seek-turns x Spoiled h i e k hs ho rc cu =
-        by-rule atSeek _ _ (hear-is x false false (isEmission t.emission) i)
-        (seek-on rc cu true (own_of x || isEmission t.emission) (spoils (spoiledOf x) h hs)
-        (ap (λ (z : Bool). z || isEmission t.emission) ho) (ap hearsAny h) 1
-        (ap (λ (y : Heard). coded (nextSymbols y w)) h)
-        (subst (λ (y : Heard). length (nextSymbols y w) ≤ 8) (sym h) (omega arith)) refl)
+    seek_turns : (x : Receiver) (h : Heard) → s.heard ≡ h → is_collecting x ≡ false → coded w ≡ row_of x → length w ≤ 8
+        → v.flags spoiled ≡ spoiled_of x → v.flags overlapped ≡ own_of x → v.flags receiving ≡ true
+        → v.numbers current_receive_bit ≡ 1 → All at_seek (receive a l x h (is_emission t.emission))
+    unfolding receive seek seek_bit
+    seek_turns x Nothing h i e k hs ho rc cu = seek_ends x i rc cu h
+    seek_turns x (Clean b) h i e k hs ho rc cu =
+        by_rule at_seek _ _ (hear_is x true b (is_emission t.emission) i)
+        (seek_clean (row_of x) b (spoiled_of x) (own_of x || is_emission t.emission) rc cu h hs
+        (ap (λ (z : Bool). z || is_emission t.emission) ho) e k (eqb (next_row (row_of x) b) delimiter_row) refl)
+    seek_turns x Spoiled h i e k hs ho rc cu =
+        by_rule at_seek _ _ (hear_is x false false (is_emission t.emission) i)
+        (seek_on rc cu true (own_of x || is_emission t.emission) (spoils (spoiled_of x) h hs)
+        (ap (λ (z : Bool). z || is_emission t.emission) ho) (ap hears_any h) 1
+        (ap (λ (y : Heard). coded (next_symbols y w)) h)
+        (subst (λ (y : Heard). length (next_symbols y w) ≤ 8) (sym h) (omega arith)) refl)
 
     -- behind the delimiter
-    abbrev closedNow : Variables
-    closedNow = with_number frameSize (v.numbers currentReceiveBit - 1) (withFlag receiving (hearsAny s.heard) v)
+    abbrev closed_now : Variables
+    closed_now = with_number frame_size (v.numbers current_receive_bit - 1) (with_flag receiving (hears_any s.heard) v)
 
-    abbrev lengthNow : ℕ
-    lengthNow = v.numbers currentReceiveBit - 1
+    abbrev length_now : ℕ
+    length_now = v.numbers current_receive_bit - 1
 
     readable : (g : Answer) (n : ℕ) (e : ReceiveEvent) → (c : Bool) → eqb (get_or (values_of g) 0 0) 5 ≡ c
-        → ((y : Receiver) → isCollecting y ≡ false → row_of y ≡ 1 → spoiledOf y ≡ false → own_of y ≡ false
-        → All atCollect (deciding y e))
-        → All atCollect (deciding (readableAfter g n) e)
-    unfolding readableAfter
-    readable g n e true c k = by-rule atCollect _ _ (ap (λ (b : Bool). deciding (pick b
+        → ((y : Receiver) → is_collecting y ≡ false → row_of y ≡ 1 → spoiled_of y ≡ false → own_of y ≡ false
+        → All at_collect (deciding y e))
+        → All at_collect (deciding (readable_after g n) e)
+    unfolding readable_after
+    readable g n e true c k = by_rule at_collect _ _ (ap (λ (b : Bool). deciding (pick b
         (Readable n) Listening) e) c) (k (Readable n) refl refl refl refl)
-    readable g n e false c k = by-rule atCollect _ _ (ap (λ (b : Bool). deciding (pick b
+    readable g n e false c k = by_rule at_collect _ _ (ap (λ (b : Bool). deciding (pick b
         (Readable n) Listening) e) c) (k Listening refl refl refl refl)
 
     module _ (n : ℕ) (h : s.heard ≡ Nothing) (rc : v.flags receiving ≡ true)
-        (cu : v.numbers currentReceiveBit ≡ n + 1) where
-      closes : (y : Receiver) (g : ReceiveEvent) → Decided a d s (freshReception closedNow w l) g → isCollecting y ≡
+        (cu : v.numbers current_receive_bit ≡ n + 1) where
+      closes : (y : Receiver) (g : ReceiveEvent) → Decided a d s (fresh_reception closed_now w l) g → is_collecting y ≡
           false
-          → row_of y ≡ 1 → spoiledOf y ≡ false → own_of y ≡ false → All atCollect (deciding y g)
-      closes y g k = closing n rc cu y g (ap hearsAny h) k
+          → row_of y ≡ 1 → spoiled_of y ≡ false → own_of y ≡ false → All at_collect (deciding y g)
+      closes y g k = closing n rc cu y g (ap hears_any h) k
 
-      decided-turns : (c own o : Bool) → ltb lengthNow shortestFrame ≡ c → v.flags overlapped ≡ own → addressed a l ≡ o
-          → All atCollect (choice_of a d s closedNow w l (ap hearsAny h) c own o)
+      decided_turns : (c own o : Bool) → ltb length_now shortest_frame ≡ c → v.flags overlapped ≡ own → addressed a l ≡ o
+          → All at_collect (choice_of a d s closed_now w l (ap hears_any h) c own o)
       unfolding opening
-      decided-turns true own o i j k =
-          closes Listening NoReceive (decides a d s closedNow w l (ap hearsAny h) hl true own o i j k) refl refl refl
+      decided_turns true own o i j k =
+          closes Listening NoReceive (decides a d s closed_now w l (ap hears_any h) hl true own o i j k) refl refl refl
           refl
-      decided-turns false true o i j k =
-          closes Listening NoReceive (decides a d s closedNow w l (ap hearsAny h) hl false true o i j k) refl refl
+      decided_turns false true o i j k =
+          closes Listening NoReceive (decides a d s closed_now w l (ap hears_any h) hl false true o i j k) refl refl
           refl refl
-      decided-turns false false false i j k =
-          closes Listening NoReceive (decides a d s closedNow w l (ap hearsAny h) hl false false false i j k) refl
+      decided_turns false false false i j k =
+          closes Listening NoReceive (decides a d s closed_now w l (ap hears_any h) hl false false false i j k) refl
           refl refl refl
-      decided-turns false false true i j k =
-          readable (openAnswer l lengthNow (v.flags spoiled)) (lengthNow / 8)
-          (gotEvent (openAnswer l lengthNow (v.flags spoiled)) (lengthNow / 8))
-          (eqb (get_or (values_of (openAnswer l lengthNow (v.flags spoiled))) 0 0) 5) refl
-          (λ y. closes y (gotEvent (openAnswer l lengthNow (v.flags spoiled)) (lengthNow / 8))
-          (decides a d s closedNow w l (ap hearsAny h) hl false false true i j k))
+      decided_turns false false true i j k =
+          readable (open_answer l length_now (v.flags spoiled)) (length_now / 8)
+          (got_event (open_answer l length_now (v.flags spoiled)) (length_now / 8))
+          (eqb (get_or (values_of (open_answer l length_now (v.flags spoiled))) 0 0) 5) refl
+          (λ y. closes y (got_event (open_answer l length_now (v.flags spoiled)) (length_now / 8))
+          (decides a d s closed_now w l (ap hears_any h) hl false false true i j k))
 
-      decide-turns : (sp own : Bool) → v.flags spoiled ≡ sp → v.flags overlapped ≡ own → All atCollect
+      decide_turns : (sp own : Bool) → v.flags spoiled ≡ sp → v.flags overlapped ≡ own → All at_collect
           (decide a l n sp own)
       unfolding decide
-      decide-turns sp own hs ho =
-          let m : lengthNow ≡ n = omega arith in
-          by-rule atCollect _ _
+      decide_turns sp own hs ho =
+          let m : length_now ≡ n = omega arith in
+          by_rule at_collect _ _
           (sym (ap (λ (k : ℕ). decide a l k (v.flags spoiled) (v.flags overlapped)) m
           ∙ ap₂ (λ (x y : Bool). decide a l n x y) hs ho))
-          (decided-turns (ltb lengthNow shortestFrame) (v.flags overlapped) (addressed a l) refl refl refl)
+          (decided_turns (ltb length_now shortest_frame) (v.flags overlapped) (addressed a l) refl refl refl)
 
-    collect-turns : (n : ℕ) (sp own : Bool) (h : Heard) → s.heard ≡ h → v.flags spoiled ≡ sp
-        → v.flags overlapped ≡ own → v.flags receiving ≡ true → v.numbers currentReceiveBit ≡ n + 1
-        → All atCollect (receive a l (Collecting n sp own) h (isEmission t.emission))
-    unfolding receive hear collect collectBit storedBit ended
-    collect-turns n sp own Nothing h hs ho rc cu = decide-turns n h rc cu sp own hs ho
-    collect-turns n sp own (Clean b) h hs ho rc cu =
-        by-rule atCollect _ _
-        (ap (λ (y : Heard). hearing (Collecting (n + 1) (sp || false) (own || isEmission t.emission)) (keptBit n
+    collect_turns : (n : ℕ) (sp own : Bool) (h : Heard) → s.heard ≡ h → v.flags spoiled ≡ sp
+        → v.flags overlapped ≡ own → v.flags receiving ≡ true → v.numbers current_receive_bit ≡ n + 1
+        → All at_collect (receive a l (Collecting n sp own) h (is_emission t.emission))
+    unfolding receive hear collect collect_bit stored_bit ended
+    collect_turns n sp own Nothing h hs ho rc cu = decide_turns n h rc cu sp own hs ho
+    collect_turns n sp own (Clean b) h hs ho rc cu =
+        by_rule at_collect _ _
+        (ap (λ (y : Heard). hearing (Collecting (n + 1) (sp || false) (own || is_emission t.emission)) (kept_bit n
         (bit_of y))) (sym h))
-        (collect-bit n rc cu (sp || false) (own || isEmission t.emission)
-        (ap₂ (λ (x : Bool) (y : Heard). x || isSpoiled y) hs h) (ap (λ (z : Bool). z || isEmission t.emission) ho)
-        (ap hearsAny h))
-    collect-turns n sp own Spoiled h hs ho rc cu =
-        by-rule atCollect _ _
-        (ap (λ (y : Heard). hearing (Collecting (n + 1) (sp || true) (own || isEmission t.emission)) (keptBit n
+        (collect_bit_lem n rc cu (sp || false) (own || is_emission t.emission)
+        (ap₂ (λ (x : Bool) (y : Heard). x || is_spoiled y) hs h) (ap (λ (z : Bool). z || is_emission t.emission) ho)
+        (ap hears_any h))
+    collect_turns n sp own Spoiled h hs ho rc cu =
+        by_rule at_collect _ _
+        (ap (λ (y : Heard). hearing (Collecting (n + 1) (sp || true) (own || is_emission t.emission)) (kept_bit n
         (bit_of y))) (sym h))
-        (collect-bit n rc cu (sp || true) (own || isEmission t.emission)
-        (ap₂ (λ (x : Bool) (y : Heard). x || isSpoiled y) hs h) (ap (λ (z : Bool). z || isEmission t.emission) ho)
-        (ap hearsAny h))
+        (collect_bit_lem n rc cu (sp || true) (own || is_emission t.emission)
+        (ap₂ (λ (x : Bool) (y : Heard). x || is_spoiled y) hs h) (ap (λ (z : Bool). z || is_emission t.emission) ho)
+        (ap hears_any h))
 
-    pub receive-turns : (x : Receiver) (at : Place) → ReceiveAt v w x at
-        → All at (receive a l x s.heard (isEmission t.emission))
-    receive-turns x at (seeks i q e k hs ho rc cu) =
-        subst (λ (p : Place). All p (receive a l x s.heard (isEmission t.emission))) (sym q)
-        (seek-turns x s.heard refl i e k hs ho rc cu)
-    receive-turns x at (collects n sp own i q hs ho rc cu) =
-        subst₂ (λ (p : Place) (y : Receiver). All p (receive a l y s.heard (isEmission t.emission))) (sym q)
+    pub receive_turns : (x : Receiver) (at : Place) → ReceiveAt v w x at
+        → All at (receive a l x s.heard (is_emission t.emission))
+    receive_turns x at (seeks i q e k hs ho rc cu) =
+        subst (λ (p : Place). All p (receive a l x s.heard (is_emission t.emission))) (sym q)
+        (seek_turns x s.heard refl i e k hs ho rc cu)
+    receive_turns x at (collects n sp own i q hs ho rc cu) =
+        subst₂ (λ (p : Place) (y : Receiver). All p (receive a l y s.heard (is_emission t.emission))) (sym q)
         (sym i)
-        (collect-turns n sp own s.heard refl hs ho rc cu)
+        (collect_turns n sp own s.heard refl hs ho rc cu)

@@ -10,9 +10,9 @@ use Rattle.station_spec.specs.declared.ReceiveEvent.{ReceiveEvent}
 use Rattle.station_spec.specs.declared.Stored.{Stored}
 use Rattle.standard.specs.Language.{Flag, Number, Test, Term, Store, Statement, Moment, ◌≔◌, ◌≔#◌, emit, report}
 use Rattle.standard.specs.Language.{hand, keep, row, skip, ◌⨾◌, test, while, repeat, cycle, call, await}
-use Rattle.standard.specs.Language.{putFlag, putNumber, offer, look, bit, over}
-use Rattle.standard.specs.Interpreter.{momentPlace, Place, Ran, ran, waiting, execute, enough, turn}
-use Rattle.standard.specs.Interpreter.{withEmission, withReport, withHanded, withKept, with_row}
+use Rattle.standard.specs.Language.{put_flag, put_number, offer, look, bit, over}
+use Rattle.standard.specs.Interpreter.{moment_place, Place, Ran, ran, waiting, execute, enough, turn}
+use Rattle.standard.specs.Interpreter.{with_emission, with_report, with_handed, with_kept, with_row}
 
 -- with n statements at most, from k and s to r
 pub record Goes (n : ℕ) (k : List Statement) (s : Store) (r : Ran) : Type 0 where
@@ -24,27 +24,27 @@ unfolding execute
 rest = record { is = refl }
 
 module _ {n : ℕ} {k : List Statement} {s : Store} {r : Ran} where
-  pub set : {x : Flag} {e : Test} → Goes n k (putFlag x (e s) s) r → Goes (suc n) ((x ≔ e) ∷ k) s r
+  pub set : {x : Flag} {e : Test} → Goes n k (put_flag x (e s) s) r → Goes (suc n) ((x ≔ e) ∷ k) s r
   unfolding execute
   set d = record { is = d.is }
 
-  pub num : {x : Number} {e : Term} → Goes n k (putNumber x (e s) s) r → Goes (suc n) ((x ≔# e) ∷ k) s r
+  pub num : {x : Number} {e : Term} → Goes n k (put_number x (e s) s) r → Goes (suc n) ((x ≔# e) ∷ k) s r
   unfolding execute
   num d = record { is = d.is }
 
-  pub emits : {e : Store → Emission} → Goes n k (withEmission (e s) s) r → Goes (suc n) (emit e ∷ k) s r
+  pub emits : {e : Store → Emission} → Goes n k (with_emission (e s) s) r → Goes (suc n) (emit e ∷ k) s r
   unfolding execute
   emits d = record { is = d.is }
 
-  pub reports : {e : Store → TransmitEvent} → Goes n k (withReport (e s) s) r → Goes (suc n) (report e ∷ k) s r
+  pub reports : {e : Store → TransmitEvent} → Goes n k (with_report (e s) s) r → Goes (suc n) (report e ∷ k) s r
   unfolding execute
   reports d = record { is = d.is }
 
-  pub hands : {e : Store → ReceiveEvent} → Goes n k (withHanded (e s) s) r → Goes (suc n) (hand e ∷ k) s r
+  pub hands : {e : Store → ReceiveEvent} → Goes n k (with_handed (e s) s) r → Goes (suc n) (hand e ∷ k) s r
   unfolding execute
   hands d = record { is = d.is }
 
-  pub keeps : {e : Store → Stored} → Goes n k (withKept (e s) s) r → Goes (suc n) (keep e ∷ k) s r
+  pub keeps : {e : Store → Stored} → Goes n k (with_kept (e s) s) r → Goes (suc n) (keep e ∷ k) s r
   unfolding execute
   keeps d = record { is = d.is }
 
@@ -94,18 +94,18 @@ module _ {n : ℕ} {k : List Statement} {s : Store} {r : Ran} where
 pub record Turns (m : Moment) (p : Place) (s : Store) (r : Ran) : Type 0 where
   pub is : turn m p s ≡ r
 
-same-moment : (m : Moment) → eqb (momentPlace m) (momentPlace m) ≡ true
-same-moment offer = refl
-same-moment look = refl
-same-moment bit = refl
-same-moment over = refl
+same_moment : (m : Moment) → eqb (moment_place m) (moment_place m) ≡ true
+same_moment offer = refl
+same_moment look = refl
+same_moment bit = refl
+same_moment over = refl
 
 pub goes : {m : Moment} {k : List Statement} {s : Store} {r : Ran} → Goes enough k s r → Turns m (waiting m k) s r
 unfolding turn
 goes {m} {k} {s} d =
-    record { is = ap (λ (v : Bool). pick v (execute enough k s) (ran (waiting m k) s)) (same-moment m) ∙ d.is }
+    record { is = ap (λ (v : Bool). pick v (execute enough k s) (ran (waiting m k) s)) (same_moment m) ∙ d.is }
 
-pub waits : {m w : Moment} {k : List Statement} {s : Store} → eqb (momentPlace m) (momentPlace w) ≡ false
+pub waits : {m w : Moment} {k : List Statement} {s : Store} → eqb (moment_place m) (moment_place w) ≡ false
     → Turns m (waiting w k) s (ran (waiting w k) s)
 unfolding turn
 waits {m} {w} {k} {s} e =

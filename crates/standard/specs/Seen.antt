@@ -11,7 +11,7 @@ use Rattle.station_state.specs.declared.Station.{Station}
 use Rattle.station_spec.specs.declared.Stepped.{Stepped}
 use Rattle.station_spec.specs.Step.{stepped}
 use Rattle.standard.specs.Language.{Draws}
-use Rattle.standard.specs.Interpreter.{keptIn}
+use Rattle.standard.specs.Interpreter.{kept_in}
 use Rattle.standard.specs.Reading.{Input, Output}
 
 -- what document 01 asks of a layout's figures, as far as it matters here
@@ -23,8 +23,8 @@ pub record Ranges (f : Figures) : Type 0 where
   pub backoff : 0 < f.backoff
 
 -- "A fresh start has .. every station quiet, nothing emitted, heard or held, first draws next"
-unfoldable pub freshStation : List ℕ → Station
-freshStation address =
+unfoldable pub fresh_station : List ℕ → Station
+fresh_station address =
     record {
       address = address;
       deference = Quiet;
@@ -38,21 +38,21 @@ freshStation address =
     }
 
 -- "The station still has a frame."
-abbrev pub isFree : Transmitter → Bool
-isFree NoFrame = true
-isFree Waiting = false
-isFree (BackingOff w) = false
-isFree (Sending k) = false
-isFree (Heading k) = false
-isFree (Jamming n ends) = false
+abbrev pub is_free : Transmitter → Bool
+is_free NoFrame = true
+is_free Waiting = false
+is_free (BackingOff w) = false
+is_free (Sending k) = false
+is_free (Heading k) = false
+is_free (Jamming n ends) = false
 
 -- whether an offer of a frame of z octets is taken: there is one, and the station is free
 abbrev pub takes : Station → ℕ → Bool
-takes s z = isFree s.transmitter && ltb 0 z
+takes s z = is_free s.transmitter && ltb 0 z
 
 -- an offer, which waits from this step on
-unfoldable pub offeredTo : Station → ℕ → Station
-offeredTo s z =
+unfoldable pub offered_to : Station → ℕ → Station
+offered_to s z =
     record {
       address = s.address;
       deference = s.deference;
@@ -68,7 +68,7 @@ offeredTo s z =
 -- the step, of a station with these draws, and these octets collected
 unfoldable pub step_of : Figures → Draws → Station → List ℕ → Input → Stepped
 step_of f draws s buffer i =
-    stepped f (offeredTo s i.offered) draws.depth (draws.value s.draw) buffer i.heard
+    stepped f (offered_to s i.offered) draws.depth (draws.value s.draw) buffer i.heard
 
 abbrev pub shown : Stepped → Output
 shown o = record { emission = o.emission; sent = o.sent; got = o.got; stored = o.stored }
@@ -77,4 +77,4 @@ unfoldable pub seen : Figures → Draws → Station → List ℕ → List Input 
 seen f draws s buffer [] = []
 seen f draws s buffer (i ∷ l) =
     shown (step_of f draws s buffer i)
-    ∷ seen f draws (step_of f draws s buffer i).station (keptIn buffer (step_of f draws s buffer i).stored) l
+    ∷ seen f draws (step_of f draws s buffer i).station (kept_in buffer (step_of f draws s buffer i).stored) l

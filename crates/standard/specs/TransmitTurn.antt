@@ -5,7 +5,7 @@ use Rattle.std.proofs.Math.Path.{ap, subst}
 use Rattle.std.proofs.Math.Bool.{true, false, not}
 use Rattle.std.proofs.lemmas.Bool.{lt-leb}
 use Rattle.octets.specs.Base.{pick}
-use Rattle.station_symbols.specs.Packet.{hearsAny, isEmission}
+use Rattle.station_symbols.specs.Packet.{hears_any, is_emission}
 use Rattle.station_symbols.specs.declared.Emission.TheVariants.{PacketBit, JamBit}
 use Rattle.sheet_layout.specs.declared.Figures.{Figures}
 use Rattle.station_state.specs.declared.Transmitter.{Transmitter}
@@ -13,212 +13,212 @@ use Rattle.station_state.specs.declared.Transmitter.TheVariants.{NoFrame, Waitin
 use Rattle.station_state.specs.declared.Transmitter.TheVariants.{Jamming}
 use Rattle.station_spec.specs.declared.TransmitEvent.TheVariants.{NoTransmit, Collision, Late, Sent, LateEnded}
 use Rattle.station_spec.specs.declared.Transmitted.{Transmitted}
-use Rattle.station_spec.specs.Transmit.{closesFrame, resting, emitting, afterBit, collision, sendBit, headBit}
-use Rattle.station_spec.specs.Transmit.{lastJam, jamBit, backoffBit, waitBit, transmit}
-use Rattle.standard.specs.Language.{drawn, Variables, withFlag, with_number, Reception, Signals, store}
-use Rattle.standard.specs.Language.{Statement, look, bit, deferring, frameWaiting, transmitting}
-use Rattle.standard.specs.Language.{transmitSucceeding, newCollision, lateCollisionError, jamming, deferred}
-use Rattle.standard.specs.Language.{currentTransmitBit, lastTransmitBit, lastHeaderBit, headerBits}
-use Rattle.standard.specs.Language.{outgoingSize, waitLeft}
+use Rattle.station_spec.specs.Transmit.{closes_frame, resting, emitting, after_bit, collision, send_bit, head_bit}
+use Rattle.station_spec.specs.Transmit.{last_jam, jam_bit, backoff_bit, wait_bit, transmit}
+use Rattle.standard.specs.Language.{drawn, Variables, with_flag, with_number, Reception, Signals, store}
+use Rattle.standard.specs.Language.{Statement, look, bit, deferring, frame_waiting, transmitting}
+use Rattle.standard.specs.Language.{transmit_succeeding, new_collision, late_collision_error, jamming, deferred}
+use Rattle.standard.specs.Language.{current_transmit_bit, last_transmit_bit, last_header_bit, header_bits}
+use Rattle.standard.specs.Language.{outgoing_size, wait_left}
 use Rattle.standard.specs.Interpreter.{Place, waiting, ran}
 use Rattle.standard.specs.RunLaws.{Turns, goes, waits, rest, set, num, emits, seq, enter, stay, leave, round}
 use Rattle.standard.specs.RunLaws.{yes₁, no₁}
-use Rattle.standard.specs.TransmitLaws.{drawOf, atOffer, atDefer, atWait, atWatch, atRest, atHeader, atFrame}
-use Rattle.standard.specs.TransmitLaws.{Held, Trying, Next, inHeader, inFrame, TransmitAt, idle, held, backing}
-use Rattle.standard.specs.TransmitLaws.{sending, heading, jams, fresh, BitTurns, idle-bit, held-bit}
-use Rattle.standard.specs.TransmitLaws.{backing-bit, by-rule, jam-on, jam-last, head-on, head-last, header-on}
-use Rattle.standard.specs.TransmitLaws.{header-last, frame_on, frame-last, header-hits, header-end-hits}
-use Rattle.standard.specs.TransmitLaws.{frame-hits, frame-late, by-eq, by_le, below, same-held}
-use Rattle.station_spec.specs.Step.{triesAfter}
+use Rattle.standard.specs.TransmitLaws.{draw_of, at_offer, at_defer, at_wait, at_watch, at_rest, at_header, at_frame}
+use Rattle.standard.specs.TransmitLaws.{Held, Trying, Next, in_header, in_frame, TransmitAt, idle, held, backing}
+use Rattle.standard.specs.TransmitLaws.{sending, heading, jams, fresh, BitTurns, idle_bit, held_bit}
+use Rattle.standard.specs.TransmitLaws.{backing_bit, by_rule, jam_on, jam_last, head_on, head_last, header_on}
+use Rattle.standard.specs.TransmitLaws.{header_last, frame_on, frame_last, header_hits, header_end_hits}
+use Rattle.standard.specs.TransmitLaws.{frame_hits, frame_late, by_eq, by_le, below, same_held}
+use Rattle.station_spec.specs.Step.{tries_after}
 use Rattle.station_spec.specs.Transmit.{waits as waitsNow}
 use Rattle.standard.specs.DeferenceLaws.{sends, Follows}
 use Rattle.standard.specs.Seen.{Ranges}
 
 -- ---- document 01's rules, by the place of a bit
 
-send-on : (f : Figures) (z n k : ℕ) → k < 64 + 8 * z
-    → sendBit f z n k false ≡ emitting (Sending (k + 1)) (PacketBit k) NoTransmit
-unfolding sendBit
-send-on f z n k g = rw (ne_eqb k (64 + 8 * z) (λ e. omega arith))
+send_on : (f : Figures) (z n k : ℕ) → k < 64 + 8 * z
+    → send_bit f z n k false ≡ emitting (Sending (k + 1)) (PacketBit k) NoTransmit
+unfolding send_bit
+send_on f z n k g = rw (ne_eqb k (64 + 8 * z) (λ e. omega arith))
 
-send-last : (f : Figures) (z n k : ℕ) → k ≡ 64 + 8 * z → sendBit f z n k false ≡ emitting NoFrame (PacketBit k) (Sent n)
-unfolding sendBit
-send-last f z n k g = rw (eq-eqb k (64 + 8 * z) g)
+send_last : (f : Figures) (z n k : ℕ) → k ≡ 64 + 8 * z → send_bit f z n k false ≡ emitting NoFrame (PacketBit k) (Sent n)
+unfolding send_bit
+send_last f z n k g = rw (eq-eqb k (64 + 8 * z) g)
 
-hit-header : (f : Figures) (z n k : ℕ) → k < 64 → 64 ≤ f.slot
-    → sendBit f z n k true ≡ emitting (Heading (k + 1)) (PacketBit k) (Collision k)
-unfolding sendBit collision afterBit
-hit-header f z n k g h = rw (le-ltb f.slot k (omega arith), lt-ltb k 64 g)
+hit_header : (f : Figures) (z n k : ℕ) → k < 64 → 64 ≤ f.slot
+    → send_bit f z n k true ≡ emitting (Heading (k + 1)) (PacketBit k) (Collision k)
+unfolding send_bit collision after_bit
+hit_header f z n k g h = rw (le-ltb f.slot k (omega arith), lt-ltb k 64 g)
 
-hit-frame : (f : Figures) (z n k : ℕ) → 64 ≤ k → k ≤ f.slot
-    → sendBit f z n k true ≡ emitting (Jamming f.jam false) (PacketBit k) (Collision k)
-unfolding sendBit collision afterBit
-hit-frame f z n k g h = rw (le-ltb f.slot k h, le-ltb k 64 g)
+hit_frame : (f : Figures) (z n k : ℕ) → 64 ≤ k → k ≤ f.slot
+    → send_bit f z n k true ≡ emitting (Jamming f.jam false) (PacketBit k) (Collision k)
+unfolding send_bit collision after_bit
+hit_frame f z n k g h = rw (le-ltb f.slot k h, le-ltb k 64 g)
 
-hit-late : (f : Figures) (z n k : ℕ) → 64 ≤ k → f.slot < k
-    → sendBit f z n k true ≡ emitting (Jamming f.jam (closesFrame f)) (PacketBit k) (Late k (closesFrame f))
-unfolding sendBit collision afterBit
-hit-late f z n k g h = rw (lt-ltb f.slot k h, le-ltb k 64 g)
+hit_late : (f : Figures) (z n k : ℕ) → 64 ≤ k → f.slot < k
+    → send_bit f z n k true ≡ emitting (Jamming f.jam (closes_frame f)) (PacketBit k) (Late k (closes_frame f))
+unfolding send_bit collision after_bit
+hit_late f z n k g h = rw (lt-ltb f.slot k h, le-ltb k 64 g)
 
-jam-over : (f : Figures) (n draw left : ℕ) (ends : Bool) → left ≤ 1
-    → jamBit f n draw left ends ≡ pick ends (emitting NoFrame JamBit (LateEnded n)) (lastJam f n draw)
-unfolding jamBit
-jam-over f n draw left ends h = rw (le-leb left 1 h)
+jam_over : (f : Figures) (n draw left : ℕ) (ends : Bool) → left ≤ 1
+    → jam_bit f n draw left ends ≡ pick ends (emitting NoFrame JamBit (LateEnded n)) (last_jam f n draw)
+unfolding jam_bit
+jam_over f n draw left ends h = rw (le-leb left 1 h)
 
-jam-more : (f : Figures) (n draw left : ℕ) (ends : Bool) → 1 < left
-    → jamBit f n draw left ends ≡ emitting (Jamming (left - 1) ends) JamBit NoTransmit
-unfolding jamBit
-jam-more f n draw left ends h = rw (lt-leb left 1 h)
+jam_more : (f : Figures) (n draw left : ℕ) (ends : Bool) → 1 < left
+    → jam_bit f n draw left ends ≡ emitting (Jamming (left - 1) ends) JamBit NoTransmit
+unfolding jam_bit
+jam_more f n draw left ends h = rw (lt-leb left 1 h)
 
-last-emits : (f : Figures) (n draw : ℕ) (c : Bool) → eqb n f.limit ≡ c → (lastJam f n draw).emission ≡ JamBit
-unfolding lastJam
-last-emits f n draw true c = rw c
-last-emits f n draw false c = rw c
+last_emits : (f : Figures) (n draw : ℕ) (c : Bool) → eqb n f.limit ≡ c → (last_jam f n draw).emission ≡ JamBit
+unfolding last_jam
+last_emits f n draw true c = rw c
+last_emits f n draw false c = rw c
 
-jam-emits : (f : Figures) (n draw left : ℕ) (ends : Bool) → (jamBit f n draw left ends).emission ≡ JamBit
-jam-emits f n draw left ends =
-    by_le left 1 (λ h. ap (λ (o : Transmitted). o.emission) (jam-over f n draw left ends h) ∙ over-emits ends)
-    (λ h. ap (λ (o : Transmitted). o.emission) (jam-more f n draw left ends h))
+jam_emits : (f : Figures) (n draw left : ℕ) (ends : Bool) → (jam_bit f n draw left ends).emission ≡ JamBit
+jam_emits f n draw left ends =
+    by_le left 1 (λ h. ap (λ (o : Transmitted). o.emission) (jam_over f n draw left ends h) ∙ over_emits ends)
+    (λ h. ap (λ (o : Transmitted). o.emission) (jam_more f n draw left ends h))
   where
-    over-emits : (b : Bool) → (pick b (emitting NoFrame JamBit (LateEnded n)) (lastJam f n draw)).emission ≡ JamBit
-    over-emits true = refl
-    over-emits false = last-emits f n draw (eqb n f.limit) refl
+    over_emits : (b : Bool) → (pick b (emitting NoFrame JamBit (LateEnded n)) (last_jam f n draw)).emission ≡ JamBit
+    over_emits true = refl
+    over_emits false = last_emits f n draw (eqb n f.limit) refl
 
 module _ (f : Figures) (ok : Ranges f) (d : Variables) (s : Signals) (v : Variables) (n z pl : ℕ) where
   abbrev Sends : ℕ → Bool → Place → Type 0
-  Sends k h bt = BitTurns f d s v n z pl (atWatch f) bt (sendBit f z n k h)
+  Sends k h bt = BitTurns f d s v n z pl (at_watch f) bt (send_bit f z n k h)
 
-  abbrev as-rule : (bt : Place) (o p : Transmitted) → p ≡ o → BitTurns f d s v n z pl (atWatch f) bt o
-      → BitTurns f d s v n z pl (atWatch f) bt p
-  as-rule bt o p e k = by-rule f d s v n z pl (atWatch f) bt o p e k
+  abbrev as_rule : (bt : Place) (o p : Transmitted) → p ≡ o → BitTurns f d s v n z pl (at_watch f) bt o
+      → BitTurns f d s v n z pl (at_watch f) bt p
+  as_rule bt o p e k = by_rule f d s v n z pl (at_watch f) bt o p e k
 
-  module _ (sc : v.flags transmitSucceeding ≡ true) (nc : v.flags newCollision ≡ false)
-      (lt : v.flags lateCollisionError ≡ false) (nj : v.flags jamming ≡ false) (y : Trying f v n z pl) where
-    in-header : (k : ℕ) (h : Bool) → hearsAny s.heard ≡ h → v.numbers currentTransmitBit ≡ k
-        → v.numbers headerBits ≡ 0 → k ≤ 64 → v.numbers lastTransmitBit ≡ 8 * z → Sends k h (atHeader f)
-    in-header k true e c hb g m =
+  module _ (sc : v.flags transmit_succeeding ≡ true) (nc : v.flags new_collision ≡ false)
+      (lt : v.flags late_collision_error ≡ false) (nj : v.flags jamming ≡ false) (y : Trying f v n z pl) where
+    in_header_lem : (k : ℕ) (h : Bool) → hears_any s.heard ≡ h → v.numbers current_transmit_bit ≡ k
+        → v.numbers header_bits ≡ 0 → k ≤ 64 → v.numbers last_transmit_bit ≡ 8 * z → Sends k h (at_header f)
+    in_header_lem k true e c hb g m =
         by_le 64 k
-        (λ a. as-rule (atHeader f) _ _ (hit-frame f z n k a (omega (arith, ok.slot)))
-        (header-end-hits f d s v n z pl e sc nc lt nj y ok.jam k c hb (omega arith) ok.slot))
-        (λ a. as-rule (atHeader f) _ _ (hit-header f z n k a ok.slot)
-        (header-hits f d s v n z pl e sc nc lt nj y ok.jam k c hb a ok.slot))
-    in-header k false e c hb g m =
-        as-rule (atHeader f) _ _ (send-on f z n k (omega (arith, y.some)))
+        (λ a. as_rule (at_header f) _ _ (hit_frame f z n k a (omega (arith, ok.slot)))
+        (header_end_hits f d s v n z pl e sc nc lt nj y ok.jam k c hb (omega arith) ok.slot))
+        (λ a. as_rule (at_header f) _ _ (hit_header f z n k a ok.slot)
+        (header_hits f d s v n z pl e sc nc lt nj y ok.jam k c hb a ok.slot))
+    in_header_lem k false e c hb g m =
+        as_rule (at_header f) _ _ (send_on f z n k (omega (arith, y.some)))
         (by_le 64 k
-        (λ a. header-last f d s v n z pl e sc nc lt nj y k c m (omega arith))
-        (λ a. header-on f d s v n z pl e sc nc lt nj y k c hb m a))
+        (λ a. header_last f d s v n z pl e sc nc lt nj y k c m (omega arith))
+        (λ a. header_on f d s v n z pl e sc nc lt nj y k c hb m a))
 
-    in_frame : (k : ℕ) (h : Bool) → hearsAny s.heard ≡ h → v.numbers headerBits ≡ 64
-        → 64 + v.numbers currentTransmitBit ≡ k → 64 < k → k ≤ 64 + 8 * z → v.numbers lastTransmitBit ≡ 8 * z
-        → Sends k h (atFrame f)
-    in_frame k true e hb c g i m =
+    in_frame_lem : (k : ℕ) (h : Bool) → hears_any s.heard ≡ h → v.numbers header_bits ≡ 64
+        → 64 + v.numbers current_transmit_bit ≡ k → 64 < k → k ≤ 64 + 8 * z → v.numbers last_transmit_bit ≡ 8 * z
+        → Sends k h (at_frame f)
+    in_frame_lem k true e hb c g i m =
         by_le k f.slot
-        (λ a. as-rule (atFrame f) _ _ (hit-frame f z n k (omega arith) a)
-        (frame-hits f d s v n z pl e sc nc lt nj y ok.jam k hb c a))
-        (λ a. as-rule (atFrame f) _ _ (hit-late f z n k (omega arith) a)
-        (frame-late f d s v n z pl e sc nc lt nj y ok.jam k hb c a))
-    in_frame k false e hb c g i m =
-        by-eq k (64 + 8 * z)
-        (λ a. as-rule (atFrame f) _ _ (send-last f z n k a) (frame-last f d s v n z pl e sc nc lt nj y k hb c m a))
-        (λ a. as-rule (atFrame f) _ _ (send-on f z n k (below k (64 + 8 * z) i a))
+        (λ a. as_rule (at_frame f) _ _ (hit_frame f z n k (omega arith) a)
+        (frame_hits f d s v n z pl e sc nc lt nj y ok.jam k hb c a))
+        (λ a. as_rule (at_frame f) _ _ (hit_late f z n k (omega arith) a)
+        (frame_late f d s v n z pl e sc nc lt nj y ok.jam k hb c a))
+    in_frame_lem k false e hb c g i m =
+        by_eq k (64 + 8 * z)
+        (λ a. as_rule (at_frame f) _ _ (send_last f z n k a) (frame_last f d s v n z pl e sc nc lt nj y k hb c m a))
+        (λ a. as_rule (at_frame f) _ _ (send_on f z n k (below k (64 + 8 * z) i a))
         (frame_on f d s v n z pl e sc nc lt nj y k hb c m g (below k (64 + 8 * z) i a)))
 
-    send-turns : (k : ℕ) (h : Bool) (bt : Place) → hearsAny s.heard ≡ h → Next f v z k bt → Sends k h bt
-    send-turns k h bt e (inHeader b c hb g m) = subst (Sends k h) (sym b) (in-header k h e c hb g m)
-    send-turns k h bt e (inFrame b hb c g i m) = subst (Sends k h) (sym b) (in_frame k h e hb c g i m)
+    send_turns : (k : ℕ) (h : Bool) (bt : Place) → hears_any s.heard ≡ h → Next f v z k bt → Sends k h bt
+    send_turns k h bt e (in_header b c hb g m) = subst (Sends k h) (sym b) (in_header_lem k h e c hb g m)
+    send_turns k h bt e (in_frame b hb c g i m) = subst (Sends k h) (sym b) (in_frame_lem k h e hb c g i m)
 
-  head-turns : (k : ℕ) → v.flags transmitSucceeding ≡ false → v.flags newCollision ≡ true
-      → v.flags lateCollisionError ≡ false → v.numbers currentTransmitBit ≡ k → k ≤ 64 → Trying f v n z pl
-      → BitTurns f d s v n z pl (atWatch f) (atHeader f) (headBit f k)
-  unfolding headBit afterBit
-  head-turns k sc nc lt c g y =
+  head_turns : (k : ℕ) → v.flags transmit_succeeding ≡ false → v.flags new_collision ≡ true
+      → v.flags late_collision_error ≡ false → v.numbers current_transmit_bit ≡ k → k ≤ 64 → Trying f v n z pl
+      → BitTurns f d s v n z pl (at_watch f) (at_header f) (head_bit f k)
+  unfolding head_bit after_bit
+  head_turns k sc nc lt c g y =
       by_le 64 k
-      (λ a. as-rule (atHeader f) _ _ (ap (λ (b : Bool). emitting (pick b (Heading (k + 1)) (Jamming f.jam false))
+      (λ a. as_rule (at_header f) _ _ (ap (λ (b : Bool). emitting (pick b (Heading (k + 1)) (Jamming f.jam false))
       (PacketBit k) NoTransmit) (le-ltb k 64 a))
-      (head-last f d s v n z pl sc y k nc lt c (omega arith) ok.jam))
-      (λ a. as-rule (atHeader f) _ _ (ap (λ (b : Bool). emitting (pick b (Heading (k + 1)) (Jamming f.jam false))
+      (head_last f d s v n z pl sc y k nc lt c (omega arith) ok.jam))
+      (λ a. as_rule (at_header f) _ _ (ap (λ (b : Bool). emitting (pick b (Heading (k + 1)) (Jamming f.jam false))
       (PacketBit k) NoTransmit) (lt-ltb k 64 a))
-      (head-on f d s v n z pl sc y k nc lt c a))
+      (head_on f d s v n z pl sc y k nc lt c a))
 
-  jam-turns : (left : ℕ) (ends : Bool) → v.flags transmitSucceeding ≡ false → v.flags newCollision ≡ false
-      → v.flags jamming ≡ true → (closesFrame f && v.flags lateCollisionError) ≡ ends
-      → v.numbers currentTransmitBit + left ≡ f.jam + 1 → v.numbers lastTransmitBit ≡ f.jam → 0 < left → Trying f
+  jam_turns : (left : ℕ) (ends : Bool) → v.flags transmit_succeeding ≡ false → v.flags new_collision ≡ false
+      → v.flags jamming ≡ true → (closes_frame f && v.flags late_collision_error) ≡ ends
+      → v.numbers current_transmit_bit + left ≡ f.jam + 1 → v.numbers last_transmit_bit ≡ f.jam → 0 < left → Trying f
       v n z pl
-      → BitTurns f d s v n z pl (atWatch f) (atFrame f) (jamBit f n (drawOf s pl) left ends)
-  jam-turns left ends sc nc j l c m g y =
+      → BitTurns f d s v n z pl (at_watch f) (at_frame f) (jam_bit f n (draw_of s pl) left ends)
+  jam_turns left ends sc nc j l c m g y =
       by_le left 1
-      (λ a. jam-last f d s v n z pl sc y left nc j c m a ok.backoff (jamBit f n (drawOf s pl) left ends)
-      (jam-emits f n (drawOf s pl) left ends) (jam-over f n (drawOf s pl) left ends a ∙ ap (λ (b : Bool). pick b
-      (emitting NoFrame JamBit (LateEnded n)) (lastJam f n (drawOf s pl))) (sym l)))
-      (λ a. as-rule (atFrame f) _ _ (jam-more f n (drawOf s pl) left ends a)
-      (jam-on f d s v n z pl sc y left ends nc j l c m a))
+      (λ a. jam_last f d s v n z pl sc y left nc j c m a ok.backoff (jam_bit f n (draw_of s pl) left ends)
+      (jam_emits f n (draw_of s pl) left ends) (jam_over f n (draw_of s pl) left ends a ∙ ap (λ (b : Bool). pick b
+      (emitting NoFrame JamBit (LateEnded n)) (last_jam f n (draw_of s pl))) (sym l)))
+      (λ a. as_rule (at_frame f) _ _ (jam_more f n (draw_of s pl) left ends a)
+      (jam_on f d s v n z pl sc y left ends nc j l c m a))
 
 -- ---- the whole part
 
 pub record TransmitTurns (f : Figures) (d : Variables) (s : Signals) (v : Variables) (n z pl : ℕ) (at bt : Place)
     (o : Transmitted) : Type 0 where
   pub looked : Variables
-  pub lookPlace : Place
-  pub restPlace : Place
-  pub look-turn : (r : Reception) → Turns look at (store d (fresh v) r s) (ran lookPlace (store d (fresh looked) r s))
-  pub rest-turn : (r : Reception)
-      → Turns look bt (store d (fresh looked) r s) (ran restPlace (store d (fresh looked) r s))
-  pub bit-turns : BitTurns f d s looked n z pl lookPlace restPlace o
+  pub look_place : Place
+  pub rest_place : Place
+  pub look_turn : (r : Reception) → Turns look at (store d (fresh v) r s) (ran look_place (store d (fresh looked) r s))
+  pub rest_turn : (r : Reception)
+      → Turns look bt (store d (fresh looked) r s) (ran rest_place (store d (fresh looked) r s))
+  pub bit_turns : BitTurns f d s looked n z pl look_place rest_place o
 
 module _ (f : Figures) (ok : Ranges f) (d : Variables) (s : Signals) (v : Variables) (n z pl : ℕ) where
   abbrev All : ℕ → Place → Place → Transmitted → Type 0
   All m at bt o = TransmitTurns f d s v m z pl at bt o
 
-  idle-turns : v.flags transmitting ≡ false → v.flags frameWaiting ≡ false → v.flags newCollision ≡ false
-      → v.numbers drawn ≡ pl → All n (atOffer f) (atRest f) (resting NoFrame)
-  idle-turns tr fw nc dr =
+  idle_turns : v.flags transmitting ≡ false → v.flags frame_waiting ≡ false → v.flags new_collision ≡ false
+      → v.numbers drawn ≡ pl → All n (at_offer f) (at_rest f) (resting NoFrame)
+  idle_turns tr fw nc dr =
       record {
         looked = v;
-        lookPlace = atOffer f;
-        restPlace = atRest f;
-        look-turn = λ r. waits refl;
-        rest-turn = λ r. goes (round (no₁ tr rest));
-        bit-turns = idle-bit f d s v n z pl tr fw nc dr;
+        look_place = at_offer f;
+        rest_place = at_rest f;
+        look_turn = λ r. waits refl;
+        rest_turn = λ r. goes (round (no₁ tr rest));
+        bit_turns = idle_bit f d s v n z pl tr fw nc dr;
       }
 
-  defer-turns : d.flags deferring ≡ true → v.flags frameWaiting ≡ true → v.flags lateCollisionError ≡ false
-      → Held f v n z pl → All n (atDefer f) (atRest f) (resting Waiting)
-  defer-turns g fw lt h =
+  defer_turns : d.flags deferring ≡ true → v.flags frame_waiting ≡ true → v.flags late_collision_error ≡ false
+      → Held f v n z pl → All n (at_defer f) (at_rest f) (resting Waiting)
+  defer_turns g fw lt h =
       record {
-        looked = withFlag deferred true v;
-        lookPlace = atDefer f;
-        restPlace = atRest f;
-        look-turn = λ r. goes (stay g (seq (set rest)));
-        rest-turn = λ r. goes (round (no₁ h.still rest));
-        bit-turns = held-bit f d s (withFlag deferred true v) n z pl fw lt
-            (same-held refl refl refl refl refl refl refl h);
+        looked = with_flag deferred true v;
+        look_place = at_defer f;
+        rest_place = at_rest f;
+        look_turn = λ r. goes (stay g (seq (set rest)));
+        rest_turn = λ r. goes (round (no₁ h.still rest));
+        bit_turns = held_bit f d s (with_flag deferred true v) n z pl fw lt
+            (same_held refl refl refl refl refl refl refl h);
       }
 
   -- the variables when an attempt begins
   abbrev started : Variables
   started =
-      withFlag jamming false
-      (with_number headerBits 0
-      (with_number lastHeaderBit 64
-      (withFlag transmitting true
-      (withFlag transmitSucceeding true
-      (with_number lastTransmitBit (8 * v.numbers outgoingSize)
-      (with_number currentTransmitBit 1 (withFlag frameWaiting false v)))))))
+      with_flag jamming false
+      (with_number header_bits 0
+      (with_number last_header_bit 64
+      (with_flag transmitting true
+      (with_flag transmit_succeeding true
+      (with_number last_transmit_bit (8 * v.numbers outgoing_size)
+      (with_number current_transmit_bit 1 (with_flag frame_waiting false v)))))))
 
-  start-turns : (h : Bool) → hearsAny s.heard ≡ h → d.flags deferring ≡ false
-      → v.flags lateCollisionError ≡ false → Held f v n z pl
-      → All (n + 1) (atDefer f) (atRest f) (sendBit f z (n + 1) 1 h)
-  start-turns h e g lt y =
+  start_turns : (h : Bool) → hears_any s.heard ≡ h → d.flags deferring ≡ false
+      → v.flags late_collision_error ≡ false → Held f v n z pl
+      → All (n + 1) (at_defer f) (at_rest f) (send_bit f z (n + 1) 1 h)
+  start_turns h e g lt y =
       record {
         looked = started;
-        lookPlace = atWatch f;
-        restPlace = atHeader f;
-        look-turn = λ r.
+        look_place = at_watch f;
+        rest_place = at_header f;
+        look_turn = λ r.
             goes (leave g (seq (set (seq (enter (seq (num (seq (num (seq (set (seq (set (seq (num (seq (num (set
             (seq (stay refl (enter (seq rest))))))))))))))))))))));
-        rest-turn = λ r. goes (round (yes₁ refl (seq (enter (seq (stay refl (seq (seq rest))))))));
-        bit-turns =
-            send-turns f ok d s started (n + 1) z pl refl y.clean lt refl
+        rest_turn = λ r. goes (round (yes₁ refl (seq (enter (seq (stay refl (seq (seq rest))))))));
+        bit_turns =
+            send_turns f ok d s started (n + 1) z pl refl y.clean lt refl
             (record {
               tries = ap (λ (k : ℕ). k + 1) y.tries;
               room = omega (arith, y.room);
@@ -232,48 +232,48 @@ module _ (f : Figures) (ok : Ranges f) (d : Variables) (s : Signals) (v : Variab
               place = y.place;
               free = refl;
             })
-            1 h (atHeader f) e (inHeader refl refl refl (omega arith) (ap (λ (k : ℕ). 8 * k) y.size));
+            1 h (at_header f) e (in_header refl refl refl (omega arith) (ap (λ (k : ℕ). 8 * k) y.size));
       }
 
-  back-turns : (w : ℕ) → v.flags frameWaiting ≡ false → v.numbers waitLeft + 1 ≡ w → Held f v n z pl
-      → All n (atWait f) (atRest f) (backoffBit w)
-  back-turns w fw e h =
+  back_turns : (w : ℕ) → v.flags frame_waiting ≡ false → v.numbers wait_left + 1 ≡ w → Held f v n z pl
+      → All n (at_wait f) (at_rest f) (backoff_bit w)
+  back_turns w fw e h =
       record {
         looked = v;
-        lookPlace = atWait f;
-        restPlace = atRest f;
-        look-turn = λ r. waits refl;
-        rest-turn = λ r. goes (round (no₁ h.still rest));
-        bit-turns = backing-bit f d s v n z pl w fw e h;
+        look_place = at_wait f;
+        rest_place = at_rest f;
+        look_turn = λ r. waits refl;
+        rest_turn = λ r. goes (round (no₁ h.still rest));
+        bit_turns = backing_bit f d s v n z pl w fw e h;
       }
 
   -- a bit is under way: both wait for it
-  under-way : (k : List Statement) (o : Transmitted) → BitTurns f d s v n z pl (atWatch f) (waiting bit k) o
-      → All n (atWatch f) (waiting bit k) o
-  under-way k o b =
+  under_way : (k : List Statement) (o : Transmitted) → BitTurns f d s v n z pl (at_watch f) (waiting bit k) o
+      → All n (at_watch f) (waiting bit k) o
+  under_way k o b =
       record {
         looked = v;
-        lookPlace = atWatch f;
-        restPlace = waiting bit k;
-        look-turn = λ r. waits refl;
-        rest-turn = λ r. waits refl;
-        bit-turns = b;
+        look_place = at_watch f;
+        rest_place = waiting bit k;
+        look_turn = λ r. waits refl;
+        rest_turn = λ r. waits refl;
+        bit_turns = b;
       }
 
-  sending-turns : (k : ℕ) (h : Bool) (bt : Place) → hearsAny s.heard ≡ h → v.flags transmitSucceeding ≡ true
-      → v.flags newCollision ≡ false → v.flags lateCollisionError ≡ false → v.flags jamming ≡ false → Trying f v n
+  sending_turns : (k : ℕ) (h : Bool) (bt : Place) → hears_any s.heard ≡ h → v.flags transmit_succeeding ≡ true
+      → v.flags new_collision ≡ false → v.flags late_collision_error ≡ false → v.flags jamming ≡ false → Trying f v n
       z pl
-      → Next f v z k bt → All n (atWatch f) bt (sendBit f z n k h)
-  sending-turns k h bt e sc nc lt nj y (inHeader b c hb g m) =
-      subst (λ (p : Place). All n (atWatch f) p (sendBit f z n k h)) (sym b)
-      (under-way _ _ (send-turns f ok d s v n z pl sc nc lt nj y k h (atHeader f) e (inHeader refl c hb g m)))
-  sending-turns k h bt e sc nc lt nj y (inFrame b hb c g i m) =
-      subst (λ (p : Place). All n (atWatch f) p (sendBit f z n k h)) (sym b)
-      (under-way _ _ (send-turns f ok d s v n z pl sc nc lt nj y k h (atFrame f) e (inFrame refl hb c g i m)))
+      → Next f v z k bt → All n (at_watch f) bt (send_bit f z n k h)
+  sending_turns k h bt e sc nc lt nj y (in_header b c hb g m) =
+      subst (λ (p : Place). All n (at_watch f) p (send_bit f z n k h)) (sym b)
+      (under_way _ _ (send_turns f ok d s v n z pl sc nc lt nj y k h (at_header f) e (in_header refl c hb g m)))
+  sending_turns k h bt e sc nc lt nj y (in_frame b hb c g i m) =
+      subst (λ (p : Place). All n (at_watch f) p (send_bit f z n k h)) (sym b)
+      (under_way _ _ (send_turns f ok d s v n z pl sc nc lt nj y k h (at_frame f) e (in_frame refl hb c g i m)))
 
   abbrev Whole : Bool → Bool → Transmitter → Place → Place → Type 0
   Whole start h x at bt =
-      TransmitTurns f d s v (triesAfter n start) z pl at bt (transmit f x z (triesAfter n start) (drawOf s pl) start h)
+      TransmitTurns f d s v (tries_after n start) z pl at bt (transmit f x z (tries_after n start) (draw_of s pl) start h)
 
   at_places : (start h : Bool) (x y : Transmitter) (at to bt into : Place) → x ≡ y → at ≡ to → bt ≡ into
       → Whole start h y to into → Whole start h x at bt
@@ -281,170 +281,170 @@ module _ (f : Figures) (ok : Ranges f) (d : Variables) (s : Signals) (v : Variab
       subst (λ (a : Transmitter). Whole start h a at bt) (sym i)
       (subst₂ (λ (a b : Place). Whole start h y a b) (sym j) (sym k) w)
 
-  held-turns : (start h : Bool) → hearsAny s.heard ≡ h → start ≡ not (d.flags deferring) → (g : Bool)
-      → d.flags deferring ≡ g → v.flags frameWaiting ≡ true → v.flags lateCollisionError ≡ false → Held f v n z pl
-      → Whole start h Waiting (atDefer f) (atRest f)
-  unfolding transmit waitBit triesAfter
-  held-turns start h e i true g fw lt y =
-      subst (λ (b : Bool). Whole b h Waiting (atDefer f) (atRest f)) (sym (i ∙ ap not g)) (defer-turns g fw lt y)
-  held-turns start h e i false g fw lt y =
-      subst (λ (b : Bool). Whole b h Waiting (atDefer f) (atRest f)) (sym (i ∙ ap not g)) (start-turns h e g lt y)
+  held_turns : (start h : Bool) → hears_any s.heard ≡ h → start ≡ not (d.flags deferring) → (g : Bool)
+      → d.flags deferring ≡ g → v.flags frame_waiting ≡ true → v.flags late_collision_error ≡ false → Held f v n z pl
+      → Whole start h Waiting (at_defer f) (at_rest f)
+  unfolding transmit wait_bit tries_after
+  held_turns start h e i true g fw lt y =
+      subst (λ (b : Bool). Whole b h Waiting (at_defer f) (at_rest f)) (sym (i ∙ ap not g)) (defer_turns g fw lt y)
+  held_turns start h e i false g fw lt y =
+      subst (λ (b : Bool). Whole b h Waiting (at_defer f) (at_rest f)) (sym (i ∙ ap not g)) (start_turns h e g lt y)
 
   -- no frame waits
-  other-turns : (start h : Bool) (x y : Transmitter) (at to bt into : Place) → x ≡ y → at ≡ to → bt ≡ into
+  other_turns : (start h : Bool) (x y : Transmitter) (at to bt into : Place) → x ≡ y → at ≡ to → bt ≡ into
       → start ≡ (waitsNow x && not (d.flags deferring)) → waitsNow y ≡ false
-      → All n to into (transmit f y z n (drawOf s pl) false h) → Whole start h x at bt
-  unfolding triesAfter
-  other-turns start h x y at to bt into p q r i j w =
+      → All n to into (transmit f y z n (draw_of s pl) false h) → Whole start h x at bt
+  unfolding tries_after
+  other_turns start h x y at to bt into p q r i j w =
       at_places start h x y at to bt into p q r
       (subst (λ (b : Bool). Whole b h y to into)
       (sym (i ∙ ap (λ (a : Transmitter). waitsNow a && not (d.flags deferring)) p ∙ ap (λ (b : Bool). b && not
       (d.flags deferring)) j)) w)
 
-  idle-rule : v.flags transmitting ≡ false → v.flags frameWaiting ≡ false → v.flags newCollision ≡ false
+  idle_rule : v.flags transmitting ≡ false → v.flags frame_waiting ≡ false → v.flags new_collision ≡ false
       → v.numbers drawn ≡ pl → (h : Bool)
-      → All n (atOffer f) (atRest f) (transmit f NoFrame z n (drawOf s pl) false h)
+      → All n (at_offer f) (at_rest f) (transmit f NoFrame z n (draw_of s pl) false h)
   unfolding transmit
-  idle-rule tr fw nc dr h = idle-turns tr fw nc dr
+  idle_rule tr fw nc dr h = idle_turns tr fw nc dr
 
-  back-rule : (w : ℕ) → v.flags frameWaiting ≡ false → v.numbers waitLeft + 1 ≡ w → Held f v n z pl → (h : Bool)
-      → All n (atWait f) (atRest f) (transmit f (BackingOff w) z n (drawOf s pl) false h)
+  back_rule : (w : ℕ) → v.flags frame_waiting ≡ false → v.numbers wait_left + 1 ≡ w → Held f v n z pl → (h : Bool)
+      → All n (at_wait f) (at_rest f) (transmit f (BackingOff w) z n (draw_of s pl) false h)
   unfolding transmit
-  back-rule w fw e y h = back-turns w fw e y
+  back_rule w fw e y h = back_turns w fw e y
 
-  send-rule : (k : ℕ) (h : Bool) (bt : Place) → hearsAny s.heard ≡ h → v.flags transmitSucceeding ≡ true
-      → v.flags newCollision ≡ false → v.flags lateCollisionError ≡ false → v.flags jamming ≡ false → Trying f v n
+  send_rule : (k : ℕ) (h : Bool) (bt : Place) → hears_any s.heard ≡ h → v.flags transmit_succeeding ≡ true
+      → v.flags new_collision ≡ false → v.flags late_collision_error ≡ false → v.flags jamming ≡ false → Trying f v n
       z pl
-      → Next f v z k bt → All n (atWatch f) bt (transmit f (Sending k) z n (drawOf s pl) false h)
+      → Next f v z k bt → All n (at_watch f) bt (transmit f (Sending k) z n (draw_of s pl) false h)
   unfolding transmit
-  send-rule k h bt e sc nc lt nj y b = sending-turns k h bt e sc nc lt nj y b
+  send_rule k h bt e sc nc lt nj y b = sending_turns k h bt e sc nc lt nj y b
 
-  head-rule : (k : ℕ) (h : Bool) → BitTurns f d s v n z pl (atWatch f) (atHeader f) (headBit f k)
-      → All n (atWatch f) (atHeader f) (transmit f (Heading k) z n (drawOf s pl) false h)
+  head_rule : (k : ℕ) (h : Bool) → BitTurns f d s v n z pl (at_watch f) (at_header f) (head_bit f k)
+      → All n (at_watch f) (at_header f) (transmit f (Heading k) z n (draw_of s pl) false h)
   unfolding transmit
-  head-rule k h b = under-way _ _ b
+  head_rule k h b = under_way _ _ b
 
-  jam-rule : (left : ℕ) (ends h : Bool) → BitTurns f d s v n z pl (atWatch f) (atFrame f) (jamBit f n
-      (drawOf s pl) left ends)
-      → All n (atWatch f) (atFrame f) (transmit f (Jamming left ends) z n (drawOf s pl) false h)
+  jam_rule : (left : ℕ) (ends h : Bool) → BitTurns f d s v n z pl (at_watch f) (at_frame f) (jam_bit f n
+      (draw_of s pl) left ends)
+      → All n (at_watch f) (at_frame f) (transmit f (Jamming left ends) z n (draw_of s pl) false h)
   unfolding transmit
-  jam-rule left ends h b = under-way _ _ b
+  jam_rule left ends h b = under_way _ _ b
 
-  pub transmit-turns : (start h : Bool) (x : Transmitter) (at bt : Place) → hearsAny s.heard ≡ h
+  pub transmit_turns : (start h : Bool) (x : Transmitter) (at bt : Place) → hears_any s.heard ≡ h
       → start ≡ (waitsNow x && not (d.flags deferring)) → TransmitAt f v n z pl x at bt → Whole start h x at bt
-  transmit-turns start h x at bt e i (idle p q r tr fw nc dr) =
-      other-turns start h x NoFrame at (atOffer f) bt (atRest f) p q r i refl (idle-rule tr fw nc dr h)
-  transmit-turns start h x at bt e i (held p q r fw lt y) =
-      at_places start h x Waiting at (atDefer f) bt (atRest f) p q r
-      (held-turns start h e (i ∙ ap (λ (a : Transmitter). waitsNow a && not (d.flags deferring)) p)
+  transmit_turns start h x at bt e i (idle p q r tr fw nc dr) =
+      other_turns start h x NoFrame at (at_offer f) bt (at_rest f) p q r i refl (idle_rule tr fw nc dr h)
+  transmit_turns start h x at bt e i (held p q r fw lt y) =
+      at_places start h x Waiting at (at_defer f) bt (at_rest f) p q r
+      (held_turns start h e (i ∙ ap (λ (a : Transmitter). waitsNow a && not (d.flags deferring)) p)
       (d.flags deferring) refl fw lt y)
-  transmit-turns start h x at bt e i (backing w p q r fw g y) =
-      other-turns start h x (BackingOff w) at (atWait f) bt (atRest f) p q r i refl (back-rule w fw g y h)
-  transmit-turns start h x at bt e i (sending k p q sc nc lt nj b y) =
-      other-turns start h x (Sending k) at (atWatch f) bt bt p q refl i refl (send-rule k h bt e sc nc lt nj y b)
-  transmit-turns start h x at bt e i (heading k p q r sc nc lt c g y) =
-      other-turns start h x (Heading k) at (atWatch f) bt (atHeader f) p q r i refl
-      (head-rule k h (head-turns f ok d s v n z pl k sc nc lt c g y))
-  transmit-turns start h x at bt e i (jams left ends p q r sc nc j l c m g y) =
-      other-turns start h x (Jamming left ends) at (atWatch f) bt (atFrame f) p q r i refl
-      (jam-rule left ends h (jam-turns f ok d s v n z pl left ends sc nc j l c m g y))
+  transmit_turns start h x at bt e i (backing w p q r fw g y) =
+      other_turns start h x (BackingOff w) at (at_wait f) bt (at_rest f) p q r i refl (back_rule w fw g y h)
+  transmit_turns start h x at bt e i (sending k p q sc nc lt nj b y) =
+      other_turns start h x (Sending k) at (at_watch f) bt bt p q refl i refl (send_rule k h bt e sc nc lt nj y b)
+  transmit_turns start h x at bt e i (heading k p q r sc nc lt c g y) =
+      other_turns start h x (Heading k) at (at_watch f) bt (at_header f) p q r i refl
+      (head_rule k h (head_turns f ok d s v n z pl k sc nc lt c g y))
+  transmit_turns start h x at bt e i (jams left ends p q r sc nc j l c m g y) =
+      other_turns start h x (Jamming left ends) at (at_watch f) bt (at_frame f) p q r i refl
+      (jam_rule left ends h (jam_turns f ok d s v n z pl left ends sc nc j l c m g y))
 
 -- ---- the flags that Deference reads
 
-pub transmit-sends : {f : Figures} {v : Variables} {n z pl : ℕ} {x : Transmitter} {at bt : Place}
+pub transmit_sends : {f : Figures} {v : Variables} {n z pl : ℕ} {x : Transmitter} {at bt : Place}
     → TransmitAt f v n z pl x at bt → v.flags transmitting ≡ sends x
-transmit-sends (idle p q r tr fw nc dr) = tr ∙ sym (ap sends p)
-transmit-sends (held p q r fw lt y) = y.still ∙ sym (ap sends p)
-transmit-sends (backing w p q r fw g y) = y.still ∙ sym (ap sends p)
-transmit-sends (sending k p q sc nc lt nj b y) = y.goes ∙ sym (ap sends p)
-transmit-sends (heading k p q r sc nc lt c g y) = y.goes ∙ sym (ap sends p)
-transmit-sends (jams left ends p q r sc nc j l c m g y) = y.goes ∙ sym (ap sends p)
+transmit_sends (idle p q r tr fw nc dr) = tr ∙ sym (ap sends p)
+transmit_sends (held p q r fw lt y) = y.still ∙ sym (ap sends p)
+transmit_sends (backing w p q r fw g y) = y.still ∙ sym (ap sends p)
+transmit_sends (sending k p q sc nc lt nj b y) = y.goes ∙ sym (ap sends p)
+transmit_sends (heading k p q r sc nc lt c g y) = y.goes ∙ sym (ap sends p)
+transmit_sends (jams left ends p q r sc nc j l c m g y) = y.goes ∙ sym (ap sends p)
 
-pub transmit-waits : {f : Figures} {v : Variables} {n z pl : ℕ} {x : Transmitter} {at bt : Place}
-    → TransmitAt f v n z pl x at bt → v.flags frameWaiting ≡ waitsNow x
-transmit-waits (idle p q r tr fw nc dr) = fw ∙ sym (ap waitsNow p)
-transmit-waits (held p q r fw lt y) = fw ∙ sym (ap waitsNow p)
-transmit-waits (backing w p q r fw g y) = fw ∙ sym (ap waitsNow p)
-transmit-waits (sending k p q sc nc lt nj b y) = y.free ∙ sym (ap waitsNow p)
-transmit-waits (heading k p q r sc nc lt c g y) = y.free ∙ sym (ap waitsNow p)
-transmit-waits (jams left ends p q r sc nc j l c m g y) = y.free ∙ sym (ap waitsNow p)
+pub transmit_waits : {f : Figures} {v : Variables} {n z pl : ℕ} {x : Transmitter} {at bt : Place}
+    → TransmitAt f v n z pl x at bt → v.flags frame_waiting ≡ waitsNow x
+transmit_waits (idle p q r tr fw nc dr) = fw ∙ sym (ap waitsNow p)
+transmit_waits (held p q r fw lt y) = fw ∙ sym (ap waitsNow p)
+transmit_waits (backing w p q r fw g y) = fw ∙ sym (ap waitsNow p)
+transmit_waits (sending k p q sc nc lt nj b y) = y.free ∙ sym (ap waitsNow p)
+transmit_waits (heading k p q r sc nc lt c g y) = y.free ∙ sym (ap waitsNow p)
+transmit_waits (jams left ends p q r sc nc j l c m g y) = y.free ∙ sym (ap waitsNow p)
 
 -- ---- what a step of document 01's transmitter leaves
 
 clash : {C : Type 0} {b : Bool} → b ≡ true → b ≡ false → C
 clash e g = absurd (true≢false (sym e ∙ g))
 
-at_rest : (x y : Transmitter) → sends x ≡ false → sends y ≡ false → Follows x false y false
-at_rest x y i j =
+at_rest_lem : (x y : Transmitter) → sends x ≡ false → sends y ≡ false → Follows x false y false
+at_rest_lem x y i j =
     record {
-      idle-emits = λ a b. refl;
-      idle-sends = λ a b. j;
-      start-emits = λ a. absurd (true≢false (sym a));
-      start-sends = λ a. absurd (true≢false (sym a));
+      idle_emits = λ a b. refl;
+      idle_sends = λ a b. j;
+      start_emits = λ a. absurd (true≢false (sym a));
+      start_sends = λ a. absurd (true≢false (sym a));
       emits = λ a. clash a i;
       ends = λ a. j;
     }
 
-at-work : (x y : Transmitter) (e : Bool) → sends x ≡ true → e ≡ true → Follows x false y e
-at-work x y e i j =
+at_work : (x y : Transmitter) (e : Bool) → sends x ≡ true → e ≡ true → Follows x false y e
+at_work x y e i j =
     record {
-      idle-emits = λ a b. clash i a;
-      idle-sends = λ a b. clash i a;
-      start-emits = λ a. j;
-      start-sends = λ a. absurd (true≢false (sym a));
+      idle_emits = λ a b. clash i a;
+      idle_sends = λ a b. clash i a;
+      start_emits = λ a. j;
+      start_sends = λ a. absurd (true≢false (sym a));
       emits = λ a. j;
       ends = λ a. clash j a;
     }
 
-at-start : (x y : Transmitter) (e : Bool) → sends x ≡ false → sends y ≡ true → e ≡ true → Follows x true y e
-at-start x y e i k j =
+at_start : (x y : Transmitter) (e : Bool) → sends x ≡ false → sends y ≡ true → e ≡ true → Follows x true y e
+at_start x y e i k j =
     record {
-      idle-emits = λ a b. absurd (true≢false b);
-      idle-sends = λ a b. absurd (true≢false b);
-      start-emits = λ a. j;
-      start-sends = λ a. k;
+      idle_emits = λ a b. absurd (true≢false b);
+      idle_sends = λ a b. absurd (true≢false b);
+      start_emits = λ a. j;
+      start_sends = λ a. k;
       emits = λ a. j;
       ends = λ a. clash j a;
     }
 
-backs : (w : ℕ) (c : Bool) → leb w 1 ≡ c → Follows (BackingOff w) false (backoffBit w).phase (isEmission
-    (backoffBit w).emission)
-unfolding backoffBit
-backs w true c = rw c (at_rest (BackingOff w) Waiting refl refl)
-backs w false c = rw c (at_rest (BackingOff w) (BackingOff (w - 1)) refl refl)
+backs : (w : ℕ) (c : Bool) → leb w 1 ≡ c → Follows (BackingOff w) false (backoff_bit w).phase (is_emission
+    (backoff_bit w).emission)
+unfolding backoff_bit
+backs w true c = rw c (at_rest_lem (BackingOff w) Waiting refl refl)
+backs w false c = rw c (at_rest_lem (BackingOff w) (BackingOff (w - 1)) refl refl)
 
-collides : (f : Figures) (k : ℕ) (c : Bool) → ltb f.slot k ≡ c → isEmission (collision f k).emission ≡ true
+collides : (f : Figures) (k : ℕ) (c : Bool) → ltb f.slot k ≡ c → is_emission (collision f k).emission ≡ true
 unfolding collision
 collides f k true c = rw c
 collides f k false c = rw c
 
-send-emits : (f : Figures) (z n k : ℕ) (h c : Bool) → eqb k (64 + 8 * z) ≡ c → isEmission
-    (sendBit f z n k h).emission ≡ true
-unfolding sendBit
-send-emits f z n k true c e = collides f k (ltb f.slot k) refl
-send-emits f z n k false true e = rw e
-send-emits f z n k false false e = rw e
+send_emits : (f : Figures) (z n k : ℕ) (h c : Bool) → eqb k (64 + 8 * z) ≡ c → is_emission
+    (send_bit f z n k h).emission ≡ true
+unfolding send_bit
+send_emits f z n k true c e = collides f k (ltb f.slot k) refl
+send_emits f z n k false true e = rw e
+send_emits f z n k false false e = rw e
 
-first-sends : (f : Figures) (z n : ℕ) (h : Bool) → 64 ≤ f.slot → sends (sendBit f z n 1 h).phase ≡ true
-first-sends f z n true k = ap (λ (o : Transmitted). sends o.phase) (hit-header f z n 1 (omega arith) k)
-first-sends f z n false k = ap (λ (o : Transmitted). sends o.phase) (send-on f z n 1 (omega arith))
+first_sends : (f : Figures) (z n : ℕ) (h : Bool) → 64 ≤ f.slot → sends (send_bit f z n 1 h).phase ≡ true
+first_sends f z n true k = ap (λ (o : Transmitted). sends o.phase) (hit_header f z n 1 (omega arith) k)
+first_sends f z n false k = ap (λ (o : Transmitted). sends o.phase) (send_on f z n 1 (omega arith))
 
 pub follows : (f : Figures) (x : Transmitter) (z n draw : ℕ) (start h : Bool) → 64 ≤ f.slot
     → (start ≡ true → x ≡ Waiting)
-    → Follows x start (transmit f x z n draw start h).phase (isEmission (transmit f x z n draw start h).emission)
-unfolding transmit waitBit headBit
-follows f NoFrame z n draw false h k i = at_rest NoFrame NoFrame refl refl
+    → Follows x start (transmit f x z n draw start h).phase (is_emission (transmit f x z n draw start h).emission)
+unfolding transmit wait_bit head_bit
+follows f NoFrame z n draw false h k i = at_rest_lem NoFrame NoFrame refl refl
 follows f NoFrame z n draw true h k i = absurd (true≢false (ap waitsNow (sym (i refl))))
-follows f Waiting z n draw false h k i = at_rest Waiting Waiting refl refl
+follows f Waiting z n draw false h k i = at_rest_lem Waiting Waiting refl refl
 follows f Waiting z n draw true h k i =
-    at-start Waiting _ _ refl (first-sends f z n h k) (send-emits f z n 1 h (eqb 1 (64 + 8 * z)) refl)
+    at_start Waiting _ _ refl (first_sends f z n h k) (send_emits f z n 1 h (eqb 1 (64 + 8 * z)) refl)
 follows f (BackingOff w) z n draw false h k i = backs w (leb w 1) refl
 follows f (BackingOff w) z n draw true h k i = absurd (true≢false (ap waitsNow (sym (i refl))))
-follows f (Sending j) z n draw false h k i = at-work (Sending j) _ _ refl (send-emits f z n j h (eqb j
+follows f (Sending j) z n draw false h k i = at_work (Sending j) _ _ refl (send_emits f z n j h (eqb j
     (64 + 8 * z)) refl)
 follows f (Sending j) z n draw true h k i = absurd (true≢false (ap waitsNow (sym (i refl))))
-follows f (Heading j) z n draw false h k i = at-work (Heading j) _ _ refl refl
+follows f (Heading j) z n draw false h k i = at_work (Heading j) _ _ refl refl
 follows f (Heading j) z n draw true h k i = absurd (true≢false (ap waitsNow (sym (i refl))))
 follows f (Jamming l ends) z n draw false h k i =
-    at-work (Jamming l ends) _ _ refl (ap isEmission (jam-emits f n draw l ends))
+    at_work (Jamming l ends) _ _ refl (ap is_emission (jam_emits f n draw l ends))
 follows f (Jamming l ends) z n draw true h k i = absurd (true≢false (ap waitsNow (sym (i refl))))

@@ -1,8 +1,8 @@
 // A station's counters, in the order in which document 01 lists them, and after them those of the requests.
 
 ghost use Rattle.std.specs.Prelude.{◌≡◌, ◌-◌, ◌<◌};
-ghost use Rattle.station_spec.specs.Count.{added, addedIf, countSent, countTransmit, countReceive, octetsIn, counted};
-ghost use Rattle.station_state.specs.State.{counterCount};
+ghost use Rattle.station_spec.specs.Count.{added, added_if, count_sent, count_transmit, count_receive, octets_in, counted};
+ghost use Rattle.station_state.specs.State.{counter_count};
 
 use station_spec::{ReceiveEvent, Stepped, TransmitEvent};
 use station_state::Receiver;
@@ -47,7 +47,7 @@ pub fn add(
     k: usize,
     n: u32,
 ) -> [u32; station_state::COUNTERS]
-    requires { k < counterCount }
+    requires { k < counter_count }
     ensures { result ≡ added counters k n }
 {
     let mut next = counters;
@@ -66,8 +66,8 @@ fn add_if(
     counters: [u32; station_state::COUNTERS],
     k: usize,
 ) -> [u32; station_state::COUNTERS]
-    requires { k < counterCount }
-    ensures { result ≡ addedIf test counters k }
+    requires { k < counter_count }
+    ensures { result ≡ added_if test counters k }
 {
     if test {
         return add(counters, k, 1);
@@ -90,7 +90,7 @@ fn count_sent(
     frame: u32,
     deferred: bool,
 ) -> [u32; station_state::COUNTERS]
-    ensures { result ≡ countSent counters n frame deferred }
+    ensures { result ≡ count_sent counters n frame deferred }
 {
     let a = add(counters, SENT, 1);
     let b = add(a, OCTETS_SENT, data_of(frame));
@@ -106,7 +106,7 @@ fn count_transmit(
     frame: u32,
     deferred: bool,
 ) -> [u32; station_state::COUNTERS]
-    ensures { result ≡ countTransmit counters event frame deferred }
+    ensures { result ≡ count_transmit counters event frame deferred }
 {
     match event {
         TransmitEvent::NoTransmit => counters,
@@ -127,7 +127,7 @@ fn count_receive(
     event: ReceiveEvent,
     frame: u32,
 ) -> [u32; station_state::COUNTERS]
-    ensures { result ≡ countReceive counters event frame }
+    ensures { result ≡ count_receive counters event frame }
 {
     match event {
         ReceiveEvent::NoReceive => counters,
@@ -144,7 +144,7 @@ fn count_receive(
 
 // The octets of a frame that can be read.
 pub fn octets_in(r: Receiver) -> u32
-    ensures { result ≡ octetsIn r }
+    ensures { result ≡ octets_in r }
 {
     match r {
         Receiver::Listening => 0,

@@ -1,14 +1,14 @@
 // Deference: when a station may start.
 
 ghost use Rattle.std.specs.Prelude.{◌≡◌, ◌+◌, ◌<◌};
-ghost use Rattle.station_spec.specs.Defer.{quietRule, busyRule, gapRule, goesBack, defer};
+ghost use Rattle.station_spec.specs.Defer.{quiet_rule, busy_rule, gap_rule, goes_back, defer};
 
 use sheet_layout::Figures;
 use station_spec::Deferred;
 use station_state::Deference;
 
 fn quiet_rule(hears: bool, emitted: bool, waits: bool) -> Deferred
-    ensures { result ≡ quietRule hears emitted waits }
+    ensures { result ≡ quiet_rule hears emitted waits }
 {
     if octets::either(hears, emitted) {
         return Deferred {
@@ -23,7 +23,7 @@ fn quiet_rule(hears: bool, emitted: bool, waits: bool) -> Deferred
 }
 
 fn busy_rule(own: bool, hears: bool, emitted: bool) -> Deferred
-    ensures { result ≡ busyRule own hears emitted }
+    ensures { result ≡ busy_rule own hears emitted }
 {
     if octets::either(hears, emitted) {
         return Deferred {
@@ -39,14 +39,14 @@ fn busy_rule(own: bool, hears: bool, emitted: bool) -> Deferred
 
 // Whether a gap goes back to busy: others are heard in its first part, and the station did not emit in the stretch.
 pub fn goes_back(gap1: u32, count: u32, own: bool, hears: bool) -> bool
-    ensures { result ≡ goesBack gap1 count own hears }
+    ensures { result ≡ goes_back gap1 count own hears }
 {
     octets::both(hears, octets::both(count < gap1, !own))
 }
 
 fn gap_rule(f: Figures, count: u32, own: bool, hears: bool, emitted: bool, waits: bool) -> Deferred
     requires { f.gap1 + f.gap2 < 65536 }
-    ensures { result ≡ gapRule f count own hears emitted waits }
+    ensures { result ≡ gap_rule f count own hears emitted waits }
 {
     if f.gap1 + f.gap2 <= count {
         if waits {

@@ -1,12 +1,12 @@
 // The end of a reception, what is reported of it, and the receiver's step.
 
 ghost use Rattle.std.specs.Prelude.{◌≡◌, ◌<◌, ◌≤◌, length};
-ghost use Rattle.frame_open.specs.Open.{statusAnswer};
+ghost use Rattle.frame_open.specs.Open.{status_answer};
 ghost use Rattle.station_spec.specs.declared.ReceiveEvent.TheVariants.{NoReceive};
-ghost use Rattle.station_spec.specs.ReceiveLaws.{gotError};
-ghost use Rattle.station_spec.specs.Receive.{row_in, bitsIn, hear, addressed, openAnswer, opening, deciding, decide};
-ghost use Rattle.station_spec.specs.Receive.{ended, receive, rowLimit};
-ghost use Rattle.frame_build.specs.Limits.{bufferOctets};
+ghost use Rattle.station_spec.specs.ReceiveLaws.{got_error};
+ghost use Rattle.station_spec.specs.Receive.{row_in, bits_in, hear, addressed, open_answer, opening, deciding, decide};
+ghost use Rattle.station_spec.specs.Receive.{ended, receive, row_limit};
+ghost use Rattle.frame_build.specs.Limits.{buffer_octets};
 
 use frame_open::ReceiveStatus;
 use station_spec::{ReceiveEvent, Received, Stored};
@@ -27,8 +27,8 @@ pub fn is_addressed(address: [u8; 6], buffer: &[u8]) -> bool
 
 // The status of n collected bits.
 fn open_buffer(buffer: &[u8], n: u32, spoiled: bool) -> ReceiveStatus
-    requires { bufferOctets ≤ length buffer.now }
-    ensures { statusAnswer result ≡ openAnswer buffer.now n spoiled }
+    requires { buffer_octets ≤ length buffer.now }
+    ensures { status_answer result ≡ open_answer buffer.now n spoiled }
 {
     let octets = (n / 8) as usize;
     if frame_build::limits::BUFFER < octets {
@@ -39,7 +39,7 @@ fn open_buffer(buffer: &[u8], n: u32, spoiled: bool) -> ReceiveStatus
 
 // The event of a status that is no receiveOK, with the octets collected.
 fn got_error(status: ReceiveStatus, octets: u32) -> ReceiveEvent
-    ensures { result ≡ gotError status octets }
+    ensures { result ≡ got_error status octets }
 {
     match status {
         ReceiveStatus::Refused(_) => ReceiveEvent::NoReceive,
@@ -54,7 +54,7 @@ fn got_error(status: ReceiveStatus, octets: u32) -> ReceiveEvent
 
 // The opening rules on n collected bits: it leaves on a fragment or an error.
 fn open_reception(buffer: &[u8], n: u32, spoiled: bool) -> Received
-    requires { bufferOctets ≤ length buffer.now }
+    requires { buffer_octets ≤ length buffer.now }
     ensures { result ≡ opening buffer.now n spoiled }
 {
     let status = open_buffer(buffer, n, spoiled);
@@ -84,7 +84,7 @@ fn nothing_got(receiver: Receiver) -> Received
 
 // The step after a reception of n collected bits.
 fn decide(address: [u8; 6], buffer: &[u8], n: u32, spoiled: bool, own: bool) -> Received
-    requires { bufferOctets ≤ length buffer.now }
+    requires { buffer_octets ≤ length buffer.now }
     ensures { result ≡ decide address buffer.now n spoiled own }
 {
     if n < frame_build::limits::SHORTEST_FRAME {
@@ -101,7 +101,7 @@ fn decide(address: [u8; 6], buffer: &[u8], n: u32, spoiled: bool, own: bool) -> 
 
 // A step in which nothing is heard.
 fn end(address: [u8; 6], buffer: &[u8], r: Receiver) -> Received
-    requires { bufferOctets ≤ length buffer.now }
+    requires { buffer_octets ≤ length buffer.now }
     ensures { result ≡ ended address buffer.now r }
 {
     match r {
@@ -119,7 +119,7 @@ fn end(address: [u8; 6], buffer: &[u8], r: Receiver) -> Received
 // One step of the receiver: the octets that it collected so far, what it hears, and whether its station emits in this
 // step.
 pub fn receive(address: [u8; 6], buffer: &[u8], r: Receiver, h: Heard, emits: bool) -> Received
-    requires { (bufferOctets ≤ length buffer.now) × (row_in r < rowLimit) × (bitsIn r < 4294967295) }
+    requires { (buffer_octets ≤ length buffer.now) × (row_in r < row_limit) × (bits_in r < 4294967295) }
     ensures { result ≡ receive address buffer.now r h emits }
 {
     match h {

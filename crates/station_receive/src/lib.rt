@@ -3,8 +3,8 @@
 ghost use Rattle.std.specs.Prelude.{◌≡◌, ◌+◌, ◌*◌, ◌<◌};
 ghost use Rattle.octets.specs.Bits.{digit};
 ghost use Rattle.station_spec.specs.declared.ReceiveEvent.TheVariants.{NoReceive};
-ghost use Rattle.station_spec.specs.Receive.{row_in, bitsIn, nextRow, seekBit, seek, storedBit, collect, hear};
-ghost use Rattle.station_spec.specs.Receive.{rowLimit};
+ghost use Rattle.station_spec.specs.Receive.{row_in, bits_in, next_row, seek_bit, seek, stored_bit, collect, hear};
+ghost use Rattle.station_spec.specs.Receive.{row_limit};
 
 use station_spec::{ReceiveEvent, Received, Stored};
 use station_state::Receiver;
@@ -19,7 +19,7 @@ fn digit_of(b: bool) -> u32
 // The row of clean symbols with one more.
 pub fn next_row(row: u32, one: bool) -> u32
     requires { row < 65536 }
-    ensures { result ≡ nextRow row one }
+    ensures { result ≡ next_row row one }
 {
     let longer = 2 * row + digit_of(one);
     if longer < 512 {
@@ -31,7 +31,7 @@ pub fn next_row(row: u32, one: bool) -> u32
 // A clean symbol of a reception that has no delimiter yet.
 fn seek_bit(row: u32, one: bool, spoiled: bool, own: bool) -> Received
     requires { row < 65536 }
-    ensures { result ≡ seekBit row one spoiled own }
+    ensures { result ≡ seek_bit row one spoiled own }
 {
     let longer = next_row(row, one);
     if longer == 427 {
@@ -76,7 +76,7 @@ fn seek(row: u32, spoiled: bool, own: bool, clean: bool, one: bool) -> Received
 }
 
 fn stored_bit(n: u32, one: bool) -> Stored
-    ensures { result ≡ storedBit n one }
+    ensures { result ≡ stored_bit n one }
 {
     if (n as usize) < frame_build::limits::BUFFER_BITS {
         return Stored::Store { bit: n, one };
@@ -104,7 +104,7 @@ fn collect(n: u32, spoiled: bool, own: bool, clean: bool, one: bool) -> Received
 
 // A step in which others are heard.
 pub fn hear(r: Receiver, clean: bool, one: bool, emits: bool) -> Received
-    requires { (row_in r < rowLimit) × (bitsIn r < 4294967295) }
+    requires { (row_in r < row_limit) × (bits_in r < 4294967295) }
     ensures { result ≡ hear r clean one emits }
 {
     match r {

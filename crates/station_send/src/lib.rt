@@ -1,7 +1,7 @@
 // A bit of an attempt, its collision, and the transmitter's step.
 
 ghost use Rattle.std.specs.Prelude.{◌≡◌, ◌+◌, ◌*◌, ◌<◌};
-ghost use Rattle.station_spec.specs.Transmit.{afterBit, collision, sendBit, headBit, resting, backoffBit, transmit};
+ghost use Rattle.station_spec.specs.Transmit.{after_bit, collision, send_bit, head_bit, resting, backoff_bit, transmit};
 ghost use Rattle.station_state.specs.State.{number_in};
 
 use sheet_layout::Figures;
@@ -11,7 +11,7 @@ use station_symbols::Emission;
 
 // How a collided attempt goes on after packet bit k, whose frame ends or not.
 fn after_bit(jam: u32, k: u32, ends: bool) -> Transmitter
-    ensures { result ≡ afterBit jam k ends }
+    ensures { result ≡ after_bit jam k ends }
 {
     if k < 64 {
         return Transmitter::Heading(k + 1);
@@ -44,7 +44,7 @@ fn collided(f: Figures, k: u32) -> Transmitted
 // Packet bit k of a frame's attempt n goes out.
 fn send_bit(f: Figures, frame: u32, n: u32, k: u32, hears: bool) -> Transmitted
     requires { (frame < 65536) × (k < 4294967295) }
-    ensures { result ≡ sendBit f frame n k hears }
+    ensures { result ≡ send_bit f frame n k hears }
 {
     if hears {
         return collided(f, k);
@@ -78,7 +78,7 @@ fn rests(phase: Transmitter) -> Transmitted
 }
 
 fn backoff_bit(left: u32) -> Transmitted
-    ensures { result ≡ backoffBit left }
+    ensures { result ≡ backoff_bit left }
 {
     if left <= 1 {
         return rests(Transmitter::Waiting);
@@ -87,7 +87,7 @@ fn backoff_bit(left: u32) -> Transmitted
 }
 
 fn head_bit(f: Figures, k: u32) -> Transmitted
-    ensures { result ≡ headBit f k }
+    ensures { result ≡ head_bit f k }
 {
     let phase = after_bit(f.jam, k, false);
     Transmitted {

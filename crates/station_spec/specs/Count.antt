@@ -30,17 +30,17 @@ late = 3
 abbrev pub sent : ℕ
 sent = 4
 
-abbrev pub sentAfterOne : ℕ
-sentAfterOne = 5
+abbrev pub sent_after_one : ℕ
+sent_after_one = 5
 
-abbrev pub sentAfterSeveral : ℕ
-sentAfterSeveral = 6
+abbrev pub sent_after_several : ℕ
+sent_after_several = 6
 
-abbrev pub octetsSent : ℕ
-octetsSent = 7
+abbrev pub octets_sent : ℕ
+octets_sent = 7
 
-abbrev pub deferredFrames : ℕ
-deferredFrames = 8
+abbrev pub deferred_frames : ℕ
+deferred_frames = 8
 
 abbrev pub excessive : ℕ
 excessive = 9
@@ -48,24 +48,24 @@ excessive = 9
 abbrev pub received : ℕ
 received = 10
 
-abbrev pub octetsReceived : ℕ
-octetsReceived = 11
+abbrev pub octets_received : ℕ
+octets_received = 11
 
-abbrev pub tooLong : ℕ
-tooLong = 12
+abbrev pub too_long : ℕ
+too_long = 12
 
-abbrev pub checkErrors : ℕ
-checkErrors = 13
+abbrev pub check_errors : ℕ
+check_errors = 13
 
-abbrev pub alignmentErrors : ℕ
-alignmentErrors = 14
+abbrev pub alignment_errors : ℕ
+alignment_errors = 14
 
-abbrev pub lengthErrors : ℕ
-lengthErrors = 15
+abbrev pub length_errors : ℕ
+length_errors = 15
 
 -- N1: "It gets a counter"
-abbrev pub lateEnded : ℕ
-lateEnded = 16
+abbrev pub late_ended : ℕ
+late_ended = 16
 
 -- "A counter that would pass its top stops at it."
 abbrev pub top : ℕ
@@ -76,51 +76,51 @@ unfoldable pub added : List ℕ → (k n : ℕ) → List ℕ
 added cs k n = set cs k (min (get_or cs k 0 + n) top)
 
 -- counter k with one more where the test holds
-unfoldable pub addedIf : Bool → List ℕ → ℕ → List ℕ
-addedIf b cs k = pick b (added cs k 1) cs
+unfoldable pub added_if : Bool → List ℕ → ℕ → List ℕ
+added_if b cs k = pick b (added cs k 1) cs
 
 -- a frame of z octets is sent after n attempts: data and pad are the frame less 18. N2: "a frame counts as deferred if
 -- it did not start in its first step and was sent on its first attempt"
-unfoldable pub countSent : List ℕ → (n z : ℕ) → (wasDeferred : Bool) → List ℕ
-countSent cs n z wasDeferred =
-    addedIf (wasDeferred && eqb n 1)
-    (addedIf (leb 3 n)
-    (addedIf (eqb n 2)
-    (added (added cs sent 1) octetsSent (z - 18))
-    sentAfterOne)
-    sentAfterSeveral)
-    deferredFrames
+unfoldable pub count_sent : List ℕ → (n z : ℕ) → (wasDeferred : Bool) → List ℕ
+count_sent cs n z wasDeferred =
+    added_if (wasDeferred && eqb n 1)
+    (added_if (leb 3 n)
+    (added_if (eqb n 2)
+    (added (added cs sent 1) octets_sent (z - 18))
+    sent_after_one)
+    sent_after_several)
+    deferred_frames
 
 -- what a transmit event adds, of a frame of z octets
-unfoldable pub countTransmit : List ℕ → TransmitEvent → (z : ℕ) → (wasDeferred : Bool) → List ℕ
-countTransmit cs NoTransmit z wasDeferred = cs
-countTransmit cs (Collision k) z wasDeferred = added cs collisions 1
-countTransmit cs (Late k closes) z wasDeferred = added (added cs collisions 1) late 1
-countTransmit cs (Sent n) z wasDeferred = countSent cs n z wasDeferred
-countTransmit cs (GivenUp n) z wasDeferred = added cs excessive 1
-countTransmit cs (LateEnded n) z wasDeferred = added cs lateEnded 1
+unfoldable pub count_transmit : List ℕ → TransmitEvent → (z : ℕ) → (wasDeferred : Bool) → List ℕ
+count_transmit cs NoTransmit z wasDeferred = cs
+count_transmit cs (Collision k) z wasDeferred = added cs collisions 1
+count_transmit cs (Late k closes) z wasDeferred = added (added cs collisions 1) late 1
+count_transmit cs (Sent n) z wasDeferred = count_sent cs n z wasDeferred
+count_transmit cs (GivenUp n) z wasDeferred = added cs excessive 1
+count_transmit cs (LateEnded n) z wasDeferred = added cs late_ended 1
 
 -- what a receive event adds, of a frame of z octets
-unfoldable pub countReceive : List ℕ → ReceiveEvent → (z : ℕ) → List ℕ
-countReceive cs NoReceive z = cs
-countReceive cs (GotOk n) z = added (added cs received 1) octetsReceived (z - 18)
-countReceive cs (GotTooLong n) z = added cs tooLong 1
-countReceive cs (GotAlignment n) z = added cs alignmentErrors 1
-countReceive cs (GotCheck n) z = added cs checkErrors 1
-countReceive cs (GotLength n) z = added cs lengthErrors 1
+unfoldable pub count_receive : List ℕ → ReceiveEvent → (z : ℕ) → List ℕ
+count_receive cs NoReceive z = cs
+count_receive cs (GotOk n) z = added (added cs received 1) octets_received (z - 18)
+count_receive cs (GotTooLong n) z = added cs too_long 1
+count_receive cs (GotAlignment n) z = added cs alignment_errors 1
+count_receive cs (GotCheck n) z = added cs check_errors 1
+count_receive cs (GotLength n) z = added cs length_errors 1
 
 -- the octets of a frame that can be read
-abbrev pub octetsIn : Receiver → ℕ
-octetsIn Listening = 0
-octetsIn (Readable n) = n
-octetsIn (Seeking row spoiled own) = 0
-octetsIn (Collecting n spoiled own) = 0
+abbrev pub octets_in : Receiver → ℕ
+octets_in Listening = 0
+octets_in (Readable n) = n
+octets_in (Seeking row spoiled own) = 0
+octets_in (Collecting n spoiled own) = 0
 
 -- What a step adds: its start an attempt, its transmit event, its receive event, of the frame that it leaves to be
 -- read.
 unfoldable pub counted : List ℕ → Stepped → List ℕ
 counted cs o =
-    countReceive
-    (countTransmit (addedIf o.start cs attempts) o.sent o.station.frame o.station.deferred)
+    count_receive
+    (count_transmit (added_if o.start cs attempts) o.sent o.station.frame o.station.deferred)
     o.got
-    (octetsIn o.station.receiver)
+    (octets_in o.station.receiver)

@@ -5,7 +5,7 @@ use Rattle.std.specs.Prelude.{ℕ, ◌+◌, ◌*◌, ◌/◌, ◌%◌, Bool, tru
 use Rattle.octets.specs.Base.{pick, Answer, values_of}
 use Rattle.octets.specs.Bits.{digit}
 use Rattle.octets.specs.Equal.{equal}
-use Rattle.frame_open.specs.Open.{destinationOf, frameTooLong, opened}
+use Rattle.frame_open.specs.Open.{destination_of, frame_too_long, opened}
 use Rattle.station_spec.specs.declared.ReceiveEvent.{ReceiveEvent}
 use Rattle.station_spec.specs.declared.ReceiveEvent.TheVariants.{NoReceive, GotOk, GotTooLong, GotAlignment}
 use Rattle.station_spec.specs.declared.ReceiveEvent.TheVariants.{GotCheck, GotLength}
@@ -16,7 +16,7 @@ use Rattle.station_state.specs.declared.Receiver.TheVariants.{Listening, Readabl
 use Rattle.station_spec.specs.declared.Stored.{Stored}
 use Rattle.station_spec.specs.declared.Stored.TheVariants.{NoStore, Store}
 use Rattle.station_spec.specs.declared.Received.{Received}
-use Rattle.frame_build.specs.Limits.{bufferOctets, bufferBits, shortestFrame}
+use Rattle.frame_build.specs.Limits.{buffer_octets, buffer_bits, shortest_frame}
 
 -- ---- the delimiter
 
@@ -25,46 +25,46 @@ abbrev pub no_row : ℕ
 no_row = 1
 
 -- each row is below this
-abbrev pub rowLimit : ℕ
-rowLimit = 512
+abbrev pub row_limit : ℕ
+row_limit = 512
 
-unfoldable pub nextRow : ℕ → Bool → ℕ
-nextRow row b = pick (ltb (2 * row + digit b) rowLimit) (2 * row + digit b) (256 + (2 * row + digit b) % 256)
+unfoldable pub next_row : ℕ → Bool → ℕ
+next_row row b = pick (ltb (2 * row + digit b) row_limit) (2 * row + digit b) (256 + (2 * row + digit b) % 256)
 
 -- "10101011" behind the 1
-abbrev pub delimiterRow : ℕ
-delimiterRow = 427
+abbrev pub delimiter_row : ℕ
+delimiter_row = 427
 
 -- ---- collecting
 
 -- "Bits past what the receive buffer holds are counted, not kept."
-unfoldable pub storedBit : ℕ → Bool → Stored
-storedBit n b = pick (ltb n bufferBits) (Store n b) NoStore
+unfoldable pub stored_bit : ℕ → Bool → Stored
+stored_bit n b = pick (ltb n buffer_bits) (Store n b) NoStore
 
 -- a step in which nothing is decided
 abbrev pub hearing : Receiver → Stored → Received
 hearing r s = record { receiver = r; event = NoReceive; stored = s }
 
 -- "Bits after the first 10101011 are collected, low bit first."
-unfoldable pub seekBit : (row : ℕ) (b spoiled own : Bool) → Received
-seekBit row b spoiled own =
-    hearing (pick (eqb (nextRow row b) delimiterRow) (Collecting 0 spoiled own) (Seeking (nextRow row b) spoiled own))
+unfoldable pub seek_bit : (row : ℕ) (b spoiled own : Bool) → Received
+seek_bit row b spoiled own =
+    hearing (pick (eqb (next_row row b) delimiter_row) (Collecting 0 spoiled own) (Seeking (next_row row b) spoiled own))
     NoStore
 
 -- "A jam bit, or any symbol heard from two or more, is stored as 0, never matches the delimiter and, anywhere in the
 -- reception, makes the check wrong."
-abbrev pub seekSpoiled : Bool → Received
-seekSpoiled own = hearing (Seeking no_row true own) NoStore
+abbrev pub seek_spoiled : Bool → Received
+seek_spoiled own = hearing (Seeking no_row true own) NoStore
 
-unfoldable pub collectBit : (n : ℕ) (b spoiled own : Bool) → Received
-collectBit n b spoiled own = hearing (Collecting (n + 1) spoiled own) (storedBit n b)
+unfoldable pub collect_bit : (n : ℕ) (b spoiled own : Bool) → Received
+collect_bit n b spoiled own = hearing (Collecting (n + 1) spoiled own) (stored_bit n b)
 
 -- a symbol of a reception, clean or spoiled; own says whether the station emitted during it, this step among it
 unfoldable pub seek : (row : ℕ) (spoiled own clean b : Bool) → Received
-seek row spoiled own clean b = pick clean (seekBit row b spoiled own) (seekSpoiled own)
+seek row spoiled own clean b = pick clean (seek_bit row b spoiled own) (seek_spoiled own)
 
 unfoldable pub collect : (n : ℕ) (spoiled own clean b : Bool) → Received
-collect n spoiled own clean b = collectBit n b (spoiled || not clean) own
+collect n spoiled own clean b = collect_bit n b (spoiled || not clean) own
 
 unfoldable pub hear : Receiver → (clean b emits : Bool) → Received
 hear Listening clean b emits = seek no_row false emits clean b
@@ -76,16 +76,16 @@ hear (Collecting n spoiled own) clean b emits = collect n spoiled (own || emits)
 
 -- "destination neither own nor broadcast, nothing"
 unfoldable pub addressed : (address buffer : List ℕ) → Bool
-addressed address buffer = equal (destinationOf buffer) address || equal (destinationOf buffer) (replicate 6 255)
+addressed address buffer = equal (destination_of buffer) address || equal (destination_of buffer) (replicate 6 255)
 
 -- the opening rules, of n bits collected; of more octets than are kept the frame is too long
-unfoldable pub openAnswer : (buffer : List ℕ) (n : ℕ) (spoiled : Bool) → Answer
-openAnswer buffer n spoiled =
-    pick (ltb bufferOctets (n / 8)) frameTooLong (opened spoiled (take (n / 8) buffer) (n % 8)).status
+unfoldable pub open_answer : (buffer : List ℕ) (n : ℕ) (spoiled : Bool) → Answer
+open_answer buffer n spoiled =
+    pick (ltb buffer_octets (n / 8)) frame_too_long (opened spoiled (take (n / 8) buffer) (n % 8)).status
 
 -- what a status reports: its first value numbers it, receiveOK has the octets of client data behind that
-unfoldable pub gotEvent : Answer → (octets : ℕ) → ReceiveEvent
-gotEvent r n =
+unfoldable pub got_event : Answer → (octets : ℕ) → ReceiveEvent
+got_event r n =
     pick (eqb (get_or (values_of r) 0 0) 1) (GotTooLong n)
     (pick (eqb (get_or (values_of r) 0 0) 2) (GotCheck n)
     (pick (eqb (get_or (values_of r) 0 0) 3) (GotAlignment n)
@@ -94,21 +94,21 @@ gotEvent r n =
     NoReceive))))
 
 -- "The frame of a receiveOK can be read, whole with its check sequence, until that station's next reception begins."
-unfoldable pub readableAfter : Answer → (octets : ℕ) → Receiver
-readableAfter r n = pick (eqb (get_or (values_of r) 0 0) 5) (Readable n) Listening
+unfoldable pub readable_after : Answer → (octets : ℕ) → Receiver
+readable_after r n = pick (eqb (get_or (values_of r) 0 0) 5) (Readable n) Listening
 
 abbrev pub deciding : Receiver → ReceiveEvent → Received
 deciding r v = record { receiver = r; event = v; stored = NoStore }
 
 unfoldable pub opening : (buffer : List ℕ) (n : ℕ) (spoiled : Bool) → Received
 opening buffer n spoiled =
-    deciding (readableAfter (openAnswer buffer n spoiled) (n / 8)) (gotEvent (openAnswer buffer n spoiled) (n / 8))
+    deciding (readable_after (open_answer buffer n spoiled) (n / 8)) (got_event (open_answer buffer n spoiled) (n / 8))
 
 -- "The step after the stretch decides: under 512 collected bits, or the station emitted during it, nothing; destination
 -- neither own nor broadcast, nothing; else the opening rules."
 unfoldable pub decide : (address buffer : List ℕ) (n : ℕ) (spoiled own : Bool) → Received
 decide address buffer n spoiled own =
-    pick (ltb n shortestFrame) (deciding Listening NoReceive)
+    pick (ltb n shortest_frame) (deciding Listening NoReceive)
     (pick own (deciding Listening NoReceive)
     (pick (addressed address buffer) (opening buffer n spoiled) (deciding Listening NoReceive)))
 
@@ -133,8 +133,8 @@ row_in (Readable n) = 0
 row_in (Seeking row spoiled own) = row
 row_in (Collecting n spoiled own) = 0
 
-abbrev pub bitsIn : Receiver → ℕ
-bitsIn Listening = 0
-bitsIn (Readable n) = 0
-bitsIn (Seeking row spoiled own) = 0
-bitsIn (Collecting n spoiled own) = n
+abbrev pub bits_in : Receiver → ℕ
+bits_in Listening = 0
+bits_in (Readable n) = 0
+bits_in (Seeking row spoiled own) = 0
+bits_in (Collecting n spoiled own) = n

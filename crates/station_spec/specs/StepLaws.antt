@@ -10,39 +10,39 @@ use Rattle.station_spec.specs.declared.Transmitted.{Transmitted}
 use Rattle.station_spec.specs.declared.Received.{Received}
 use Rattle.station_state.specs.declared.Station.{Station}
 use Rattle.station_spec.specs.declared.Stepped.{Stepped}
-use Rattle.station_symbols.specs.Packet.{hearsAny, isEmission}
+use Rattle.station_symbols.specs.Packet.{hears_any, is_emission}
 use Rattle.station_spec.specs.Defer.{defer}
-use Rattle.station_spec.specs.Transmit.{waits, octetsHeld, transmit}
-use Rattle.station_spec.specs.TransmitLaws.{held-transmits}
+use Rattle.station_spec.specs.Transmit.{waits, octets_held, transmit}
+use Rattle.station_spec.specs.TransmitLaws.{held_transmits}
 use Rattle.station_spec.specs.Receive.{receive}
-use Rattle.station_spec.specs.Step.{triesAfter, drawAfter, deferredAfter, deferring, sending, receiving}
-use Rattle.station_spec.specs.Step.{nextStation, stepped}
+use Rattle.station_spec.specs.Step.{tries_after, draw_after, deferred_after, deferring, sending, receiving}
+use Rattle.station_spec.specs.Step.{next_station, stepped}
 
-pub tries-more : (n : ℕ) (start : Bool) → start ≡ true → n + 1 ≡ triesAfter n start
-unfolding triesAfter
-tries-more n start p = rw p
+pub tries_more : (n : ℕ) (start : Bool) → start ≡ true → n + 1 ≡ tries_after n start
+unfolding tries_after
+tries_more n start p = rw p
 
-pub tries-same : (n : ℕ) (start : Bool) → start ≡ false → n ≡ triesAfter n start
-unfolding triesAfter
-tries-same n start p = rw p
+pub tries_same : (n : ℕ) (start : Bool) → start ≡ false → n ≡ tries_after n start
+unfolding tries_after
+tries_same n start p = rw p
 
 module _ (place draws : ℕ) (drew : Bool) where
-  pub draw-first : drew ≡ true → place + 1 ≡ draws → 0 ≡ drawAfter place draws drew
-  unfolding drawAfter
-  draw-first p q = rw (p, eq-eqb (place + 1) draws q)
+  pub draw_first : drew ≡ true → place + 1 ≡ draws → 0 ≡ draw_after place draws drew
+  unfolding draw_after
+  draw_first p q = rw (p, eq-eqb (place + 1) draws q)
 
-  pub draw-next : drew ≡ true → (place + 1 ≡ draws → ⊥) → place + 1 ≡ drawAfter place draws drew
-  unfolding drawAfter
-  draw-next p q = rw (p, ne_eqb (place + 1) draws q)
+  pub draw_next : drew ≡ true → (place + 1 ≡ draws → ⊥) → place + 1 ≡ draw_after place draws drew
+  unfolding draw_after
+  draw_next p q = rw (p, ne_eqb (place + 1) draws q)
 
-  pub draw-same : drew ≡ false → place ≡ drawAfter place draws drew
-  unfolding drawAfter
-  draw-same p = rw p
+  pub draw_same : drew ≡ false → place ≡ draw_after place draws drew
+  unfolding draw_after
+  draw_same p = rw p
 
-pub deferred-is : (d w start b c r : Bool) (n : ℕ) → r ≡ (d || b) → b ≡ (w && c) → c ≡ (eqb n 0 && not start)
-    → r ≡ deferredAfter d w n start
-unfolding deferredAfter
-deferred-is d w start b c r n p q e = p ∙ rw (q, e)
+pub deferred_is : (d w start b c r : Bool) (n : ℕ) → r ≡ (d || b) → b ≡ (w && c) → c ≡ (eqb n 0 && not start)
+    → r ≡ deferred_after d w n start
+unfolding deferred_after
+deferred_is d w start b c r n p q e = p ∙ rw (q, e)
 
 -- the next state and the rest, from the three parts
 unfoldable pub finished : Station → ℕ → Deferred → Transmitted → Received → ℕ → Bool → Stepped
@@ -55,8 +55,8 @@ finished s draws d o q tries emits =
         receiver = q.receiver;
         frame = s.frame;
         attempts = tries;
-        draw = drawAfter s.draw draws o.drew;
-        deferred = deferredAfter s.deferred (waits s.transmitter) s.attempts d.start;
+        draw = draw_after s.draw draws o.drew;
+        deferred = deferred_after s.deferred (waits s.transmitter) s.attempts d.start;
         emitted = emits;
       };
       emission = o.emission;
@@ -66,10 +66,10 @@ finished s draws d o q tries emits =
       stored = q.stored;
     }
 
-pub finished-is : (s : Station) (draws : ℕ) (d : Deferred) (o : Transmitted) (q : Received) (tries : ℕ)
+pub finished_is : (s : Station) (draws : ℕ) (d : Deferred) (o : Transmitted) (q : Received) (tries : ℕ)
     (emits w b : Bool) (p : ℕ)
-    → b ≡ deferredAfter s.deferred w s.attempts d.start → w ≡ waits s.transmitter
-    → p ≡ drawAfter s.draw draws o.drew
+    → b ≡ deferred_after s.deferred w s.attempts d.start → w ≡ waits s.transmitter
+    → p ≡ draw_after s.draw draws o.drew
     → record {
       station = record {
         address = s.address;
@@ -89,7 +89,7 @@ pub finished-is : (s : Station) (draws : ℕ) (d : Deferred) (o : Transmitted) (
       stored = q.stored;
     } ≡ finished s draws d o q tries emits
 unfolding finished
-finished-is s draws d o q tries emits w b p e f g =
+finished_is s draws d o q tries emits w b p e f g =
     λ i. record {
       station = record {
         address = s.address;
@@ -99,7 +99,7 @@ finished-is s draws d o q tries emits w b p e f g =
         frame = s.frame;
         attempts = tries;
         draw = g i;
-        deferred = (e ∙ ap (λ (x : Bool). deferredAfter s.deferred x s.attempts d.start) f) i;
+        deferred = (e ∙ ap (λ (x : Bool). deferred_after s.deferred x s.attempts d.start) f) i;
         emitted = emits;
       };
       emission = o.emission;
@@ -112,22 +112,22 @@ finished-is s draws d o q tries emits w b p e f g =
 -- the three parts one after the other are the step
 parts : (f : Figures) (s : Station) (draws draw : ℕ) (buffer : List ℕ) (h : Heard)
     → finished s draws (deferring f s h) (sending f s draw h) (receiving f s draw buffer h)
-    (triesAfter s.attempts (deferring f s h).start) (isEmission (sending f s draw h).emission)
+    (tries_after s.attempts (deferring f s h).start) (is_emission (sending f s draw h).emission)
     ≡ stepped f s draws draw buffer h
-unfolding finished stepped nextStation
+unfolding finished stepped next_station
 parts f s draws draw buffer h = refl
 
 pub step_is : (f : Figures) (s : Station) (draws draw : ℕ) (buffer : List ℕ) (h : Heard) (hears waiting emits : Bool)
     (tries z : ℕ)
     (d : Deferred) (o : Transmitted) (q : Received) (r : Stepped)
     → r ≡ finished s draws d o q tries emits → q ≡ receive s.address buffer s.receiver h emits
-    → emits ≡ isEmission o.emission
-    → o ≡ transmit f s.transmitter z tries draw d.start hears → z ≡ octetsHeld s.transmitter s.frame
-    → tries ≡ triesAfter s.attempts d.start
-    → d ≡ defer f s.deference hears s.emitted waiting → waiting ≡ waits s.transmitter → hears ≡ hearsAny h
+    → emits ≡ is_emission o.emission
+    → o ≡ transmit f s.transmitter z tries draw d.start hears → z ≡ octets_held s.transmitter s.frame
+    → tries ≡ tries_after s.attempts d.start
+    → d ≡ defer f s.deference hears s.emitted waiting → waiting ≡ waits s.transmitter → hears ≡ hears_any h
     → r ≡ stepped f s draws draw buffer h
 step_is f s draws draw buffer h hears waiting emits tries z d o q r er eq ee eo ez et ed ew eh =
     let e : o ≡ transmit f s.transmitter s.frame tries draw d.start hears =
     eo ∙ ap (λ (y : ℕ). transmit f s.transmitter y tries draw d.start hears) ez
-    ∙ held-transmits f s.transmitter s.frame tries draw d.start hears in
+    ∙ held_transmits f s.transmitter s.frame tries draw d.start hears in
     er ∙ rw (eq, ee, e, et, ed, ew, eh) (parts f s draws draw buffer h)

@@ -14,5 +14,5 @@ number_in (Heading k) = k
 number_in (Jamming n ends) = n
 
 -- the counters of a station
-abbrev pub counterCount : ℕ
-counterCount = 17
+abbrev pub counter_count : ℕ
+counter_count = 17

@@ -1,7 +1,7 @@
 // The bit time of one station by value. Nothing here knows of a work area or of another station.
 
 ghost use Rattle.std.specs.Prelude.{◌≡◌, ◌+◌, ◌<◌, length};
-ghost use Rattle.station_spec.specs.Step.{Roomy, triesAfter, drawAfter, deferredAfter, stepped};
+ghost use Rattle.station_spec.specs.Step.{Roomy, tries_after, draw_after, deferred_after, stepped};
 ghost use Rattle.station_spec.specs.StepLaws.{finished};
 
 use sheet_layout::Figures;
@@ -12,7 +12,7 @@ use station_symbols::{Emission, Heard};
 // The attempts of a frame, with one that starts in this step.
 fn tries_after(attempts: u32, start: bool) -> u32
     requires { attempts < 4294967295 }
-    ensures { result ≡ triesAfter attempts start }
+    ensures { result ≡ tries_after attempts start }
 {
     if start { attempts + 1 } else { attempts }
 }
@@ -20,7 +20,7 @@ fn tries_after(attempts: u32, start: bool) -> u32
 // The place of the next draw: in turn, then from the first again.
 fn draw_after(place: u32, draws: u32, drew: bool) -> u32
     requires { place < 4294967295 }
-    ensures { result ≡ drawAfter place draws drew }
+    ensures { result ≡ draw_after place draws drew }
 {
     if drew {
         if place + 1 == draws {
@@ -33,7 +33,7 @@ fn draw_after(place: u32, draws: u32, drew: bool) -> u32
 
 // Whether the frame did not start in its first step: it waits, was never tried, and does not start now.
 fn deferred_after(deferred: bool, waits: bool, attempts: u32, start: bool) -> bool
-    ensures { result ≡ deferredAfter deferred waits attempts start }
+    ensures { result ≡ deferred_after deferred waits attempts start }
 {
     octets::either(
         deferred,

@@ -1,7 +1,7 @@
 // Symbols on the pair, and the bits of a packet.
 
 ghost use Rattle.std.specs.Prelude.{◌≡◌};
-ghost use Rattle.station_symbols.specs.Packet.{packetBit, frameBit, hearsAny, symbol_of, isEmission};
+ghost use Rattle.station_symbols.specs.Packet.{packet_bit, frame_bit, hears_any, symbol_of, is_emission};
 
 // What a station emits in a step: silence, 0, 1 or jam.
 #[derive(Drop)]
@@ -29,7 +29,7 @@ pub enum Emission {
 }
 
 pub fn hears_any(h: Heard) -> bool
-    ensures { result ≡ hearsAny h }
+    ensures { result ≡ hears_any h }
 {
     match h {
         Heard::Nothing => false,
@@ -39,7 +39,7 @@ pub fn hears_any(h: Heard) -> bool
 }
 
 pub fn is_emission(e: Emission) -> bool
-    ensures { result ≡ isEmission e }
+    ensures { result ≡ is_emission e }
 {
     match e {
         Emission::Rest => false,
@@ -50,7 +50,7 @@ pub fn is_emission(e: Emission) -> bool
 
 // Bit j of the octets, low bit first; 0 past their end.
 fn frame_bit(frame: &[u8], j: usize) -> bool
-    ensures { result ≡ frameBit frame.now j }
+    ensures { result ≡ frame_bit frame.now j }
 {
     let at = j / 8;
     if frame.len() <= at {
@@ -62,7 +62,7 @@ fn frame_bit(frame: &[u8], j: usize) -> bool
 
 // Bit k of the packet that carries a frame, counted from 1: 64 header bits, then the frame's.
 pub fn packet_bit(frame: &[u8], k: u32) -> bool
-    ensures { result ≡ packetBit frame.now k }
+    ensures { result ≡ packet_bit frame.now k }
 {
     if k <= 62 {
         return k % 2 == 1;

@@ -4,7 +4,7 @@ use Rattle.std.specs.Prelude.{ℕ, ◌+◌, ◌-◌, List, eqb, get_or, set}
 use Rattle.octets.specs.Base.{pick}
 use Rattle.station_spec.specs.declared.ReceiveEvent.{ReceiveEvent}
 use Rattle.station_spec.specs.declared.TransmitEvent.{TransmitEvent}
-use Rattle.station_tally.specs.Words.{transmitWord, receiveWord}
+use Rattle.station_tally.specs.Words.{transmit_word, receive_word}
 
 -- one more of the word at place k
 unfoldable pub bumped : List ℕ → ℕ → List ℕ
@@ -14,8 +14,8 @@ bumped ws k = set ws k (get_or ws k 0 + 1)
 unfoldable pub counted : List ℕ → ℕ → List ℕ
 counted ws w = pick (eqb w 0) ws (bumped ws (w - 1))
 
-abbrev pub sentCounted : List ℕ → TransmitEvent → List ℕ
-sentCounted ws e = counted ws (transmitWord e)
+abbrev pub sent_counted : List ℕ → TransmitEvent → List ℕ
+sent_counted ws e = counted ws (transmit_word e)
 
-abbrev pub gotCounted : List ℕ → ReceiveEvent → List ℕ
-gotCounted ws e = counted ws (receiveWord e)
+abbrev pub got_counted : List ℕ → ReceiveEvent → List ℕ
+got_counted ws e = counted ws (receive_word e)

@@ -9,65 +9,65 @@ use Rattle.station_spec.specs.declared.TransmitEvent.{TransmitEvent}
 use Rattle.station_spec.specs.declared.TransmitEvent.TheVariants.{NoTransmit, Collision, Late, Sent, GivenUp}
 use Rattle.station_spec.specs.declared.TransmitEvent.TheVariants.{LateEnded}
 
--- "`collision` or `late` with the bit, `sent` or `given-up` with attempts"; N1: "prints `late-end` with the attempts"
-abbrev pub transmitWord : TransmitEvent → ℕ
-transmitWord NoTransmit = 0
-transmitWord (Collision k) = 1
-transmitWord (Late k closes) = 2
-transmitWord (Sent n) = 3
-transmitWord (GivenUp n) = 4
-transmitWord (LateEnded n) = 5
+-- "`collision` or `late` with the bit, `sent` or `given_up` with attempts"; N1: "prints `late_end_lem` with the attempts"
+abbrev pub transmit_word : TransmitEvent → ℕ
+transmit_word NoTransmit = 0
+transmit_word (Collision k) = 1
+transmit_word (Late k closes) = 2
+transmit_word (Sent n) = 3
+transmit_word (GivenUp n) = 4
+transmit_word (LateEnded n) = 5
 
-abbrev pub transmitValue : TransmitEvent → ℕ
-transmitValue NoTransmit = 0
-transmitValue (Collision k) = k
-transmitValue (Late k closes) = k
-transmitValue (Sent n) = n
-transmitValue (GivenUp n) = n
-transmitValue (LateEnded n) = n
+abbrev pub transmit_value : TransmitEvent → ℕ
+transmit_value NoTransmit = 0
+transmit_value (Collision k) = k
+transmit_value (Late k closes) = k
+transmit_value (Sent n) = n
+transmit_value (GivenUp n) = n
+transmit_value (LateEnded n) = n
 
 -- the last word of a transmit event
-abbrev pub lastTransmit : ℕ
-lastTransmit = 5
+abbrev pub last_transmit : ℕ
+last_transmit = 5
 
 -- "`got` with ok, too-long, alignment, check or length and octets"
-abbrev pub receiveWord : ReceiveEvent → ℕ
-receiveWord NoReceive = 0
-receiveWord (GotOk n) = 6
-receiveWord (GotTooLong n) = 7
-receiveWord (GotAlignment n) = 8
-receiveWord (GotCheck n) = 9
-receiveWord (GotLength n) = 10
+abbrev pub receive_word : ReceiveEvent → ℕ
+receive_word NoReceive = 0
+receive_word (GotOk n) = 6
+receive_word (GotTooLong n) = 7
+receive_word (GotAlignment n) = 8
+receive_word (GotCheck n) = 9
+receive_word (GotLength n) = 10
 
-abbrev pub receiveValue : ReceiveEvent → ℕ
-receiveValue NoReceive = 0
-receiveValue (GotOk n) = n
-receiveValue (GotTooLong n) = n
-receiveValue (GotAlignment n) = n
-receiveValue (GotCheck n) = n
-receiveValue (GotLength n) = n
+abbrev pub receive_value : ReceiveEvent → ℕ
+receive_value NoReceive = 0
+receive_value (GotOk n) = n
+receive_value (GotTooLong n) = n
+receive_value (GotAlignment n) = n
+receive_value (GotCheck n) = n
+receive_value (GotLength n) = n
 
 -- the event words
-abbrev pub wordCount : ℕ
-wordCount = 10
+abbrev pub word_count : ℕ
+word_count = 10
 
 -- whether there is an event
-abbrev pub isTransmit : TransmitEvent → Bool
-isTransmit e = not (eqb (transmitWord e) 0)
+abbrev pub is_transmit : TransmitEvent → Bool
+is_transmit e = not (eqb (transmit_word e) 0)
 
-abbrev pub isReceive : ReceiveEvent → Bool
-isReceive e = not (eqb (receiveWord e) 0)
+abbrev pub is_receive : ReceiveEvent → Bool
+is_receive e = not (eqb (receive_word e) 0)
 
 -- "A run of n bit times ends early after the first step in which any station has a late collision"; N1: with a late
 -- collision that closes the frame "a run no longer ends early"
-abbrev pub endsRun : TransmitEvent → Bool
-endsRun NoTransmit = false
-endsRun (Collision k) = false
-endsRun (Late k closes) = not closes
-endsRun (Sent n) = false
-endsRun (GivenUp n) = false
-endsRun (LateEnded n) = false
+abbrev pub ends_run : TransmitEvent → Bool
+ends_run NoTransmit = false
+ends_run (Collision k) = false
+ends_run (Late k closes) = not closes
+ends_run (Sent n) = false
+ends_run (GivenUp n) = false
+ends_run (LateEnded n) = false
 
 -- a word with its value, as an answer's numbers
-abbrev pub numbersOf : (word value : ℕ) → List ℕ
-numbersOf w v = pick (eqb w 0) (0 ∷ []) (w ∷ v ∷ [])
+abbrev pub numbers_of : (word value : ℕ) → List ℕ
+numbers_of w v = pick (eqb w 0) (0 ∷ []) (w ∷ v ∷ [])

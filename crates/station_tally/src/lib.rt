@@ -2,9 +2,9 @@
 // got length) and how many of each came.
 
 ghost use Rattle.std.specs.Prelude.{not, ◌≡◌, ◌<◌, ◌≤◌, eqb, length, get_or};
-ghost use Rattle.station_tally.specs.Words.{transmitWord, transmitValue, receiveWord, receiveValue, lastTransmit};
-ghost use Rattle.station_tally.specs.Words.{wordCount, isTransmit, isReceive, endsRun};
-ghost use Rattle.station_tally.specs.Tally.{bumped, counted, sentCounted, gotCounted};
+ghost use Rattle.station_tally.specs.Words.{transmit_word, transmit_value, receive_word, receive_value, last_transmit};
+ghost use Rattle.station_tally.specs.Words.{word_count, is_transmit, is_receive, ends_run};
+ghost use Rattle.station_tally.specs.Tally.{bumped, counted, sent_counted, got_counted};
 ghost use Rattle.station_tally.specs.TallyLaws.{Bounded};
 
 use station_spec::{ReceiveEvent, TransmitEvent};
@@ -18,8 +18,8 @@ pub const LAST_TRANSMIT: u32 = 5;
 
 // The word of a transmit event, 0 where there is none; and its value.
 pub fn transmit_word(e: TransmitEvent) -> u32
-    ensures value { result ≡ transmitWord e }
-    ensures few { result ≤ lastTransmit }
+    ensures value { result ≡ transmit_word e }
+    ensures few { result ≤ last_transmit }
 {
     match e {
         TransmitEvent::NoTransmit => 0,
@@ -32,7 +32,7 @@ pub fn transmit_word(e: TransmitEvent) -> u32
 }
 
 pub fn transmit_value(e: TransmitEvent) -> u32
-    ensures { result ≡ transmitValue e }
+    ensures { result ≡ transmit_value e }
 {
     match e {
         TransmitEvent::NoTransmit => 0,
@@ -46,8 +46,8 @@ pub fn transmit_value(e: TransmitEvent) -> u32
 
 // The word of a receive event, 0 where there is none; and its value.
 pub fn receive_word(e: ReceiveEvent) -> u32
-    ensures value { result ≡ receiveWord e }
-    ensures few { result ≤ wordCount }
+    ensures value { result ≡ receive_word e }
+    ensures few { result ≤ word_count }
 {
     match e {
         ReceiveEvent::NoReceive => 0,
@@ -60,7 +60,7 @@ pub fn receive_word(e: ReceiveEvent) -> u32
 }
 
 pub fn receive_value(e: ReceiveEvent) -> u32
-    ensures { result ≡ receiveValue e }
+    ensures { result ≡ receive_value e }
 {
     match e {
         ReceiveEvent::NoReceive => 0,
@@ -74,20 +74,20 @@ pub fn receive_value(e: ReceiveEvent) -> u32
 
 // Whether there is an event.
 pub fn is_transmit(e: TransmitEvent) -> bool
-    ensures { result ≡ isTransmit e }
+    ensures { result ≡ is_transmit e }
 {
     transmit_word(e) != 0
 }
 
 pub fn is_receive(e: ReceiveEvent) -> bool
-    ensures { result ≡ isReceive e }
+    ensures { result ≡ is_receive e }
 {
     receive_word(e) != 0
 }
 
 // Whether a run ends with this event: a late collision that does not close the frame.
 pub fn ends_run(e: TransmitEvent) -> bool
-    ensures { result ≡ endsRun e }
+    ensures { result ≡ ends_run e }
 {
     match e {
         TransmitEvent::NoTransmit => false,
@@ -119,15 +119,15 @@ fn count(words: &mut [u32], w: u32, top: u32)
 }
 
 pub fn count_sent(words: &mut [u32], e: TransmitEvent, top: u32)
-    requires { (length words.old ≡ wordCount) × Bounded words.old top × (top < 4294967295) }
-    ensures { words.new ≡ sentCounted words.old e }
+    requires { (length words.old ≡ word_count) × Bounded words.old top × (top < 4294967295) }
+    ensures { words.new ≡ sent_counted words.old e }
 {
     count(words, transmit_word(e), top);
 }
 
 pub fn count_got(words: &mut [u32], e: ReceiveEvent, top: u32)
-    requires { (length words.old ≡ wordCount) × Bounded words.old top × (top < 4294967295) }
-    ensures { words.new ≡ gotCounted words.old e }
+    requires { (length words.old ≡ word_count) × Bounded words.old top × (top < 4294967295) }
+    ensures { words.new ≡ got_counted words.old e }
 {
     count(words, receive_word(e), top);
 }

@@ -1,7 +1,7 @@
 // The transmitter: start, packet bits, collision, header, jam, backoff.
 
 ghost use Rattle.std.specs.Prelude.{◌≡◌, ◌*◌, ◌<◌, ◌≤◌, min};
-ghost use Rattle.station_spec.specs.Transmit.{waits, octetsHeld, jamBit, lastJam, backOff, backoffRange};
+ghost use Rattle.station_spec.specs.Transmit.{waits, octets_held, jam_bit, last_jam, back_off, backoff_range};
 
 use sheet_layout::Figures;
 use station_spec::{TransmitEvent, Transmitted};
@@ -23,7 +23,7 @@ pub fn is_waiting(t: Transmitter) -> bool
 
 // The octets of the frame that a station holds; 0 where it holds none.
 pub fn octets_held(t: Transmitter, frame: u32) -> u32
-    ensures { result ≡ octetsHeld t frame }
+    ensures { result ≡ octets_held t frame }
 {
     match t {
         Transmitter::NoFrame => 0,
@@ -45,7 +45,7 @@ fn least(a: u32, b: u32) -> u32
 // The backoff range after attempt n: a power of two.
 fn range_after(n: u32, backoff: u32) -> u32
     requires { backoff < 16 }
-    ensures value { result ≡ backoffRange n backoff }
+    ensures value { result ≡ backoff_range n backoff }
     ensures some { (0 < result) × (result < 65536) }
 {
     octets::power(least(n, backoff))
@@ -54,7 +54,7 @@ fn range_after(n: u32, backoff: u32) -> u32
 // Where a frame goes after the last jam bit of attempt n, with this draw.
 fn back_off(f: Figures, n: u32, draw: u32) -> Transmitter
     requires { (f.backoff < 16) × (f.slot < 65536) }
-    ensures { result ≡ backOff f n draw }
+    ensures { result ≡ back_off f n draw }
 {
     let range = range_after(n, f.backoff);
     let wait = f.slot * (draw % range);
@@ -66,7 +66,7 @@ fn back_off(f: Figures, n: u32, draw: u32) -> Transmitter
 
 fn last_jam(f: Figures, n: u32, draw: u32) -> Transmitted
     requires { (f.backoff < 16) × (f.slot < 65536) }
-    ensures { result ≡ lastJam f n draw }
+    ensures { result ≡ last_jam f n draw }
 {
     if n == f.limit {
         return Transmitted {
@@ -87,7 +87,7 @@ fn last_jam(f: Figures, n: u32, draw: u32) -> Transmitted
 
 pub fn jam_bit(f: Figures, n: u32, draw: u32, left: u32, ends: bool) -> Transmitted
     requires { (f.backoff < 16) × (f.slot < 65536) }
-    ensures { result ≡ jamBit f n draw left ends }
+    ensures { result ≡ jam_bit f n draw left ends }
 {
     if left <= 1 {
         if ends {

@@ -5,69 +5,69 @@ use Rattle.std.proofs.Math.Path.{refl, ap}
 use Rattle.std.proofs.Common.{sym, ◌∙◌, ap₂, subst, arith, eqb-true}
 use Rattle.std.proofs.Math.Nat.{add-zero}
 use Rattle.octets.specs.Base.{pick}
-use Rattle.octets.specs.BaseLaws.{by-test, by-eq}
+use Rattle.octets.specs.BaseLaws.{by_test, by_eq}
 use Rattle.sheet_layout.specs.declared.Figures.{Figures}
-use Rattle.station_symbols.specs.Packet.{hearsAny}
+use Rattle.station_symbols.specs.Packet.{hears_any}
 use Rattle.station_spec.specs.declared.TransmitEvent.TheVariants.{GivenUp, LateEnded}
 use Rattle.station_state.specs.declared.Transmitter.{Transmitter}
 use Rattle.station_state.specs.declared.Transmitter.TheVariants.{NoFrame, Waiting, BackingOff, Sending, Heading}
 use Rattle.station_state.specs.declared.Transmitter.TheVariants.{Jamming}
-use Rattle.station_spec.specs.Transmit.{packetLength, collision, sendBit, headBit, lastJam, jamBit, backoffBit}
-use Rattle.station_spec.specs.Transmit.{waitBit, transmit}
+use Rattle.station_spec.specs.Transmit.{packet_length, collision, send_bit, head_bit, last_jam, jam_bit, backoff_bit}
+use Rattle.station_spec.specs.Transmit.{wait_bit, transmit}
 use Rattle.station_state.specs.declared.Station.{Station}
-use Rattle.station_spec.specs.Step.{triesAfter}
+use Rattle.station_spec.specs.Step.{tries_after}
 use Rattle.bus_spec.specs.Range.{AttemptsIn}
-use Rattle.bus_offer.specs.Offer.{holds, offeredStation}
+use Rattle.bus_offer.specs.Offer.{holds, offered_station}
 use Rattle.trace.specs.Basic.{either, clash}
 use Rattle.bus_meeting.specs.Net.{Net}
-use Rattle.trace.specs.World.{Offer, freshStation, fresh, before}
-use Rattle.trace.specs.Run.{state, frameIn, out_at, sees, deferAt, sendAt, Sound, Made, Kept, ready-kept}
-use Rattle.trace.specs.Run.{frame-suc, out-start, out-sent, next-transmitter, next-attempts, fine_before, fine}
+use Rattle.trace.specs.World.{Offer, fresh_station, fresh, before}
+use Rattle.trace.specs.Run.{state, frame_in, out_at, sees, defer_at, send_at, Sound, Made, Kept, ready_kept}
+use Rattle.trace.specs.Run.{frame_suc, out_start, out_sent, next_transmitter, next_attempts, fine_before, fine}
 use Rattle.trace.specs.Keep.{held_back}
-use Rattle.trace.specs.Sent.{Ends, end-next}
+use Rattle.trace.specs.Sent.{Ends, end_next}
 
 -- "n = limit reports excessiveCollisionError"
-bit-not-up : (f : Figures) (z n k : ℕ) (h : Bool) (m : ℕ) → (sendBit f z n k h).event ≡ GivenUp m → ⊥
-unfolding sendBit collision
-bit-not-up f z n k true m e =
-    by-test (ltb f.slot k) (λ c. let z : ◌≡◌ {A = ℕ} 0 1 = cc (rw c at e) in omega arith)
+bit_not_up : (f : Figures) (z n k : ℕ) (h : Bool) (m : ℕ) → (send_bit f z n k h).event ≡ GivenUp m → ⊥
+unfolding send_bit collision
+bit_not_up f z n k true m e =
+    by_test (ltb f.slot k) (λ c. let z : ◌≡◌ {A = ℕ} 0 1 = cc (rw c at e) in omega arith)
     (λ c. let z : ◌≡◌ {A = ℕ} 0 1 = cc (rw c at e) in omega arith)
-bit-not-up f z n k false m e =
-    by-test (eqb k (packetLength z)) (λ c. let z : ◌≡◌ {A = ℕ} 0 1 = cc (rw c at e) in omega arith)
+bit_not_up f z n k false m e =
+    by_test (eqb k (packet_length z)) (λ c. let z : ◌≡◌ {A = ℕ} 0 1 = cc (rw c at e) in omega arith)
     (λ c. let z : ◌≡◌ {A = ℕ} 0 1 = cc (rw c at e) in omega arith)
 
-jam-up : (f : Figures) (n draw left : ℕ) (ends : Bool) (m : ℕ) → (jamBit f n draw left ends).event ≡ GivenUp m
+jam_up : (f : Figures) (n draw left : ℕ) (ends : Bool) (m : ℕ) → (jam_bit f n draw left ends).event ≡ GivenUp m
     → m ≡ f.limit
-unfolding jamBit lastJam
-jam-up f n draw left ends m e =
-    by-test (leb left 1)
-    (λ c. by-test ends (λ b. absurd (let z : ◌≡◌ {A = ℕ} 0 1 = cc (rw (c, b) at e) in omega arith))
-    (λ b. by-test (eqb n f.limit)
+unfolding jam_bit last_jam
+jam_up f n draw left ends m e =
+    by_test (leb left 1)
+    (λ c. by_test ends (λ b. absurd (let z : ◌≡◌ {A = ℕ} 0 1 = cc (rw (c, b) at e) in omega arith))
+    (λ b. by_test (eqb n f.limit)
     (λ d. let q : n ≡ m = cc (rw (c, b, d) at e) in sym q ∙ eqb-true n f.limit d)
     (λ d. absurd (let z : ◌≡◌ {A = ℕ} 0 1 = cc (rw (c, b, d) at e) in omega arith))))
     (λ c. absurd (let z : ◌≡◌ {A = ℕ} 0 1 = cc (rw c at e) in omega arith))
 
-up-limit : (f : Figures) (x : Transmitter) (z n draw : ℕ) (start h : Bool) (m : ℕ)
+up_limit : (f : Figures) (x : Transmitter) (z n draw : ℕ) (start h : Bool) (m : ℕ)
     → (transmit f x z n draw start h).event ≡ GivenUp m → m ≡ f.limit
-unfolding transmit waitBit headBit backoffBit
-up-limit f NoFrame z n draw start h m e = absurd (let z : ◌≡◌ {A = ℕ} 0 1 = cc in omega arith)
-up-limit f Waiting z n draw true h m e = absurd (bit-not-up f z n 1 h m e)
-up-limit f Waiting z n draw false h m e = absurd (let z : ◌≡◌ {A = ℕ} 0 1 = cc in omega arith)
-up-limit f (BackingOff w) z n draw start h m e =
-    by-test (leb w 1) (λ c. absurd (let z : ◌≡◌ {A = ℕ} 0 1 = cc (rw c at e) in omega arith))
+unfolding transmit wait_bit head_bit backoff_bit
+up_limit f NoFrame z n draw start h m e = absurd (let z : ◌≡◌ {A = ℕ} 0 1 = cc in omega arith)
+up_limit f Waiting z n draw true h m e = absurd (bit_not_up f z n 1 h m e)
+up_limit f Waiting z n draw false h m e = absurd (let z : ◌≡◌ {A = ℕ} 0 1 = cc in omega arith)
+up_limit f (BackingOff w) z n draw start h m e =
+    by_test (leb w 1) (λ c. absurd (let z : ◌≡◌ {A = ℕ} 0 1 = cc (rw c at e) in omega arith))
     (λ c. absurd (let z : ◌≡◌ {A = ℕ} 0 1 = cc (rw c at e) in omega arith))
-up-limit f (Sending k) z n draw start h m e = absurd (bit-not-up f z n k h m e)
-up-limit f (Heading k) z n draw start h m e = absurd (let z : ◌≡◌ {A = ℕ} 0 1 = cc in omega arith)
-up-limit f (Jamming left ends) z n draw start h m e = jam-up f n draw left ends m e
+up_limit f (Sending k) z n draw start h m e = absurd (bit_not_up f z n k h m e)
+up_limit f (Heading k) z n draw start h m e = absurd (let z : ◌≡◌ {A = ℕ} 0 1 = cc in omega arith)
+up_limit f (Jamming left ends) z n draw start h m e = jam_up f n draw left ends m e
 
 -- "attempts 0..limit (below it while a frame waits ..)": no more than the limit in any case
-in-limit : (limit : ℕ) (x : Transmitter) (n : ℕ) → AttemptsIn limit x n → n ≤ limit
-in-limit limit NoFrame n h = h
-in-limit limit Waiting n h = omega arith
-in-limit limit (BackingOff w) n h = omega arith
-in-limit limit (Sending k) n h = h.1
-in-limit limit (Heading k) n h = h.1
-in-limit limit (Jamming m ends) n h = h.1
+in_limit : (limit : ℕ) (x : Transmitter) (n : ℕ) → AttemptsIn limit x n → n ≤ limit
+in_limit limit NoFrame n h = h
+in_limit limit Waiting n h = omega arith
+in_limit limit (BackingOff w) n h = omega arith
+in_limit limit (Sending k) n h = h.1
+in_limit limit (Heading k) n h = h.1
+in_limit limit (Jamming m ends) n h = h.1
 
 -- the starts of station i in the k steps from step a on
 unfoldable pub starts : (P : Net) → (ℕ → List (Offer P)) → (i a k : ℕ) → ℕ
@@ -82,22 +82,22 @@ pub record Tries (P : Net) (inp : ℕ → List (Offer P)) (i t n : ℕ) (F : Lis
   pub place : since + steps ≡ t
   pub made : Made P (inp since) i F
   pub idle : ((before P inp since).station i).transmitter ≡ NoFrame
-  pub held : (s : ℕ) → since ≤ s → s < t → (holds (state P inp s i).transmitter ≡ true) × (frameIn P inp i s ≡ F)
+  pub held : (s : ℕ) → since ≤ s → s < t → (holds (state P inp s i).transmitter ≡ true) × (frame_in P inp i s ≡ F)
   pub count : n ≡ starts P inp i since steps
 
 starts_more : (P : Net) (inp : ℕ → List (Offer P)) (i a k t : ℕ) → a + k ≡ t
-    → starts P inp i a (suc k) ≡ triesAfter (starts P inp i a k) (out_at P inp i t).start
-unfolding starts triesAfter
+    → starts P inp i a (suc k) ≡ tries_after (starts P inp i a k) (out_at P inp i t).start
+unfolding starts tries_after
 starts_more P inp i a k t z =
-    by-test (out_at P inp i t).start
+    by_test (out_at P inp i t).start
     (λ e. rw (z, e))
     (λ e. rw (z, e, add-zero (starts P inp i a k)))
 
 module _ (P : Net) (inp : ℕ → List (Offer P)) (span : ℕ) (L : Sound P span) (i : ℕ) (hi : i < P.n) where
   took : (t : ℕ) (s : Station) (F G : List ℕ) → s ≡ (before P inp t).station i → s.transmitter ≡ NoFrame
       → Made P (inp t) i G
-      → Tries P inp i t (offeredStation s (length G)).attempts G
-  unfolding offeredStation starts
+      → Tries P inp i t (offered_station s (length G)).attempts G
+  unfolding offered_station starts
   took t s F G z e m =
       record {
         since = t;
@@ -109,10 +109,10 @@ module _ (P : Net) (inp : ℕ → List (Offer P)) (span : ℕ) (L : Sound P span
         count = refl;
       }
 
-  kept-tries : (t : ℕ) (s r : Station) (F G : List ℕ) → s ≡ (before P inp t).station i → Kept P (inp t) i s r F G
+  kept_tries : (t : ℕ) (s r : Station) (F G : List ℕ) → s ≡ (before P inp t).station i → Kept P (inp t) i s r F G
       → (holds s.transmitter ≡ true → Tries P inp i t s.attempts F) → holds r.transmitter ≡ true
       → Tries P inp i t r.attempts G
-  kept-tries t s r F G z k v h =
+  kept_tries t s r F G z k v h =
       either k
       (λ x. subst (λ (q : Station). Tries P inp i t q.attempts G) (sym x.0)
       (subst (Tries P inp i t s.attempts) (sym x.1)
@@ -121,8 +121,8 @@ module _ (P : Net) (inp : ℕ → List (Offer P)) (span : ℕ) (L : Sound P span
 
   -- a step of a frame that is held
   tried : (t : ℕ) → holds (state P inp t i).transmitter ≡ true
-      → Tries P inp i t (state P inp t i).attempts (frameIn P inp i t)
-      → Tries P inp i (suc t) (triesAfter (state P inp t i).attempts (deferAt P inp i t).start) (frameIn P inp i t)
+      → Tries P inp i t (state P inp t i).attempts (frame_in P inp i t)
+      → Tries P inp i (suc t) (tries_after (state P inp t i).attempts (defer_at P inp i t).start) (frame_in P inp i t)
   tried t h v =
       record {
         since = v.since;
@@ -130,77 +130,77 @@ module _ (P : Net) (inp : ℕ → List (Offer P)) (span : ℕ) (L : Sound P span
         place = omega (arith, v.place);
         made = v.made;
         idle = v.idle;
-        held = λ s lo up. by-eq s t (λ z. rw z (h, refl)) (λ z. v.held s lo (omega arith));
+        held = λ s lo up. by_eq s t (λ z. rw z (h, refl)) (λ z. v.held s lo (omega arith));
         count =
-            ap₂ triesAfter v.count (sym (out-start P inp span L i hi t))
+            ap₂ tries_after v.count (sym (out_start P inp span L i hi t))
             ∙ sym (starts_more P inp i v.since v.steps t v.place);
       }
 
-  holds_on : (t : ℕ) → holds (sendAt P inp i t).phase ≡ true → holds (state P inp t i).transmitter ≡ true
-  unfolding sendAt deferAt
+  holds_on : (t : ℕ) → holds (send_at P inp i t).phase ≡ true → holds (state P inp t i).transmitter ≡ true
+  unfolding send_at defer_at
   holds_on t h =
       let s = state P inp t i in
-      held_back P.fig s.transmitter s.frame (triesAfter s.attempts (deferAt P inp i t).start)
-      (P.draw i s.draw) (deferAt P inp i t).start (hearsAny (sees P inp i t)) h
+      held_back P.fig s.transmitter s.frame (tries_after s.attempts (defer_at P inp i t).start)
+      (P.draw i s.draw) (defer_at P inp i t).start (hears_any (sees P inp i t)) h
 
-  next-tries : (t : ℕ) → (holds (state P inp t i).transmitter ≡ true → Tries P inp i t (state P inp t i).attempts
-      (frameIn P inp i t))
+  next_tries : (t : ℕ) → (holds (state P inp t i).transmitter ≡ true → Tries P inp i t (state P inp t i).attempts
+      (frame_in P inp i t))
       → holds ((before P inp (suc t)).station i).transmitter ≡ true
       → Tries P inp i (suc t) ((before P inp (suc t)).station i).attempts ((before P inp (suc t)).frame i)
-  next-tries t v h =
-      let o = holds_on t (sym (ap holds (next-transmitter P inp span L i hi t)) ∙ h) in
+  next_tries t v h =
+      let o = holds_on t (sym (ap holds (next_transmitter P inp span L i hi t)) ∙ h) in
       subst (λ (n : ℕ). Tries P inp i (suc t) n ((before P inp (suc t)).frame i))
-      (sym (next-attempts P inp span L i hi t))
-      (subst (Tries P inp i (suc t) (triesAfter (state P inp t i).attempts (deferAt P inp i t).start))
-      (sym (frame-suc P inp t i)) (tried t o (v o)))
+      (sym (next_attempts P inp span L i hi t))
+      (subst (Tries P inp i (suc t) (tries_after (state P inp t i).attempts (defer_at P inp i t).start))
+      (sym (frame_suc P inp t i)) (tried t o (v o)))
 
-  none-held : holds ((before P inp 0).station i).transmitter ≡ false
-  unfolding before fresh freshStation
-  none-held = refl
+  none_held : holds ((before P inp 0).station i).transmitter ≡ false
+  unfolding before fresh fresh_station
+  none_held = refl
 
-  tries-ready : (t : ℕ)
+  tries_ready : (t : ℕ)
       → (holds ((before P inp t).station i).transmitter ≡ true → Tries P inp i t ((before P inp t).station i).attempts
       ((before P inp t).frame i))
-      → holds (state P inp t i).transmitter ≡ true → Tries P inp i t (state P inp t i).attempts (frameIn P inp i t)
-  tries-ready t v h =
-      kept-tries t ((before P inp t).station i) (state P inp t i) ((before P inp t).frame i) (frameIn P inp i t) refl
-      (ready-kept P inp t i) v h
+      → holds (state P inp t i).transmitter ≡ true → Tries P inp i t (state P inp t i).attempts (frame_in P inp i t)
+  tries_ready t v h =
+      kept_tries t ((before P inp t).station i) (state P inp t i) ((before P inp t).frame i) (frame_in P inp i t) refl
+      (ready_kept P inp t i) v h
 
-  tries-before : (t : ℕ) → holds ((before P inp t).station i).transmitter ≡ true
+  tries_before : (t : ℕ) → holds ((before P inp t).station i).transmitter ≡ true
       → Tries P inp i t ((before P inp t).station i).attempts ((before P inp t).frame i)
-  tries-before zero h = clash h none-held
-  tries-before (suc t) h = next-tries t (tries-ready t (tries-before t)) h
+  tries_before zero h = clash h none_held
+  tries_before (suc t) h = next_tries t (tries_ready t (tries_before t)) h
 
   -- A frame that is held: whose offer it is, since when, and its attempts so far.
   pub tries : (t : ℕ) → holds (state P inp t i).transmitter ≡ true
-      → Tries P inp i t (state P inp t i).attempts (frameIn P inp i t)
-  tries t h = tries-ready t (tries-before t) h
+      → Tries P inp i t (state P inp t i).attempts (frame_in P inp i t)
+  tries t h = tries_ready t (tries_before t) h
 
   -- A frame that is sent, or given up, in step e: the attempts that its event reports are its starts, the one in step e
   -- among them.
-  pub reported : (e m : ℕ) → Ends (out_at P inp i e).sent m → Tries P inp i (suc e) m (frameIn P inp i e)
+  pub reported : (e m : ℕ) → Ends (out_at P inp i e).sent m → Tries P inp i (suc e) m (frame_in P inp i e)
   reported e m v =
-      let q = end-next P inp span L i e m hi v in
-      subst (λ (n : ℕ). Tries P inp i (suc e) n (frameIn P inp i e)) (sym q.1) (tried e q.2 (tries e q.2))
+      let q = end_next P inp span L i e m hi v in
+      subst (λ (n : ℕ). Tries P inp i (suc e) n (frame_in P inp i e)) (sym q.1) (tried e q.2 (tries e q.2))
 
   -- no more than the limit, before every step and of every frame that ends
-  pub tried-within : (t : ℕ) → (state P inp t i).attempts ≤ P.fig.limit
-  tried-within t =
-      in-limit P.fig.limit (state P inp t i).transmitter (state P inp t i).attempts
+  pub tried_within : (t : ℕ) → (state P inp t i).attempts ≤ P.fig.limit
+  tried_within t =
+      in_limit P.fig.limit (state P inp t i).transmitter (state P inp t i).attempts
       (fine P inp span L t i hi).attempts
 
-  pub within-limit : (e m : ℕ) → Ends (out_at P inp i e).sent m → m ≤ P.fig.limit
-  within-limit e m v =
-      let q = end-next P inp span L i e m hi v in
+  pub within_limit : (e m : ℕ) → Ends (out_at P inp i e).sent m → m ≤ P.fig.limit
+  within_limit e m v =
+      let q = end_next P inp span L i e m hi v in
       let s = (before P inp (suc e)).station i in
-      let a = in-limit P.fig.limit s.transmitter s.attempts
+      let a = in_limit P.fig.limit s.transmitter s.attempts
       (fine_before P inp span L (suc e) i hi).attempts in
-      omega (arith, q.1, next-attempts P inp span L i hi e)
+      omega (arith, q.1, next_attempts P inp span L i hi e)
 
-  pub given-up : (e m : ℕ) → (out_at P inp i e).sent ≡ GivenUp m → m ≡ P.fig.limit
-  unfolding sendAt deferAt
-  given-up e m v =
+  pub given_up : (e m : ℕ) → (out_at P inp i e).sent ≡ GivenUp m → m ≡ P.fig.limit
+  unfolding send_at defer_at
+  given_up e m v =
       let s = state P inp e i in
-      up-limit P.fig s.transmitter s.frame (triesAfter s.attempts (deferAt P inp i e).start)
-      (P.draw i s.draw) (deferAt P inp i e).start (hearsAny (sees P inp i e)) m
-      (sym (out-sent P inp span L i hi e) ∙ v)
+      up_limit P.fig s.transmitter s.frame (tries_after s.attempts (defer_at P inp i e).start)
+      (P.draw i s.draw) (defer_at P inp i e).start (hears_any (sees P inp i e)) m
+      (sym (out_sent P inp span L i hi e) ∙ v)

@@ -8,18 +8,18 @@ use Rattle.std.proofs.Math.Logic.{inl, inr}
 use native.Mathlib.Omega.{arith}
 use Rattle.std.proofs.Math.Nat.{suc_inj, add-zero}
 use borrow.Author.Tests.{leb-true, leb-false, ltb-false, eqb-true}
-use Rattle.octets.specs.BaseLaws.{by-test, by-eq}
+use Rattle.octets.specs.BaseLaws.{by_test, by_eq}
 use Rattle.sheet_layout.specs.declared.Figures.{Figures}
 use Rattle.station_symbols.specs.declared.Heard.TheVariants.{Nothing}
 use Rattle.station_symbols.specs.declared.Symbol.TheVariants.{Bit, Jam}
 use Rattle.station_symbols.specs.declared.Emission.TheVariants.{PacketBit, JamBit}
-use Rattle.station_symbols.specs.Packet.{packetBit, symbol_of}
+use Rattle.station_symbols.specs.Packet.{packet_bit, symbol_of}
 use Rattle.station_spec.specs.declared.TransmitEvent.TheVariants.{Sent}
 use Rattle.station_state.specs.declared.Transmitter.{Transmitter}
 use Rattle.station_state.specs.declared.Transmitter.TheVariants.{NoFrame, Waiting, BackingOff, Sending, Heading}
 use Rattle.station_state.specs.declared.Transmitter.TheVariants.{Jamming}
-use Rattle.station_spec.specs.Transmit.{packetLength, afterBit, collision, sendBit, headBit, backoffRange, backOff}
-use Rattle.station_spec.specs.Transmit.{closesFrame, lastJam, jamBit, backoffBit, waitBit, transmit}
+use Rattle.station_spec.specs.Transmit.{packet_length, after_bit, collision, send_bit, head_bit, backoff_range, back_off}
+use Rattle.station_spec.specs.Transmit.{closes_frame, last_jam, jam_bit, backoff_bit, wait_bit, transmit}
 use Rattle.bus_spec.specs.Range.{NumberIn}
 use Rattle.bus_offer.specs.Offer.{holds}
 use Rattle.trace.specs.Basic.{clash}
@@ -28,8 +28,8 @@ use Rattle.trace.specs.Trace.{Hears, Start}
 use Rattle.bus_meeting.specs.Net.{Net}
 use Rattle.trace.specs.World.{Offer}
 use Rattle.bus_meeting.specs.Gather.{on}
-use Rattle.trace.specs.Run.{frameIn, out_at, sig, emits, sees, Sound}
-use Rattle.frame_build.specs.Limits.{bufferOctets}
+use Rattle.trace.specs.Run.{frame_in, out_at, sig, emits, sees, Sound}
+use Rattle.frame_build.specs.Limits.{buffer_octets}
 
 -- station i hears another in step t, and is busy then
 abbrev pub HeardIn : (P : Net) → (ℕ → List (Offer P)) → ℕ → ℕ → Type 0
@@ -48,11 +48,11 @@ pub record Whole (P : Net) (inp : ℕ → List (Offer P)) (i a e : ℕ) : Type 0
   pub frame : List ℕ
   pub attempts : ℕ
   pub sent : (out_at P inp i e).sent ≡ Sent attempts
-  pub size : (64 ≤ length frame) × (length frame ≤ bufferOctets)
-  pub long : a + packetLength (length frame) ≡ suc e
+  pub size : (64 ≤ length frame) × (length frame ≤ buffer_octets)
+  pub long : a + packet_length (length frame) ≡ suc e
   pub ran : Ran P inp i a (suc e)
-  pub held : (s : ℕ) → a ≤ s → s ≤ e → frameIn P inp i s ≡ frame
-  pub bits : (k : ℕ) → k < packetLength (length frame) → sig P inp i (a + k) ≡ Bit (packetBit frame (k + 1))
+  pub held : (s : ℕ) → a ≤ s → s ≤ e → frame_in P inp i s ≡ frame
+  pub bits : (k : ℕ) → k < packet_length (length frame) → sig P inp i (a + k) ≡ Bit (packet_bit frame (k + 1))
   pub clear : (y : ℕ) → a ≤ y → y ≤ e → sees P inp i y ≡ Nothing
 
 -- A run of station i ended with step b: in a jam bit, or as a whole packet.
@@ -73,8 +73,8 @@ pub record Sends (P : Net) (inp : ℕ → List (Offer P)) (i t : ℕ) (F : List 
   pub place : begin + k ≡ suc t
   pub some : 1 < k
   pub ran : Ran P inp i begin t
-  pub held : (s : ℕ) → begin ≤ s → s < t → frameIn P inp i s ≡ F
-  pub bits : (j : ℕ) → suc j < k → sig P inp i (begin + j) ≡ Bit (packetBit F (suc j))
+  pub held : (s : ℕ) → begin ≤ s → s < t → frame_in P inp i s ≡ F
+  pub bits : (j : ℕ) → suc j < k → sig P inp i (begin + j) ≡ Bit (packet_bit F (suc j))
   pub clear : (y : ℕ) → begin ≤ y → y < t → sees P inp i y ≡ Nothing
 
 -- header bit k is next, after a collision
@@ -101,17 +101,17 @@ TxInv P inp i t F (Jamming r ends) = Jams P inp i t r
 
 -- ---- what is emitted
 
-pub bit-sent : (f : Figures) (z n k : ℕ) (hears : Bool) → (sendBit f z n k hears).emission ≡ PacketBit k
-unfolding sendBit collision
-bit-sent f z n k true = by-test (ltb f.slot k) (λ e. rw e) (λ e. rw e)
-bit-sent f z n k false = by-test (eqb k (packetLength z)) (λ e. rw e) (λ e. rw e)
+pub bit_sent : (f : Figures) (z n k : ℕ) (hears : Bool) → (send_bit f z n k hears).emission ≡ PacketBit k
+unfolding send_bit collision
+bit_sent f z n k true = by_test (ltb f.slot k) (λ e. rw e) (λ e. rw e)
+bit_sent f z n k false = by_test (eqb k (packet_length z)) (λ e. rw e) (λ e. rw e)
 
-pub jam-sent : (f : Figures) (n draw left : ℕ) (ends : Bool) → (jamBit f n draw left ends).emission ≡ JamBit
-unfolding jamBit lastJam
-jam-sent f n draw left ends =
-    by-test (leb left 1)
-    (λ e. by-test ends (λ d. rw (e, d))
-    (λ d. by-test (eqb n f.limit) (λ c. rw (e, d, c)) (λ c. rw (e, d, c))))
+pub jam_sent : (f : Figures) (n draw left : ℕ) (ends : Bool) → (jam_bit f n draw left ends).emission ≡ JamBit
+unfolding jam_bit last_jam
+jam_sent f n draw left ends =
+    by_test (leb left 1)
+    (λ e. by_test ends (λ d. rw (e, d))
+    (λ d. by_test (eqb n f.limit) (λ c. rw (e, d, c)) (λ c. rw (e, d, c))))
     (λ e. rw e)
 
 -- ---- the step
@@ -119,7 +119,7 @@ jam-sent f n draw left ends =
 module _ (P : Net) (inp : ℕ → List (Offer P)) (span : ℕ) (L : Sound P span) (i t : ℕ) where
   -- one more step of a run
   pub more : (a : ℕ) → Ran P inp i a t → emits P inp i t ≡ true → Ran P inp i a (suc t)
-  more a r o = record { start = r.start; on = λ s lo hi. by-eq s t (λ z. rw z o) (λ z. r.on s lo (omega arith)) }
+  more a r o = record { start = r.start; on = λ s lo hi. by_eq s t (λ z. rw z o) (λ z. r.on s lo (omega arith)) }
 
   first : ((s : ℕ) → suc s ≡ t → emits P inp i s ≡ false) → emits P inp i t ≡ true → Ran P inp i t (suc t)
   first fr o =
@@ -131,36 +131,36 @@ module _ (P : Net) (inp : ℕ → List (Offer P)) (span : ℕ) (L : Sound P span
   rest : Over P inp i t → Resting P inp i (suc t)
   rest v b z o = subst (λ (x : ℕ). Over P inp i x) (sym (suc_inj z)) v
 
-  silent-rest : emits P inp i t ≡ false → Resting P inp i (suc t)
-  silent-rest e b z o = clash o (rw (suc_inj z) e)
+  silent_rest : emits P inp i t ≡ false → Resting P inp i (suc t)
+  silent_rest e b z o = clash o (rw (suc_inj z) e)
 
   -- after bit k of a run with a collision
-  after-bit : (F : List ℕ) (a k : ℕ) (ends : Bool) → a + k ≡ suc t → 1 ≤ k → Ran P inp i a (suc t)
-      → TxInv P inp i (suc t) F (afterBit P.fig.jam k ends)
-  unfolding afterBit
-  after-bit F a k ends w p r =
-      by-test (ltb k 64)
+  after_bit_lem : (F : List ℕ) (a k : ℕ) (ends : Bool) → a + k ≡ suc t → 1 ≤ k → Ran P inp i a (suc t)
+      → TxInv P inp i (suc t) F (after_bit P.fig.jam k ends)
+  unfolding after_bit
+  after_bit_lem F a k ends w p r =
+      by_test (ltb k 64)
       (λ e. rw e (record { begin = a; place = omega arith; some = omega arith; ran = r }))
       (λ e. let l = ltb-false k 64 e in rw e (record { begin = a; place = omega arith; past = omega arith; ran = r }))
 
   -- bit k of the packet of F, of z octets, goes out in step t
-  send-bit : (F : List ℕ) (z n k : ℕ) (hears : Bool) (a : ℕ) → z ≡ length F → 64 ≤ z → z ≤ bufferOctets
-      → k ≤ packetLength z
+  send_bit_lem : (F : List ℕ) (z n k : ℕ) (hears : Bool) (a : ℕ) → z ≡ length F → 64 ≤ z → z ≤ buffer_octets
+      → k ≤ packet_length z
       → a + k ≡ suc t → 1 ≤ k → Ran P inp i a (suc t)
-      → ((s : ℕ) → a ≤ s → s ≤ t → frameIn P inp i s ≡ F)
-      → ((j : ℕ) → j < k → sig P inp i (a + j) ≡ Bit (packetBit F (suc j)))
+      → ((s : ℕ) → a ≤ s → s ≤ t → frame_in P inp i s ≡ F)
+      → ((j : ℕ) → j < k → sig P inp i (a + j) ≡ Bit (packet_bit F (suc j)))
       → ((y : ℕ) → a ≤ y → y < t → sees P inp i y ≡ Nothing)
       → (hears ≡ false → sees P inp i t ≡ Nothing)
-      → (out_at P inp i t).sent ≡ (sendBit P.fig z n k hears).event
-      → TxInv P inp i (suc t) F (sendBit P.fig z n k hears).phase
-  unfolding sendBit collision
-  send-bit F z n k true a ez lo hi up w p r hd bs cl nh ev =
-      by-test (ltb P.fig.slot k)
-      (λ c. rw c (after-bit F a k (closesFrame P.fig) w p r))
-      (λ c. rw c (after-bit F a k false w p r))
-  send-bit F z n k false a ez lo hi up w p r hd bs cl nh ev =
-      by-test (eqb k (packetLength z))
-      (λ e. let q = eqb-true k (packetLength z) e in
+      → (out_at P inp i t).sent ≡ (send_bit P.fig z n k hears).event
+      → TxInv P inp i (suc t) F (send_bit P.fig z n k hears).phase
+  unfolding send_bit collision
+  send_bit_lem F z n k true a ez lo hi up w p r hd bs cl nh ev =
+      by_test (ltb P.fig.slot k)
+      (λ c. rw c (after_bit_lem F a k (closes_frame P.fig) w p r))
+      (λ c. rw c (after_bit_lem F a k false w p r))
+  send_bit_lem F z n k false a ez lo hi up w p r hd bs cl nh ev =
+      by_test (eqb k (packet_length z))
+      (λ e. let q = eqb-true k (packet_length z) e in
       rw e (rest (record {
         begin = a;
         ran = r;
@@ -188,19 +188,19 @@ module _ (P : Net) (inp : ℕ → List (Offer P)) (span : ℕ) (L : Sound P span
       }))
     where
       cl' : (y : ℕ) → a ≤ y → y ≤ t → sees P inp i y ≡ Nothing
-      cl' y l u = by-eq y t (λ q. rw q (nh refl)) (λ q. cl y l (omega arith))
+      cl' y l u = by_eq y t (λ q. rw q (nh refl)) (λ q. cl y l (omega arith))
 
-  backed-off : (F : List ℕ) (n draw : ℕ) → Resting P inp i (suc t) → TxInv P inp i (suc t) F (backOff P.fig n draw)
-  unfolding backOff
-  backed-off F n draw o =
-      by-test (eqb (P.fig.slot * (draw % backoffRange n P.fig.backoff)) 0) (λ e. rw e o) (λ e. rw e o)
+  backed_off : (F : List ℕ) (n draw : ℕ) → Resting P inp i (suc t) → TxInv P inp i (suc t) F (back_off P.fig n draw)
+  unfolding back_off
+  backed_off F n draw o =
+      by_test (eqb (P.fig.slot * (draw % backoff_range n P.fig.backoff)) 0) (λ e. rw e o) (λ e. rw e o)
 
-  jam-bit : (F : List ℕ) (n draw r : ℕ) (ends : Bool) → 1 ≤ r → Jams P inp i t r → sig P inp i t ≡ Jam
-      → TxInv P inp i (suc t) F (jamBit P.fig n draw r ends).phase
-  unfolding jamBit lastJam
-  jam-bit F n draw r ends p j y =
+  jam_bit_lem : (F : List ℕ) (n draw r : ℕ) (ends : Bool) → 1 ≤ r → Jams P inp i t r → sig P inp i t ≡ Jam
+      → TxInv P inp i (suc t) F (jam_bit P.fig n draw r ends).phase
+  unfolding jam_bit last_jam
+  jam_bit_lem F n draw r ends p j y =
       let m = more j.begin j.ran (ap on y) in
-      by-test (leb r 1)
+      by_test (leb r 1)
       (λ e. let l = leb-true r 1 e in
       let o : Resting P inp i (suc t) = rest (record {
         begin = j.begin;
@@ -208,49 +208,49 @@ module _ (P : Net) (inp : ℕ → List (Offer P)) (span : ℕ) (L : Sound P span
         long = omega (arith, j.place);
         how = inl y;
       }) in
-      by-test ends (λ d. rw (e, d) o)
-      (λ d. by-test (eqb n P.fig.limit) (λ c. rw (e, d, c) o) (λ c. rw (e, d, c) (backed-off F n draw o))))
+      by_test ends (λ d. rw (e, d) o)
+      (λ d. by_test (eqb n P.fig.limit) (λ c. rw (e, d, c) o) (λ c. rw (e, d, c) (backed_off F n draw o))))
       (λ e. let l = leb-false r 1 e in
       rw e (record { begin = j.begin; place = omega (arith, j.place); past = omega (arith, j.past); ran = m }))
 
   -- The transmitter's step keeps its invariant.
-  pub tx-step : (F : List ℕ) (x : Transmitter) (z n draw : ℕ) (start hears : Bool)
-      → frameIn P inp i t ≡ F
-      → (holds x ≡ true → (z ≡ length F) × (64 ≤ z) × (z ≤ bufferOctets))
+  pub tx_step : (F : List ℕ) (x : Transmitter) (z n draw : ℕ) (start hears : Bool)
+      → frame_in P inp i t ≡ F
+      → (holds x ≡ true → (z ≡ length F) × (64 ≤ z) × (z ≤ buffer_octets))
       → NumberIn P.fig z x
       → (start ≡ true → (s : ℕ) → suc s ≡ t → emits P inp i s ≡ false)
       → (hears ≡ false → sees P inp i t ≡ Nothing)
       → sig P inp i t ≡ symbol_of F (transmit P.fig x z n draw start hears).emission
       → (out_at P inp i t).sent ≡ (transmit P.fig x z n draw start hears).event
       → TxInv P inp i t F x → TxInv P inp i (suc t) F (transmit P.fig x z n draw start hears).phase
-  unfolding transmit waitBit headBit backoffBit
-  tx-step F NoFrame z n draw start hears fi hz nu fr nh sy ev v = silent-rest (ap on sy)
-  tx-step F Waiting z n draw true hears fi hz nu fr nh sy ev v =
+  unfolding transmit wait_bit head_bit backoff_bit
+  tx_step F NoFrame z n draw start hears fi hz nu fr nh sy ev v = silent_rest (ap on sy)
+  tx_step F Waiting z n draw true hears fi hz nu fr nh sy ev v =
       let h = hz refl in
-      let y : sig P inp i t ≡ Bit (packetBit F 1) = sy ∙ ap (symbol_of F) (bit-sent P.fig z n 1 hears) in
-      send-bit F z n 1 hears t h.0 h.1 h.2 (omega arith) (omega arith) (omega arith)
+      let y : sig P inp i t ≡ Bit (packet_bit F 1) = sy ∙ ap (symbol_of F) (bit_sent P.fig z n 1 hears) in
+      send_bit_lem F z n 1 hears t h.0 h.1 h.2 (omega arith) (omega arith) (omega arith)
       (first (fr refl) (ap on y))
-      (λ s l u. subst (λ (x : ℕ). frameIn P inp i x ≡ F) (omega arith) fi)
+      (λ s l u. subst (λ (x : ℕ). frame_in P inp i x ≡ F) (omega arith) fi)
       (λ j l. let e : j ≡ 0 = omega arith in rw (e, add-zero t) y)
       (λ y l u. absurd (omega arith)) nh ev
-  tx-step F Waiting z n draw false hears fi hz nu fr nh sy ev v = silent-rest (ap on sy)
-  tx-step F (BackingOff w) z n draw start hears fi hz nu fr nh sy ev v =
-      by-test (leb w 1)
-      (λ e. rw e (silent-rest (ap on (rw e at sy))))
-      (λ e. rw e (silent-rest (ap on (rw e at sy))))
-  tx-step F (Sending k) z n draw start hears fi hz nu fr nh sy ev v =
+  tx_step F Waiting z n draw false hears fi hz nu fr nh sy ev v = silent_rest (ap on sy)
+  tx_step F (BackingOff w) z n draw start hears fi hz nu fr nh sy ev v =
+      by_test (leb w 1)
+      (λ e. rw e (silent_rest (ap on (rw e at sy))))
+      (λ e. rw e (silent_rest (ap on (rw e at sy))))
+  tx_step F (Sending k) z n draw start hears fi hz nu fr nh sy ev v =
       let h = hz refl in
-      let y : sig P inp i t ≡ Bit (packetBit F k) = sy ∙ ap (symbol_of F) (bit-sent P.fig z n k hears) in
+      let y : sig P inp i t ≡ Bit (packet_bit F k) = sy ∙ ap (symbol_of F) (bit_sent P.fig z n k hears) in
       let c = v.place in
       let o = v.some in
-      send-bit F z n k hears v.begin h.0 h.1 h.2 nu.1 v.place (omega arith)
+      send_bit_lem F z n k hears v.begin h.0 h.1 h.2 nu.1 v.place (omega arith)
       (more v.begin v.ran (ap on y))
-      (λ s l u. by-eq s t (λ q. rw q fi) (λ q. v.held s l (omega arith)))
-      (λ j l. by-eq (suc j) k
+      (λ s l u. by_eq s t (λ q. rw q fi) (λ q. v.held s l (omega arith)))
+      (λ j l. by_eq (suc j) k
       (λ q. let e : v.begin + j ≡ t = omega arith in rw (e, q) y)
       (λ q. v.bits j (omega arith)))
       v.clear nh ev
-  tx-step F (Heading k) z n draw start hears fi hz nu fr nh sy ev v =
-      after-bit F v.begin k false v.place (omega (arith, v.some)) (more v.begin v.ran (ap on sy))
-  tx-step F (Jamming r ends) z n draw start hears fi hz nu fr nh sy ev v =
-      jam-bit F n draw r ends nu.0 v (sy ∙ ap (symbol_of F) (jam-sent P.fig n draw r ends))
+  tx_step F (Heading k) z n draw start hears fi hz nu fr nh sy ev v =
+      after_bit_lem F v.begin k false v.place (omega (arith, v.some)) (more v.begin v.ran (ap on sy))
+  tx_step F (Jamming r ends) z n draw start hears fi hz nu fr nh sy ev v =
+      jam_bit_lem F n draw r ends nu.0 v (sy ∙ ap (symbol_of F) (jam_sent P.fig n draw r ends))

@@ -6,12 +6,12 @@ use Rattle.std.proofs.Math.Logic.{inl, inr}
 use Rattle.std.proofs.Common.{arith, leb-true, leb-false}
 use Rattle.std.proofs.Math.Nat.{suc_inj}
 use Rattle.octets.specs.Base.{pick}
-use Rattle.octets.specs.BaseLaws.{by-eq}
+use Rattle.octets.specs.BaseLaws.{by_eq}
 use Rattle.sheet_layout.specs.Layout.{gap_of}
 use Rattle.station_state.specs.declared.Deference.{Deference}
 use Rattle.station_state.specs.declared.Deference.TheVariants.{Quiet, Busy, Gap}
 use Rattle.station_spec.specs.declared.Deferred.{Deferred}
-use Rattle.station_spec.specs.Defer.{defer, to, quietRule, busyRule, goesBack, gapOver, gapRule}
+use Rattle.station_spec.specs.Defer.{defer, to, quiet_rule, busy_rule, goes_back, gap_over, gap_rule}
 use Rattle.trace.specs.Basic.{either, clash, and_left}
 use Rattle.trace.specs.Trace as trace
 use Rattle.trace.specs.Trace.{Emitted, Free}
@@ -57,12 +57,12 @@ pub record Flags (P : Net) (inp : ℕ → List (Offer P)) (i t : ℕ) (h m : Boo
   pub mn : m ≡ false → Emitted (emits P inp) i t → ⊥
 
 -- the gap's rule, by its tests
-abbrev gapBy : (k : ℕ) (own full back h m w : Bool) → Deferred
-gapBy k own full back h m w = pick full (gapOver h m w) (pick back (to (Busy own)) (to (Gap (k + 1) own)))
+abbrev gap_by : (k : ℕ) (own full back h m w : Bool) → Deferred
+gap_by k own full back h m w = pick full (gap_over h m w) (pick back (to (Busy own)) (to (Gap (k + 1) own)))
 
-back-heard : (g k : ℕ) (own h : Bool) → goesBack g k own h ≡ true → h ≡ true
-unfolding goesBack
-back-heard g k own h e = and_left h (ltb k g && not own) e
+back_heard : (g k : ℕ) (own h : Bool) → goes_back g k own h ≡ true → h ≡ true
+unfolding goes_back
+back_heard g k own h e = and_left h (ltb k g && not own) e
 
 module _ (P : Net) (inp : ℕ → List (Offer P)) (span : ℕ) (L : Sound P span) (i t : ℕ) where
   now : BusyIn P inp i t → Was P inp i (suc t)
@@ -73,18 +73,18 @@ module _ (P : Net) (inp : ℕ → List (Offer P)) (span : ℕ) (L : Sound P span
   calm f b = either b (f.hn refl) (f.mn refl)
 
   -- quiet goes on
-  calm-on : Calm P inp i t → (BusyIn P inp i t → ⊥) → Calm P inp i (suc t)
-  calm-on c nb =
+  calm_on : Calm P inp i t → (BusyIn P inp i t → ⊥) → Calm P inp i (suc t)
+  calm_on c nb =
       record {
         since = c.since;
         past = omega (arith, c.past);
-        still = λ s lo hi. by-eq s t (λ z. rw z nb) (λ z. c.still s lo (omega arith));
+        still = λ s lo hi. by_eq s t (λ z. rw z nb) (λ z. c.still s lo (omega arith));
         why = c.why;
       }
 
   -- the gap is over
-  calm-new : (k : ℕ) → gap_of P.fig ≤ k → Counting P inp i t k → Calm P inp i t
-  calm-new k le c =
+  calm_new : (k : ℕ) → gap_of P.fig ≤ k → Counting P inp i t k → Calm P inp i t
+  calm_new k le c =
       record {
         since = t;
         past = omega arith;
@@ -93,23 +93,23 @@ module _ (P : Net) (inp : ℕ → List (Offer P)) (span : ℕ) (L : Sound P span
       }
 
   quiet_step : (h m w : Bool) → Flags P inp i t h m → (m ≡ false → Calm P inp i t)
-      → PhInv P inp i (suc t) (quietRule h m w).phase
-  unfolding quietRule
+      → PhInv P inp i (suc t) (quiet_rule h m w).phase
+  unfolding quiet_rule
   quiet_step true m w f v = now (inl (f.hy refl))
   quiet_step false true w f v = now (inr (f.my refl))
-  quiet_step false false w f v = inr (calm-on (v refl) (calm f))
+  quiet_step false false w f v = inr (calm_on (v refl) (calm f))
 
   -- what a step without a start leaves
-  silent-next : (m h : Bool) → Flags P inp i t h m → m ≡ false → (emits P inp i t ≡ true → Emitted (emits P inp) i t)
+  silent_next : (m h : Bool) → Flags P inp i t h m → m ≡ false → (emits P inp i t ≡ true → Emitted (emits P inp) i t)
       → Emitted (emits P inp) i (suc t) → ⊥
-  silent-next m h f e ss x = f.mn e (ss (rw (suc_inj x.before) at x.on))
+  silent_next m h f e ss x = f.mn e (ss (rw (suc_inj x.before) at x.on))
 
   gap_step : (k : ℕ) (o full back h m w : Bool) → (full ≡ true → gap_of P.fig ≤ k)
       → (full ≡ false → k < gap_of P.fig) → (back ≡ true → h ≡ true)
-      → Flags P inp i t h m → ((gapBy k o full back h m w).start ≡ true → emits P inp i t ≡ true)
-      → ((gapBy k o full back h m w).start ≡ false → emits P inp i t ≡ true → Emitted (emits P inp) i t)
-      → Counting P inp i t k → PhInv P inp i (suc t) (gapBy k o full back h m w).phase
-  unfolding gapOver
+      → Flags P inp i t h m → ((gap_by k o full back h m w).start ≡ true → emits P inp i t ≡ true)
+      → ((gap_by k o full back h m w).start ≡ false → emits P inp i t ≡ true → Emitted (emits P inp) i t)
+      → Counting P inp i t k → PhInv P inp i (suc t) (gap_by k o full back h m w).phase
+  unfolding gap_over
   gap_step k o false true h m w fy fn bk f se ss v = now (inl (f.hy (bk refl)))
   gap_step k o false false h m w fy fn bk f se ss v =
       let q = fn refl in
@@ -122,77 +122,77 @@ module _ (P : Net) (inp : ℕ → List (Offer P)) (span : ℕ) (L : Sound P span
         rests = λ x. v.rests (ss refl (rw (suc_inj x.before) at x.on));
       }
   gap_step k o true back h m true fy fn bk f se ss v = inl (record { at = t; before = refl; on = se refl })
-  gap_step k o true back h m false fy fn bk f se ss v = quiet_step h m false f (λ e. calm-new k (fy refl) v)
+  gap_step k o true back h m false fy fn bk f se ss v = quiet_step h m false f (λ e. calm_new k (fy refl) v)
 
   -- Deference keeps its invariant.
-  pub phase-step : (x : Deference) (h m w : Bool) → 1 ≤ gap_of P.fig → Flags P inp i t h m
+  pub phase_step : (x : Deference) (h m w : Bool) → 1 ≤ gap_of P.fig → Flags P inp i t h m
       → ((defer P.fig x h m w).start ≡ true → emits P inp i t ≡ true)
       → ((defer P.fig x h m w).start ≡ false → emits P inp i t ≡ true → Emitted (emits P inp) i t)
       → PhInv P inp i t x → PhInv P inp i (suc t) (defer P.fig x h m w).phase
-  unfolding defer busyRule gapRule
-  phase-step Quiet h m w g f se ss v =
+  unfolding defer busy_rule gap_rule
+  phase_step Quiet h m w g f se ss v =
       quiet_step h m w f (λ e. either v (λ q. absurd (f.mn e q)) (λ c. c))
-  phase-step (Busy o) true m w g f se ss v = now (inl (f.hy refl))
-  phase-step (Busy o) false true w g f se ss v = now (inr (f.my refl))
-  phase-step (Busy o) false false w g f se ss v =
+  phase_step (Busy o) true m w g f se ss v = now (inl (f.hy refl))
+  phase_step (Busy o) false true w g f se ss v = now (inr (f.my refl))
+  phase_step (Busy o) false false w g f se ss v =
       record {
         fits = g;
         last = v.at;
         place = omega (arith, v.before);
         was = v.was;
         idle = λ b. calm f (rw v.before at b);
-        rests = silent-next false false f refl (ss refl);
+        rests = silent_next false false f refl (ss refl);
       }
-  phase-step (Gap k o) h m w g f se ss v =
-      gap_step k o (leb (gap_of P.fig) k) (goesBack P.fig.gap1 k o h) h m w (leb-true (gap_of P.fig) k)
+  phase_step (Gap k o) h m w g f se ss v =
+      gap_step k o (leb (gap_of P.fig) k) (goes_back P.fig.gap1 k o h) h m w (leb-true (gap_of P.fig) k)
       (leb-false (gap_of P.fig) k)
-      (back-heard P.fig.gap1 k o h) f se ss v
+      (back_heard P.fig.gap1 k o h) f se ss v
 
   -- ---- a start
 
-  quiet-start : (h m w : Bool) → Flags P inp i t h m → (quietRule h m w).start ≡ true → Calm P inp i t
+  quiet_start : (h m w : Bool) → Flags P inp i t h m → (quiet_rule h m w).start ≡ true → Calm P inp i t
       → Free P.n P.d (emits P inp) (gap_of P.fig) i t
-  unfolding quietRule
-  quiet-start true m w f e c = clash e refl
-  quiet-start false true w f e c = clash e refl
-  quiet-start false false w f e c =
+  unfolding quiet_rule
+  quiet_start true m w f e c = clash e refl
+  quiet_start false true w f e c = clash e refl
+  quiet_start false false w f e c =
       record { since = c.since; past = c.past; quiet = c.still; now = λ l. f.hn refl; why = c.why }
 
-  gap-free : (k : ℕ) (o full back h m w : Bool) → (full ≡ true → gap_of P.fig ≤ k) → Flags P inp i t h m
-      → (gapBy k o full back h m w).start ≡ true
+  gap_free : (k : ℕ) (o full back h m w : Bool) → (full ≡ true → gap_of P.fig ≤ k) → Flags P inp i t h m
+      → (gap_by k o full back h m w).start ≡ true
       → Counting P inp i t k → Free P.n P.d (emits P inp) (gap_of P.fig) i t
-  unfolding gapOver calm-new
-  gap-free k o false true h m w fy f e v = clash e refl
-  gap-free k o false false h m w fy f e v = clash e refl
-  gap-free k o true back h m true fy f e v =
-      let c = calm-new k (fy refl) v in
+  unfolding gap_over calm_new
+  gap_free k o false true h m w fy f e v = clash e refl
+  gap_free k o false false h m w fy f e v = clash e refl
+  gap_free k o true back h m true fy f e v =
+      let c = calm_new k (fy refl) v in
       record { since = t; past = c.past; quiet = c.still; now = λ l. absurd (omega arith); why = c.why }
-  gap-free k o true back h m false fy f e v = quiet-start h m false f e (calm-new k (fy refl) v)
+  gap_free k o true back h m false fy f e v = quiet_start h m false f e (calm_new k (fy refl) v)
 
   -- A frame that starts is free to.
   pub free : (x : Deference) (h m w : Bool) → Flags P inp i t h m → (Emitted (emits P inp) i t → ⊥)
       → (defer P.fig x h m w).start ≡ true → PhInv P inp i t x
       → Free P.n P.d (emits P inp) (gap_of P.fig) i t
-  unfolding defer busyRule gapRule
-  free Quiet h m w f ne e v = either v (λ q. absurd (ne q)) (λ c. quiet-start h m w f e c)
+  unfolding defer busy_rule gap_rule
+  free Quiet h m w f ne e v = either v (λ q. absurd (ne q)) (λ c. quiet_start h m w f e c)
   free (Busy o) true m w f ne e v = clash e refl
   free (Busy o) false true w f ne e v = clash e refl
   free (Busy o) false false w f ne e v = clash e refl
   free (Gap k o) h m w f ne e v =
-      gap-free k o (leb (gap_of P.fig) k) (goesBack P.fig.gap1 k o h) h m w (leb-true (gap_of P.fig) k) f e v
+      gap_free k o (leb (gap_of P.fig) k) (goes_back P.fig.gap1 k o h) h m w (leb-true (gap_of P.fig) k) f e v
 
   -- A start follows no step of emission.
-  quiet-fresh : (h m w : Bool) → Flags P inp i t h m → (quietRule h m w).start ≡ true → Emitted (emits P inp) i t → ⊥
-  unfolding quietRule
-  quiet-fresh true m w f e q = clash e refl
-  quiet-fresh false true w f e q = clash e refl
-  quiet-fresh false false w f e q = f.mn refl q
+  quiet_fresh : (h m w : Bool) → Flags P inp i t h m → (quiet_rule h m w).start ≡ true → Emitted (emits P inp) i t → ⊥
+  unfolding quiet_rule
+  quiet_fresh true m w f e q = clash e refl
+  quiet_fresh false true w f e q = clash e refl
+  quiet_fresh false false w f e q = f.mn refl q
 
-  pub start-fresh : (x : Deference) (h m w : Bool) → Flags P inp i t h m → (defer P.fig x h m w).start ≡ true
+  pub start_fresh : (x : Deference) (h m w : Bool) → Flags P inp i t h m → (defer P.fig x h m w).start ≡ true
       → PhInv P inp i t x → Emitted (emits P inp) i t → ⊥
-  unfolding defer busyRule
-  start-fresh Quiet h m w f e v q = quiet-fresh h m w f e q
-  start-fresh (Busy o) true m w f e v q = clash e refl
-  start-fresh (Busy o) false true w f e v q = clash e refl
-  start-fresh (Busy o) false false w f e v q = clash e refl
-  start-fresh (Gap k o) h m w f e v q = v.rests q
+  unfolding defer busy_rule
+  start_fresh Quiet h m w f e v q = quiet_fresh h m w f e q
+  start_fresh (Busy o) true m w f e v q = clash e refl
+  start_fresh (Busy o) false true w f e v q = clash e refl
+  start_fresh (Busy o) false false w f e v q = clash e refl
+  start_fresh (Gap k o) h m w f e v q = v.rests q

@@ -3,7 +3,7 @@
 use Rattle.std.specs.Prelude.{◌≡◌, refl, Bool, true, false, ◌⊎◌, ℕ, zero, suc, ◌+◌, ◌-◌, ◌≤◌, ◌<◌}
 use Rattle.std.proofs.Common.{sym, subst, inl, inr, arith, add-zero, add-suc}
 use Rattle.std.proofs.Math.Nat.{suc_inj}
-use Rattle.octets.specs.BaseLaws.{by-test, by-eq}
+use Rattle.octets.specs.BaseLaws.{by_test, by_eq}
 use Rattle.trace.specs.Basic.{either, by_le, clash}
 
 -- Distances between the stations below n, none above span.
@@ -97,10 +97,10 @@ module _ {n span g m : ℕ} {d : ℕ → ℕ → ℕ} {E : ℕ → ℕ → Bool}
       absurd (gp.idle (inl (record { from = c; at = s; station = hc; other = ne; delay = w; on = hs }))))))
 
   -- An own run that ended before a start ended a gap and a step before it.
-  ended-own : (i t e : ℕ) → i < n → Start E i t → E i e ≡ true → E i (suc e) ≡ false → e < t → e + suc (suc g) ≤ t
-  ended-own i t e hi st on off lt =
+  ended_own : (i t e : ℕ) → i < n → Start E i t → E i e ≡ true → E i (suc e) ≡ false → e < t → e + suc (suc g) ≤ t
+  ended_own i t e hi st on off lt =
       let f = T.rules.start i t hi st in
-      by-eq (suc e) t (λ k. clash st.on (subst (λ (x : ℕ). E i x ≡ false) k off)) (λ ne.
+      by_eq (suc e) t (λ k. clash st.on (subst (λ (x : ℕ). E i x ≡ false) k off)) (λ ne.
       by_le f.since (suc e) (λ k. absurd (f.quiet (suc e) k (omega arith) (inr (record {
         at = e;
         before = refl;
@@ -113,8 +113,8 @@ module _ {n span g m : ℕ} {d : ℕ → ℕ → ℕ} {E : ℕ → ℕ → Bool}
       absurd (gp.idle (inr (record { at = gp.last; before = refl; on = hs })))))))
 
   -- A station that starts while it hears another does so at the end of a gap.
-  starts-hearing : (b tb : ℕ) → b < n → Start E b tb → Hears n d E b tb → Gap n d E g b tb
-  starts-hearing b tb hb sb h =
+  starts_hearing : (b tb : ℕ) → b < n → Start E b tb → Hears n d E b tb → Gap n d E g b tb
+  starts_hearing b tb hb sb h =
       let f = T.rules.start b tb hb sb in
       let p = T.metric.pos h.from b h.station hb h.other in
       by_le (suc f.since) tb (λ k. absurd (f.now k h)) (λ k.
@@ -123,8 +123,8 @@ module _ {n span g m : ℕ} {d : ℕ → ℕ → ℕ} {E : ℕ → ℕ → Bool}
       record { last = gp.last; place = omega (arith, gp.place); busy = gp.busy; idle = gp.idle }))
 
   -- What was last heard before the gap had ended, and so had what was last emitted.
-  heard-ended : (b l : ℕ) → (Busy n d E b (suc l) → ⊥) → (h : Hears n d E b l) → E h.from (suc h.at) ≡ false
-  heard-ended b l idle h = by-test (E h.from (suc h.at))
+  heard_ended : (b l : ℕ) → (Busy n d E b (suc l) → ⊥) → (h : Hears n d E b l) → E h.from (suc h.at) ≡ false
+  heard_ended b l idle h = by_test (E h.from (suc h.at))
       (λ e. absurd (idle (inl (record {
         from = h.from;
         at = suc h.at;
@@ -135,8 +135,8 @@ module _ {n span g m : ℕ} {d : ℕ → ℕ → ℕ} {E : ℕ → ℕ → Bool}
       }))))
       (λ e. e)
 
-  own-ended : (b l : ℕ) → (Busy n d E b (suc l) → ⊥) → (o : Emitted E b l) → E b (suc o.at) ≡ false
-  own-ended b l idle o = by-test (E b (suc o.at))
+  own_ended : (b l : ℕ) → (Busy n d E b (suc l) → ⊥) → (o : Emitted E b l) → E b (suc o.at) ≡ false
+  own_ended b l idle o = by_test (E b (suc o.at))
       (λ e. absurd (idle (inr (record { at = l; before = refl; on = subst (λ (x : ℕ). E b x ≡ true) o.before e }))))
       (λ e. e)
 
@@ -145,7 +145,7 @@ module _ {n span g m : ℕ} {d : ℕ → ℕ → ℕ} {E : ℕ → ℕ → Bool}
       → ((s : ℕ) → ta ≤ s → s + d a b ≤ tb → E a s ≡ true)
       → ((y : ℕ) → ta ≤ y → suc y < ta + (d a b + d a b) → Hears n d E a y → ⊥)
       → (tb ≡ ta + d a b) × (d a b < span)
-  main a b ta tb ha hb ne sa sb le on quiet = go (starts-hearing b tb hb sb (heard tb le (omega arith)))
+  main a b ta tb ha hb ne sa sb le on quiet = go (starts_hearing b tb hb sb (heard tb le (omega arith)))
     where
       nb : b ≡ a → ⊥
       nb z = ne (sym z)
@@ -172,15 +172,15 @@ module _ {n span g m : ℕ} {d : ℕ → ℕ → ℕ} {E : ℕ → ℕ → Bool}
           → E h.from (suc h.at) ≡ false → ⊥
       not_a h c at lt e =
           let w : h.at + d a b ≡ _ = rw c at h.delay in
-          let r = ended-own a ta h.at ha sa (rw c at h.on) (rw c at e) (omega arith) in
+          let r = ended_own a ta h.at ha sa (rw c at h.on) (rw c at e) (omega arith) in
           omega arith
 
-      by-heard : (gp : Gap n d E g b tb) (h : Hears n d E b gp.last) → (tb ≡ ta + d a b) × (d a b < span)
-      by-heard gp h =
+      by_heard : (gp : Gap n d E g b tb) (h : Hears n d E b gp.last) → (tb ≡ ta + d a b) × (d a b < span)
+      by_heard gp h =
           let at = gp.place in
           let lt = late gp in
-          let e = heard-ended b gp.last gp.idle h in
-          by-eq h.from a
+          let e = heard_ended b gp.last gp.idle h in
+          by_eq h.from a
           (λ c. absurd (not_a h c at lt e))
           (λ c. by_le ta (h.at + d h.from a)
           (λ q. absurd (quiet (h.at + d h.from a) q
@@ -192,12 +192,12 @@ module _ {n span g m : ℕ} {d : ℕ → ℕ → ℕ} {E : ℕ → ℕ → Bool}
           let u = T.metric.tri h.from a b in
           (omega (arith, h.delay), omega (arith, h.delay))))
 
-      by-own : (gp : Gap n d E g b tb) (o : Emitted E b gp.last) → (tb ≡ ta + d a b) × (d a b < span)
-      by-own gp o =
+      by_own : (gp : Gap n d E g b tb) (o : Emitted E b gp.last) → (tb ≡ ta + d a b) × (d a b < span)
+      by_own gp o =
           let at = gp.place in
           let lt = late gp in
           let p = T.metric.pos a b ha hb ne in
-          let e = own-ended b gp.last gp.idle o in
+          let e = own_ended b gp.last gp.idle o in
           by_le ta (o.at + d b a)
           (λ q. absurd (quiet (o.at + d b a) q (omega (arith, o.before, T.metric.symm a b))
           (record { from = b; at = o.at; station = hb; other = nb; delay = refl; on = o.on })))
@@ -205,11 +205,11 @@ module _ {n span g m : ℕ} {d : ℕ → ℕ → ℕ} {E : ℕ → ℕ → Bool}
           absurd (omega (arith, o.before, T.metric.symm a b)))
 
       go : Gap n d E g b tb → (tb ≡ ta + d a b) × (d a b < span)
-      go gp = either gp.busy (by-heard gp) (by-own gp)
+      go gp = either gp.busy (by_heard gp) (by_own gp)
 
   -- The start of the run that holds a step.
-  run-start : (i s : ℕ) → E i s ≡ true → (t : ℕ) × (t ≤ s) × Start E i t × ((u : ℕ) → t ≤ u → u ≤ s → E i u ≡ true)
-  run-start i zero on = (
+  run_start : (i s : ℕ) → E i s ≡ true → (t : ℕ) × (t ≤ s) × Start E i t × ((u : ℕ) → t ≤ u → u ≤ s → E i u ≡ true)
+  run_start i zero on = (
     0,
     omega arith,
     record {
@@ -218,10 +218,10 @@ module _ {n span g m : ℕ} {d : ℕ → ℕ → ℕ} {E : ℕ → ℕ → Bool}
     },
     λ u lo hi. subst (λ (x : ℕ). E i x ≡ true) (omega arith) on,
   )
-  run-start i (suc s) on =
-      by-test (E i s)
-      (λ e. let r = run-start i s e in
-      (r.0, omega (arith, r.1), r.2, λ u lo hi. by-eq u (suc s) (λ z. rw z on) (λ z. r.3 u lo (omega arith))))
+  run_start i (suc s) on =
+      by_test (E i s)
+      (λ e. let r = run_start i s e in
+      (r.0, omega (arith, r.1), r.2, λ u lo hi. by_eq u (suc s) (λ z. rw z on) (λ z. r.3 u lo (omega arith))))
       (λ e. (
         suc s,
         omega arith,
@@ -233,23 +233,23 @@ module _ {n span g m : ℕ} {d : ℕ → ℕ → ℕ} {E : ℕ → ℕ → Bool}
       ))
 
   -- The end of a run that ends within k steps.
-  run_end : (i s k : ℕ) → E i s ≡ true → E i (s + k) ≡ false
+  run_end_lem : (i s k : ℕ) → E i s ≡ true → E i (s + k) ≡ false
       → (e : ℕ) × (s ≤ e) × (e < s + k) × (E i e ≡ true) × (E i (suc e) ≡ false)
-  run_end i s zero on off = clash on (rw add-zero at off)
-  run_end i s (suc k) on off =
-      by-test (E i (s + k))
+  run_end_lem i s zero on off = clash on (rw add-zero at off)
+  run_end_lem i s (suc k) on off =
+      by_test (E i (s + k))
       (λ e. (s + k, omega arith, omega arith, e, rw add-suc at off))
-      (λ e. let r = run_end i s k on e in (r.0, r.1, omega (arith, r.2), r.3, r.4))
+      (λ e. let r = run_end_lem i s k on e in (r.0, r.1, omega (arith, r.2), r.3, r.4))
 
   -- A collision comes in the first bit or within twice the span.
-  pub no-late : (a ta u slot : ℕ) → a < n → Start E a ta → ta ≤ u → 1 ≤ slot → span + span ≤ slot
+  pub no_late : (a ta u slot : ℕ) → a < n → Start E a ta → ta ≤ u → 1 ≤ slot → span + span ≤ slot
       → ((s : ℕ) → ta ≤ s → s ≤ u → E a s ≡ true)
       → ((y : ℕ) → ta ≤ y → y < u → Hears n d E a y → ⊥)
       → Hears n d E a u → suc u ≤ ta + slot
-  no-late a ta u slot ha sa le one fit on quiet h =
-      by-eq u ta (λ z. omega arith) (λ z.
+  no_late a ta u slot ha sa le one fit on quiet h =
+      by_eq u ta (λ z. omega arith) (λ z.
       let b = h.from in
-      let r = run-start b h.at h.on in
+      let r = run_start b h.at h.on in
       let tb = r.0 in
       let dl = T.metric.symm a b in
       let w = T.metric.wide a b ha h.station in
@@ -287,16 +287,16 @@ module _ {n span g m : ℕ} {d : ℕ → ℕ → ℕ} {E : ℕ → ℕ → Bool}
             record { from = b; at = x; station = hb; other = nb; delay = omega (arith, T.metric.symm a b); on = e }
 
         before : s + d a b < ta → s + d a b + suc g ≤ ta
-        before q = by-test (E b (s + (ta - (s + d a b))))
+        before q = by_test (E b (s + (ta - (s + d a b))))
             (λ e. absurd (c.quiet ta (omega arith) c.order (heard (s + (ta - (s + d a b))) ta (omega arith) e)))
-            (λ e. let r = run_end b s (ta - (s + d a b)) o e in
+            (λ e. let r = run_end_lem b s (ta - (s + d a b)) o e in
             let k = ended a b ta r.0 c.station hb nb c.start r.3 r.4
             (omega (arith, r.2, T.metric.symm a b)) in
             omega (arith, r.1, T.metric.symm a b))
 
         after : te < s + d a b → te + d a b + suc g ≤ s
         after q =
-            let r = run-start b s o in
+            let r = run_start b s o in
             let tb = r.0 in
             let w = T.metric.wide a b c.station hb in
             let late : te < tb + d a b =
@@ -323,21 +323,21 @@ module _ {n span g m : ℕ} {d : ℕ → ℕ → ℕ} {E : ℕ → ℕ → Bool}
     -- Station j neither emits while the run passes it.
     pub listens : (j s : ℕ) → j < n → (a ≡ j → ⊥) → ta + d a j ≤ s → s ≤ te + d a j → E j s ≡ false
     listens j s hj ne lo hi =
-        by-test (E j s)
+        by_test (E j s)
         (λ e. either (apart j s hj ne e) (λ h. absurd (omega arith)) (λ h. absurd (omega arith)))
         (λ e. e)
 
     -- Station j hears nothing in the step before the run comes and in the step after it.
-    pub silent-before : (j t : ℕ) → j < n → (a ≡ j → ⊥) → 0 < g → suc t ≡ ta + d a j → Hears n d E j t → ⊥
-    silent-before j t hj ne pos w h =
-        by-eq a h.from
+    pub silent_before : (j t : ℕ) → j < n → (a ≡ j → ⊥) → 0 < g → suc t ≡ ta + d a j → Hears n d E j t → ⊥
+    silent_before j t hj ne pos w h =
+        by_eq a h.from
         (λ z. clash (rw (← z) at h.on) (c.start.fresh h.at (omega (arith, rw (← z) at h.delay))))
         (λ z. either (alone j h.from h.at t hj h.station z pos h.on h.delay) (λ k. omega arith)
         (λ k. omega arith))
 
-    pub silent-after : (j : ℕ) → j < n → (a ≡ j → ⊥) → 0 < g → Hears n d E j (suc (te + d a j)) → ⊥
-    silent-after j hj ne pos h =
-        by-eq a h.from
+    pub silent_after : (j : ℕ) → j < n → (a ≡ j → ⊥) → 0 < g → Hears n d E j (suc (te + d a j)) → ⊥
+    silent_after j hj ne pos h =
+        by_eq a h.from
         (λ z. clash (rw (← z) at h.on)
         (subst (λ (x : ℕ). E a x ≡ false) (omega (arith, rw (← z) at h.delay)) c.off))
         (λ z. either (alone j h.from h.at (suc (te + d a j)) hj h.station z pos h.on h.delay)

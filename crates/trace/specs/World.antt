@@ -3,7 +3,7 @@
 use Rattle.std.specs.Prelude.{ℕ, zero, suc, ◌<◌, ◌≡◌, false, List, [], ◌∷◌, eqb, length}
 use Rattle.octets.specs.Base.{pick}
 use Rattle.octets.specs.NumberLaws.{Octets}
-use Rattle.frame_build.specs.Limits.{refusesData}
+use Rattle.frame_build.specs.Limits.{refuses_data}
 use Rattle.frame_build.specs.Build.{frame_of}
 use Rattle.station_symbols.specs.declared.Symbol.{Symbol}
 use Rattle.station_symbols.specs.declared.Symbol.TheVariants.{Silence}
@@ -14,8 +14,8 @@ use Rattle.station_state.specs.declared.Receiver.TheVariants.{Listening}
 use Rattle.station_state.specs.declared.Station.{Station}
 use Rattle.station_spec.specs.declared.Stepped.{Stepped}
 use Rattle.station_spec.specs.Step.{stepped}
-use Rattle.bus_spec.specs.After.{storedIn}
-use Rattle.bus_offer.specs.Offer.{holds, offeredStation}
+use Rattle.bus_spec.specs.After.{stored_in}
+use Rattle.bus_offer.specs.Offer.{holds, offered_station}
 use Rattle.bus_meeting.specs.Net.{Net, heard, grown}
 
 -- An offer that is not refused for its data: its destination and data are octets, its value one of two octets.
@@ -28,7 +28,7 @@ pub record Offer (P : Net) : Type 0 where
   pub octets : Octets destination
   pub small : value < 65536
   pub contents : Octets payload
-  pub allowed : refusesData value (length payload) ≡ false
+  pub allowed : refuses_data value (length payload) ≡ false
 
 -- "what the builder makes of its destination, value and data, with the offering station's own address as source"
 unfoldable pub frame_for : (P : Net) → Offer P → List ℕ
@@ -59,7 +59,7 @@ step P w =
       clock = suc w.clock;
       station = λ i. (outcome P w i).station;
       frame = w.frame;
-      buffer = λ i. storedIn (w.buffer i) (outcome P w i).stored;
+      buffer = λ i. stored_in (w.buffer i) (outcome P w i).stored;
       past = grown w.clock (symbol P w) w.past;
     }
 
@@ -70,7 +70,7 @@ unfoldable pub given : (P : Net) → Offer P → World → World
 given P o w =
     record {
       clock = w.clock;
-      station = λ i. pick (eqb i o.to) (offeredStation (w.station i) (length (frame_for P o))) (w.station i);
+      station = λ i. pick (eqb i o.to) (offered_station (w.station i) (length (frame_for P o))) (w.station i);
       frame = λ i. pick (eqb i o.to) (frame_for P o) (w.frame i);
       buffer = w.buffer;
       past = w.past;
@@ -87,8 +87,8 @@ offers P (o ∷ os) w = offers P os (offer P o w)
 -- ---- an execution: the offers inp t are made before step t
 
 -- a fresh start
-unfoldable pub freshStation : Net → ℕ → Station
-freshStation P i =
+unfoldable pub fresh_station : Net → ℕ → Station
+fresh_station P i =
     record {
       address = P.address i;
       deference = Quiet;
@@ -102,7 +102,7 @@ freshStation P i =
     }
 
 unfoldable pub fresh : Net → World
-fresh P = record { clock = 0; station = freshStation P; frame = λ i. []; buffer = P.blank; past = λ i s. Silence }
+fresh P = record { clock = 0; station = fresh_station P; frame = λ i. []; buffer = P.blank; past = λ i s. Silence }
 
 unfoldable pub before : (P : Net) → (ℕ → List (Offer P)) → ℕ → World
 before P inp zero = fresh P

@@ -1,5 +1,5 @@
 -- `area::apart` meets its contract. Assumes nothing.
-use Rattle.area.specs.CodeLaws.{apart-is}
+use Rattle.area.specs.CodeLaws.{apart_is}
 use borrow.Author.Rules.{rules}
 use Rattle.area.proofs.apart.Statement.{statement}
 use Rattle.area.proofs.apart.Tie as tie
@@ -14,7 +14,7 @@ sub-result : tie.Need-overflow-sub-result
 sub-result c = search rules
 
 returns : tie.Need-returns
-returns c = search apart-is
+returns c = search apart_is
 
-pub apart-spec : {M : Type 1} → statement M
-apart-spec = tie.close (tie.spec larger-requires smaller-requires sub-result returns)
+pub apart_spec : {M : Type 1} → statement M
+apart_spec = tie.close (tie.spec larger-requires smaller-requires sub-result returns)

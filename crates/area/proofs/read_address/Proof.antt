@@ -16,5 +16,5 @@ six-requires c κs = search rules
 returns : tie.Need-returns
 returns c = search address_is
 
-pub read-address-spec : {M : Type 1} → statement M
-read-address-spec = tie.close (tie.spec mul-six add_six six-requires returns)
+pub read_address_spec : {M : Type 1} → statement M
+read_address_spec = tie.close (tie.spec mul-six add_six six-requires returns)

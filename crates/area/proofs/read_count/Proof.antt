@@ -1,5 +1,5 @@
 -- `area::read_count` meets its contract. Assumes nothing.
-use Rattle.area.specs.CodeLaws.{count-is}
+use Rattle.area.specs.CodeLaws.{count_is}
 use borrow.Author.Rules.{rules}
 use Rattle.area.proofs.read_count.Statement.{statement}
 use Rattle.area.proofs.read_count.Tie as tie
@@ -8,7 +8,7 @@ get32-requires : tie.Need-get32-requires
 get32-requires c κs = search rules
 
 returns : tie.Need-returns
-returns c = search count-is
+returns c = search count_is
 
-pub read-count-spec : {M : Type 1} → statement M
-read-count-spec = tie.close (tie.spec get32-requires returns)
+pub read_count_spec : {M : Type 1} → statement M
+read_count_spec = tie.close (tie.spec get32-requires returns)

@@ -1,5 +1,5 @@
 -- `area::read_counters` meets its contract. Assumes nothing.
-use Rattle.area.specs.CodeLaws.{counters-are}
+use Rattle.area.specs.CodeLaws.{counters_are}
 use borrow.Author.Rules.{rules}
 use Rattle.area.proofs.read_counters.Statement.{statement}
 use Rattle.area.proofs.read_counters.Tie as tie
@@ -17,9 +17,9 @@ load-words-requires : tie.Need-load-words-requires
 load-words-requires c κs = search rules
 
 returns : tie.Need-returns
-returns c = search counters-are
+returns c = search counters_are
 
-pub read-counters-spec : {M : Type 1} → statement M
-read-counters-spec =
+pub read_counters_spec : {M : Type 1} → statement M
+read_counters_spec =
     tie.close
     (tie.spec mul-load-words add-load-words slice-aggregate-load-words load-words-requires returns)

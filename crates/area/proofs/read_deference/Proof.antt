@@ -1,4 +1,4 @@
-use Rattle.area.specs.CodeLaws.{deference-is}
+use Rattle.area.specs.CodeLaws.{deference_is}
 use native.Mathlib.Omega.{arith}
 use borrow.Author.Rules.{rules}
 use Rattle.area.proofs.read_deference.Statement.{statement}
@@ -26,10 +26,10 @@ deference-of-requires c κs = search rules
 
 -- src/lib.rt:203:1
 returns : tie.Need-returns
-returns c = search deference-is
+returns c = search deference_is
 
-pub read-deference-spec : {M : Type 1} → statement M
-read-deference-spec =
+pub read_deference_spec : {M : Type 1} → statement M
+read_deference_spec =
     tie.close
     (tie.spec
     read-word-requires

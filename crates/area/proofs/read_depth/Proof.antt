@@ -10,5 +10,5 @@ get32-requires c κs = search rules
 returns : tie.Need-returns
 returns c = search depth_is
 
-pub read-depth-spec : {M : Type 1} → statement M
-read-depth-spec = tie.close (tie.spec get32-requires returns)
+pub read_depth_spec : {M : Type 1} → statement M
+read_depth_spec = tie.close (tie.spec get32-requires returns)

@@ -1,5 +1,5 @@
 -- `area::read_figures` meets its contract. Assumes nothing.
-use Rattle.area.specs.CodeLaws.{figures-are}
+use Rattle.area.specs.CodeLaws.{figures_are}
 use borrow.Author.Rules.{rules}
 use Rattle.area.proofs.read_figures.Statement.{statement}
 use Rattle.area.proofs.read_figures.Tie as tie
@@ -29,10 +29,10 @@ get32-requires-7 : tie.Need-get32-requires-7
 get32-requires-7 c κs = search rules
 
 returns : tie.Need-returns
-returns c = search figures-are
+returns c = search figures_are
 
-pub read-figures-spec : {M : Type 1} → statement M
-read-figures-spec =
+pub read_figures_spec : {M : Type 1} → statement M
+read_figures_spec =
     tie.close
     (tie.spec
     get32-requires

@@ -19,7 +19,7 @@ read-taps-requires c κs = search rules
 returns : tie.Need-returns
 returns c = search layout_is
 
-pub read-layout-spec : {M : Type 1} → statement M
-read-layout-spec =
+pub read_layout_spec : {M : Type 1} → statement M
+read_layout_spec =
     tie.close
     (tie.spec read-figures-requires read-count-requires places-requires read-taps-requires returns)

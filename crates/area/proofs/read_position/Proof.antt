@@ -1,5 +1,5 @@
 -- `area::read_position` meets its contract. Assumes nothing.
-use Rattle.area.specs.CodeLaws.{position-is}
+use Rattle.area.specs.CodeLaws.{position_is}
 use borrow.Author.Rules.{rules}
 use Rattle.area.proofs.read_position.Statement.{statement}
 use Rattle.area.proofs.read_position.Tie as tie
@@ -14,7 +14,7 @@ get32-requires : tie.Need-get32-requires
 get32-requires c κs = search rules
 
 returns : tie.Need-returns
-returns c = search position-is
+returns c = search position_is
 
-pub read-position-spec : {M : Type 1} → statement M
-read-position-spec = tie.close (tie.spec mul-get32 add-get32 get32-requires returns)
+pub read_position_spec : {M : Type 1} → statement M
+read_position_spec = tie.close (tie.spec mul-get32 add-get32 get32-requires returns)

@@ -1,4 +1,4 @@
-use Rattle.area.specs.CodeLaws.{receiver-is}
+use Rattle.area.specs.CodeLaws.{receiver_is}
 use native.Mathlib.Omega.{arith}
 use borrow.Author.Rules.{rules}
 use Rattle.area.proofs.read_receiver.Statement.{statement}
@@ -30,10 +30,10 @@ receiver-of-requires c κs = search rules
 
 -- src/lib.rt:211:1
 returns : tie.Need-returns
-returns c = search receiver-is
+returns c = search receiver_is
 
-pub read-receiver-spec : {M : Type 1} → statement M
-read-receiver-spec =
+pub read_receiver_spec : {M : Type 1} → statement M
+read_receiver_spec =
     tie.close
     (tie.spec
     read-word-requires

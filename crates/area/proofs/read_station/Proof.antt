@@ -1,4 +1,4 @@
-use Rattle.area.specs.CodeLaws.{station-is}
+use Rattle.area.specs.CodeLaws.{station_is}
 use native.Mathlib.Omega.{arith}
 use borrow.Author.Rules.{rules}
 use Rattle.area.proofs.read_station.Statement.{statement}
@@ -49,10 +49,10 @@ read-word-requires-5 c κs = search rules
 
 -- src/lib.rt:227:1
 returns : tie.Need-returns
-returns c = search station-is
+returns c = search station_is
 
-pub read-station-spec : {M : Type 1} → statement M
-read-station-spec =
+pub read_station_spec : {M : Type 1} → statement M
+read_station_spec =
     tie.close
     (tie.spec
     read-deference-requires

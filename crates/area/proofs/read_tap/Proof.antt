@@ -1,5 +1,5 @@
 -- `area::read_tap` meets its contract. Assumes nothing.
-use Rattle.area.specs.CodeLaws.{tap-is}
+use Rattle.area.specs.CodeLaws.{tap_is}
 use borrow.Author.Rules.{rules}
 use Rattle.area.proofs.read_tap.Statement.{statement}
 use Rattle.area.proofs.read_tap.Tie as tie
@@ -11,7 +11,7 @@ read-address-requires : tie.Need-read-address-requires
 read-address-requires c κs = search rules
 
 returns : tie.Need-returns
-returns c = search tap-is
+returns c = search tap_is
 
-pub read-tap-spec : {M : Type 1} → statement M
-read-tap-spec = tie.close (tie.spec read-position-requires read-address-requires returns)
+pub read_tap_spec : {M : Type 1} → statement M
+read_tap_spec = tie.close (tie.spec read-position-requires read-address-requires returns)

@@ -4,14 +4,14 @@ use borrow.Author.Rules.{rules}
 use mathlib.Core.Path.{◌≡◌, refl}
 use Prim.Native.Nat.{◌≤◌, ◌-◌}
 use lib.ListN.{length, length-set}
-use Rattle.area.specs.Area.{tapAt}
-use Rattle.octets.specs.Filled.{filled_none, filled_more, filled-end}
+use Rattle.area.specs.Area.{tap_at}
+use Rattle.octets.specs.Filled.{filled_none, filled_more, filled_end}
 use Rattle.sheet_layout.specs.Layout.{places_of}
 use Rattle.area.proofs.read_taps.Statement.{statement}
 use Rattle.area.proofs.read_taps.Tie as tie
 
 abbrev invariant-loop : tie.invariant-loop
-invariant-loop area n all₀ i₀ all i = (i ≤ n) × (length all ≡ 16) × (all ≡ places_of (tapAt area) i)
+invariant-loop area n all₀ i₀ all i = (i ≤ n) × (length all ≡ 16) × (all ≡ places_of (tap_at area) i)
 
 abbrev decreases-loop : tie.decreases-loop
 decreases-loop area n all₀ i₀ all i = n - i
@@ -38,10 +38,10 @@ loop-again : tie.Need-loop-preserved invariant-loop decreases-loop
 loop-again c = (omega arith, simp length-set (search rules), search filled_more)
 
 returns : tie.Need-returns invariant-loop decreases-loop
-returns c = search filled-end
+returns c = search filled_end
 
-pub read-taps-spec : {M : Type 1} → statement M
-read-taps-spec =
+pub read_taps_spec : {M : Type 1} → statement M
+read_taps_spec =
     tie.close
     (tie.spec
     invariant-loop

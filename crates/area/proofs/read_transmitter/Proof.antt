@@ -1,4 +1,4 @@
-use Rattle.area.specs.CodeLaws.{transmitter-is}
+use Rattle.area.specs.CodeLaws.{transmitter_is}
 use native.Mathlib.Omega.{arith}
 use borrow.Author.Rules.{rules}
 use Rattle.area.proofs.read_transmitter.Statement.{statement}
@@ -22,8 +22,8 @@ transmitter-of-requires c κs = search rules
 
 -- src/lib.rt:220:1
 returns : tie.Need-returns
-returns c = search transmitter-is
+returns c = search transmitter_is
 
-pub read-transmitter-spec : {M : Type 1} → statement M
-read-transmitter-spec =
+pub read_transmitter_spec : {M : Type 1} → statement M
+read_transmitter_spec =
     tie.close (tie.spec read-word-requires read-word-requires-2 transmitter-of-requires returns)

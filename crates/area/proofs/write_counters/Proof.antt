@@ -1,5 +1,5 @@
 -- `area::write_counters` meets its contract. Assumes nothing.
-use Rattle.area.specs.CodeLaws.{with-counters-is}
+use Rattle.area.specs.CodeLaws.{with_counters_is}
 use borrow.Author.Rules.{rules}
 use Rattle.area.proofs.write_counters.Statement.{statement}
 use Rattle.area.proofs.write_counters.Tie as tie
@@ -20,10 +20,10 @@ same_length : tie.Need-same-length
 same_length c = search rules
 
 returns : tie.Need-returns
-returns c = search with-counters-is
+returns c = search with_counters_is
 
-pub write-counters-spec : {M : Type 1} → statement M
-write-counters-spec =
+pub write_counters_spec : {M : Type 1} → statement M
+write_counters_spec =
     tie.close
     (tie.spec
     mul-store-words

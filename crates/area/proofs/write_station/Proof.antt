@@ -1,5 +1,5 @@
 -- `area::write_station` meets its contract. Assumes nothing.
-use Rattle.area.specs.CodeLaws.{with-station-is}
+use Rattle.area.specs.CodeLaws.{with_station_is}
 use borrow.Author.Rules.{rules}
 use Rattle.area.proofs.write_station.Statement.{statement}
 use Rattle.area.proofs.write_station.Tie as tie
@@ -23,10 +23,10 @@ same_length : tie.Need-same-length
 same_length c = search rules
 
 returns : tie.Need-returns
-returns c = search with-station-is
+returns c = search with_station_is
 
-pub write-station-spec : {M : Type 1} → statement M
-write-station-spec =
+pub write_station_spec : {M : Type 1} → statement M
+write_station_spec =
     tie.close
     (tie.spec
     encode-requires

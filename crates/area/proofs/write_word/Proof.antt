@@ -1,5 +1,5 @@
 -- `area::write_word` meets its contract. Assumes nothing.
-use Rattle.area.specs.CodeLaws.{with-word-is}
+use Rattle.area.specs.CodeLaws.{with_word_is}
 use borrow.Author.Rules.{rules}
 use Rattle.area.proofs.write_word.Statement.{statement}
 use Rattle.area.proofs.write_word.Tie as tie
@@ -23,9 +23,9 @@ same_length : tie.Need-same-length
 same_length c = search rules
 
 returns : tie.Need-returns
-returns c = search with-word-is
+returns c = search with_word_is
 
-pub write-word-spec : {M : Type 1} → statement M
-write-word-spec =
+pub write_word_spec : {M : Type 1} → statement M
+write_word_spec =
     tie.close
     (tie.spec mul-put32 add-put32 mul-put32-2 add-put32-2 put32-requires same_length returns)

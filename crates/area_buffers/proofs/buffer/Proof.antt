@@ -1,5 +1,5 @@
 -- `area_buffers::buffer` meets its contract. Assumes nothing.
-use Rattle.area.specs.CodeLaws.{buffer-is}
+use Rattle.area.specs.CodeLaws.{buffer_is}
 use borrow.Author.Rules.{rules}
 use Rattle.area_buffers.proofs.buffer.Statement.{statement}
 use Rattle.area_buffers.proofs.buffer.Tie as tie
@@ -23,8 +23,8 @@ part-result-end : tie.Need-slice-bounds-result-end
 part-result-end c = search rules
 
 returns : tie.Need-returns
-returns c = search buffer-is
+returns c = search buffer_is
 
-pub buffer-spec : {M : Type 1} → statement M
-buffer-spec =
+pub buffer_spec : {M : Type 1} → statement M
+buffer_spec =
     tie.close (tie.spec mul_at add_at add-end sub-result part-result-start part-result-end returns)

@@ -1,5 +1,5 @@
 -- `area_buffers::build_frame` meets its contract. Assumes nothing.
-use Rattle.area.specs.CodeLaws.{built-is}
+use Rattle.area.specs.CodeLaws.{built_is}
 use native.Mathlib.Omega.{arith}
 use borrow.Author.Rules.{rules}
 use Rattle.area_buffers.proofs.build_frame.Statement.{statement}
@@ -34,11 +34,11 @@ same_length c = search rules
 
 returns : tie.Need-returns
 returns c =
-    built-is _ _ _ _ _ _ _ _ c.before.before.build.ensures
+    built_is _ _ _ _ _ _ _ _ c.before.before.build.ensures
     c.before.before.before.before.read-address.ensures (omega arith) (omega arith) (omega arith) (omega arith)
 
-pub build-frame-spec : {M : Type 1} → statement M
-build-frame-spec =
+pub build_frame_spec : {M : Type 1} → statement M
+build_frame_spec =
     tie.close
     (tie.spec
     read-address-requires

@@ -25,6 +25,6 @@ part-result-end c = search rules
 returns : tie.Need-returns
 returns c = search frame_is
 
-pub frame-spec : {M : Type 1} → statement M
-frame-spec =
+pub frame_spec : {M : Type 1} → statement M
+frame_spec =
     tie.close (tie.spec mul_at add_at add-end sub-result part-result-start part-result-end returns)

@@ -1,5 +1,5 @@
 -- `area_buffers::octet_with` meets its contract. Assumes nothing.
-use Rattle.area.specs.CodeLaws.{octet-is}
+use Rattle.area.specs.CodeLaws.{octet_is}
 use borrow.Author.Rules.{rules}
 use Rattle.area_buffers.proofs.octet_with.Statement.{statement}
 use Rattle.area_buffers.proofs.octet_with.Tie as tie
@@ -23,10 +23,10 @@ cast-result : tie.Need-overflow-cast-result
 cast-result c = search rules
 
 returns : tie.Need-returns
-returns c = search octet-is
+returns c = search octet_is
 
-pub octet-with-spec : {M : Type 1} → statement M
-octet-with-spec =
+pub octet_with_spec : {M : Type 1} → statement M
+octet_with_spec =
     tie.close
     (tie.spec
     power-requires

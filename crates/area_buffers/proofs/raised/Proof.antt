@@ -1,5 +1,5 @@
 -- `area_buffers::raised` meets its contract. Assumes nothing.
-use Rattle.area.specs.CodeLaws.{raised_is, raised-small}
+use Rattle.area.specs.CodeLaws.{raised_is, raised_small}
 use borrow.Author.Rules.{rules}
 use Rattle.area_buffers.proofs.raised.Statement.{statement}
 use Rattle.area_buffers.proofs.raised.Tie as tie
@@ -14,7 +14,7 @@ shl-result : tie.Need-overflow-shl-result
 shl-result c = search rules
 
 returns : tie.Need-returns
-returns c = (search raised_is, search raised-small)
+returns c = (search raised_is, search raised_small)
 
-pub raised-spec : {M : Type 1} → statement M
-raised-spec = tie.close (tie.spec cast-place digit-of-requires shl-result returns)
+pub raised_spec : {M : Type 1} → statement M
+raised_spec = tie.close (tie.spec cast-place digit-of-requires shl-result returns)

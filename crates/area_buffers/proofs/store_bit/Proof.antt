@@ -1,5 +1,5 @@
 -- `area_buffers::store_bit` meets its contract. Assumes nothing.
-use Rattle.area.specs.CodeLaws.{with-bit-is}
+use Rattle.area.specs.CodeLaws.{with_bit_is}
 use borrow.Author.Rules.{rules}
 use Rattle.area_buffers.proofs.store_bit.Statement.{statement}
 use Rattle.area_buffers.proofs.store_bit.Tie as tie
@@ -26,10 +26,10 @@ same_length : tie.Need-same-length
 same_length c = search rules
 
 returns : tie.Need-returns
-returns c = search with-bit-is
+returns c = search with_bit_is
 
-pub store-bit-spec : {M : Type 1} → statement M
-store-bit-spec =
+pub store_bit_spec : {M : Type 1} → statement M
+store_bit_spec =
     tie.close
     (tie.spec
     mul_at

@@ -1,5 +1,5 @@
 -- `area_buffers::symbol` meets its contract. Assumes nothing.
-use Rattle.area.specs.CodeLaws.{emitted-is}
+use Rattle.area.specs.CodeLaws.{emitted_is}
 use borrow.Author.Rules.{rules}
 use Rattle.area_buffers.proofs.symbol.Statement.{statement}
 use Rattle.area_buffers.proofs.symbol.Tie as tie
@@ -26,10 +26,10 @@ symbol-of-requires : tie.Need-symbol-of-requires
 symbol-of-requires c κs = search rules
 
 returns : tie.Need-returns
-returns c = search emitted-is
+returns c = search emitted_is
 
-pub symbol-spec : {M : Type 1} → statement M
-symbol-spec =
+pub symbol_spec : {M : Type 1} → statement M
+symbol_spec =
     tie.close
     (tie.spec
     mul_at

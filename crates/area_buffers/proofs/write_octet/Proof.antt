@@ -1,5 +1,5 @@
 -- `area_buffers::write_octet` meets its contract. Assumes nothing.
-use Rattle.area.specs.CodeLaws.{with-octet-is}
+use Rattle.area.specs.CodeLaws.{with_octet_is}
 use borrow.Author.Rules.{rules}
 use Rattle.area_buffers.proofs.write_octet.Statement.{statement}
 use Rattle.area_buffers.proofs.write_octet.Tie as tie
@@ -20,8 +20,8 @@ same_length : tie.Need-same-length
 same_length c = search rules
 
 returns : tie.Need-returns
-returns c = search with-octet-is
+returns c = search with_octet_is
 
-pub write-octet-spec : {M : Type 1} → statement M
-write-octet-spec =
+pub write_octet_spec : {M : Type 1} → statement M
+write_octet_spec =
     tie.close (tie.spec mul-area add-area add-area-2 slice-write-area same_length returns)

@@ -1,5 +1,5 @@
 -- `area_check::held_wrong` meets its contract. Assumes nothing.
-use Rattle.area_check.specs.AreaCheckLaws.{held_none, held-is, held-long}
+use Rattle.area_check.specs.AreaCheckLaws.{held_none, held_is, held_long}
 use borrow.Author.Rules.{rules}
 use Rattle.area_check.proofs.held_wrong.Statement.{statement}
 use Rattle.area_check.proofs.held_wrong.Tie as tie
@@ -27,14 +27,14 @@ frame-requires c κs = search rules
 
 -- src/lib.rt:184:5
 overlong-requires : tie.Need-overlong-requires
-overlong-requires c κs = search held-long
+overlong-requires c κs = search held_long
 
 -- src/lib.rt:176:1
 returns-2 : tie.Need-returns-2
-returns-2 c = search held-is
+returns-2 c = search held_is
 
-pub held-wrong-spec : {M : Type 1} → statement M
-held-wrong-spec =
+pub held_wrong_spec : {M : Type 1} → statement M
+held_wrong_spec =
     tie.close
     (tie.spec
     read-word-requires

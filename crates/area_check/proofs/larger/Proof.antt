@@ -1,13 +1,13 @@
 -- `area_check::larger` meets its contract. Assumes nothing.
-use Rattle.area_check.specs.AreaCheckLaws.{larger-first, larger-second}
+use Rattle.area_check.specs.AreaCheckLaws.{larger_first, larger_second}
 use Rattle.area_check.proofs.larger.Statement.{statement}
 use Rattle.area_check.proofs.larger.Tie as tie
 
 returns : tie.Need-returns
-returns c = search larger-second
+returns c = search larger_second
 
 returns-2 : tie.Need-returns-2
-returns-2 c = search larger-first
+returns-2 c = search larger_first
 
-pub larger-spec : {M : Type 1} → statement M
-larger-spec = tie.close (tie.spec returns returns-2)
+pub larger_spec : {M : Type 1} → statement M
+larger_spec = tie.close (tie.spec returns returns-2)

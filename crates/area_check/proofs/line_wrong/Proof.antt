@@ -5,21 +5,21 @@ use mathlib.Core.Path.{◌≡◌}
 use lib.Dec.{ltb}
 use borrow.Author.Rules.{rules}
 use Rattle.octets.specs.Base.{some}
-use Rattle.area_check.specs.Valid.{symbolWrong}
-use Rattle.area_check.specs.AreaCheckLaws.{line-none, line-more, line-end}
+use Rattle.area_check.specs.Valid.{symbol_wrong}
+use Rattle.area_check.specs.AreaCheckLaws.{line_none, line_more, line_end}
 use Rattle.area_check.proofs.line_wrong.Statement.{statement}
 use Rattle.area_check.proofs.line_wrong.Tie as tie
 use Rattle.area.specs.Offsets.{ring}
-use Rattle.area.specs.Area.{maxCode}
+use Rattle.area.specs.Area.{max_code}
 
 abbrev invariant-loop : tie.invariant-loop
-invariant-loop area i top₀ u₀ top u = (u ≤ ring) × (some (symbolWrong area i) u ≡ ltb maxCode top)
+invariant-loop area i top₀ u₀ top u = (u ≤ ring) × (some (symbol_wrong area i) u ≡ ltb max_code top)
 
 abbrev decreases-loop : tie.decreases-loop
 decreases-loop area i top₀ u₀ top u = ring - u
 
 loop-holds : tie.Need-loop-init invariant-loop decreases-loop
-loop-holds c = (omega arith, search line-none)
+loop-holds c = (omega arith, search line_none)
 
 read-symbol-requires : tie.Need-read-symbol-requires invariant-loop decreases-loop
 read-symbol-requires c κs = omega arith
@@ -34,12 +34,12 @@ loop-less : tie.Need-loop-smaller invariant-loop decreases-loop
 loop-less c = omega arith
 
 loop-again : tie.Need-loop-preserved invariant-loop decreases-loop
-loop-again c = (omega arith, search line-more)
+loop-again c = (omega arith, search line_more)
 
 returns : tie.Need-returns invariant-loop decreases-loop
-returns c = search line-end
+returns c = search line_end
 
-pub line-wrong-spec : {M : Type 1} → statement M
-line-wrong-spec =
+pub line_wrong_spec : {M : Type 1} → statement M
+line_wrong_spec =
     tie.close (tie.spec invariant-loop decreases-loop loop-holds read-symbol-requires larger-requires add-u loop-less loop-again
     returns)

@@ -1,5 +1,5 @@
 -- `area_check::overlong` meets its contract. Assumes nothing.
-use Rattle.area_check.specs.AreaCheckLaws.{overlong-is}
+use Rattle.area_check.specs.AreaCheckLaws.{overlong_is}
 use borrow.Author.Rules.{rules}
 use Rattle.area_check.proofs.overlong.Statement.{statement}
 use Rattle.area_check.proofs.overlong.Tie as tie
@@ -22,7 +22,7 @@ max-frame-requires c κs = search rules
 
 -- src/lib.rt:168:1
 returns : tie.Need-returns
-returns c = search overlong-is
+returns c = search overlong_is
 
-pub overlong-spec : {M : Type 1} → statement M
-overlong-spec = tie.close (tie.spec get16-requires cast-value max-frame-requires returns)
+pub overlong_spec : {M : Type 1} → statement M
+overlong_spec = tie.close (tie.spec get16-requires cast-value max-frame-requires returns)

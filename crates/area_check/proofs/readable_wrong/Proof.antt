@@ -1,5 +1,5 @@
 -- `area_check::readable_wrong` meets its contract. Assumes nothing.
-use Rattle.area_check.specs.AreaCheckLaws.{readable-none, readable-is, readable-long}
+use Rattle.area_check.specs.AreaCheckLaws.{readable_none, readable_is, readable_long}
 use borrow.Author.Rules.{rules}
 use Rattle.area_check.proofs.readable_wrong.Statement.{statement}
 use Rattle.area_check.proofs.readable_wrong.Tie as tie
@@ -15,7 +15,7 @@ read-word-requires c κs = search rules
 
 -- src/lib.rt:192:9
 returns : tie.Need-returns
-returns c = search readable-none
+returns c = search readable_none
 
 -- src/lib.rt:194:9
 read-word-requires-2 : tie.Need-read-word-requires-2
@@ -27,14 +27,14 @@ buffer-requires c κs = search rules
 
 -- src/lib.rt:195:5
 overlong-requires : tie.Need-overlong-requires
-overlong-requires c κs = search readable-long
+overlong-requires c κs = search readable_long
 
 -- src/lib.rt:187:1
 returns-2 : tie.Need-returns-2
-returns-2 c = search readable-is
+returns-2 c = search readable_is
 
-pub readable-wrong-spec : {M : Type 1} → statement M
-readable-wrong-spec =
+pub readable_wrong_spec : {M : Type 1} → statement M
+readable_wrong_spec =
     tie.close
     (tie.spec
     read-word-requires

@@ -1,5 +1,5 @@
 -- `area_check::station_wrong` meets its contract. Assumes nothing.
-use Rattle.area_check.specs.AreaCheckLaws.{gap_of, slot_of, station-is}
+use Rattle.area_check.specs.AreaCheckLaws.{gap_of, slot_of, station_is}
 use native.Mathlib.Omega.{arith}
 use borrow.Author.Rules.{rules}
 use Rattle.area_check.proofs.station_wrong.Statement.{statement}
@@ -46,10 +46,10 @@ either-requires-3 : tie.Need-either-requires-3
 either-requires-3 c κs = search rules
 
 returns : tie.Need-returns
-returns c = search station-is
+returns c = search station_is
 
-pub station-wrong-spec : {M : Type 1} → statement M
-station-wrong-spec =
+pub station_wrong_spec : {M : Type 1} → statement M
+station_wrong_spec =
     tie.close
     (tie.spec
     read-figures-requires

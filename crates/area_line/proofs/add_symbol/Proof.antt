@@ -1,5 +1,5 @@
 -- `area_line::add_symbol` meets its contract. Assumes nothing.
-use Rattle.area.specs.CodeLaws.{with-symbol-is}
+use Rattle.area.specs.CodeLaws.{with_symbol_is}
 use borrow.Author.Rules.{rules}
 use Rattle.area_line.proofs.add_symbol.Statement.{statement}
 use Rattle.area_line.proofs.add_symbol.Tie as tie
@@ -26,10 +26,10 @@ same_length : tie.Need-same-length
 same_length c = search rules
 
 returns : tie.Need-returns
-returns c = search with-symbol-is
+returns c = search with_symbol_is
 
-pub add-symbol-spec : {M : Type 1} → statement M
-add-symbol-spec =
+pub add_symbol_spec : {M : Type 1} → statement M
+add_symbol_spec =
     tie.close
     (tie.spec
     mul_at

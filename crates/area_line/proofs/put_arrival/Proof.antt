@@ -1,5 +1,5 @@
 -- `area_line::put_arrival` meets its contract. Assumes nothing.
-use Rattle.area.specs.CodeLaws.{with-arrival-is}
+use Rattle.area.specs.CodeLaws.{with_arrival_is}
 use borrow.Author.Rules.{rules}
 use Rattle.area_line.proofs.put_arrival.Statement.{statement}
 use Rattle.area_line.proofs.put_arrival.Tie as tie
@@ -23,10 +23,10 @@ same_length : tie.Need-same-length
 same_length c = search rules
 
 returns : tie.Need-returns
-returns c = search with-arrival-is
+returns c = search with_arrival_is
 
-pub put-arrival-spec : {M : Type 1} → statement M
-put-arrival-spec =
+pub put_arrival_spec : {M : Type 1} → statement M
+put_arrival_spec =
     tie.close
     (tie.spec
     heard-code-requires

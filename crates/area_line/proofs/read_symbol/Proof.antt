@@ -1,5 +1,5 @@
 -- `area_line::read_symbol` meets its contract. Assumes nothing.
-use Rattle.area.specs.CodeLaws.{symbol-is}
+use Rattle.area.specs.CodeLaws.{symbol_is}
 use borrow.Author.Rules.{rules}
 use Rattle.area_line.proofs.read_symbol.Statement.{statement}
 use Rattle.area_line.proofs.read_symbol.Tie as tie
@@ -17,8 +17,8 @@ shared-slice-read-result : tie.Need-shared-slice-read-result
 shared-slice-read-result c = search rules
 
 returns : tie.Need-returns
-returns c = search symbol-is
+returns c = search symbol_is
 
-pub read-symbol-spec : {M : Type 1} → statement M
-read-symbol-spec =
+pub read_symbol_spec : {M : Type 1} → statement M
+read_symbol_spec =
     tie.close (tie.spec mul-result add-result add-result-2 shared-slice-read-result returns)

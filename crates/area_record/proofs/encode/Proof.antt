@@ -1,5 +1,5 @@
 -- `area_record::encode` meets its contract. Assumes nothing.
-use Rattle.area_record.specs.CodecLaws.{encoded-is}
+use Rattle.area_record.specs.CodecLaws.{encoded_is}
 use borrow.Author.Rules.{rules}
 use Rattle.area_record.proofs.encode.Statement.{statement}
 use Rattle.area_record.proofs.encode.Tie as tie
@@ -47,10 +47,10 @@ flag-of-requires-5 : tie.Need-flag-of-requires-5
 flag-of-requires-5 c κs = search rules
 
 returns : tie.Need-returns
-returns c = search encoded-is
+returns c = search encoded_is
 
-pub encode-spec : {M : Type 1} → statement M
-encode-spec =
+pub encode_spec : {M : Type 1} → statement M
+encode_spec =
     tie.close
     (tie.spec
     deference-code-requires

@@ -1,5 +1,5 @@
 -- `bus_offer::accept` meets its contract. Assumes nothing.
-use Rattle.bus_offer.specs.OfferLaws.{accepted-is, address-six, data-small}
+use Rattle.bus_offer.specs.OfferLaws.{accepted_is, address_six, data_small}
 use native.Mathlib.Omega.{arith}
 use borrow.Author.Rules.{rules}
 use Rattle.bus_offer.proofs.accept.Statement.{statement}
@@ -9,7 +9,7 @@ build-frame-requires : tie.Need-build-frame-requires
 build-frame-requires c κs = search rules
 
 frame-size-requires : tie.Need-frame-size-requires
-frame-size-requires c κs = search data-small
+frame-size-requires c κs = search data_small
 
 hold-frame-requires : tie.Need-hold-frame-requires
 hold-frame-requires c κs = search rules
@@ -22,14 +22,14 @@ same_length c = search rules
 
 returns : tie.Need-returns
 returns c =
-    accepted-is _ _ _ _ _ _ _ _ _ _ c.before.before.count-offer.ensures
+    accepted_is _ _ _ _ _ _ _ _ _ _ c.before.before.count-offer.ensures
     c.before.before.before.before.before.before.hold-frame.ensures
     c.before.before.before.before.before.before.before.frame-size.ensures
     c.before.before.before.before.before.before.before.before.before.before.before.build-frame.ensures
-    c.before.before.before.before.before.before.before.before.before.before.before.before.before.before.before.requires.1 (omega arith) (address-six _ _ (omega arith) (omega arith))
+    c.before.before.before.before.before.before.before.before.before.before.before.before.before.before.before.requires.1 (omega arith) (address_six _ _ (omega arith) (omega arith))
 
-pub accept-spec : {M : Type 1} → statement M
-accept-spec =
+pub accept_spec : {M : Type 1} → statement M
+accept_spec =
     tie.close
     (tie.spec
     build-frame-requires

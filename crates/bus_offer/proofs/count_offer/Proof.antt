@@ -19,7 +19,7 @@ same_length c = search rules
 returns : tie.Need-returns
 returns c = search counted_is
 
-pub count-offer-spec : {M : Type 1} → statement M
-count-offer-spec =
+pub count_offer_spec : {M : Type 1} → statement M
+count_offer_spec =
     tie.close
     (tie.spec read-counters-requires add-requires write-counters-requires same_length returns)

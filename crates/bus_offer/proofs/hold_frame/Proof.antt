@@ -1,5 +1,5 @@
 -- `bus_offer::hold_frame` meets its contract. Assumes nothing.
-use Rattle.bus_offer.specs.OfferLaws.{held-is}
+use Rattle.bus_offer.specs.OfferLaws.{held_is}
 use borrow.Author.Rules.{rules}
 use Rattle.bus_offer.proofs.hold_frame.Statement.{statement}
 use Rattle.bus_offer.proofs.hold_frame.Tie as tie
@@ -17,9 +17,9 @@ same_length : tie.Need-same-length
 same_length c = search rules
 
 returns : tie.Need-returns
-returns c = search held-is
+returns c = search held_is
 
-pub hold-frame-spec : {M : Type 1} → statement M
-hold-frame-spec =
+pub hold_frame_spec : {M : Type 1} → statement M
+hold_frame_spec =
     tie.close
     (tie.spec read-station-requires with-offer-requires write-station-requires same_length returns)

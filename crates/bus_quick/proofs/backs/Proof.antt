@@ -1,6 +1,6 @@
 -- `bus_quick::backs` meets its contract. Assumes nothing.
-use Rattle.bus_quick.specs.Quick.{backs-is}
-use Rattle.octets.specs.NumberLaws.{octets-by}
+use Rattle.bus_quick.specs.Quick.{backs_is}
+use Rattle.octets.specs.NumberLaws.{octets_by}
 use native.Mathlib.Omega.{arith}
 use borrow.Author.Rules.{rules}
 use Rattle.bus_quick.proofs.backs.Statement.{statement}
@@ -44,13 +44,13 @@ both-requires c κs = search rules
 
 returns : tie.Need-returns
 returns c = (
-  search backs-is,
-  octets-by _ (λ k.
+  search backs_is,
+  octets_by _ (λ k.
       omega (arith, c.before.before.before.before.before.shared-slice-known.given k)),
 )
 
-pub backs-spec : {M : Type 1} → statement M
-backs-spec =
+pub backs_spec : {M : Type 1} → statement M
+backs_spec =
     tie.close
     (tie.spec
     read-word-requires

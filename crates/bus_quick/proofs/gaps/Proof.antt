@@ -1,6 +1,6 @@
 -- `bus_quick::gaps` meets its contract. Assumes nothing.
-use Rattle.bus_quick.specs.Quick.{gaps-is}
-use Rattle.octets.specs.NumberLaws.{octets-by}
+use Rattle.bus_quick.specs.Quick.{gaps_is}
+use Rattle.octets.specs.NumberLaws.{octets_by}
 use native.Mathlib.Omega.{arith}
 use borrow.Author.Rules.{rules}
 use Rattle.bus_quick.proofs.gaps.Statement.{statement}
@@ -32,10 +32,10 @@ both-requires c κs = search rules
 
 returns : tie.Need-returns
 returns c =
-    (search gaps-is, octets-by _ (λ k. omega (arith, c.before.before.before.before.shared-slice-known.given k)))
+    (search gaps_is, octets_by _ (λ k. omega (arith, c.before.before.before.before.shared-slice-known.given k)))
 
-pub gaps-spec : {M : Type 1} → statement M
-gaps-spec =
+pub gaps_spec : {M : Type 1} → statement M
+gaps_spec =
     tie.close
     (tie.spec
     read-word-requires

@@ -1,6 +1,6 @@
 -- `bus_quick::hears` meets its contract. Assumes nothing.
-use Rattle.bus_quick.specs.Quick.{hears-is}
-use Rattle.octets.specs.NumberLaws.{octets-by}
+use Rattle.bus_quick.specs.Quick.{hears_is}
+use Rattle.octets.specs.NumberLaws.{octets_by}
 use native.Mathlib.Omega.{arith}
 use borrow.Author.Rules.{rules}
 use Rattle.bus_quick.proofs.hears.Statement.{statement}
@@ -32,10 +32,10 @@ both-requires c κs = search rules
 
 returns : tie.Need-returns
 returns c =
-    (search hears-is, octets-by _ (λ k. omega (arith, c.before.before.before.before.shared-slice-known.given k)))
+    (search hears_is, octets_by _ (λ k. omega (arith, c.before.before.before.before.shared-slice-known.given k)))
 
-pub hears-spec : {M : Type 1} → statement M
-hears-spec =
+pub hears_spec : {M : Type 1} → statement M
+hears_spec =
     tie.close
     (tie.spec
     read-word-requires

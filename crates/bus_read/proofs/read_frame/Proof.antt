@@ -1,8 +1,8 @@
 -- `bus_read::read_frame` meets its contract. Assumes nothing.
 use borrow.Author.Tests.{not-true, not-false}
 use native.Mathlib.Omega.{arith}
-use Rattle.area_check.specs.AreaCheckLaws.{passes-long, passes-station}
-use Rattle.bus_read.specs.ReadLaws.{read-area, read-station, read_none, read_short, read_made, read-room}
+use Rattle.area_check.specs.AreaCheckLaws.{passes_long, passes_station}
+use Rattle.bus_read.specs.ReadLaws.{read_area, read_station, read_none, read_short, read_made, read_room}
 use borrow.Author.Rules.{rules}
 use Rattle.bus_read.proofs.read_frame.Statement.{statement}
 use Rattle.bus_read.proofs.read_frame.Tie as tie
@@ -11,19 +11,19 @@ refusal-requires : tie.Need-refusal-requires
 refusal-requires c κs = search rules
 
 returns : tie.Need-returns
-returns c = search read-area
+returns c = search read_area
 
 read-count-requires : tie.Need-read-count-requires
-read-count-requires c κs = search passes-long
+read-count-requires c κs = search passes_long
 
 cast-if2 : tie.Need-overflow-cast-if2
 cast-if2 c = search rules
 
 returns-2 : tie.Need-returns-2
-returns-2 c = search read-station
+returns-2 c = search read_station
 
 read-station-requires : tie.Need-read-station-requires
-read-station-requires c κs = (search passes-station, search passes-long)
+read-station-requires c κs = (search passes_station, search passes_long)
 
 is-readable-requires : tie.Need-is-readable-requires
 is-readable-requires c κs = search rules
@@ -54,7 +54,7 @@ cast-copy-frame : tie.Need-overflow-cast-copy-frame
 cast-copy-frame c = search rules
 
 copy-frame-requires : tie.Need-copy-frame-requires
-copy-frame-requires c κs = (search passes-station, search passes-long, search read-room, omega arith)
+copy-frame-requires c κs = (search passes_station, search passes_long, search read_room, omega arith)
 
 same_length : tie.Need-same-length
 same_length c = search rules
@@ -63,8 +63,8 @@ returns-5 : tie.Need-returns-5
 returns-5 c =
     read_made _ _ _ _ _ _ _ _ c.before.before.before.before.before.before.before.before.before.before.before.before.refusal.ensures.0 c.before.before.before.before.before.before.before.before.before.before.before.if1.false c.before.before.before.before.before.before.before.before.before.before.read_count.ensures c.before.before.before.before.before.before.before.before.before.if2.false c.before.before.before.before.before.before.before.before.read-station.ensures c.before.before.before.before.before.before.before.is-readable.ensures _ (not-false _ c.before.before.before.before.before.before.if3.false) c.before.before.before.before.before.octets-in.ensures c.before.before.before.before.if4.false c.before.before.copy-frame.ensures
 
-pub read-frame-spec : {M : Type 1} → statement M
-read-frame-spec =
+pub read_frame_spec : {M : Type 1} → statement M
+read_frame_spec =
     tie.close
     (tie.spec
     refusal-requires

@@ -6,15 +6,15 @@ use mathlib.Core.Path.{◌≡◌, refl}
 use lib.ListN.{length}
 use Rattle.bus_spec.specs.declared.course.Ended.TheVariants.{All}
 use Rattle.bus_spec.specs.Run.{run_of}
-use Rattle.bus_spec.specs.RunLaws.{Runnable, NoneLate, none-late-first, none-late-more, run-first, run-ready, run-clock}
-use Rattle.bus_spec.specs.RunLaws.{run-next, run-zero, run-searched, run-found, run_end, next-bounded}
-use Rattle.station_tally.specs.TallyLaws.{Bounded, zero-bounded}
+use Rattle.bus_spec.specs.RunLaws.{Runnable, NoneLate, none_late_first, none_late_more, run_first, run_ready, run_clock}
+use Rattle.bus_spec.specs.RunLaws.{run_next, run_zero, run_searched, run_found, run_end_lem, next_bounded}
+use Rattle.station_tally.specs.TallyLaws.{Bounded, zero_bounded}
 use Rattle.bus_run.proofs.run_steps.Statement.{statement}
 use Rattle.bus_run.proofs.run_steps.Tie as tie
-use Rattle.sheet_layout.specs.Limits.{maxStations}
+use Rattle.sheet_layout.specs.Limits.{max_stations}
 
 abbrev invariant-loop : tie.invariant-loop
-invariant-loop area words n ended₀ t events i₀ ended i = (i ≤ maxStations) × (ended ≡ All) × NoneLate events i
+invariant-loop area words n ended₀ t events i₀ ended i = (i ≤ max_stations) × (ended ≡ All) × NoneLate events i
 
 abbrev decreases-loop : tie.decreases-loop
 decreases-loop area words n ended₀ t events i₀ ended i = 16 - i
@@ -28,10 +28,10 @@ abbrev decreases-steps : tie.decreases-steps
 decreases-steps area₀ words₀ n ended₀ t₀ area words ended t = n - t
 
 steps-holds : tie.Need-steps-init invariant-loop decreases-loop invariant-steps decreases-steps
-steps-holds c = (omega arith, refl, refl, refl, search run-first, search zero-bounded, search run-zero)
+steps-holds c = (omega arith, refl, refl, refl, search run_first, search zero_bounded, search run_zero)
 
 step-requires : tie.Need-step-requires invariant-loop decreases-loop invariant-steps decreases-steps
-step-requires c κs = (omega arith, search run-clock, search run-ready)
+step-requires c κs = (omega arith, search run_clock, search run_ready)
 
 mul-count-events : tie.Need-overflow-mul-count-events invariant-loop decreases-loop invariant-steps decreases-steps
 mul-count-events c = omega arith
@@ -43,14 +43,14 @@ add-t : tie.Need-overflow-add-t invariant-loop decreases-loop invariant-steps de
 add-t c = omega arith
 
 loop-holds : tie.Need-loop-init invariant-loop decreases-loop invariant-steps decreases-steps
-loop-holds c = (omega arith, search rules, search none-late-first)
+loop-holds c = (omega arith, search rules, search none_late_first)
 
 steps-less : tie.Need-steps-smaller invariant-loop decreases-loop invariant-steps decreases-steps
 steps-less c = omega arith
 
 steps-again : tie.Need-steps-preserved invariant-loop decreases-loop invariant-steps decreases-steps
 steps-again c =
-    (omega arith, omega arith, omega arith, search rules, search run-next, search next-bounded, search run-searched)
+    (omega arith, omega arith, omega arith, search rules, search run_next, search next_bounded, search run_searched)
 
 mul-e : tie.Need-overflow-mul-e invariant-loop decreases-loop invariant-steps decreases-steps
 mul-e c = omega arith
@@ -74,7 +74,7 @@ loop-less : tie.Need-loop-smaller invariant-loop decreases-loop invariant-steps 
 loop-less c = omega arith
 
 loop-again : tie.Need-loop-preserved invariant-loop decreases-loop invariant-steps decreases-steps
-loop-again c = (omega arith, search rules, search none-late-more)
+loop-again c = (omega arith, search rules, search none_late_more)
 
 same_length : tie.Need-same-length invariant-loop decreases-loop invariant-steps decreases-steps
 same_length c = omega arith
@@ -83,7 +83,7 @@ same-length-2 : tie.Need-same-length-2 invariant-loop decreases-loop invariant-s
 same-length-2 c = omega arith
 
 returns : tie.Need-returns invariant-loop decreases-loop invariant-steps decreases-steps
-returns c = search run_end
+returns c = search run_end_lem
 
 same-length-3 : tie.Need-same-length-3 invariant-loop decreases-loop invariant-steps decreases-steps
 same-length-3 c = omega arith
@@ -92,10 +92,10 @@ same-length-4 : tie.Need-same-length-4 invariant-loop decreases-loop invariant-s
 same-length-4 c = omega arith
 
 returns-2 : tie.Need-returns-2 invariant-loop decreases-loop invariant-steps decreases-steps
-returns-2 c = search run-found
+returns-2 c = search run_found
 
-pub run-steps-spec : {M : Type 1} → statement M
-run-steps-spec =
+pub run_steps_spec : {M : Type 1} → statement M
+run_steps_spec =
     tie.close
     (tie.spec
     invariant-loop

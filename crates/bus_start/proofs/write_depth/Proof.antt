@@ -1,5 +1,5 @@
 -- `bus_start::write_depth` meets its contract. Assumes nothing.
-use Rattle.bus_start.specs.FreshLaws.{depth-written}
+use Rattle.bus_start.specs.FreshLaws.{depth_written}
 use borrow.Author.Rules.{rules}
 use Rattle.bus_start.proofs.write_depth.Statement.{statement}
 use Rattle.bus_start.proofs.write_depth.Tie as tie
@@ -11,7 +11,7 @@ same_length : tie.Need-same-length
 same_length c = search rules
 
 returns : tie.Need-returns
-returns c = search depth-written
+returns c = search depth_written
 
-pub write-depth-spec : {M : Type 1} → statement M
-write-depth-spec = tie.close (tie.spec put32-requires same_length returns)
+pub write_depth_spec : {M : Type 1} → statement M
+write_depth_spec = tie.close (tie.spec put32-requires same_length returns)

@@ -1,5 +1,5 @@
 -- `bus_start::write_draw` meets its contract. Assumes nothing.
-use Rattle.bus_start.specs.FreshLaws.{draw-written}
+use Rattle.bus_start.specs.FreshLaws.{draw_written}
 use borrow.Author.Rules.{rules}
 use Rattle.bus_start.proofs.write_draw.Statement.{statement}
 use Rattle.bus_start.proofs.write_draw.Tie as tie
@@ -23,9 +23,9 @@ same_length : tie.Need-same-length
 same_length c = search rules
 
 returns : tie.Need-returns
-returns c = search draw-written
+returns c = search draw_written
 
-pub write-draw-spec : {M : Type 1} → statement M
-write-draw-spec =
+pub write_draw_spec : {M : Type 1} → statement M
+write_draw_spec =
     tie.close
     (tie.spec mul-put16 add-put16 mul-put16-2 add-put16-2 put16-requires same_length returns)

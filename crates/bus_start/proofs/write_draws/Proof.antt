@@ -4,19 +4,19 @@ use native.Mathlib.Omega.{arith}
 use Prim.Native.Nat.{◌≤◌, ◌-◌}
 use mathlib.Core.Path.{◌≡◌, refl}
 use lib.ListN.{length}
-use Rattle.bus_start.specs.Fresh.{withDraws}
-use Rattle.bus_start.specs.FreshLaws.{draws-none, draws-more, draws-end}
+use Rattle.bus_start.specs.Fresh.{with_draws}
+use Rattle.bus_start.specs.FreshLaws.{draws_none, draws_more, draws_end}
 use Rattle.bus_start.proofs.write_draws.Statement.{statement}
 use Rattle.bus_start.proofs.write_draws.Tie as tie
 
 abbrev invariant-loop : tie.invariant-loop
-invariant-loop area₀ n depth draws i₀ area i = (i ≤ n) × (length area ≡ length area₀) × (area ≡ withDraws draws i depth area₀)
+invariant-loop area₀ n depth draws i₀ area i = (i ≤ n) × (length area ≡ length area₀) × (area ≡ with_draws draws i depth area₀)
 
 abbrev decreases-loop : tie.decreases-loop
 decreases-loop area₀ n depth draws i₀ area i = n - i
 
 loop-holds : tie.Need-loop-init invariant-loop decreases-loop
-loop-holds c = (omega arith, refl, search draws-none)
+loop-holds c = (omega arith, refl, search draws_none)
 
 mul-row : tie.Need-overflow-mul-row invariant-loop decreases-loop
 mul-row c = omega arith
@@ -34,16 +34,16 @@ loop-less : tie.Need-loop-smaller invariant-loop decreases-loop
 loop-less c = omega arith
 
 loop-again : tie.Need-loop-preserved invariant-loop decreases-loop
-loop-again c = (omega arith, omega arith, search draws-more)
+loop-again c = (omega arith, omega arith, search draws_more)
 
 same_length : tie.Need-same-length invariant-loop decreases-loop
 same_length c = search rules
 
 returns : tie.Need-returns invariant-loop decreases-loop
-returns c = search draws-end
+returns c = search draws_end
 
-pub write-draws-spec : {M : Type 1} → statement M
-write-draws-spec =
+pub write_draws_spec : {M : Type 1} → statement M
+write_draws_spec =
     tie.close
     (tie.spec
     invariant-loop

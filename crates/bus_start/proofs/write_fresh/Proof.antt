@@ -1,5 +1,5 @@
 -- `bus_start::write_fresh` meets its contract. Assumes nothing.
-use Rattle.bus_start.specs.FreshLaws.{fresh-written}
+use Rattle.bus_start.specs.FreshLaws.{fresh_written}
 use borrow.Author.Rules.{rules}
 use Rattle.bus_start.proofs.write_fresh.Statement.{statement}
 use Rattle.bus_start.proofs.write_fresh.Tie as tie
@@ -14,7 +14,7 @@ same_length : tie.Need-same-length
 same_length c = search rules
 
 returns : tie.Need-returns
-returns c = search fresh-written
+returns c = search fresh_written
 
-pub write-fresh-spec : {M : Type 1} → statement M
-write-fresh-spec = tie.close (tie.spec blank-requires write-plan-requires same_length returns)
+pub write_fresh_spec : {M : Type 1} → statement M
+write_fresh_spec = tie.close (tie.spec blank-requires write-plan-requires same_length returns)

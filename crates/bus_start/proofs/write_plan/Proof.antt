@@ -1,6 +1,6 @@
 -- `bus_start::write_plan` meets its contract. Assumes nothing.
 use mathlib.Core.Path.{refl}
-use Rattle.bus_start.specs.FreshLaws.{plan-written}
+use Rattle.bus_start.specs.FreshLaws.{plan_written}
 use borrow.Author.Rules.{rules}
 use Rattle.bus_start.proofs.write_plan.Statement.{statement}
 use Rattle.bus_start.proofs.write_plan.Tie as tie
@@ -25,13 +25,13 @@ same_length c = search rules
 
 returns : tie.Need-returns
 returns c =
-    plan-written _ _ _ _ _ _ _ _ _ c.before.before.write-draws.ensures
+    plan_written _ _ _ _ _ _ _ _ _ c.before.before.write-draws.ensures
     c.before.before.before.before.before.before.write-depth.ensures
     c.before.before.before.before.before.before.before.before.before.before.write-taps.ensures
     c.before.before.before.before.before.before.before.before.before.before.before.before.before.before.write-figures.ensures refl
 
-pub write-plan-spec : {M : Type 1} → statement M
-write-plan-spec =
+pub write_plan_spec : {M : Type 1} → statement M
+write_plan_spec =
     tie.close
     (tie.spec
     cast-n

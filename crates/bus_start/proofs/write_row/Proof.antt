@@ -5,7 +5,7 @@ use Prim.Native.Nat.{◌≤◌, ◌-◌}
 use mathlib.Core.Path.{◌≡◌, refl}
 use lib.ListN.{length}
 use Rattle.bus_start.specs.Fresh.{with_row}
-use Rattle.bus_start.specs.FreshLaws.{row-none, row_more, row-end}
+use Rattle.bus_start.specs.FreshLaws.{row_none, row_more, row_end}
 use Rattle.bus_start.proofs.write_row.Statement.{statement}
 use Rattle.bus_start.proofs.write_row.Tie as tie
 
@@ -16,7 +16,7 @@ abbrev decreases-loop : tie.decreases-loop
 decreases-loop area₀ i depth row k₀ area k = depth - k
 
 loop-holds : tie.Need-loop-init invariant-loop decreases-loop
-loop-holds c = (omega arith, refl, search row-none)
+loop-holds c = (omega arith, refl, search row_none)
 
 mul-write-draw : tie.Need-overflow-mul-write-draw invariant-loop decreases-loop
 mul-write-draw c = omega arith
@@ -40,10 +40,10 @@ same_length : tie.Need-same-length invariant-loop decreases-loop
 same_length c = search rules
 
 returns : tie.Need-returns invariant-loop decreases-loop
-returns c = search row-end
+returns c = search row_end
 
-pub write-row-spec : {M : Type 1} → statement M
-write-row-spec =
+pub write_row_spec : {M : Type 1} → statement M
+write_row_spec =
     tie.close
     (tie.spec
     invariant-loop

@@ -1,5 +1,5 @@
 -- `bus_start::write_tap` meets its contract. Assumes nothing.
-use Rattle.bus_start.specs.FreshLaws.{tap-written}
+use Rattle.bus_start.specs.FreshLaws.{tap_written_lem}
 use borrow.Author.Rules.{rules}
 use Rattle.bus_start.proofs.write_tap.Statement.{statement}
 use Rattle.bus_start.proofs.write_tap.Tie as tie
@@ -29,10 +29,10 @@ same_length : tie.Need-same-length
 same_length c = search rules
 
 returns : tie.Need-returns
-returns c = search tap-written
+returns c = search tap_written_lem
 
-pub write-tap-spec : {M : Type 1} → statement M
-write-tap-spec =
+pub write_tap_spec : {M : Type 1} → statement M
+write_tap_spec =
     tie.close
     (tie.spec
     mul-put32

@@ -4,19 +4,19 @@ use native.Mathlib.Omega.{arith}
 use Prim.Native.Nat.{◌≤◌, ◌-◌}
 use mathlib.Core.Path.{◌≡◌, refl}
 use lib.ListN.{length}
-use Rattle.bus_start.specs.Fresh.{withTaps}
-use Rattle.bus_start.specs.FreshLaws.{taps-none, taps-more, taps-end}
+use Rattle.bus_start.specs.Fresh.{with_taps}
+use Rattle.bus_start.specs.FreshLaws.{taps_none, taps_more, taps_end}
 use Rattle.bus_start.proofs.write_taps.Statement.{statement}
 use Rattle.bus_start.proofs.write_taps.Tie as tie
 
 abbrev invariant-loop : tie.invariant-loop
-invariant-loop area₀ n taps i₀ area i = (i ≤ n) × (length area ≡ length area₀) × (area ≡ withTaps taps i area₀)
+invariant-loop area₀ n taps i₀ area i = (i ≤ n) × (length area ≡ length area₀) × (area ≡ with_taps taps i area₀)
 
 abbrev decreases-loop : tie.decreases-loop
 decreases-loop area₀ n taps i₀ area i = n - i
 
 loop-holds : tie.Need-loop-init invariant-loop decreases-loop
-loop-holds c = (omega arith, refl, search taps-none)
+loop-holds c = (omega arith, refl, search taps_none)
 
 mul-t : tie.Need-overflow-mul-t invariant-loop decreases-loop
 mul-t c = omega arith
@@ -34,16 +34,16 @@ loop-less : tie.Need-loop-smaller invariant-loop decreases-loop
 loop-less c = omega arith
 
 loop-again : tie.Need-loop-preserved invariant-loop decreases-loop
-loop-again c = (omega arith, omega arith, search taps-more)
+loop-again c = (omega arith, omega arith, search taps_more)
 
 same_length : tie.Need-same-length invariant-loop decreases-loop
 same_length c = search rules
 
 returns : tie.Need-returns invariant-loop decreases-loop
-returns c = search taps-end
+returns c = search taps_end
 
-pub write-taps-spec : {M : Type 1} → statement M
-write-taps-spec =
+pub write_taps_spec : {M : Type 1} → statement M
+write_taps_spec =
     tie.close
     (tie.spec
     invariant-loop

@@ -1,7 +1,7 @@
 -- `bus_turn::acts` meets its contract. Assumes nothing.
 use native.Mathlib.Omega.{arith}
-use Rattle.bus_spec.specs.CodeLaws.{acts-is}
-use Rattle.bus_spec.specs.Ready.{able-draw, able-held, able-room}
+use Rattle.bus_spec.specs.CodeLaws.{acts_is}
+use Rattle.bus_spec.specs.Ready.{able_draw, able_held, able_room}
 use borrow.Author.Rules.{rules}
 use Rattle.bus_turn.proofs.acts.Statement.{statement}
 use Rattle.bus_turn.proofs.acts.Tie as tie
@@ -16,7 +16,7 @@ cast-read-draw : tie.Need-overflow-cast-read-draw
 cast-read-draw c = search rules
 
 read-draw-requires : tie.Need-read-draw-requires
-read-draw-requires c κs = (omega arith, search able-draw, omega arith)
+read-draw-requires c κs = (omega arith, search able_draw, omega arith)
 
 octets-held-requires : tie.Need-octets-held-requires
 octets-held-requires c κs = search rules
@@ -28,16 +28,16 @@ buffer-requires : tie.Need-buffer-requires
 buffer-requires c κs = search rules
 
 step-requires : tie.Need-step-requires
-step-requires c κs = search able-room
+step-requires c κs = search able_room
 
 symbol-requires : tie.Need-symbol-requires
-symbol-requires c κs = (omega arith, search able-held, omega arith)
+symbol-requires c κs = (omega arith, search able_held, omega arith)
 
 returns : tie.Need-returns
-returns c = search acts-is
+returns c = search acts_is
 
-pub acts-spec : {M : Type 1} → statement M
-acts-spec =
+pub acts_spec : {M : Type 1} → statement M
+acts_spec =
     tie.close
     (tie.spec
     load-requires

@@ -1,5 +1,5 @@
 -- `bus_turn::count_step` meets its contract. Assumes nothing.
-use Rattle.bus_spec.specs.CodeLaws.{count-some, count_none}
+use Rattle.bus_spec.specs.CodeLaws.{count_some, count_none}
 use borrow.Author.Rules.{rules}
 use Rattle.bus_turn.proofs.count_step.Statement.{statement}
 use Rattle.bus_turn.proofs.count_step.Tie as tie
@@ -20,13 +20,13 @@ same_length : tie.Need-same-length
 same_length c = search rules
 
 returns : tie.Need-returns
-returns c = search count-some
+returns c = search count_some
 
 returns-2 : tie.Need-returns-2
 returns-2 c = search count_none
 
-pub count-step-spec : {M : Type 1} → statement M
-count-step-spec =
+pub count_step_spec : {M : Type 1} → statement M
+count_step_spec =
     tie.close
     (tie.spec
     has-happened-requires

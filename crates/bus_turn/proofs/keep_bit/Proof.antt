@@ -1,6 +1,6 @@
 -- `bus_turn::keep_bit` meets its contract. Assumes nothing.
 use native.Mathlib.Omega.{arith}
-use Rattle.bus_spec.specs.CodeLaws.{bit-room, bit-none, bit_kept}
+use Rattle.bus_spec.specs.CodeLaws.{bit_room, bit_none, bit_kept}
 use borrow.Author.Rules.{rules}
 use Rattle.bus_turn.proofs.keep_bit.Statement.{statement}
 use Rattle.bus_turn.proofs.keep_bit.Tie as tie
@@ -15,10 +15,10 @@ cast-store-bit : tie.Need-overflow-cast-store-bit
 cast-store-bit c = search rules
 
 store-bit-requires : tie.Need-store-bit-requires
-store-bit-requires c κs = (omega arith, search bit-room, omega arith)
+store-bit-requires c κs = (omega arith, search bit_room, omega arith)
 
 returns : tie.Need-returns
-returns c = search bit-none
+returns c = search bit_none
 
 same_length : tie.Need-same-length
 same_length c = search rules
@@ -26,8 +26,8 @@ same_length c = search rules
 returns-2 : tie.Need-returns-2
 returns-2 c = search bit_kept
 
-pub keep-bit-spec : {M : Type 1} → statement M
-keep-bit-spec =
+pub keep_bit_spec : {M : Type 1} → statement M
+keep_bit_spec =
     tie.close
     (tie.spec
     enum_told

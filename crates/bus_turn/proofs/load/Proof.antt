@@ -1,5 +1,5 @@
 -- `bus_turn::load` meets its contract. Assumes nothing.
-use Rattle.bus_turn.specs.TurnLaws.{loaded-is}
+use Rattle.bus_turn.specs.TurnLaws.{loaded_is}
 use borrow.Author.Rules.{rules}
 use Rattle.bus_turn.proofs.load.Statement.{statement}
 use Rattle.bus_turn.proofs.load.Tie as tie
@@ -32,7 +32,7 @@ read-word-requires-5 : tie.Need-read-word-requires-5
 read-word-requires-5 c κs = search rules
 
 returns : tie.Need-returns
-returns c = search loaded-is
+returns c = search loaded_is
 
 pub load_spec : {M : Type 1} → statement M
 load_spec =

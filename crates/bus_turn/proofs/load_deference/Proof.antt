@@ -1,5 +1,5 @@
 -- `bus_turn::load_deference` meets its contract. Assumes nothing.
-use Rattle.bus_turn.specs.TurnLaws.{deference-is}
+use Rattle.bus_turn.specs.TurnLaws.{deference_is}
 use borrow.Author.Rules.{rules}
 use Rattle.bus_turn.proofs.load_deference.Statement.{statement}
 use Rattle.bus_turn.proofs.load_deference.Tie as tie
@@ -17,10 +17,10 @@ deference-of-requires : tie.Need-deference-of-requires
 deference-of-requires c κs = search rules
 
 returns : tie.Need-returns
-returns c = search deference-is
+returns c = search deference_is
 
-pub load-deference-spec : {M : Type 1} → statement M
-load-deference-spec =
+pub load_deference_spec : {M : Type 1} → statement M
+load_deference_spec =
     tie.close
     (tie.spec
     read-word-requires

@@ -1,5 +1,5 @@
 -- `bus_turn::load_receiver` meets its contract. Assumes nothing.
-use Rattle.bus_turn.specs.TurnLaws.{receiver-is}
+use Rattle.bus_turn.specs.TurnLaws.{receiver_is}
 use borrow.Author.Rules.{rules}
 use Rattle.bus_turn.proofs.load_receiver.Statement.{statement}
 use Rattle.bus_turn.proofs.load_receiver.Tie as tie
@@ -20,10 +20,10 @@ receiver-of-requires : tie.Need-receiver-of-requires
 receiver-of-requires c κs = search rules
 
 returns : tie.Need-returns
-returns c = search receiver-is
+returns c = search receiver_is
 
-pub load-receiver-spec : {M : Type 1} → statement M
-load-receiver-spec =
+pub load_receiver_spec : {M : Type 1} → statement M
+load_receiver_spec =
     tie.close
     (tie.spec
     read-word-requires

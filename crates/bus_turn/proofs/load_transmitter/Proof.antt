@@ -1,5 +1,5 @@
 -- `bus_turn::load_transmitter` meets its contract. Assumes nothing.
-use Rattle.bus_turn.specs.TurnLaws.{transmitter-is}
+use Rattle.bus_turn.specs.TurnLaws.{transmitter_is}
 use borrow.Author.Rules.{rules}
 use Rattle.bus_turn.proofs.load_transmitter.Statement.{statement}
 use Rattle.bus_turn.proofs.load_transmitter.Tie as tie
@@ -14,8 +14,8 @@ transmitter-of-requires : tie.Need-transmitter-of-requires
 transmitter-of-requires c κs = search rules
 
 returns : tie.Need-returns
-returns c = search transmitter-is
+returns c = search transmitter_is
 
-pub load-transmitter-spec : {M : Type 1} → statement M
-load-transmitter-spec =
+pub load_transmitter_spec : {M : Type 1} → statement M
+load_transmitter_spec =
     tie.close (tie.spec read-word-requires read-word-requires-2 transmitter-of-requires returns)

@@ -1,5 +1,5 @@
 -- `bus_turn::place` meets its contract. Assumes nothing.
-use Rattle.bus_spec.specs.CodeLaws.{placed-is}
+use Rattle.bus_spec.specs.CodeLaws.{placed_is}
 use borrow.Author.Rules.{rules}
 use Rattle.bus_turn.proofs.place.Statement.{statement}
 use Rattle.bus_turn.proofs.place.Tie as tie
@@ -21,13 +21,13 @@ same_length c = search rules
 
 returns : tie.Need-returns
 returns c =
-    placed-is _ _ _ _ _ _ _ _ c.before.before.put-arrival.ensures
+    placed_is _ _ _ _ _ _ _ _ c.before.before.put-arrival.ensures
     c.before.before.before.before.before.before.keep-bit.ensures
     c.before.before.before.before.before.before.before.before.before.before.count-step.ensures
     c.before.before.before.before.before.before.before.before.before.before.before.before.before.before.store.ensures
 
-pub place-spec : {M : Type 1} → statement M
-place-spec =
+pub place_spec : {M : Type 1} → statement M
+place_spec =
     tie.close
     (tie.spec
     store-requires

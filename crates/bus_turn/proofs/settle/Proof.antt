@@ -16,5 +16,5 @@ same_length c = search rules
 returns : tie.Need-returns
 returns c = search settled_is
 
-pub settle-spec : {M : Type 1} → statement M
-settle-spec = tie.close (tie.spec place-requires push-requires same_length returns)
+pub settle_spec : {M : Type 1} → statement M
+settle_spec = tie.close (tie.spec place-requires push-requires same_length returns)

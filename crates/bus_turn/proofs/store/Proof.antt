@@ -1,5 +1,5 @@
 -- `bus_turn::store` meets its contract. Assumes nothing.
-use Rattle.area.specs.CodeLaws.{with-station-is}
+use Rattle.area.specs.CodeLaws.{with_station_is}
 use borrow.Author.Rules.{rules}
 use Rattle.bus_turn.proofs.store.Statement.{statement}
 use Rattle.bus_turn.proofs.store.Tie as tie
@@ -23,7 +23,7 @@ same_length : tie.Need-same-length
 same_length c = search rules
 
 returns : tie.Need-returns
-returns c = search with-station-is
+returns c = search with_station_is
 
 pub store_spec : {M : Type 1} → statement M
 store_spec =

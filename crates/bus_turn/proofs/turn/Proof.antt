@@ -1,6 +1,6 @@
 -- `bus_turn::turn` meets its contract. Assumes nothing.
-use Rattle.bus_quick.specs.Easy.{rests-area, rests-events, no-events, still-able, still-turn, still-events}
-use Rattle.bus_quick.specs.Quick.{taken-area}
+use Rattle.bus_quick.specs.Easy.{rests_area, rests_events, no_events_lem, still_able, still_turn, still_events}
+use Rattle.bus_quick.specs.Quick.{taken_area}
 use native.Mathlib.Omega.{arith}
 use borrow.Author.Rules.{rules}
 use Rattle.bus_turn.proofs.turn.Statement.{statement}
@@ -19,7 +19,7 @@ same_length : tie.Need-same-length
 same_length c = search rules
 
 returns : tie.Need-returns
-returns c = (search rests-area, search rests-events)
+returns c = (search rests_area, search rests_events)
 
 work-requires : tie.Need-work-requires
 work-requires c κs = search rules
@@ -40,7 +40,7 @@ same-length-3 : tie.Need-same-length-3
 same-length-3 c = search rules
 
 returns-3 : tie.Need-returns-3
-returns-3 c = (search taken-area, search no-events)
+returns-3 c = (search taken_area, search no_events_lem)
 
 work-requires-2 : tie.Need-work-requires-2
 work-requires-2 c κs = (
@@ -48,7 +48,7 @@ work-requires-2 c κs = (
   omega arith,
   omega arith,
   omega arith,
-  still-able _ _ _ _ _ _ _ _
+  still_able _ _ _ _ _ _ _ _
       c.before.before.before.before.hearing.ensures c.before.if3.false
       c.before.before.before.before.before.before.before.before.before.before.requires.4,
 )
@@ -57,7 +57,7 @@ same-length-4 : tie.Need-same-length-4
 same-length-4 c = search rules
 
 returns-4 : tie.Need-returns-4
-returns-4 c = (search still-turn, search still-events)
+returns-4 c = (search still_turn, search still_events)
 
 pub turn_spec : {M : Type 1} → statement M
 turn_spec =

@@ -1,5 +1,5 @@
 -- `c_calls::build` meets its contract. Assumes nothing.
-use Rattle.c_calls.specs.CallLaws.{build-value-small, build-number-low, build-made}
+use Rattle.c_calls.specs.CallLaws.{build_value_small, build_number_low, build_made}
 use borrow.Author.Rules.{rules}
 use Rattle.c_calls.proofs.build.Statement.{statement}
 use Rattle.c_calls.proofs.build.Tie as tie
@@ -17,19 +17,19 @@ built-number-requires : tie.Need-built-number-requires
 built-number-requires c κs = search rules
 
 built-size-requires : tie.Need-built-size-requires
-built-size-requires c κs = search build-value-small
+built-size-requires c κs = search build_value_small
 
 reply-requires : tie.Need-reply-requires
-reply-requires c κs = search build-number-low
+reply-requires c κs = search build_number_low
 
 same_length : tie.Need-same-length
 same_length c = search rules
 
 returns : tie.Need-returns
-returns c = search build-made
+returns c = search build_made
 
-pub build-spec : {M : Type 1} → statement M
-build-spec =
+pub build_spec : {M : Type 1} → statement M
+build_spec =
     tie.close
     (tie.spec
     address-requires

@@ -1,6 +1,6 @@
 -- `c_calls::client_data` meets its contract. Assumes nothing.
-use Rattle.c_calls.specs.CallLaws.{status-number-low, client-refused, client-short, client-value-small}
-use Rattle.c_calls.specs.CallLaws.{client-made}
+use Rattle.c_calls.specs.CallLaws.{status_number_low, client_refused, client_short, client_value_small}
+use Rattle.c_calls.specs.CallLaws.{client_made}
 use borrow.Author.Rules.{rules}
 use Rattle.c_calls.proofs.client_data.Statement.{statement}
 use Rattle.c_calls.proofs.client_data.Tie as tie
@@ -12,19 +12,19 @@ status-number-requires : tie.Need-status-number-requires
 status-number-requires c κs = search rules
 
 reply-requires : tie.Need-reply-requires
-reply-requires c κs = search status-number-low
+reply-requires c κs = search status_number_low
 
 returns : tie.Need-returns
-returns c = search client-refused
+returns c = search client_refused
 
 reply-requires-2 : tie.Need-reply-requires-2
 reply-requires-2 c κs = search rules
 
 returns-2 : tie.Need-returns-2
-returns-2 c = search client-short
+returns-2 c = search client_short
 
 status-words-requires : tie.Need-status-words-requires
-status-words-requires c κs = search client-value-small
+status-words-requires c κs = search client_value_small
 
 slice-aggregate-store-words : tie.Need-slice-aggregate-store-words
 slice-aggregate-store-words c = search rules
@@ -39,10 +39,10 @@ same_length : tie.Need-same-length
 same_length c = search rules
 
 returns-3 : tie.Need-returns-3
-returns-3 c = search client-made
+returns-3 c = search client_made
 
-pub client-data-spec : {M : Type 1} → statement M
-client-data-spec =
+pub client_data_spec : {M : Type 1} → statement M
+client_data_spec =
     tie.close
     (tie.spec
     status-requires

@@ -1,5 +1,5 @@
 -- `c_calls::fits` meets its contract. Assumes nothing.
-use Rattle.c_calls.specs.CallLaws.{sheet-number-low, fits_refused, fit-number-low, fits-made}
+use Rattle.c_calls.specs.CallLaws.{sheet_number_low, fits_refused, fit_number_low, fits_made}
 use borrow.Author.Rules.{rules}
 use Rattle.c_calls.proofs.fits.Statement.{statement}
 use Rattle.c_calls.proofs.fits.Tie as tie
@@ -11,7 +11,7 @@ sheet-number-requires : tie.Need-sheet-number-requires
 sheet-number-requires c κs = search rules
 
 reply-requires : tie.Need-reply-requires
-reply-requires c κs = search sheet-number-low
+reply-requires c κs = search sheet_number_low
 
 returns : tie.Need-returns
 returns c = search fits_refused
@@ -26,13 +26,13 @@ fit-value-requires : tie.Need-fit-value-requires
 fit-value-requires c κs = search rules
 
 reply-requires-2 : tie.Need-reply-requires-2
-reply-requires-2 c κs = search fit-number-low
+reply-requires-2 c κs = search fit_number_low
 
 returns-2 : tie.Need-returns-2
-returns-2 c = search fits-made
+returns-2 c = search fits_made
 
-pub fits-spec : {M : Type 1} → statement M
-fits-spec =
+pub fits_spec : {M : Type 1} → statement M
+fits_spec =
     tie.close
     (tie.spec
     read-sheet-requires

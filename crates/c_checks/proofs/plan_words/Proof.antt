@@ -1,5 +1,5 @@
 -- `c_checks::plan_words` meets its contract. Assumes nothing.
-use Rattle.c_checks.specs.CheckCallLaws.{plan-words}
+use Rattle.c_checks.specs.CheckCallLaws.{plan_words_lem}
 use borrow.Author.Rules.{rules}
 use Rattle.c_checks.proofs.plan_words.Statement.{statement}
 use Rattle.c_checks.proofs.plan_words.Tie as tie
@@ -14,7 +14,7 @@ cast-t4 : tie.Need-overflow-cast-t4
 cast-t4 c = search rules
 
 returns : tie.Need-returns
-returns c = search plan-words
+returns c = search plan_words_lem
 
-pub plan-words-spec : {M : Type 1} → statement M
-plan-words-spec = tie.close (tie.spec name-flag-requires cast-t3 cast-t4 returns)
+pub plan_words_spec : {M : Type 1} → statement M
+plan_words_spec = tie.close (tie.spec name-flag-requires cast-t3 cast-t4 returns)

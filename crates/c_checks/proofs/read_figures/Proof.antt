@@ -1,5 +1,5 @@
 -- `c_checks::read_figures` meets its contract. Assumes nothing.
-use Rattle.c_checks.specs.CheckCallLaws.{figures-read}
+use Rattle.c_checks.specs.CheckCallLaws.{figures_read}
 use borrow.Author.Rules.{rules}
 use Rattle.c_checks.proofs.read_figures.Statement.{statement}
 use Rattle.c_checks.proofs.read_figures.Tie as tie
@@ -26,10 +26,10 @@ get32-requires-7 : tie.Need-get32-requires-7
 get32-requires-7 c κs = search rules
 
 returns : tie.Need-returns
-returns c = search figures-read
+returns c = search figures_read
 
-pub read-figures-spec : {M : Type 1} → statement M
-read-figures-spec =
+pub read_figures_spec : {M : Type 1} → statement M
+read_figures_spec =
     tie.close
     (tie.spec
     get32-requires

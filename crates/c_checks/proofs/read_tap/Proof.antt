@@ -1,5 +1,5 @@
 -- `c_checks::read_tap` meets its contract. Assumes nothing.
-use Rattle.c_checks.specs.CheckCallLaws.{tap-read}
+use Rattle.c_checks.specs.CheckCallLaws.{tap_read}
 use borrow.Author.Rules.{rules}
 use Rattle.c_checks.proofs.read_tap.Statement.{statement}
 use Rattle.c_checks.proofs.read_tap.Tie as tie
@@ -23,8 +23,8 @@ get32-requires : tie.Need-get32-requires
 get32-requires c κs = search rules
 
 returns : tie.Need-returns
-returns c = search tap-read
+returns c = search tap_read
 
-pub read-tap-spec : {M : Type 1} → statement M
-read-tap-spec =
+pub read_tap_spec : {M : Type 1} → statement M
+read_tap_spec =
     tie.close (tie.spec mul-six add_six six-requires mul-get32 add-get32 get32-requires returns)

@@ -4,15 +4,15 @@ use borrow.Author.Rules.{rules}
 use Prim.Native.Nat.{◌≤◌, ◌-◌}
 use mathlib.Core.Path.{◌≡◌, refl}
 use lib.ListN.{length, length-set}
-use Rattle.octets.specs.Filled.{filled_none, filled_more, filled-end}
+use Rattle.octets.specs.Filled.{filled_none, filled_more, filled_end}
 use Rattle.sheet_layout.specs.Layout.{places_of}
-use Rattle.c_checks.specs.CheckCalls.{tapWritten}
+use Rattle.c_checks.specs.CheckCalls.{tap_written}
 use Rattle.c_checks.proofs.read_taps.Statement.{statement}
 use Rattle.c_checks.proofs.read_taps.Tie as tie
-use Rattle.sheet_layout.specs.Limits.{maxStations}
+use Rattle.sheet_layout.specs.Limits.{max_stations}
 
 abbrev invariant-loop : tie.invariant-loop
-invariant-loop s all₀ i₀ all i = (i ≤ maxStations) × (length all ≡ 16) × (all ≡ places_of (tapWritten s) i)
+invariant-loop s all₀ i₀ all i = (i ≤ max_stations) × (length all ≡ 16) × (all ≡ places_of (tap_written s) i)
 
 abbrev decreases-loop : tie.decreases-loop
 decreases-loop s all₀ i₀ all i = 16 - i
@@ -39,15 +39,15 @@ loop-again : tie.Need-loop-preserved invariant-loop decreases-loop
 loop-again c = (
   omega arith,
   simp length-set (search rules),
-  filled_more _ (tapWritten _) _ 16 _ _ c.read-tap.ensures
+  filled_more _ (tap_written _) _ 16 _ _ c.read-tap.ensures
       (omega arith) (omega arith) c.before.before.loop.invariant.2,
 )
 
 returns : tie.Need-returns invariant-loop decreases-loop
-returns c = search filled-end
+returns c = search filled_end
 
-pub read-taps-spec : {M : Type 1} → statement M
-read-taps-spec =
+pub read_taps_spec : {M : Type 1} → statement M
+read_taps_spec =
     tie.close
     (tie.spec
     invariant-loop

@@ -1,5 +1,5 @@
 -- `c_checks::write_sheet` meets its contract. Assumes nothing.
-use Rattle.c_checks.specs.CheckCallLaws.{read_low, write-refused, written_low, write-made}
+use Rattle.c_checks.specs.CheckCallLaws.{read_low, write_refused, written_low, write_made}
 use borrow.Author.Rules.{rules}
 use Rattle.c_checks.proofs.write_sheet.Statement.{statement}
 use Rattle.c_checks.proofs.write_sheet.Tie as tie
@@ -14,7 +14,7 @@ reply-requires : tie.Need-reply-requires
 reply-requires c κs = search read_low
 
 returns : tie.Need-returns
-returns c = search write-refused
+returns c = search write_refused
 
 write-sheet-requires : tie.Need-write-sheet-requires
 write-sheet-requires c κs = search rules
@@ -32,10 +32,10 @@ same_length : tie.Need-same-length
 same_length c = search rules
 
 returns-2 : tie.Need-returns-2
-returns-2 c = search write-made
+returns-2 c = search write_made
 
-pub write-sheet-spec : {M : Type 1} → statement M
-write-sheet-spec =
+pub write_sheet_spec : {M : Type 1} → statement M
+write_sheet_spec =
     tie.close
     (tie.spec
     read-sheet-requires

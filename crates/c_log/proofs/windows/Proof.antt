@@ -1,6 +1,6 @@
 -- `c_log::windows` meets its contract. Assumes nothing.
 use borrow.Author.Rules.{rules}
-use Rattle.c_log.specs.LogCallLaws.{windows-number-low, windows-made}
+use Rattle.c_log.specs.LogCallLaws.{windows_number_low, windows_made}
 use Rattle.c_log.proofs.windows.Statement.{statement}
 use Rattle.c_log.proofs.windows.Tie as tie
 
@@ -11,15 +11,15 @@ done-number-requires : tie.Need-done-number-requires
 done-number-requires c κs = search rules
 
 reply-requires : tie.Need-reply-requires
-reply-requires c κs = search windows-number-low
+reply-requires c κs = search windows_number_low
 
 same_length : tie.Need-same-length
 same_length c = search rules
 
 returns : tie.Need-returns
-returns c = search windows-made
+returns c = search windows_made
 
-pub windows-spec : {M : Type 1} → statement M
-windows-spec =
+pub windows_spec : {M : Type 1} → statement M
+windows_spec =
     tie.close
     (tie.spec look-up-octets-requires done-number-requires reply-requires same_length returns)

@@ -1,5 +1,5 @@
 -- `c_look::look` meets its contract. Assumes nothing.
-use Rattle.c_look.specs.LookCallLaws.{look-low, call-refused, call-short, call-made}
+use Rattle.c_look.specs.LookCallLaws.{look_low, call_refused, call_short, call_made}
 use borrow.Author.Rules.{rules}
 use Rattle.c_look.proofs.look.Statement.{statement}
 use Rattle.c_look.proofs.look.Tie as tie
@@ -8,13 +8,13 @@ refusal-requires : tie.Need-refusal-requires
 refusal-requires c κs = search rules
 
 reply-requires : tie.Need-reply-requires
-reply-requires c κs = search look-low
+reply-requires c κs = search look_low
 
 same_length : tie.Need-same-length
 same_length c = search rules
 
 returns : tie.Need-returns
-returns c = search call-refused
+returns c = search call_refused
 
 reply-requires-2 : tie.Need-reply-requires-2
 reply-requires-2 c κs = search rules
@@ -23,7 +23,7 @@ same-length-2 : tie.Need-same-length-2
 same-length-2 c = search rules
 
 returns-2 : tie.Need-returns-2
-returns-2 c = search call-short
+returns-2 c = search call_short
 
 address-requires : tie.Need-address-requires
 address-requires c κs = search rules
@@ -41,7 +41,7 @@ same-length-4 : tie.Need-same-length-4
 same-length-4 c = search rules
 
 returns-3 : tie.Need-returns-3
-returns-3 c = search call-made
+returns-3 c = search call_made
 
 pub look_spec : {M : Type 1} → statement M
 look_spec =

@@ -1,5 +1,5 @@
 -- `c_look::write_look` meets its contract. Assumes nothing.
-use Rattle.c_look.specs.LookCallLaws.{look-put}
+use Rattle.c_look.specs.LookCallLaws.{look_put_lem}
 use borrow.Author.Rules.{rules}
 use Rattle.c_look.proofs.write_look.Statement.{statement}
 use Rattle.c_look.proofs.write_look.Tie as tie
@@ -17,10 +17,10 @@ same_length : tie.Need-same-length
 same_length c = search rules
 
 returns : tie.Need-returns
-returns c = search look-put
+returns c = search look_put_lem
 
-pub write-look-spec : {M : Type 1} → statement M
-write-look-spec =
+pub write_look_spec : {M : Type 1} → statement M
+write_look_spec =
     tie.close
     (tie.spec
     write-run-requires

@@ -1,5 +1,5 @@
 -- `c_marks::drop_mark` meets its contract. Assumes nothing.
-use Rattle.c_marks.specs.MarkCallLaws.{drop-low, drop-made}
+use Rattle.c_marks.specs.MarkCallLaws.{drop_low, drop_made}
 use borrow.Author.Rules.{rules}
 use Rattle.c_marks.proofs.drop_mark.Statement.{statement}
 use Rattle.c_marks.proofs.drop_mark.Tie as tie
@@ -14,16 +14,16 @@ done-number-requires : tie.Need-done-number-requires
 done-number-requires c κs = search rules
 
 reply-requires : tie.Need-reply-requires
-reply-requires c κs = search drop-low
+reply-requires c κs = search drop_low
 
 same_length : tie.Need-same-length
 same_length c = search rules
 
 returns : tie.Need-returns
-returns c = search drop-made
+returns c = search drop_made
 
-pub drop-mark-spec : {M : Type 1} → statement M
-drop-mark-spec =
+pub drop_mark_spec : {M : Type 1} → statement M
+drop_mark_spec =
     tie.close
     (tie.spec
     name-of-requires

@@ -1,5 +1,5 @@
 -- `c_marks::go_back` meets its contract. Assumes nothing.
-use Rattle.c_marks.specs.MarkCallLaws.{return-low, return-made}
+use Rattle.c_marks.specs.MarkCallLaws.{return_low, return_made}
 use borrow.Author.Rules.{rules}
 use Rattle.c_marks.proofs.go_back.Statement.{statement}
 use Rattle.c_marks.proofs.go_back.Tie as tie
@@ -14,16 +14,16 @@ done-number-requires : tie.Need-done-number-requires
 done-number-requires c κs = search rules
 
 reply-requires : tie.Need-reply-requires
-reply-requires c κs = search return-low
+reply-requires c κs = search return_low
 
 same_length : tie.Need-same-length
 same_length c = search rules
 
 returns : tie.Need-returns
-returns c = search return-made
+returns c = search return_made
 
-pub go-back-spec : {M : Type 1} → statement M
-go-back-spec =
+pub go_back_spec : {M : Type 1} → statement M
+go_back_spec =
     tie.close
     (tie.spec
     name-of-requires

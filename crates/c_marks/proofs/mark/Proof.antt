@@ -1,5 +1,5 @@
 -- `c_marks::mark` meets its contract. Assumes nothing.
-use Rattle.c_marks.specs.MarkCallLaws.{mark-low, mark_made}
+use Rattle.c_marks.specs.MarkCallLaws.{mark_low, mark_made}
 use borrow.Author.Rules.{rules}
 use Rattle.c_marks.proofs.mark.Statement.{statement}
 use Rattle.c_marks.proofs.mark.Tie as tie
@@ -14,7 +14,7 @@ done-number-requires : tie.Need-done-number-requires
 done-number-requires c κs = search rules
 
 reply-requires : tie.Need-reply-requires
-reply-requires c κs = search mark-low
+reply-requires c κs = search mark_low
 
 same_length : tie.Need-same-length
 same_length c = search rules

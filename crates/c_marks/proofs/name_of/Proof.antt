@@ -1,5 +1,5 @@
 -- `c_marks::name_of` meets its contract. Assumes nothing.
-use Rattle.c_marks.specs.MarkCallLaws.{name-is}
+use Rattle.c_marks.specs.MarkCallLaws.{name_is}
 use borrow.Author.Rules.{rules}
 use Rattle.c_marks.proofs.name_of.Statement.{statement}
 use Rattle.c_marks.proofs.name_of.Tie as tie
@@ -29,9 +29,9 @@ cast-t45 : tie.Need-overflow-cast-t45
 cast-t45 c = search rules
 
 returns : tie.Need-returns
-returns c = search name-is
+returns c = search name_is
 
-pub name-of-spec : {M : Type 1} → statement M
-name-of-spec =
+pub name_of_spec : {M : Type 1} → statement M
+name_of_spec =
     tie.close
     (tie.spec cast-t10 cast-t18 cast-t25 cast-t31 cast-t36 cast-t40 cast-t43 cast-t45 returns)

@@ -1,5 +1,5 @@
 -- `c_tables::ended_words` meets its contract. Assumes nothing.
-use Rattle.c_tables.specs.RunWords.{ended-late}
+use Rattle.c_tables.specs.RunWords.{ended_late}
 use borrow.Author.Rules.{rules}
 use Rattle.c_tables.proofs.ended_words.Statement.{statement}
 use Rattle.c_tables.proofs.ended_words.Tie as tie
@@ -14,7 +14,7 @@ returns : tie.Need-returns
 returns c = search rules
 
 returns-2 : tie.Need-returns-2
-returns-2 c = search ended-late
+returns-2 c = search ended_late
 
-pub ended-words-spec : {M : Type 1} → statement M
-ended-words-spec = tie.close (tie.spec enum_told enum-known-e returns returns-2)
+pub ended_words_spec : {M : Type 1} → statement M
+ended_words_spec = tie.close (tie.spec enum_told enum-known-e returns returns-2)

@@ -1,5 +1,5 @@
 -- `c_tables::layout_words` meets its contract. Assumes nothing.
-use Rattle.c_words.specs.AnswersLaws.{layout-are}
+use Rattle.c_words.specs.AnswersLaws.{layout_are}
 use borrow.Author.Rules.{rules}
 use Rattle.c_tables.proofs.layout_words.Statement.{statement}
 use Rattle.c_tables.proofs.layout_words.Tie as tie
@@ -11,7 +11,7 @@ fit-value-requires : tie.Need-fit-value-requires
 fit-value-requires c κs = search rules
 
 returns : tie.Need-returns
-returns c = search layout-are
+returns c = search layout_are
 
-pub layout-words-spec : {M : Type 1} → statement M
-layout-words-spec = tie.close (tie.spec fits-requires fit-value-requires returns)
+pub layout_words_spec : {M : Type 1} → statement M
+layout_words_spec = tie.close (tie.spec fits-requires fit-value-requires returns)

@@ -1,6 +1,6 @@
 -- `c_tables::write_events` meets its contract. Assumes nothing.
-use Rattle.c_words.specs.AnswersLaws.{events-none, events-more, events-end}
-use Rattle.c_words.specs.Answers.{eventsPut}
+use Rattle.c_words.specs.AnswersLaws.{events_none, events_more, events_end}
+use Rattle.c_words.specs.Answers.{events_put}
 use Prim.Native.Nat.{◌≤◌, ◌-◌}
 use mathlib.Core.Path.{◌≡◌, refl}
 use lib.ListN.{length}
@@ -8,16 +8,16 @@ use borrow.Author.Rules.{rules}
 use native.Mathlib.Omega.{arith}
 use Rattle.c_tables.proofs.write_events.Statement.{statement}
 use Rattle.c_tables.proofs.write_events.Tie as tie
-use Rattle.sheet_layout.specs.Limits.{maxStations}
+use Rattle.sheet_layout.specs.Limits.{max_stations}
 
 abbrev invariant-loop : tie.invariant-loop
-invariant-loop out₀ events i₀ out i = (i ≤ maxStations) × (length out ≡ length out₀) × (out ≡ eventsPut events i out₀)
+invariant-loop out₀ events i₀ out i = (i ≤ max_stations) × (length out ≡ length out₀) × (out ≡ events_put events i out₀)
 
 abbrev decreases-loop : tie.decreases-loop
 decreases-loop out₀ events i₀ out i = 16 - i
 
 loop-holds : tie.Need-loop-init invariant-loop decreases-loop
-loop-holds c = (omega arith, refl, search events-none)
+loop-holds c = (omega arith, refl, search events_none)
 
 mul-e : tie.Need-overflow-mul-e invariant-loop decreases-loop
 mul-e c = omega arith
@@ -44,16 +44,16 @@ loop-less : tie.Need-loop-smaller invariant-loop decreases-loop
 loop-less c = omega arith
 
 loop-again : tie.Need-loop-preserved invariant-loop decreases-loop
-loop-again c = (omega arith, omega arith, search events-more)
+loop-again c = (omega arith, omega arith, search events_more)
 
 same_length : tie.Need-same-length invariant-loop decreases-loop
 same_length c = search rules
 
 returns : tie.Need-returns invariant-loop decreases-loop
-returns c = search events-end
+returns c = search events_end
 
-pub write-events-spec : {M : Type 1} → statement M
-write-events-spec =
+pub write_events_spec : {M : Type 1} → statement M
+write_events_spec =
     tie.close
     (tie.spec
     invariant-loop

@@ -1,5 +1,5 @@
 -- `c_tables::write_layout` meets its contract. Assumes nothing.
-use Rattle.c_words.specs.AnswersLaws.{layout-put}
+use Rattle.c_words.specs.AnswersLaws.{layout_put_lem}
 use borrow.Author.Rules.{rules}
 use Rattle.c_tables.proofs.write_layout.Statement.{statement}
 use Rattle.c_tables.proofs.write_layout.Tie as tie
@@ -23,10 +23,10 @@ same_length : tie.Need-same-length
 same_length c = search rules
 
 returns : tie.Need-returns
-returns c = search layout-put
+returns c = search layout_put_lem
 
-pub write-layout-spec : {M : Type 1} → statement M
-write-layout-spec =
+pub write_layout_spec : {M : Type 1} → statement M
+write_layout_spec =
     tie.close
     (tie.spec
     layout-words-requires

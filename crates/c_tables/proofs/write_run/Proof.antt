@@ -1,5 +1,5 @@
 -- `c_tables::write_run` meets its contract. Assumes nothing.
-use Rattle.c_tables.specs.RunWords.{run-put}
+use Rattle.c_tables.specs.RunWords.{run_put_lem}
 use borrow.Author.Rules.{rules}
 use Rattle.c_tables.proofs.write_run.Statement.{statement}
 use Rattle.c_tables.proofs.write_run.Tie as tie
@@ -26,10 +26,10 @@ same_length : tie.Need-same-length
 same_length c = search rules
 
 returns : tie.Need-returns
-returns c = search run-put
+returns c = search run_put_lem
 
-pub write-run-spec : {M : Type 1} → statement M
-write-run-spec =
+pub write_run_spec : {M : Type 1} → statement M
+write_run_spec =
     tie.close
     (tie.spec
     ended-words-requires

@@ -1,5 +1,5 @@
 -- `c_tables::write_tap` meets its contract. Assumes nothing.
-use Rattle.c_words.specs.AnswersLaws.{tap-put}
+use Rattle.c_words.specs.AnswersLaws.{tap_put_lem}
 use borrow.Author.Rules.{rules}
 use Rattle.c_tables.proofs.write_tap.Statement.{statement}
 use Rattle.c_tables.proofs.write_tap.Tie as tie
@@ -29,10 +29,10 @@ same_length : tie.Need-same-length
 same_length c = search rules
 
 returns : tie.Need-returns
-returns c = search tap-put
+returns c = search tap_put_lem
 
-pub write-tap-spec : {M : Type 1} → statement M
-write-tap-spec =
+pub write_tap_spec : {M : Type 1} → statement M
+write_tap_spec =
     tie.close
     (tie.spec
     mul-put32

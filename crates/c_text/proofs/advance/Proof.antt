@@ -1,5 +1,5 @@
 -- `c_text::advance` meets its contract. Assumes nothing.
-use Rattle.c_text.specs.TextCallLaws.{advance-place, advance-low, advance-few, advance-made}
+use Rattle.c_text.specs.TextCallLaws.{advance_place, advance_low, advance_few, advance_made}
 use borrow.Author.Rules.{rules}
 use Rattle.c_text.proofs.advance.Statement.{statement}
 use Rattle.c_text.proofs.advance.Tie as tie
@@ -11,7 +11,7 @@ same_length : tie.Need-same-length
 same_length c = search rules
 
 returns : tie.Need-returns
-returns c = search advance-place
+returns c = search advance_place
 
 read-progress-requires : tie.Need-read-progress-requires
 read-progress-requires c κs = search rules
@@ -32,7 +32,7 @@ advance-requires : tie.Need-advance-requires
 advance-requires c κs = search rules
 
 hand-over-requires : tie.Need-hand-over-requires
-hand-over-requires c κs = (search rules, search advance-low, search advance-few)
+hand-over-requires c κs = (search rules, search advance_low, search advance_few)
 
 same-length-2 : tie.Need-same-length-2
 same-length-2 c = search rules
@@ -44,10 +44,10 @@ same-length-4 : tie.Need-same-length-4
 same-length-4 c = search rules
 
 returns-2 : tie.Need-returns-2
-returns-2 c = search advance-made
+returns-2 c = search advance_made
 
-pub advance-spec : {M : Type 1} → statement M
-advance-spec =
+pub advance_spec : {M : Type 1} → statement M
+advance_spec =
     tie.close
     (tie.spec
     refuse-place-requires

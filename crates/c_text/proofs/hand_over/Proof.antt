@@ -1,5 +1,5 @@
 -- `c_text::hand_over` meets its contract. Assumes nothing.
-use Rattle.c_text.specs.TextCallLaws.{hand-refused, hand-given}
+use Rattle.c_text.specs.TextCallLaws.{hand_refused, hand_given}
 use borrow.Author.Rules.{rules}
 use Rattle.c_text.proofs.hand_over.Statement.{statement}
 use Rattle.c_text.proofs.hand_over.Tie as tie
@@ -14,7 +14,7 @@ reply-requires : tie.Need-reply-requires
 reply-requires c κs = search rules
 
 returns : tie.Need-returns
-returns c = search hand-refused
+returns c = search hand_refused
 
 write-progress-requires : tie.Need-write-progress-requires
 write-progress-requires c κs = search rules
@@ -26,10 +26,10 @@ same_length : tie.Need-same-length
 same_length c = search rules
 
 returns-2 : tie.Need-returns-2
-returns-2 c = search hand-given
+returns-2 c = search hand_given
 
-pub hand-over-spec : {M : Type 1} → statement M
-hand-over-spec =
+pub hand_over_spec : {M : Type 1} → statement M
+hand_over_spec =
     tie.close
     (tie.spec
     piece-number-requires

@@ -1,5 +1,5 @@
 -- `c_text::piece_size` meets its contract. Assumes nothing.
-use Rattle.c_text.specs.TextCallLaws.{piece-cast}
+use Rattle.c_text.specs.TextCallLaws.{piece_cast}
 use borrow.Author.Rules.{rules}
 use Rattle.c_text.proofs.piece_size.Statement.{statement}
 use Rattle.c_text.proofs.piece_size.Tie as tie
@@ -11,7 +11,7 @@ enum-known-p : tie.Need-enum-known-p
 enum-known-p c = search rules
 
 cast-result : tie.Need-overflow-cast-result
-cast-result c = search piece-cast
+cast-result c = search piece_cast
 
 returns : tie.Need-returns
 returns c = search rules
@@ -19,5 +19,5 @@ returns c = search rules
 returns-2 : tie.Need-returns-2
 returns-2 c = search rules
 
-pub piece-size-spec : {M : Type 1} → statement M
-piece-size-spec = tie.close (tie.spec enum_told enum-known-p cast-result returns returns-2)
+pub piece_size_spec : {M : Type 1} → statement M
+piece_size_spec = tie.close (tie.spec enum_told enum-known-p cast-result returns returns-2)

@@ -1,5 +1,5 @@
 -- `c_text::print` meets its contract. Assumes nothing.
-use Rattle.c_text.specs.TextCallLaws.{print-low, print-few, print-made}
+use Rattle.c_text.specs.TextCallLaws.{print_low, print_few, print_made}
 use borrow.Author.Rules.{rules}
 use Rattle.c_text.proofs.print.Statement.{statement}
 use Rattle.c_text.proofs.print.Tie as tie
@@ -23,10 +23,10 @@ piece-number-requires : tie.Need-piece-number-requires
 piece-number-requires c κs = search rules
 
 piece-size-requires : tie.Need-piece-size-requires
-piece-size-requires c κs = search print-few
+piece-size-requires c κs = search print_few
 
 reply-requires : tie.Need-reply-requires
-reply-requires c κs = search print-low
+reply-requires c κs = search print_low
 
 same_length : tie.Need-same-length
 same_length c = search rules
@@ -35,10 +35,10 @@ same-length-2 : tie.Need-same-length-2
 same-length-2 c = search rules
 
 returns : tie.Need-returns
-returns c = search print-made
+returns c = search print_made
 
-pub print-spec : {M : Type 1} → statement M
-print-spec =
+pub print_spec : {M : Type 1} → statement M
+print_spec =
     tie.close
     (tie.spec
     at-most-requires

@@ -45,8 +45,8 @@ same_length c = search rules
 returns : tie.Need-returns
 returns c = search put_four
 
-pub put-place-spec : {M : Type 1} → statement M
-put-place-spec =
+pub put_place_spec : {M : Type 1} → statement M
+put_place_spec =
     tie.close
     (tie.spec
     cast-s

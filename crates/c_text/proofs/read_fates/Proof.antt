@@ -1,5 +1,5 @@
 -- `c_text::read_fates` meets its contract. Assumes nothing.
-use Rattle.c_text.specs.TextCallLaws.{fates-read}
+use Rattle.c_text.specs.TextCallLaws.{fates_read}
 use borrow.Author.Rules.{rules}
 use Rattle.c_text.proofs.read_fates.Statement.{statement}
 use Rattle.c_text.proofs.read_fates.Tie as tie
@@ -20,10 +20,10 @@ store-requires : tie.Need-store-requires
 store-requires c κs = search rules
 
 returns : tie.Need-returns
-returns c = search fates-read
+returns c = search fates_read
 
-pub read-fates-spec : {M : Type 1} → statement M
-read-fates-spec =
+pub read_fates_spec : {M : Type 1} → statement M
+read_fates_spec =
     tie.close
     (tie.spec
     slice-aggregate-store

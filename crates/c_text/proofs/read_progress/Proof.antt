@@ -1,5 +1,5 @@
 -- `c_text::read_progress` meets its contract. Assumes nothing.
-use Rattle.c_text.specs.TextCallLaws.{progress-read}
+use Rattle.c_text.specs.TextCallLaws.{progress_read}
 use borrow.Author.Rules.{rules}
 use Rattle.c_text.proofs.read_progress.Statement.{statement}
 use Rattle.c_text.proofs.read_progress.Tie as tie
@@ -26,10 +26,10 @@ read-fates-requires : tie.Need-read-fates-requires
 read-fates-requires c κs = search rules
 
 returns : tie.Need-returns
-returns c = search progress-read
+returns c = search progress_read
 
-pub read-progress-spec : {M : Type 1} → statement M
-read-progress-spec =
+pub read_progress_spec : {M : Type 1} → statement M
+read_progress_spec =
     tie.close
     (tie.spec
     get32-requires

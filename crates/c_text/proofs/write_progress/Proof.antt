@@ -1,5 +1,5 @@
 -- `c_text::write_progress` meets its contract. Assumes nothing.
-use Rattle.c_text.specs.TextCallLaws.{progress-put}
+use Rattle.c_text.specs.TextCallLaws.{progress_put_lem}
 use borrow.Author.Rules.{rules}
 use Rattle.c_text.proofs.write_progress.Statement.{statement}
 use Rattle.c_text.proofs.write_progress.Tie as tie
@@ -23,10 +23,10 @@ same_length : tie.Need-same-length
 same_length c = search rules
 
 returns : tie.Need-returns
-returns c = search progress-put
+returns c = search progress_put_lem
 
-pub write-progress-spec : {M : Type 1} → statement M
-write-progress-spec =
+pub write_progress_spec : {M : Type 1} → statement M
+write_progress_spec =
     tie.close
     (tie.spec
     put-place-requires

@@ -1,5 +1,5 @@
 -- `c_views::write_station` meets its contract. Assumes nothing.
-use Rattle.c_views.specs.ViewLaws.{station-put}
+use Rattle.c_views.specs.ViewLaws.{station_put_lem}
 use borrow.Author.Rules.{rules}
 use Rattle.c_views.proofs.write_station.Statement.{statement}
 use Rattle.c_views.proofs.write_station.Tie as tie
@@ -41,10 +41,10 @@ same_length : tie.Need-same-length
 same_length c = search rules
 
 returns : tie.Need-returns
-returns c = search station-put
+returns c = search station_put_lem
 
-pub write-station-spec : {M : Type 1} → statement M
-write-station-spec =
+pub write_station_spec : {M : Type 1} → statement M
+write_station_spec =
     tie.close
     (tie.spec
     read-station-requires

@@ -1,5 +1,5 @@
 -- `capi::wisavulome_run_stepwise` meets its contract. Assumes nothing.
-use Rattle.c_calls.specs.CallLaws.{run_short, run-number-low, run-refused, run-made}
+use Rattle.c_calls.specs.CallLaws.{run_short, run_number_low, run_refused, run_made_lem}
 use borrow.Author.Rules.{rules}
 use Rattle.capi.proofs.wisavulome_run_stepwise.Statement.{statement}
 use Rattle.capi.proofs.wisavulome_run_stepwise.Tie as tie
@@ -20,13 +20,13 @@ done-number-requires : tie.Need-done-number-requires
 done-number-requires c κs = search rules
 
 reply-requires : tie.Need-reply-requires
-reply-requires c κs = search run-number-low
+reply-requires c κs = search run_number_low
 
 same-length-2 : tie.Need-same-length-2
 same-length-2 c = search rules
 
 returns-2 : tie.Need-returns-2
-returns-2 c = search run-refused
+returns-2 c = search run_refused
 
 write-run-requires : tie.Need-write-run-requires
 write-run-requires c κs = search rules
@@ -38,10 +38,10 @@ same-length-4 : tie.Need-same-length-4
 same-length-4 c = search rules
 
 returns-3 : tie.Need-returns-3
-returns-3 c = search run-made
+returns-3 c = search run_made_lem
 
-pub wisavulome-run-stepwise-spec : {M : Type 1} → statement M
-wisavulome-run-stepwise-spec =
+pub wisavulome_run_stepwise_spec : {M : Type 1} → statement M
+wisavulome_run_stepwise_spec =
     tie.close
     (tie.spec
     refuse-short-requires

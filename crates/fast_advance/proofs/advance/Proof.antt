@@ -1,5 +1,5 @@
 use native.Mathlib.Omega.{arith}
-use Rattle.fast_advance.specs.AdvanceLaws.{advance-leap, stayed-ready, stayed-clock, advance-step}
+use Rattle.fast_advance.specs.AdvanceLaws.{advance_leap, stayed_ready, stayed_clock, advance_step}
 use borrow.Author.Rules.{rules}
 use Rattle.fast_advance.proofs.advance.Statement.{statement}
 use Rattle.fast_advance.proofs.advance.Tie as tie
@@ -23,11 +23,11 @@ same_length c = search rules
 
 -- src/lib.rt:50:9
 returns : tie.Need-returns
-returns c = (search advance-leap, (omega arith, omega arith))
+returns c = (search advance_leap, (omega arith, omega arith))
 
 -- src/lib.rt:52:9
 step-requires : tie.Need-step-requires
-step-requires c κs = (omega arith, search stayed-clock, search stayed-ready)
+step-requires c κs = (omega arith, search stayed_clock, search stayed_ready)
 
 -- src/lib.rt:43:1
 same-length-2 : tie.Need-same-length-2
@@ -35,10 +35,10 @@ same-length-2 c = search rules
 
 -- src/lib.rt:43:1
 returns-2 : tie.Need-returns-2
-returns-2 c = (search advance-step, (omega arith, omega arith))
+returns-2 c = (search advance_step, (omega arith, omega arith))
 
-pub advance-spec : {M : Type 1} → statement M
-advance-spec =
+pub advance_spec : {M : Type 1} → statement M
+advance_spec =
     tie.close
     (tie.spec
     leap-requires

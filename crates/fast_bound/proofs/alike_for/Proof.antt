@@ -3,7 +3,7 @@ use Prim.Native.Nat.{◌-◌, ◌≤◌}
 use native.Mathlib.Omega.{arith}
 use borrow.Author.Rules.{rules}
 use Rattle.fast_bound.specs.Bound.{Alike}
-use Rattle.fast_bound.specs.WindowLaws.{alike-none, alike-more}
+use Rattle.fast_bound.specs.WindowLaws.{alike_none, alike_more}
 use Rattle.fast_bound.proofs.alike_for.Statement.{statement}
 use Rattle.fast_bound.proofs.alike_for.Tie as tie
 
@@ -14,7 +14,7 @@ abbrev decreases-loop : tie.decreases-loop
 decreases-loop area j t near bit quiet m s₀ s = m - s
 
 loop-holds : tie.Need-loop-init invariant-loop decreases-loop
-loop-holds c = (omega arith, search alike-none)
+loop-holds c = (omega arith, search alike_none)
 
 cast-heard-run : tie.Need-overflow-cast-heard-run invariant-loop decreases-loop
 cast-heard-run c = omega arith
@@ -44,13 +44,13 @@ loop-less : tie.Need-loop-smaller invariant-loop decreases-loop
 loop-less c = omega arith
 
 loop-again : tie.Need-loop-preserved invariant-loop decreases-loop
-loop-again c = (omega arith, search alike-more)
+loop-again c = (omega arith, search alike_more)
 
 returns-2 : tie.Need-returns-2 invariant-loop decreases-loop
 returns-2 c = (search rules, omega arith)
 
-pub alike-for-spec : {M : Type 1} → statement M
-alike-for-spec =
+pub alike_for_spec : {M : Type 1} → statement M
+alike_for_spec =
     tie.close
     (tie.spec
     invariant-loop

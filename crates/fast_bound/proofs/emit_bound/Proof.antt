@@ -1,6 +1,6 @@
 -- `fast_bound::emit_bound` meets its contract. Assumes nothing.
 use native.Mathlib.Omega.{arith}
-use Rattle.fast_bound.specs.WindowLaws.{frame_small, emit-calm}
+use Rattle.fast_bound.specs.WindowLaws.{frame_small, emit_calm}
 use borrow.Author.Rules.{rules}
 use Rattle.fast_bound.proofs.emit_bound.Statement.{statement}
 use Rattle.fast_bound.proofs.emit_bound.Tie as tie
@@ -18,7 +18,7 @@ smaller-requires : tie.Need-smaller-requires
 smaller-requires c κs = search rules
 
 returns : tie.Need-returns
-returns c = (search emit-calm, omega arith)
+returns c = (search emit_calm, omega arith)
 
 alike-for-requires-2 : tie.Need-alike-for-requires-2
 alike-for-requires-2 c κs = search rules
@@ -30,10 +30,10 @@ smaller-requires-2 : tie.Need-smaller-requires-2
 smaller-requires-2 c κs = search rules
 
 returns-2 : tie.Need-returns-2
-returns-2 c = (search emit-calm, omega arith)
+returns-2 c = (search emit_calm, omega arith)
 
-pub emit-bound-spec : {M : Type 1} → statement M
-emit-bound-spec =
+pub emit_bound_spec : {M : Type 1} → statement M
+emit_bound_spec =
     tie.close
     (tie.spec
     read-station-requires

@@ -1,5 +1,5 @@
 -- `fast_bound::emit_steps` meets its contract. Assumes nothing.
-use Rattle.fast_bound.specs.BoundLaws.{emit-some, emit-none}
+use Rattle.fast_bound.specs.BoundLaws.{emit_some, emit_none}
 use borrow.Author.Rules.{rules}
 use Rattle.fast_bound.proofs.emit_steps.Statement.{statement}
 use Rattle.fast_bound.proofs.emit_steps.Tie as tie
@@ -20,13 +20,13 @@ emits-for-requires : tie.Need-emits-for-requires
 emits-for-requires c κs = search rules
 
 returns : tie.Need-returns
-returns c = search emit-some
+returns c = search emit_some
 
 returns-2 : tie.Need-returns-2
-returns-2 c = search emit-none
+returns-2 c = search emit_none
 
-pub emit-steps-spec : {M : Type 1} → statement M
-emit-steps-spec =
+pub emit_steps_spec : {M : Type 1} → statement M
+emit_steps_spec =
     tie.close
     (tie.spec
     own-busy-requires

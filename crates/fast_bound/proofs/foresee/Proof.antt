@@ -1,6 +1,6 @@
 -- `fast_bound::foresee` meets its contract. Assumes nothing.
 use native.Mathlib.Omega.{arith}
-use Rattle.fast_bound.specs.BoundLaws.{ahead-silent, ahead-line, ahead-from, ahead-spoiled}
+use Rattle.fast_bound.specs.BoundLaws.{ahead_silent, ahead_line, ahead_from, ahead_spoiled}
 use borrow.Author.Rules.{rules}
 use Rattle.fast_bound.proofs.foresee.Statement.{statement}
 use Rattle.fast_bound.proofs.foresee.Tie as tie
@@ -30,19 +30,19 @@ hear-ahead-requires-3 : tie.Need-hear-ahead-requires-3
 hear-ahead-requires-3 c κs = search rules
 
 returns : tie.Need-returns
-returns c = (search ahead-silent, omega arith)
+returns c = (search ahead_silent, omega arith)
 
 returns-2 : tie.Need-returns-2
-returns-2 c = (search ahead-line, omega arith)
+returns-2 c = (search ahead_line, omega arith)
 
 returns-3 : tie.Need-returns-3
-returns-3 c = (search ahead-from, omega arith)
+returns-3 c = (search ahead_from, omega arith)
 
 returns-4 : tie.Need-returns-4
-returns-4 c = (search ahead-spoiled, omega arith)
+returns-4 c = (search ahead_spoiled, omega arith)
 
-pub foresee-spec : {M : Type 1} → statement M
-foresee-spec =
+pub foresee_spec : {M : Type 1} → statement M
+foresee_spec =
     tie.close
     (tie.spec
     enum_told

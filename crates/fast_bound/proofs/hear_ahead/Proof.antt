@@ -1,6 +1,6 @@
 -- `fast_bound::hear_ahead` meets its contract. Assumes nothing.
 use native.Mathlib.Omega.{arith}
-use Rattle.fast_bound.specs.BoundLaws.{hear-to}
+use Rattle.fast_bound.specs.BoundLaws.{hear_to}
 use borrow.Author.Rules.{rules}
 use Rattle.fast_bound.proofs.hear_ahead.Statement.{statement}
 use Rattle.fast_bound.proofs.hear_ahead.Tie as tie
@@ -18,9 +18,9 @@ add-t9 : tie.Need-overflow-add-t9
 add-t9 c = search rules
 
 returns : tie.Need-returns
-returns c = (search hear-to, omega arith)
+returns c = (search hear_to, omega arith)
 
-pub hear-ahead-spec : {M : Type 1} → statement M
-hear-ahead-spec =
+pub hear_ahead_spec : {M : Type 1} → statement M
+hear_ahead_spec =
     tie.close
     (tie.spec hear-steps-requires hear-deference-requires rest-transmitter-requires add-t9 returns)

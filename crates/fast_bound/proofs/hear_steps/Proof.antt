@@ -1,5 +1,5 @@
 -- `fast_bound::hear_steps` meets its contract. Assumes nothing.
-use Rattle.fast_bound.specs.BoundLaws.{hear-few}
+use Rattle.fast_bound.specs.BoundLaws.{hear_few}
 use native.Mathlib.Omega.{arith}
 use borrow.Author.Rules.{rules}
 use Rattle.fast_bound.proofs.hear_steps.Statement.{statement}
@@ -12,7 +12,7 @@ smaller-requires : tie.Need-smaller-requires
 smaller-requires c κs = search rules
 
 returns : tie.Need-returns
-returns c = (search hear-few, omega arith)
+returns c = (search hear_few, omega arith)
 
-pub hear-steps-spec : {M : Type 1} → statement M
-hear-steps-spec = tie.close (tie.spec heard-rest-requires smaller-requires returns)
+pub hear_steps_spec : {M : Type 1} → statement M
+hear_steps_spec = tie.close (tie.spec heard-rest-requires smaller-requires returns)

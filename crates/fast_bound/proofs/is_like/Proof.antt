@@ -1,5 +1,5 @@
 -- `fast_bound::is_like` meets its contract. Assumes nothing.
-use Rattle.fast_bound.specs.BoundLaws.{like-silent, like-line, like-from, like-spoiled}
+use Rattle.fast_bound.specs.BoundLaws.{like_silent, like_line, like_from, like_spoiled}
 use borrow.Author.Rules.{rules}
 use Rattle.fast_bound.proofs.is_like.Statement.{statement}
 use Rattle.fast_bound.proofs.is_like.Tie as tie
@@ -17,18 +17,18 @@ enum-told-4 : tie.Need-enum-told-4
 enum-told-4 c = search rules
 
 returns : tie.Need-returns
-returns c = search like-silent
+returns c = search like_silent
 
 returns-2 : tie.Need-returns-2
-returns-2 c = search like-line
+returns-2 c = search like_line
 
 returns-3 : tie.Need-returns-3
-returns-3 c = search like-from
+returns-3 c = search like_from
 
 returns-4 : tie.Need-returns-4
-returns-4 c = search like-spoiled
+returns-4 c = search like_spoiled
 
-pub is-like-spec : {M : Type 1} → statement M
-is-like-spec =
+pub is_like_spec : {M : Type 1} → statement M
+is_like_spec =
     tie.close
     (tie.spec enum_told enum-told-2 enum-told-3 enum-told-4 returns returns-2 returns-3 returns-4)

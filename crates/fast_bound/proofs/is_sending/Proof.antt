@@ -1,5 +1,5 @@
 -- `fast_bound::is_sending` meets its contract. Assumes nothing.
-use Rattle.fast_bound.specs.BoundLaws.{sends_none, sends-waits, sends-backs, sends-sends, sends-heads, sends-jams}
+use Rattle.fast_bound.specs.BoundLaws.{sends_none, sends_waits, sends_backs, sends_sends, sends_heads, sends_jams}
 use borrow.Author.Rules.{rules}
 use Rattle.fast_bound.proofs.is_sending.Statement.{statement}
 use Rattle.fast_bound.proofs.is_sending.Tie as tie
@@ -26,22 +26,22 @@ returns : tie.Need-returns
 returns c = search sends_none
 
 returns-2 : tie.Need-returns-2
-returns-2 c = search sends-waits
+returns-2 c = search sends_waits
 
 returns-3 : tie.Need-returns-3
-returns-3 c = search sends-backs
+returns-3 c = search sends_backs
 
 returns-4 : tie.Need-returns-4
-returns-4 c = search sends-sends
+returns-4 c = search sends_sends
 
 returns-5 : tie.Need-returns-5
-returns-5 c = search sends-heads
+returns-5 c = search sends_heads
 
 returns-6 : tie.Need-returns-6
-returns-6 c = search sends-jams
+returns-6 c = search sends_jams
 
-pub is-sending-spec : {M : Type 1} → statement M
-is-sending-spec =
+pub is_sending_spec : {M : Type 1} → statement M
+is_sending_spec =
     tie.close
     (tie.spec
     enum_told

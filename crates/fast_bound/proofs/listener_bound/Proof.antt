@@ -1,6 +1,6 @@
 use native.Mathlib.Omega.{arith}
-use Rattle.fast_heard.specs.NearLaws.{silent-by-code}
-use Rattle.fast_bound.specs.WindowLaws.{if-emits, if-calm}
+use Rattle.fast_heard.specs.NearLaws.{silent_by_code}
+use Rattle.fast_bound.specs.WindowLaws.{if_emits, if_calm}
 use borrow.Author.Rules.{rules}
 use Rattle.fast_bound.proofs.listener_bound.Statement.{statement}
 use Rattle.fast_bound.proofs.listener_bound.Tie as tie
@@ -15,16 +15,16 @@ read-word-requires c κs = search rules
 
 -- src/lib.rt:330:9
 silent-bound-requires : tie.Need-silent-bound-requires
-silent-bound-requires c κs = (omega arith, omega arith, omega arith, omega arith, search rules, search silent-by-code)
+silent-bound-requires c κs = (omega arith, omega arith, omega arith, omega arith, search rules, search silent_by_code)
 
 -- src/lib.rt:330:9
 returns : tie.Need-returns
-returns c = (search if-calm, omega arith)
+returns c = (search if_calm, omega arith)
 
 -- src/lib.rt:323:1
 returns-2 : tie.Need-returns-2
-returns-2 c = (search if-emits, omega arith)
+returns-2 c = (search if_emits, omega arith)
 
-pub listener-bound-spec : {M : Type 1} → statement M
-listener-bound-spec =
+pub listener_bound_spec : {M : Type 1} → statement M
+listener_bound_spec =
     tie.close (tie.spec read-word-requires silent-bound-requires returns returns-2)

@@ -1,6 +1,6 @@
 -- `fast_bound::rest_ahead` meets its contract. Assumes nothing.
 use native.Mathlib.Omega.{arith}
-use Rattle.fast_bound.specs.BoundLaws.{rest-to}
+use Rattle.fast_bound.specs.BoundLaws.{rest_to}
 use borrow.Author.Rules.{rules}
 use Rattle.fast_bound.proofs.rest_ahead.Statement.{statement}
 use Rattle.fast_bound.proofs.rest_ahead.Tie as tie
@@ -15,9 +15,9 @@ rest-transmitter-requires : tie.Need-rest-transmitter-requires
 rest-transmitter-requires c κs = search rules
 
 returns : tie.Need-returns
-returns c = (search rest-to, omega arith)
+returns c = (search rest_to, omega arith)
 
-pub rest-ahead-spec : {M : Type 1} → statement M
-rest-ahead-spec =
+pub rest_ahead_spec : {M : Type 1} → statement M
+rest_ahead_spec =
     tie.close
     (tie.spec rest-steps-requires rest-deference-requires rest-transmitter-requires returns)

@@ -1,6 +1,6 @@
 -- `fast_bound::rest_steps` meets its contract. Assumes nothing.
 use native.Mathlib.Omega.{arith}
-use Rattle.fast_bound.specs.BoundLaws.{rest-many, rest-few}
+use Rattle.fast_bound.specs.BoundLaws.{rest_many, rest_few}
 use borrow.Author.Rules.{rules}
 use Rattle.fast_bound.proofs.rest_steps.Statement.{statement}
 use Rattle.fast_bound.proofs.rest_steps.Tie as tie
@@ -15,11 +15,11 @@ smaller-requires : tie.Need-smaller-requires
 smaller-requires c κs = search rules
 
 returns : tie.Need-returns
-returns c = (search rest-few, omega arith)
+returns c = (search rest_few, omega arith)
 
 returns-2 : tie.Need-returns-2
-returns-2 c = (search rest-many, omega arith)
+returns-2 c = (search rest_many, omega arith)
 
-pub rest-steps-spec : {M : Type 1} → statement M
-rest-steps-spec =
+pub rest_steps_spec : {M : Type 1} → statement M
+rest_steps_spec =
     tie.close (tie.spec either-requires frames-rest-requires smaller-requires returns returns-2)

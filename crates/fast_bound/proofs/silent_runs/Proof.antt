@@ -3,7 +3,7 @@ use Prim.Native.Nat.{◌+◌, ◌-◌, ◌≤◌}
 use native.Mathlib.Omega.{arith}
 use borrow.Author.Rules.{rules}
 use Rattle.fast_bound.specs.Bound.{Underway}
-use Rattle.fast_bound.specs.WindowLaws.{calm-end, under-again, calm-on}
+use Rattle.fast_bound.specs.WindowLaws.{calm_end, under_again, calm_on}
 use Rattle.fast_bound.proofs.silent_runs.Statement.{statement}
 use Rattle.fast_bound.proofs.silent_runs.Tie as tie
 
@@ -38,19 +38,19 @@ add-s : tie.Need-overflow-add-s invariant-loop decreases-loop
 add-s c = omega arith
 
 returns : tie.Need-returns invariant-loop decreases-loop
-returns c = (search calm-on, omega arith)
+returns c = (search calm_on, omega arith)
 
 loop-less : tie.Need-loop-smaller invariant-loop decreases-loop
 loop-less c = omega arith
 
 loop-again : tie.Need-loop-preserved invariant-loop decreases-loop
-loop-again c = (omega arith, omega arith, search under-again)
+loop-again c = (omega arith, omega arith, search under_again)
 
 returns-2 : tie.Need-returns-2 invariant-loop decreases-loop
-returns-2 c = (search calm-end, omega arith)
+returns-2 c = (search calm_end, omega arith)
 
-pub silent-runs-spec : {M : Type 1} → statement M
-silent-runs-spec =
+pub silent_runs_spec : {M : Type 1} → statement M
+silent_runs_spec =
     tie.close
     (tie.spec
     invariant-loop

@@ -1,13 +1,13 @@
 -- `fast_carrier::line` meets its contract. Assumes nothing.
 use native.Mathlib.Omega.{arith}
 -- `fast_carrier::line` meets its contract. Assumes nothing.
-use Rattle.fast_carrier.specs.Carrier.{line-past, line-run}
+use Rattle.fast_carrier.specs.Carrier.{line_past, line_run}
 use borrow.Author.Rules.{rules}
 use Rattle.fast_carrier.proofs.line.Statement.{statement}
 use Rattle.fast_carrier.proofs.line.Tie as tie
 
 returns : tie.Need-returns
-returns c = (search line-past, omega arith)
+returns c = (search line_past, omega arith)
 
 sub-n : tie.Need-overflow-sub-n
 sub-n c = search rules
@@ -31,10 +31,10 @@ add-until : tie.Need-overflow-add-until
 add-until c = search rules
 
 returns-2 : tie.Need-returns-2
-returns-2 c = (search line-run, omega arith)
+returns-2 c = (search line_run, omega arith)
 
-pub line-spec : {M : Type 1} → statement M
-line-spec =
+pub line_spec : {M : Type 1} → statement M
+line_spec =
     tie.close
     (tie.spec
     returns

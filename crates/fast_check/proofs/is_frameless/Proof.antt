@@ -1,5 +1,5 @@
 -- `fast_check::is_frameless` meets its contract. Assumes nothing.
-use Rattle.fast_check.specs.Frameless.{frameless-is, tells-not}
+use Rattle.fast_check.specs.Frameless.{frameless_is, tells_not}
 use borrow.Author.Rules.{rules}
 use Rattle.fast_check.proofs.is_frameless.Statement.{statement}
 use Rattle.fast_check.proofs.is_frameless.Tie as tie
@@ -17,13 +17,13 @@ none-of-requires : tie.Need-none-of-requires
 none-of-requires c κs = search rules
 
 returns : tie.Need-returns
-returns c = search frameless-is
+returns c = search frameless_is
 
 returns-2 : tie.Need-returns-2
-returns-2 c = search tells-not
+returns-2 c = search tells_not
 
-pub is-frameless-spec : {M : Type 1} → statement M
-is-frameless-spec =
+pub is_frameless_spec : {M : Type 1} → statement M
+is_frameless_spec =
     tie.close
     (tie.spec
     read-station-requires

@@ -1,5 +1,5 @@
 -- `fast_check::none_of` meets its contract. Assumes nothing.
-use Rattle.fast_check.specs.Frameless.{NoneOf, none_first, none_more, none_end, tells-not}
+use Rattle.fast_check.specs.Frameless.{NoneOf, none_first, none_more, none_end, tells_not}
 use Prim.Native.Nat.{◌≤◌, ◌-◌}
 use native.Mathlib.Omega.{arith}
 use Rattle.fast_check.proofs.none_of.Statement.{statement}
@@ -24,7 +24,7 @@ shared-slice-read-if1 : tie.Need-shared-slice-read-if1 invariant-loop decreases-
 shared-slice-read-if1 c = omega arith
 
 returns : tie.Need-returns invariant-loop decreases-loop
-returns c = search tells-not
+returns c = search tells_not
 
 add-k : tie.Need-overflow-add-k invariant-loop decreases-loop
 add-k c = omega arith
@@ -38,8 +38,8 @@ loop-again c = (omega arith, search none_more)
 returns-2 : tie.Need-returns-2 invariant-loop decreases-loop
 returns-2 c = search none_end
 
-pub none-of-spec : {M : Type 1} → statement M
-none-of-spec =
+pub none_of_spec : {M : Type 1} → statement M
+none_of_spec =
     tie.close
     (tie.spec
     invariant-loop

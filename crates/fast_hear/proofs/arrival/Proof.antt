@@ -1,5 +1,5 @@
 -- `fast_hear::arrival` meets its contract. Assumes nothing.
-use Rattle.fast_hear.specs.ListedLaws.{fits-who, fits-cast, fits_sum, arrival-is}
+use Rattle.fast_hear.specs.ListedLaws.{fits_who, fits_cast, fits_sum, arrival_is}
 use native.Mathlib.Omega.{arith}
 use borrow.Author.Rules.{rules}
 use Rattle.fast_hear.proofs.arrival.Statement.{statement}
@@ -15,10 +15,10 @@ shared-slice-read-who : tie.Need-shared-slice-read-who
 shared-slice-read-who c = search rules
 
 cast-who : tie.Need-overflow-cast-who
-cast-who c = search fits-cast
+cast-who c = search fits_cast
 
 read-position-requires : tie.Need-read-position-requires
-read-position-requires c κs = (search fits-who, omega arith)
+read-position-requires c κs = (search fits_who, omega arith)
 
 apart-requires : tie.Need-apart-requires
 apart-requires c κs = search rules
@@ -39,10 +39,10 @@ add-result-2 : tie.Need-overflow-add-result-2
 add-result-2 c = search fits_sum
 
 returns : tie.Need-returns
-returns c = search arrival-is
+returns c = search arrival_is
 
-pub arrival-spec : {M : Type 1} → statement M
-arrival-spec =
+pub arrival_spec : {M : Type 1} → statement M
+arrival_spec =
     tie.close
     (tie.spec
     mul-who

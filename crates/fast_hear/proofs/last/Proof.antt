@@ -1,11 +1,11 @@
 -- `fast_hear::last` meets its contract. Assumes nothing.
-use Rattle.fast_hear.specs.ListedLaws.{ends-bits, ends-jam, last-early, last-heard, last-past}
+use Rattle.fast_hear.specs.ListedLaws.{ends_bits, ends_jam, last_early, last_heard, last_past}
 use borrow.Author.Rules.{rules}
 use Rattle.fast_hear.proofs.last.Statement.{statement}
 use Rattle.fast_hear.proofs.last.Tie as tie
 
 returns : tie.Need-returns
-returns c = search last-early
+returns c = search last_early
 
 mul-end : tie.Need-overflow-mul-end
 mul-end c = search rules
@@ -20,7 +20,7 @@ shared-slice-read-end : tie.Need-shared-slice-read-end
 shared-slice-read-end c = search rules
 
 add-end-2 : tie.Need-overflow-add-end-2
-add-end-2 c = search ends-bits
+add-end-2 c = search ends_bits
 
 mul-end-3 : tie.Need-overflow-mul-end-3
 mul-end-3 c = search rules
@@ -35,16 +35,16 @@ shared-slice-read-end-2 : tie.Need-shared-slice-read-end-2
 shared-slice-read-end-2 c = search rules
 
 add-end-4 : tie.Need-overflow-add-end-4
-add-end-4 c = search ends-jam
+add-end-4 c = search ends_jam
 
 returns-2 : tie.Need-returns-2
-returns-2 c = search last-heard
+returns-2 c = search last_heard
 
 returns-3 : tie.Need-returns-3
-returns-3 c = search last-past
+returns-3 c = search last_past
 
-pub last-spec : {M : Type 1} → statement M
-last-spec =
+pub last_spec : {M : Type 1} → statement M
+last_spec =
     tie.close
     (tie.spec
     returns

@@ -1,8 +1,8 @@
 -- `fast_hear::next_heard` meets its contract. Assumes nothing.
-use Rattle.fast_hear.specs.ListedLaws.{next-none, next_more, next-end, next-bound}
+use Rattle.fast_hear.specs.ListedLaws.{next_none, next_more, next_end, next_bound}
 use Rattle.fast_hear.specs.Listed.{list_of}
-use Rattle.fast_list.specs.Reaching.{nextIn}
-use Rattle.area.specs.Area.{positionAt, spaceAt}
+use Rattle.fast_list.specs.Reaching.{next_in}
+use Rattle.area.specs.Area.{position_at, space_at}
 use mathlib.Core.Path.{◌≡◌}
 use Prim.Native.Nat.{◌≤◌, ◌-◌}
 use borrow.Author.Rules.{rules}
@@ -12,7 +12,7 @@ use Rattle.fast_hear.proofs.next_heard.Tie as tie
 
 abbrev invariant-loop : tie.invariant-loop
 invariant-loop area list n j s m p r₀ k₀ r k =
-    (k ≤ n) × (p ≡ positionAt area j) × (r ≡ nextIn (spaceAt area) (list_of list k) j s m)
+    (k ≤ n) × (p ≡ position_at area j) × (r ≡ next_in (space_at area) (list_of list k) j s m)
 
 abbrev decreases-loop : tie.decreases-loop
 decreases-loop area list n j s m p r₀ k₀ r k = n - k
@@ -21,7 +21,7 @@ read-position-requires : tie.Need-read-position-requires invariant-loop decrease
 read-position-requires c κs = search rules
 
 loop-holds : tie.Need-loop-init invariant-loop decreases-loop
-loop-holds c = (omega arith, search rules, search next-none)
+loop-holds c = (omega arith, search rules, search next_none)
 
 arrival-requires : tie.Need-arrival-requires invariant-loop decreases-loop
 arrival-requires c κs = search rules
@@ -42,10 +42,10 @@ loop-again : tie.Need-loop-preserved invariant-loop decreases-loop
 loop-again c = (omega arith, search rules, search next_more)
 
 returns : tie.Need-returns invariant-loop decreases-loop
-returns c = (search next-end, search next-bound)
+returns c = (search next_end, search next_bound)
 
-pub next-heard-spec : {M : Type 1} → statement M
-next-heard-spec =
+pub next_heard_spec : {M : Type 1} → statement M
+next_heard_spec =
     tie.close
     (tie.spec
     invariant-loop

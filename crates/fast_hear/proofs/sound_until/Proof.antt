@@ -1,8 +1,8 @@
 -- `fast_hear::sound_until` meets its contract. Assumes nothing.
-use Rattle.fast_hear.specs.ListedLaws.{reach-none, reach-more, reach-end}
+use Rattle.fast_hear.specs.ListedLaws.{reach_none, reach_more, reach_end}
 use Rattle.fast_hear.specs.Listed.{list_of}
-use Rattle.fast_list.specs.Reaching.{reachIn}
-use Rattle.area.specs.Area.{positionAt, spaceAt}
+use Rattle.fast_list.specs.Reaching.{reach_in}
+use Rattle.area.specs.Area.{position_at, space_at}
 use mathlib.Core.Path.{◌≡◌}
 use Prim.Native.Nat.{◌≤◌, ◌-◌}
 use borrow.Author.Rules.{rules}
@@ -12,7 +12,7 @@ use Rattle.fast_hear.proofs.sound_until.Tie as tie
 
 abbrev invariant-loop : tie.invariant-loop
 invariant-loop area list n j s p r₀ k₀ r k =
-    (k ≤ n) × (p ≡ positionAt area j) × (r ≡ reachIn (spaceAt area) (list_of list k) j s)
+    (k ≤ n) × (p ≡ position_at area j) × (r ≡ reach_in (space_at area) (list_of list k) j s)
 
 abbrev decreases-loop : tie.decreases-loop
 decreases-loop area list n j s p r₀ k₀ r k = n - k
@@ -21,7 +21,7 @@ read-position-requires : tie.Need-read-position-requires invariant-loop decrease
 read-position-requires c κs = search rules
 
 loop-holds : tie.Need-loop-init invariant-loop decreases-loop
-loop-holds c = (omega arith, search rules, search reach-none)
+loop-holds c = (omega arith, search rules, search reach_none)
 
 reach-requires : tie.Need-reach-requires invariant-loop decreases-loop
 reach-requires c κs = search rules
@@ -36,13 +36,13 @@ loop-less : tie.Need-loop-smaller invariant-loop decreases-loop
 loop-less c = omega arith
 
 loop-again : tie.Need-loop-preserved invariant-loop decreases-loop
-loop-again c = (omega arith, search rules, search reach-more)
+loop-again c = (omega arith, search rules, search reach_more)
 
 returns : tie.Need-returns invariant-loop decreases-loop
-returns c = search reach-end
+returns c = search reach_end
 
-pub sound-until-spec : {M : Type 1} → statement M
-sound-until-spec =
+pub sound_until_spec : {M : Type 1} → statement M
+sound_until_spec =
     tie.close
     (tie.spec
     invariant-loop

@@ -1,4 +1,4 @@
-use Rattle.fast_heard.specs.NearLaws.{count-more, count_same}
+use Rattle.fast_heard.specs.NearLaws.{count_more, count_same}
 use native.Mathlib.Omega.{arith}
 use borrow.Author.Rules.{rules}
 use Rattle.fast_heard.proofs.counted.Statement.{statement}
@@ -12,7 +12,7 @@ add-result c = search rules
 
 -- src/lib.rt:64:9
 returns : tie.Need-returns
-returns c = (search count-more, omega arith)
+returns c = (search count_more, omega arith)
 
 -- src/lib.rt:58:1
 returns-2 : tie.Need-returns-2

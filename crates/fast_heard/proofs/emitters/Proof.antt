@@ -1,4 +1,4 @@
-use Rattle.fast_heard.specs.NearLaws.{lists-none, lists-on, lists-end}
+use Rattle.fast_heard.specs.NearLaws.{lists_none, lists_on, lists_end}
 use Rattle.fast_heard.specs.Hearing.{Lists}
 use lib.ListN.{length, length-set, get_or}
 use mathlib.Core.Path.{◌≡◌, refl}
@@ -21,7 +21,7 @@ decreases-loop area n list₀ count₀ i₀ list count i = n - i
 
 -- src/lib.rt:77:5
 loop-holds : tie.Need-loop-init invariant-loop decreases-loop
-loop-holds c = (omega arith, omega arith, refl, search lists-none)
+loop-holds c = (omega arith, omega arith, refl, search lists_none)
 
 -- src/lib.rt:78:9
 mul-list : tie.Need-overflow-mul-list invariant-loop decreases-loop
@@ -49,7 +49,7 @@ loop-less c = omega arith
 
 -- src/lib.rt:77:5
 loop-again : tie.Need-loop-preserved invariant-loop decreases-loop
-loop-again c = (omega arith, omega arith, simp length-set (search rules), search lists-on)
+loop-again c = (omega arith, omega arith, simp length-set (search rules), search lists_on)
 
 -- src/lib.rt:70:1
 same_length : tie.Need-same-length invariant-loop decreases-loop
@@ -57,10 +57,10 @@ same_length c = search rules
 
 -- src/lib.rt:70:1
 returns : tie.Need-returns invariant-loop decreases-loop
-returns c = (search lists-end, omega arith)
+returns c = (search lists_end, omega arith)
 
-pub emitters-spec : {M : Type 1} → statement M
-emitters-spec =
+pub emitters_spec : {M : Type 1} → statement M
+emitters_spec =
     tie.close
     (tie.spec
     invariant-loop

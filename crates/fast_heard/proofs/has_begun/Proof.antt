@@ -1,5 +1,5 @@
 -- `fast_heard::has_begun` meets its contract. Assumes nothing.
-use Rattle.fast_heard.specs.HearingLaws.{begun-is}
+use Rattle.fast_heard.specs.HearingLaws.{begun_is}
 use borrow.Author.Rules.{rules}
 use Rattle.fast_heard.proofs.has_begun.Statement.{statement}
 use Rattle.fast_heard.proofs.has_begun.Tie as tie
@@ -8,7 +8,7 @@ both-requires : tie.Need-both-requires
 both-requires c κs = search rules
 
 returns : tie.Need-returns
-returns c = search begun-is
+returns c = search begun_is
 
-pub has-begun-spec : {M : Type 1} → statement M
-has-begun-spec = tie.close (tie.spec both-requires returns)
+pub has_begun_spec : {M : Type 1} → statement M
+has_begun_spec = tie.close (tie.spec both-requires returns)

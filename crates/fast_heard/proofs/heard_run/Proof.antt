@@ -1,5 +1,5 @@
 -- `fast_heard::heard_run` meets its contract. Assumes nothing.
-use Rattle.fast_heard.specs.HearingLaws.{segment-several, segment-one}
+use Rattle.fast_heard.specs.HearingLaws.{segment_several, segment_one}
 use native.Mathlib.Omega.{arith}
 use borrow.Author.Rules.{rules}
 use Rattle.fast_heard.proofs.heard_run.Statement.{statement}
@@ -9,7 +9,7 @@ has-begun-requires : tie.Need-has-begun-requires
 has-begun-requires c κs = search rules
 
 returns : tie.Need-returns
-returns c = (search segment-several, omega arith)
+returns c = (search segment_several, omega arith)
 
 steps-before-requires : tie.Need-steps-before-requires
 steps-before-requires c κs = search rules
@@ -27,10 +27,10 @@ kind-heard-requires : tie.Need-kind-heard-requires
 kind-heard-requires c κs = search rules
 
 returns-2 : tie.Need-returns-2
-returns-2 c = (search segment-one, omega arith)
+returns-2 c = (search segment_one, omega arith)
 
-pub heard-run-spec : {M : Type 1} → statement M
-heard-run-spec =
+pub heard_run_spec : {M : Type 1} → statement M
+heard_run_spec =
     tie.close
     (tie.spec
     has-begun-requires

@@ -1,4 +1,4 @@
-use Rattle.fast_heard.specs.HearingLaws.{ahead_none, ahead-clear, ahead-run}
+use Rattle.fast_heard.specs.HearingLaws.{ahead_none, ahead_clear, ahead_run}
 use native.Mathlib.Omega.{arith}
 use borrow.Author.Rules.{rules}
 use Rattle.fast_heard.proofs.line_ahead.Statement.{statement}
@@ -19,7 +19,7 @@ is-clear-requires c κs = search rules
 
 -- src/lib.rt:138:9
 returns-2 : tie.Need-returns-2
-returns-2 c = (search ahead-clear, omega arith)
+returns-2 c = (search ahead_clear, omega arith)
 
 -- src/lib.rt:140:30
 sub-capped : tie.Need-overflow-sub-capped
@@ -39,10 +39,10 @@ line-run-requires c κs = search rules
 
 -- src/lib.rt:129:1
 returns-3 : tie.Need-returns-3
-returns-3 c = (search ahead-run, omega arith)
+returns-3 c = (search ahead_run, omega arith)
 
-pub line-ahead-spec : {M : Type 1} → statement M
-line-ahead-spec =
+pub line_ahead_spec : {M : Type 1} → statement M
+line_ahead_spec =
     tie.close
     (tie.spec
     returns

@@ -1,7 +1,7 @@
-use Rattle.fast_heard.specs.NearLaws.{nearest-none, nearest-end, listed-few, listed-emits}
-use Rattle.fast_heard.specs.Hearing.{emitsAt, noNear, noted, spaceTo}
-use Rattle.area.specs.Area.{positionAt}
-use Rattle.octets.specs.Turns.{turns, turns-none, turns_more}
+use Rattle.fast_heard.specs.NearLaws.{nearest_none, nearest_end, listed_few, listed_emits}
+use Rattle.fast_heard.specs.Hearing.{emits_at, no_near, noted, space_to}
+use Rattle.area.specs.Area.{position_at}
+use Rattle.octets.specs.Turns.{turns, turns_none, turns_more}
 use lib.ListN.{length, length-set, get_or}
 use mathlib.Core.Path.{◌≡◌, refl}
 use Prim.Native.Nat.{◌≤◌, ◌-◌}
@@ -16,8 +16,8 @@ use Rattle.fast_heard.proofs.note.Reads as note-reads
 
 abbrev invariant-loop : tie.invariant-loop
 invariant-loop area n j list count p near₀ k₀ near k =
-    (k ≤ count) × (p ≡ positionAt area j)
-    × (near ≡ turns (λ s u. noted (emitsAt area) (spaceTo area j) j (get_or list s 0) u) k noNear)
+    (k ≤ count) × (p ≡ position_at area j)
+    × (near ≡ turns (λ s u. noted (emits_at area) (space_to area j) j (get_or list s 0) u) k no_near)
 
 abbrev decreases-loop : tie.decreases-loop
 decreases-loop area n j list count p near₀ k₀ near k = count - k
@@ -28,7 +28,7 @@ read-position-requires c κs = search rules
 
 -- src/lib.rt:109:5
 loop-holds : tie.Need-loop-init invariant-loop decreases-loop
-loop-holds c = (omega arith, search rules, search nearest-none)
+loop-holds c = (omega arith, search rules, search nearest_none)
 
 -- src/lib.rt:110:17
 mul-i : tie.Need-overflow-mul-i invariant-loop decreases-loop
@@ -40,7 +40,7 @@ shared-slice-read-i c = omega arith
 
 -- src/lib.rt:111:9
 note-requires : tie.Need-note-requires invariant-loop decreases-loop
-note-requires c κs = (search listed-few, omega arith, search rules, search listed-emits)
+note-requires c κs = (search listed_few, omega arith, search rules, search listed_emits)
 
 -- src/lib.rt:112:9
 add-k : tie.Need-overflow-add-k invariant-loop decreases-loop
@@ -56,10 +56,10 @@ loop-again c = (omega arith, search rules, search turns_more)
 
 -- src/lib.rt:98:1
 returns : tie.Need-returns invariant-loop decreases-loop
-returns c = search nearest-end
+returns c = search nearest_end
 
-pub nearest-spec : {M : Type 1} → statement M
-nearest-spec =
+pub nearest_spec : {M : Type 1} → statement M
+nearest_spec =
     tie.close
     (tie.spec
     invariant-loop

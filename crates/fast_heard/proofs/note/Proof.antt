@@ -1,4 +1,4 @@
-use Rattle.fast_heard.specs.NearLaws.{note-own, note-more}
+use Rattle.fast_heard.specs.NearLaws.{note_own, note_more}
 use native.Mathlib.Omega.{arith}
 use borrow.Author.Rules.{rules}
 use Rattle.fast_heard.proofs.note.Statement.{statement}
@@ -11,7 +11,7 @@ use Rattle.fast_heard.proofs.nearer_with.Reads as nearer-with-reads
 
 -- src/lib.rt:91:9
 returns : tie.Need-returns
-returns c = search note-own
+returns c = search note_own
 
 -- src/lib.rt:93:9
 read-position-requires : tie.Need-read-position-requires
@@ -31,10 +31,10 @@ nearer-with-requires c κs = search rules
 
 -- src/lib.rt:86:1
 returns-2 : tie.Need-returns-2
-returns-2 c = search note-more
+returns-2 c = search note_more
 
-pub note-spec : {M : Type 1} → statement M
-note-spec =
+pub note_spec : {M : Type 1} → statement M
+note_spec =
     tie.close
     (tie.spec
     returns

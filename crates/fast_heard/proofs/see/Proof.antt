@@ -1,4 +1,4 @@
-use Rattle.fast_heard.specs.SightLaws.{near-few, sight-none, sight-some, bit-from}
+use Rattle.fast_heard.specs.SightLaws.{near_few, sight_none, sight_some, bit_from}
 use native.Mathlib.Omega.{arith}
 use borrow.Author.Rules.{rules}
 use Rattle.fast_heard.proofs.see.Statement.{statement}
@@ -15,20 +15,20 @@ nearest-requires c κs = search rules
 
 -- src/lib.rt:249:9
 near-bit-requires : tie.Need-near-bit-requires
-near-bit-requires c κs = (omega arith, search near-few)
+near-bit-requires c κs = (omega arith, search near_few)
 
 -- src/lib.rt:251:9
 returns : tie.Need-returns
-returns c = search sight-none
+returns c = search sight_none
 
 -- src/lib.rt:259:9
 read-word-requires : tie.Need-read-word-requires
-read-word-requires c κs = (search bit-from, omega arith, omega arith)
+read-word-requires c κs = (search bit_from, omega arith, omega arith)
 
 -- src/lib.rt:244:1
 returns-2 : tie.Need-returns-2
-returns-2 c = search sight-some
+returns-2 c = search sight_some
 
-pub see-spec : {M : Type 1} → statement M
-see-spec =
+pub see_spec : {M : Type 1} → statement M
+see_spec =
     tie.close (tie.spec nearest-requires near-bit-requires returns read-word-requires returns-2)

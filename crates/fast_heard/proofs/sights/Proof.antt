@@ -1,4 +1,4 @@
-use Rattle.fast_heard.specs.SightLaws.{sights-end}
+use Rattle.fast_heard.specs.SightLaws.{sights_end}
 use Rattle.fast_heard.specs.Sights.{unseen, sight_of}
 use Rattle.fast_heard.specs.Hearing.{Lists}
 use Rattle.octets.specs.Filled.{filled, filled_none, filled_more}
@@ -63,10 +63,10 @@ loop-again c = (omega arith, simp length-set (search rules), search rules, searc
 
 -- src/lib.rt:269:1
 returns : tie.Need-returns invariant-loop decreases-loop
-returns c = search sights-end
+returns c = search sights_end
 
-pub sights-spec : {M : Type 1} → statement M
-sights-spec =
+pub sights_spec : {M : Type 1} → statement M
+sights_spec =
     tie.close
     (tie.spec
     invariant-loop

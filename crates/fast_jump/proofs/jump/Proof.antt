@@ -1,7 +1,7 @@
 -- `fast_jump::jump` meets its contract. Assumes nothing.
-use Rattle.fast_jump.specs.JumpLaws.{jump-is}
-use Rattle.fast_search.specs.SearchLaws.{ready-gap}
-use Rattle.bus_spec.specs.Ready.{ready-few}
+use Rattle.fast_jump.specs.JumpLaws.{jump_is}
+use Rattle.fast_search.specs.SearchLaws.{ready_gap}
+use Rattle.bus_spec.specs.Ready.{ready_few}
 use native.Mathlib.Omega.{arith}
 use borrow.Author.Rules.{rules}
 use Rattle.fast_jump.proofs.jump.Statement.{statement}
@@ -20,7 +20,7 @@ read-figures-requires : tie.Need-read-figures-requires
 read-figures-requires c κs = search rules
 
 rest-all-requires : tie.Need-rest-all-requires
-rest-all-requires c κs = (search ready-few, omega arith, search ready-gap, search rules)
+rest-all-requires c κs = (search ready_few, omega arith, search ready_gap, search rules)
 
 add-write-clock : tie.Need-overflow-add-write-clock
 add-write-clock c = search rules
@@ -32,10 +32,10 @@ same_length : tie.Need-same-length
 same_length c = search rules
 
 returns : tie.Need-returns
-returns c = search jump-is
+returns c = search jump_is
 
-pub jump-spec : {M : Type 1} → statement M
-jump-spec =
+pub jump_spec : {M : Type 1} → statement M
+jump_spec =
     tie.close
     (tie.spec
     read-count-requires

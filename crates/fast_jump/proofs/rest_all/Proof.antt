@@ -4,13 +4,13 @@ use native.Mathlib.Omega.{arith}
 use Prim.Native.Nat.{◌≤◌, ◌-◌}
 use mathlib.Core.Path.{◌≡◌, refl}
 use lib.ListN.{length}
-use Rattle.fast_silence.specs.Jump.{restedAll}
+use Rattle.fast_silence.specs.Jump.{rested_all}
 use Rattle.fast_jump.specs.JumpLaws.{all_none, all_more, all_end}
 use Rattle.fast_jump.proofs.rest_all.Statement.{statement}
 use Rattle.fast_jump.proofs.rest_all.Tie as tie
 
 abbrev invariant-loop : tie.invariant-loop
-invariant-loop area₀ n m f i₀ area i = (i ≤ n) × (length area ≡ length area₀) × (area ≡ restedAll area₀ m i area₀)
+invariant-loop area₀ n m f i₀ area i = (i ≤ n) × (length area ≡ length area₀) × (area ≡ rested_all area₀ m i area₀)
 
 abbrev decreases-loop : tie.decreases-loop
 decreases-loop area₀ n m f i₀ area i = n - i
@@ -42,8 +42,8 @@ same_length c = search rules
 returns : tie.Need-returns invariant-loop decreases-loop
 returns c = search all_end
 
-pub rest-all-spec : {M : Type 1} → statement M
-rest-all-spec =
+pub rest_all_spec : {M : Type 1} → statement M
+rest_all_spec =
     tie.close
     (tie.spec
     invariant-loop

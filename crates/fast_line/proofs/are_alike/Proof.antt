@@ -1,7 +1,7 @@
 use Prim.Native.Nat.{◌≤◌, ◌-◌}
 use native.Mathlib.Omega.{arith}
 use borrow.Author.Rules.{rules}
-use Rattle.fast_line.specs.LineLaws.{Differ, differ-none, differ-more, differ-end}
+use Rattle.fast_line.specs.LineLaws.{Differ, differ_none, differ_more, differ_end}
 use Rattle.fast_line.proofs.are_alike.Statement.{statement}
 use Rattle.fast_line.proofs.are_alike.Tie as tie
 use Rattle.fast_line.proofs.are_alike.Reads as reads
@@ -16,7 +16,7 @@ decreases-loop area j p kind n other₀ i₀ other i = n - i
 
 -- src/lib.rt:63:5
 loop-holds : tie.Need-loop-init invariant-loop decreases-loop
-loop-holds c = (omega arith, search differ-none)
+loop-holds c = (omega arith, search differ_none)
 
 -- src/lib.rt:64:37
 add-code-at : tie.Need-overflow-add-code-at invariant-loop decreases-loop
@@ -40,14 +40,14 @@ loop-less c = omega arith
 
 -- src/lib.rt:63:5
 loop-again : tie.Need-loop-preserved invariant-loop decreases-loop
-loop-again c = (omega arith, search differ-more)
+loop-again c = (omega arith, search differ_more)
 
 -- src/lib.rt:57:1
 returns : tie.Need-returns invariant-loop decreases-loop
-returns c = search differ-end
+returns c = search differ_end
 
-pub are-alike-spec : {M : Type 1} → statement M
-are-alike-spec =
+pub are_alike_spec : {M : Type 1} → statement M
+are_alike_spec =
     tie.close
     (tie.spec
     invariant-loop

@@ -1,5 +1,5 @@
 -- `fast_line::bit_code` meets its contract. Assumes nothing.
-use Rattle.fast_line.specs.LineLaws.{code-alternates, code-delimits, code-of-frame}
+use Rattle.fast_line.specs.LineLaws.{code_alternates, code_delimits, code_of_frame}
 use native.Mathlib.Omega.{arith}
 use borrow.Author.Rules.{rules}
 use Rattle.fast_line.proofs.bit_code.Statement.{statement}
@@ -12,10 +12,10 @@ cast-result : tie.Need-overflow-cast-result
 cast-result c = search rules
 
 returns : tie.Need-returns
-returns c = search code-alternates
+returns c = search code_alternates
 
 returns-2 : tie.Need-returns-2
-returns-2 c = search code-delimits
+returns-2 c = search code_delimits
 
 sub-j : tie.Need-overflow-sub-j
 sub-j c = search rules
@@ -39,10 +39,10 @@ cast-result-2 : tie.Need-overflow-cast-result-2
 cast-result-2 c = search rules
 
 returns-3 : tie.Need-returns-3
-returns-3 c = search code-of-frame
+returns-3 c = search code_of_frame
 
-pub bit-code-spec : {M : Type 1} → statement M
-bit-code-spec =
+pub bit_code_spec : {M : Type 1} → statement M
+bit_code_spec =
     tie.close
     (tie.spec
     add-result

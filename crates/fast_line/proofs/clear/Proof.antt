@@ -4,7 +4,7 @@ use lib.ListN.{length}
 use native.Mathlib.Omega.{arith}
 use borrow.Author.Rules.{rules}
 use Rattle.fast_plan.specs.Push.{cleared}
-use Rattle.fast_line.specs.LineLaws.{cleared-none, cleared-rows, cleared-end}
+use Rattle.fast_line.specs.LineLaws.{cleared_none, cleared_rows, cleared_end}
 use Rattle.fast_line.proofs.clear.Statement.{statement}
 use Rattle.fast_line.proofs.clear.Tie as tie
 use Rattle.fast_line.proofs.clear.Reads as reads
@@ -20,7 +20,7 @@ decreases-loop area₀ j t m s₀ area s = m - s
 
 -- src/lib.rt:151:5
 loop-holds : tie.Need-loop-init invariant-loop decreases-loop
-loop-holds c = (omega arith, refl, search cleared-none)
+loop-holds c = (omega arith, refl, search cleared_none)
 
 -- src/lib.rt:152:17
 add-u : tie.Need-overflow-add-u invariant-loop decreases-loop
@@ -52,7 +52,7 @@ loop-less c = omega arith
 
 -- src/lib.rt:151:5
 loop-again : tie.Need-loop-preserved invariant-loop decreases-loop
-loop-again c = (omega arith, omega arith, search cleared-rows)
+loop-again c = (omega arith, omega arith, search cleared_rows)
 
 -- src/lib.rt:146:1
 same_length : tie.Need-same-length invariant-loop decreases-loop
@@ -60,7 +60,7 @@ same_length c = search rules
 
 -- src/lib.rt:146:1
 returns : tie.Need-returns invariant-loop decreases-loop
-returns c = search cleared-end
+returns c = search cleared_end
 
 pub clear_spec : {M : Type 1} → statement M
 clear_spec =

@@ -25,6 +25,6 @@ shared-slice-read-result c = search rules
 returns : tie.Need-returns
 returns c = search code_is
 
-pub code-at-spec : {M : Type 1} → statement M
-code-at-spec =
+pub code_at_spec : {M : Type 1} → statement M
+code_at_spec =
     tie.close (tie.spec mul-result add-result add-result-2 shared-slice-read-result returns)

@@ -2,7 +2,7 @@ use Prim.Native.Nat.{◌≤◌, ◌-◌}
 use native.Mathlib.Omega.{arith}
 use borrow.Author.Rules.{rules}
 use Rattle.fast_line.specs.Line.{AllOf}
-use Rattle.fast_line.specs.LineLaws.{alike-more}
+use Rattle.fast_line.specs.LineLaws.{alike_more}
 use Rattle.fast_line.proofs.go_on.Statement.{statement}
 use Rattle.fast_line.proofs.go_on.Tie as tie
 use Rattle.fast_line.proofs.go_on.Reads as reads
@@ -45,14 +45,14 @@ loop-less c = omega arith
 
 -- src/lib.rt:78:5
 loop-again : tie.Need-loop-preserved invariant-loop decreases-loop
-loop-again c = (omega arith, search alike-more)
+loop-again c = (omega arith, search alike_more)
 
 -- src/lib.rt:72:1
 returns-2 : tie.Need-returns-2 invariant-loop decreases-loop
 returns-2 c = (search rules, omega arith)
 
-pub go-on-spec : {M : Type 1} → statement M
-go-on-spec =
+pub go_on_spec : {M : Type 1} → statement M
+go_on_spec =
     tie.close
     (tie.spec
     invariant-loop

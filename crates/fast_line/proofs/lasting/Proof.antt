@@ -1,5 +1,5 @@
 use native.Mathlib.Omega.{arith}
-use Rattle.fast_line.specs.LineLaws.{row-stop, row-again}
+use Rattle.fast_line.specs.LineLaws.{row_stop, row_again}
 use borrow.Author.Rules.{rules}
 use Rattle.fast_line.proofs.lasting.Statement.{statement}
 use Rattle.fast_line.proofs.lasting.Tie as tie
@@ -22,7 +22,7 @@ lasting-row-requires c κs = search rules
 
 -- src/lib.rt:116:9
 returns : tie.Need-returns
-returns c = (search row-stop, omega arith)
+returns c = (search row_stop, omega arith)
 
 -- src/lib.rt:118:41
 sub-lasting-row : tie.Need-overflow-sub-lasting-row
@@ -38,7 +38,7 @@ add-result c = search rules
 
 -- src/lib.rt:107:1
 returns-2 : tie.Need-returns-2
-returns-2 c = (search row-again, omega arith)
+returns-2 c = (search row_again, omega arith)
 
 pub lasting_spec : {M : Type 1} → statement M
 lasting_spec =

@@ -4,8 +4,8 @@ use mathlib.Core.Bool.{false}
 use native.Mathlib.Omega.{arith}
 use borrow.Author.Rules.{rules}
 use Rattle.octets.specs.Base.{some}
-use Rattle.fast_line.specs.Line.{otherKind}
-use Rattle.fast_line.specs.LineLaws.{alike-none, row_first, lasts-hit, lasts-more, lasts-end}
+use Rattle.fast_line.specs.Line.{other_kind}
+use Rattle.fast_line.specs.LineLaws.{alike_none, row_first, lasts_hit, lasts_more, lasts_end}
 use Rattle.fast_line.proofs.lasting_row.Statement.{statement}
 use Rattle.fast_line.proofs.lasting_row.Tie as tie
 use Rattle.fast_line.proofs.lasting_row.Reads as reads
@@ -15,7 +15,7 @@ use Rattle.fast_line.proofs.go_on.Reads as go-on-reads
 use Rattle.fast_line.proofs.kind_of.Reads as kind-of-reads
 
 abbrev invariant-loop : tie.invariant-loop
-invariant-loop area j p kind m many few s₀ s = (s ≤ m) × (some (otherKind area j p kind) s ≡ false)
+invariant-loop area j p kind m many few s₀ s = (s ≤ m) × (some (other_kind area j p kind) s ≡ false)
 
 abbrev decreases-loop : tie.decreases-loop
 decreases-loop area j p kind m many few s₀ s = m - s
@@ -23,7 +23,7 @@ decreases-loop area j p kind m many few s₀ s = m - s
 -- src/lib.rt:93:9
 go-on-requires : tie.Need-go-on-requires invariant-loop decreases-loop
 go-on-requires c κs =
-    (omega arith, omega arith, omega arith, omega arith, omega arith, omega arith, omega arith, search alike-none)
+    (omega arith, omega arith, omega arith, omega arith, omega arith, omega arith, omega arith, search alike_none)
 
 -- src/lib.rt:94:9
 go-on-requires-2 : tie.Need-go-on-requires-2 invariant-loop decreases-loop
@@ -48,7 +48,7 @@ kind-of-requires c κs = search rules
 
 -- src/lib.rt:99:13
 returns : tie.Need-returns invariant-loop decreases-loop
-returns c = (search lasts-hit, omega arith)
+returns c = (search lasts_hit, omega arith)
 
 -- src/lib.rt:101:9
 add-s : tie.Need-overflow-add-s invariant-loop decreases-loop
@@ -60,14 +60,14 @@ loop-less c = omega arith
 
 -- src/lib.rt:96:5
 loop-again : tie.Need-loop-preserved invariant-loop decreases-loop
-loop-again c = (omega arith, search lasts-more)
+loop-again c = (omega arith, search lasts_more)
 
 -- src/lib.rt:88:1
 returns-2 : tie.Need-returns-2 invariant-loop decreases-loop
-returns-2 c = (search lasts-end, omega arith)
+returns-2 c = (search lasts_end, omega arith)
 
-pub lasting-row-spec : {M : Type 1} → statement M
-lasting-row-spec =
+pub lasting_row_spec : {M : Type 1} → statement M
+lasting_row_spec =
     tie.close
     (tie.spec
     invariant-loop

@@ -1,5 +1,5 @@
-use Rattle.fast_line.specs.LineLaws.{Noted, noted-none, bits-noted, bits-coded, below-same, below_more, note-room}
-use Rattle.fast_line.specs.Line.{bitsFrom, Below}
+use Rattle.fast_line.specs.LineLaws.{Noted, noted_none, bits_noted, bits_coded, below_same, below_more, note_room}
+use Rattle.fast_line.specs.Line.{bits_from, Below}
 use lib.ListN.{length, length-set}
 use mathlib.Core.Path.{◌≡◌, refl}
 use Prim.Native.Nat.{◌+◌, ◌*◌, ◌%◌, ◌≤◌, ◌-◌, min}
@@ -17,7 +17,7 @@ use Rattle.area.specs.Offsets.{ring}
 abbrev invariant-loop : tie.invariant-loop
 invariant-loop area i octets k steps codes₀ at frame m from first put₀ codes put =
     (put ≤ m) × (m ≡ min ring steps) × (from ≡ steps - m) × (first ≡ at + (ring - m)) × (length codes ≡ length codes₀)
-    × Noted codes first m steps (bitsFrom frame k) put × Below at codes₀ codes
+    × Noted codes first m steps (bits_from frame k) put × Below at codes₀ codes
 
 abbrev decreases-loop : tie.decreases-loop
 decreases-loop area i octets k steps codes₀ at frame m from first put₀ codes put = m - put
@@ -44,7 +44,7 @@ add-first c = omega arith
 
 -- src/lib.rt:201:5
 loop-holds : tie.Need-loop-init invariant-loop decreases-loop
-loop-holds c = (omega arith, omega arith, omega arith, omega arith, refl, search noted-none, search below-same)
+loop-holds c = (omega arith, omega arith, omega arith, omega arith, refl, search noted_none, search below_same)
 
 -- src/lib.rt:202:51
 add-bit-code : tie.Need-overflow-add-bit-code invariant-loop decreases-loop
@@ -56,7 +56,7 @@ add-bit-code-2 c = omega arith
 
 -- src/lib.rt:202:30
 bit-code-requires : tie.Need-bit-code-requires invariant-loop decreases-loop
-bit-code-requires c κs = search note-room
+bit-code-requires c κs = search note_room
 
 -- src/lib.rt:202:15
 add-codes : tie.Need-overflow-add-codes invariant-loop decreases-loop
@@ -83,7 +83,7 @@ loop-again c = (
   omega arith,
   simp length-set
       (search rules),
-  search bits-noted,
+  search bits_noted,
   search below_more,
 )
 
@@ -93,10 +93,10 @@ same_length c = search rules
 
 -- src/lib.rt:183:1
 returns : tie.Need-returns invariant-loop decreases-loop
-returns c = (search bits-coded, search rules)
+returns c = (search bits_coded, search rules)
 
-pub note-bits-spec : {M : Type 1} → statement M
-note-bits-spec =
+pub note_bits_spec : {M : Type 1} → statement M
+note_bits_spec =
     tie.close
     (tie.spec
     invariant-loop

@@ -1,4 +1,4 @@
-use Rattle.fast_line.specs.LineLaws.{Noted, noted-none, jam-noted, jam-coded, below-same, below_more}
+use Rattle.fast_line.specs.LineLaws.{Noted, noted_none, jam_noted, jam_coded, below_same, below_more}
 use Rattle.fast_line.specs.Line.{jams, Below}
 use lib.ListN.{length, length-set}
 use mathlib.Core.Path.{◌≡◌, refl}
@@ -34,7 +34,7 @@ add-first c = omega arith
 
 -- src/lib.rt:216:5
 loop-holds : tie.Need-loop-init invariant-loop decreases-loop
-loop-holds c = (omega arith, omega arith, omega arith, refl, search noted-none, search below-same)
+loop-holds c = (omega arith, omega arith, omega arith, refl, search noted_none, search below_same)
 
 -- src/lib.rt:217:15
 add-codes : tie.Need-overflow-add-codes invariant-loop decreases-loop
@@ -55,7 +55,7 @@ loop-less c = omega arith
 -- src/lib.rt:216:5
 loop-again : tie.Need-loop-preserved invariant-loop decreases-loop
 loop-again c =
-    (omega arith, omega arith, omega arith, simp length-set (search rules), search jam-noted, search below_more)
+    (omega arith, omega arith, omega arith, simp length-set (search rules), search jam_noted, search below_more)
 
 -- src/lib.rt:208:1
 same_length : tie.Need-same-length invariant-loop decreases-loop
@@ -63,10 +63,10 @@ same_length c = search rules
 
 -- src/lib.rt:208:1
 returns : tie.Need-returns invariant-loop decreases-loop
-returns c = (search jam-coded, search rules)
+returns c = (search jam_coded, search rules)
 
-pub note-jam-spec : {M : Type 1} → statement M
-note-jam-spec =
+pub note_jam_spec : {M : Type 1} → statement M
+note_jam_spec =
     tie.close
     (tie.spec
     invariant-loop

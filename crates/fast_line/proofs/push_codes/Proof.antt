@@ -1,5 +1,5 @@
 use mathlib.Core.Path.{refl}
-use Rattle.fast_line.specs.LineLaws.{codes-rows}
+use Rattle.fast_line.specs.LineLaws.{codes_rows}
 use native.Mathlib.Omega.{arith}
 use borrow.Author.Rules.{rules}
 use Rattle.fast_line.proofs.push_codes.Statement.{statement}
@@ -68,13 +68,13 @@ same_length c = search rules
 -- src/lib.rt:244:1
 returns : tie.Need-returns
 returns c =
-    codes-rows _ _ _ _ _ _ _ _ _ _ _ _ _
+    codes_rows _ _ _ _ _ _ _ _ _ _ _ _ _
     c.before.before.before.before.before.before.before.before.before.capped.ensures refl refl
     c.before.before.before.before.before.before.before.before.capped2.ensures
     c.before.before.before.before.before.before.put-row.ensures c.before.before.put-row2.ensures
 
-pub push-codes-spec : {M : Type 1} → statement M
-push-codes-spec =
+pub push_codes_spec : {M : Type 1} → statement M
+push_codes_spec =
     tie.close
     (tie.spec
     capped-requires

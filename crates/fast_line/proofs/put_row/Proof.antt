@@ -1,5 +1,5 @@
-use Rattle.fast_line.specs.LineLaws.{codes-none, codes-row, codes-end}
-use Rattle.fast_line.specs.Line.{codesPut}
+use Rattle.fast_line.specs.LineLaws.{codes_none, codes_row, codes_end}
+use Rattle.fast_line.specs.Line.{codes_put}
 use lib.ListN.{length, length-set}
 use mathlib.Core.Path.{◌≡◌, refl}
 use Prim.Native.Nat.{◌+◌, ◌*◌, ◌%◌, ◌≤◌, ◌-◌, min}
@@ -9,12 +9,12 @@ use Rattle.fast_line.proofs.put_row.Statement.{statement}
 use Rattle.fast_line.proofs.put_row.Tie as tie
 use Rattle.fast_line.proofs.put_row.Reads as reads
 use Rattle.fast_line.proofs.put_row.Lts as lts
-use Rattle.area.specs.Offsets.{ring, from, theLine}
+use Rattle.area.specs.Offsets.{ring, from, the_line}
 
 abbrev invariant-loop : tie.invariant-loop
 invariant-loop area₀ j u codes at n first s₀ area s =
-    (s ≤ n) × (first ≡ from (theLine j) + u % ring) × (length area ≡ length area₀)
-    × (area ≡ codesPut j u codes at s area₀)
+    (s ≤ n) × (first ≡ from (the_line j) + u % ring) × (length area ≡ length area₀)
+    × (area ≡ codes_put j u codes at s area₀)
 
 abbrev decreases-loop : tie.decreases-loop
 decreases-loop area₀ j u codes at n first s₀ area s = n - s
@@ -33,7 +33,7 @@ add-first-2 c = omega arith
 
 -- src/lib.rt:236:5
 loop-holds : tie.Need-loop-init invariant-loop decreases-loop
-loop-holds c = (omega arith, omega arith, refl, search codes-none)
+loop-holds c = (omega arith, omega arith, refl, search codes_none)
 
 -- src/lib.rt:237:38
 add-mixed : tie.Need-overflow-add-mixed invariant-loop decreases-loop
@@ -73,7 +73,7 @@ loop-less c = omega arith
 
 -- src/lib.rt:236:5
 loop-again : tie.Need-loop-preserved invariant-loop decreases-loop
-loop-again c = (omega arith, omega arith, simp length-set (search rules), search codes-row)
+loop-again c = (omega arith, omega arith, simp length-set (search rules), search codes_row)
 
 -- src/lib.rt:230:1
 same_length : tie.Need-same-length invariant-loop decreases-loop
@@ -81,10 +81,10 @@ same_length c = search rules
 
 -- src/lib.rt:230:1
 returns : tie.Need-returns invariant-loop decreases-loop
-returns c = search codes-end
+returns c = search codes_end
 
-pub put-row-spec : {M : Type 1} → statement M
-put-row-spec =
+pub put_row_spec : {M : Type 1} → statement M
+put_row_spec =
     tie.close
     (tie.spec
     invariant-loop

@@ -1,5 +1,5 @@
 -- `fast_lines::clear_line` meets its contract. Assumes nothing.
-use Rattle.fast_lines.specs.LinesLaws.{clear-left, clear-made}
+use Rattle.fast_lines.specs.LinesLaws.{clear_left, clear_made}
 use borrow.Author.Rules.{rules}
 use Rattle.fast_lines.proofs.clear_line.Statement.{statement}
 use Rattle.fast_lines.proofs.clear_line.Tie as tie
@@ -11,7 +11,7 @@ same_length : tie.Need-same-length
 same_length c = search rules
 
 returns : tie.Need-returns
-returns c = search clear-left
+returns c = search clear_left
 
 capped-requires : tie.Need-capped-requires
 capped-requires c κs = search rules
@@ -23,10 +23,10 @@ same-length-2 : tie.Need-same-length-2
 same-length-2 c = search rules
 
 returns-2 : tie.Need-returns-2
-returns-2 c = search clear-made
+returns-2 c = search clear_made
 
-pub clear-line-spec : {M : Type 1} → statement M
-clear-line-spec =
+pub clear_line_spec : {M : Type 1} → statement M
+clear_line_spec =
     tie.close
     (tie.spec
     is-clear-requires

@@ -5,13 +5,13 @@ use lib.ListN.{length, length-set}
 use native.Mathlib.Omega.{arith}
 use borrow.Author.Rules.{rules}
 use Rattle.octets.specs.Filled.{filled, filled_none, filled_more}
-use Rattle.fast_lines.specs.Lines.{silent, emitterAt}
-use Rattle.fast_lines.specs.LinesLaws.{emitters-end}
+use Rattle.fast_lines.specs.Lines.{silent, emitter_at}
+use Rattle.fast_lines.specs.LinesLaws.{emitters_end}
 use Rattle.fast_lines.proofs.emitters.Statement.{statement}
 use Rattle.fast_lines.proofs.emitters.Tie as tie
 
 abbrev invariant-loop : tie.invariant-loop
-invariant-loop area n all₀ i₀ all i = (i ≤ n) × (length all ≡ 16) × (all ≡ filled silent (emitterAt area) i)
+invariant-loop area n all₀ i₀ all i = (i ≤ n) × (length all ≡ 16) × (all ≡ filled silent (emitter_at area) i)
 
 abbrev decreases-loop : tie.decreases-loop
 decreases-loop area n all₀ i₀ all i = n - i
@@ -38,10 +38,10 @@ loop-again : tie.Need-loop-preserved invariant-loop decreases-loop
 loop-again c = (omega arith, simp length-set (search rules), search filled_more)
 
 returns : tie.Need-returns invariant-loop decreases-loop
-returns c = search emitters-end
+returns c = search emitters_end
 
-pub emitters-spec : {M : Type 1} → statement M
-emitters-spec =
+pub emitters_spec : {M : Type 1} → statement M
+emitters_spec =
     tie.close
     (tie.spec
     invariant-loop

@@ -1,4 +1,4 @@
-use Rattle.fast_lines.specs.LinesLaws.{all-noted-none, all-noted-more, all-noted-end, enough-at}
+use Rattle.fast_lines.specs.LinesLaws.{all_noted_none, all_noted_more, all_noted_end, enough_at}
 use Rattle.fast_lines.specs.Lines.{AllCoded}
 use lib.ListN.{length}
 use mathlib.Core.Path.{◌≡◌, refl}
@@ -20,7 +20,7 @@ decreases-loop area n steps codes₀ from i₀ codes i = n - i
 
 -- src/lib.rt:93:5
 loop-holds : tie.Need-loop-init invariant-loop decreases-loop
-loop-holds c = (omega arith, refl, search all-noted-none)
+loop-holds c = (omega arith, refl, search all_noted_none)
 
 -- src/lib.rt:94:17
 mul-e : tie.Need-overflow-mul-e invariant-loop decreases-loop
@@ -32,7 +32,7 @@ array-copy-out-e c = omega arith
 
 -- src/lib.rt:95:9
 note-from-requires : tie.Need-note-from-requires invariant-loop decreases-loop
-note-from-requires c κs = (omega arith, omega arith, omega arith, search enough-at)
+note-from-requires c κs = (omega arith, omega arith, omega arith, search enough_at)
 
 -- src/lib.rt:96:9
 add-i : tie.Need-overflow-add-i invariant-loop decreases-loop
@@ -44,7 +44,7 @@ loop-less c = omega arith
 
 -- src/lib.rt:93:5
 loop-again : tie.Need-loop-preserved invariant-loop decreases-loop
-loop-again c = (omega arith, omega arith, search all-noted-more)
+loop-again c = (omega arith, omega arith, search all_noted_more)
 
 -- src/lib.rt:88:1
 same_length : tie.Need-same-length invariant-loop decreases-loop
@@ -52,10 +52,10 @@ same_length c = search rules
 
 -- src/lib.rt:88:1
 returns : tie.Need-returns invariant-loop decreases-loop
-returns c = search all-noted-end
+returns c = search all_noted_end
 
-pub note-all-spec : {M : Type 1} → statement M
-note-all-spec =
+pub note_all_spec : {M : Type 1} → statement M
+note_all_spec =
     tie.close
     (tie.spec
     invariant-loop

@@ -1,5 +1,5 @@
-use Rattle.fast_line.specs.LineLaws.{below-same}
-use Rattle.fast_lines.specs.LinesLaws.{note-silent, note-sends, note-jams, note-frame, note-enough}
+use Rattle.fast_line.specs.LineLaws.{below_same}
+use Rattle.fast_lines.specs.LinesLaws.{note_silent, note_sends, note_jams, note_frame, note_enough}
 use native.Mathlib.Omega.{arith}
 use borrow.Author.Rules.{rules}
 use Rattle.fast_lines.proofs.note_from.Statement.{statement}
@@ -15,7 +15,7 @@ mul_at c = search rules
 
 -- src/lib.rt:78:9
 returns : tie.Need-returns
-returns c = (search note-silent, search below-same)
+returns c = (search note_silent, search below_same)
 
 -- src/lib.rt:81:39
 cast-note-bits : tie.Need-overflow-cast-note-bits
@@ -27,7 +27,7 @@ cast-note-bits-2 c = search rules
 
 -- src/lib.rt:81:9
 note-bits-requires : tie.Need-note-bits-requires
-note-bits-requires c κs = (omega arith, search note-frame, omega arith, omega arith, search note-enough)
+note-bits-requires c κs = (omega arith, search note_frame, omega arith, omega arith, search note_enough)
 
 -- src/lib.rt:82:9
 same_length : tie.Need-same-length
@@ -35,7 +35,7 @@ same_length c = search rules
 
 -- src/lib.rt:82:9
 returns-2 : tie.Need-returns-2
-returns-2 c = (search note-sends, search rules)
+returns-2 c = (search note_sends, search rules)
 
 -- src/lib.rt:84:5
 note-jam-requires : tie.Need-note-jam-requires
@@ -47,10 +47,10 @@ same-length-2 c = search rules
 
 -- src/lib.rt:71:1
 returns-3 : tie.Need-returns-3
-returns-3 c = (search note-jams, search rules)
+returns-3 c = (search note_jams, search rules)
 
-pub note-from-spec : {M : Type 1} → statement M
-note-from-spec =
+pub note_from_spec : {M : Type 1} → statement M
+note_from_spec =
     tie.close
     (tie.spec
     mul_at

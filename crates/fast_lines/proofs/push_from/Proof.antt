@@ -1,4 +1,4 @@
-use Rattle.fast_lines.specs.LinesLaws.{push-own, push-silent, push-coded, push-near, push-close}
+use Rattle.fast_lines.specs.LinesLaws.{push_own, push_silent, push_coded, push_near, push_close}
 use native.Mathlib.Omega.{arith}
 use borrow.Author.Rules.{rules}
 use Rattle.fast_lines.proofs.push_from.Statement.{statement}
@@ -11,11 +11,11 @@ use Rattle.fast_line.proofs.push_codes.Reads as push-codes-reads
 
 -- src/lib.rt:106:9
 returns : tie.Need-returns
-returns c = search push-own
+returns c = search push_own
 
 -- src/lib.rt:109:9
 returns-2 : tie.Need-returns-2
-returns-2 c = search push-silent
+returns-2 c = search push_silent
 
 -- src/lib.rt:111:9
 read-position-requires : tie.Need-read-position-requires
@@ -39,7 +39,7 @@ mul-push-codes c = search rules
 
 -- src/lib.rt:114:5
 push-codes-requires : tie.Need-push-codes-requires
-push-codes-requires c κs = (omega arith, omega arith, search push-near, search push-close, omega arith)
+push-codes-requires c κs = (omega arith, omega arith, search push_near, search push_close, omega arith)
 
 -- src/lib.rt:101:1
 same_length : tie.Need-same-length
@@ -47,10 +47,10 @@ same_length c = search rules
 
 -- src/lib.rt:101:1
 returns-3 : tie.Need-returns-3
-returns-3 c = search push-coded
+returns-3 c = search push_coded
 
-pub push-from-spec : {M : Type 1} → statement M
-push-from-spec =
+pub push_from_spec : {M : Type 1} → statement M
+push_from_spec =
     tie.close
     (tie.spec
     returns

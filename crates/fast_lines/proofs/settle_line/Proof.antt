@@ -1,4 +1,4 @@
-use Rattle.fast_lines.specs.LinesLaws.{line-codes, line-asks, line-coded, line_made}
+use Rattle.fast_lines.specs.LinesLaws.{line_codes, line_asks, line_coded, line_made}
 use native.Mathlib.Omega.{arith}
 use borrow.Author.Rules.{rules}
 use Rattle.fast_lines.proofs.settle_line.Statement.{statement}
@@ -10,11 +10,11 @@ use Rattle.fast_lines.proofs.push_all.Reads as push-all-reads
 
 -- src/lib.rt:163:5
 clear-line-requires : tie.Need-clear-line-requires
-clear-line-requires c κs = (omega arith, omega arith, omega arith, search line-codes)
+clear-line-requires c κs = (omega arith, omega arith, omega arith, search line_codes)
 
 -- src/lib.rt:164:5
 push-all-requires : tie.Need-push-all-requires
-push-all-requires c κs = (omega arith, search line-asks, omega arith, search line-coded)
+push-all-requires c κs = (omega arith, search line_asks, omega arith, search line_coded)
 
 -- src/lib.rt:151:1
 same_length : tie.Need-same-length
@@ -24,5 +24,5 @@ same_length c = search rules
 returns : tie.Need-returns
 returns c = search line_made
 
-pub settle-line-spec : {M : Type 1} → statement M
-settle-line-spec = tie.close (tie.spec clear-line-requires push-all-requires same_length returns)
+pub settle_line_spec : {M : Type 1} → statement M
+settle_line_spec = tie.close (tie.spec clear-line-requires push-all-requires same_length returns)

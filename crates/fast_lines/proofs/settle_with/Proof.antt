@@ -1,6 +1,6 @@
-use Rattle.fast_lines.specs.LinesLaws.{all-enough, lines_none, lines-asks, lines-coded, lines_more, lines_end}
-use Rattle.fast_lines.specs.Lines.{planBy, AllCoded}
-use Rattle.fast_plan.specs.Placed.{linesDone}
+use Rattle.fast_lines.specs.LinesLaws.{all_enough, lines_none, lines_asks, lines_coded, lines_more, lines_end}
+use Rattle.fast_lines.specs.Lines.{plan_by, AllCoded}
+use Rattle.fast_plan.specs.Placed.{lines_done}
 use lib.ListN.{length}
 use mathlib.Core.Path.{◌≡◌, refl}
 use Prim.Native.Nat.{◌≤◌, ◌-◌}
@@ -15,7 +15,7 @@ use Rattle.fast_lines.proofs.settle_line.Reads as settle-line-reads
 
 abbrev invariant-loop : tie.invariant-loop
 invariant-loop area₀ n t steps from codes j₀ area j =
-    (j ≤ n) × (length area ≡ length area₀) × (area ≡ linesDone area₀ (planBy area₀ from) steps j area₀)
+    (j ≤ n) × (length area ≡ length area₀) × (area ≡ lines_done area₀ (plan_by area₀ from) steps j area₀)
     × AllCoded codes steps from area₀ n
 
 abbrev decreases-loop : tie.decreases-loop
@@ -23,7 +23,7 @@ decreases-loop area₀ n t steps from codes j₀ area j = n - j
 
 -- src/lib.rt:180:5
 note-all-requires : tie.Need-note-all-requires invariant-loop decreases-loop
-note-all-requires c κs = (omega arith, omega arith, omega arith, search all-enough)
+note-all-requires c κs = (omega arith, omega arith, omega arith, search all_enough)
 
 -- src/lib.rt:182:5
 loop-holds : tie.Need-loop-init invariant-loop decreases-loop
@@ -31,7 +31,7 @@ loop-holds c = (omega arith, refl, search lines_none, search rules)
 
 -- src/lib.rt:183:9
 settle-line-requires : tie.Need-settle-line-requires invariant-loop decreases-loop
-settle-line-requires c κs = (omega arith, search lines-asks, omega arith, search lines-coded)
+settle-line-requires c κs = (omega arith, search lines_asks, omega arith, search lines_coded)
 
 -- src/lib.rt:184:9
 add-j : tie.Need-overflow-add-j invariant-loop decreases-loop
@@ -57,8 +57,8 @@ same-length-2 c = search rules
 returns : tie.Need-returns invariant-loop decreases-loop
 returns c = search lines_end
 
-pub settle-with-spec : {M : Type 1} → statement M
-settle-with-spec =
+pub settle_with_spec : {M : Type 1} → statement M
+settle_with_spec =
     tie.close
     (tie.spec
     invariant-loop

@@ -1,5 +1,5 @@
 use native.Mathlib.Omega.{arith}
-use Rattle.fast_move.specs.AdvanceLaws.{held-here, report-room, can-emits, can-hears, can-rests}
+use Rattle.fast_move.specs.AdvanceLaws.{held_here, report_room, can_emits, can_hears, can_rests}
 use borrow.Author.Rules.{rules}
 use Rattle.fast_move.proofs.can_move.Statement.{statement}
 use Rattle.fast_move.proofs.can_move.Tie as tie
@@ -22,11 +22,11 @@ is-emitting-requires c κs = search rules
 
 -- src/lib.rt:127:9
 emits-all-requires : tie.Need-emits-all-requires
-emits-all-requires c κs = search held-here
+emits-all-requires c κs = search held_here
 
 -- src/lib.rt:127:9
 returns : tie.Need-returns
-returns c = search can-emits
+returns c = search can_emits
 
 -- src/lib.rt:130:9
 hears-all-requires : tie.Need-hears-all-requires
@@ -34,11 +34,11 @@ hears-all-requires c κs = search rules
 
 -- src/lib.rt:130:9
 returns-2 : tie.Need-returns-2
-returns-2 c = search can-hears
+returns-2 c = search can_hears
 
 -- src/lib.rt:133:9
 may-report-requires : tie.Need-may-report-requires
-may-report-requires c κs = (omega arith, omega arith, search report-room)
+may-report-requires c κs = (omega arith, omega arith, search report_room)
 
 -- src/lib.rt:134:5
 rests-all-requires : tie.Need-rests-all-requires
@@ -46,10 +46,10 @@ rests-all-requires c κs = search rules
 
 -- src/lib.rt:120:1
 returns-3 : tie.Need-returns-3
-returns-3 c = search can-rests
+returns-3 c = search can_rests
 
-pub can-move-spec : {M : Type 1} → statement M
-can-move-spec =
+pub can_move_spec : {M : Type 1} → statement M
+can_move_spec =
     tie.close
     (tie.spec
     is-heard-requires

@@ -1,4 +1,4 @@
-use Rattle.fast_move.specs.MoveLaws.{emits-is}
+use Rattle.fast_move.specs.MoveLaws.{emits_is}
 use borrow.Author.Rules.{rules}
 use Rattle.fast_move.proofs.emits_all.Statement.{statement}
 use Rattle.fast_move.proofs.emits_all.Tie as tie
@@ -35,10 +35,10 @@ both-requires-3 c κs = search rules
 
 -- src/lib.rt:97:1
 returns : tie.Need-returns
-returns c = search emits-is
+returns c = search emits_is
 
-pub emits-all-spec : {M : Type 1} → statement M
-emits-all-spec =
+pub emits_all_spec : {M : Type 1} → statement M
+emits_all_spec =
     tie.close
     (tie.spec
     is-calm-requires

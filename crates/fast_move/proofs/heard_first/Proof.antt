@@ -1,5 +1,5 @@
 use native.Mathlib.Omega.{arith}
-use Rattle.fast_move.specs.AdvanceLaws.{first-line, first-from, first-spoiled}
+use Rattle.fast_move.specs.AdvanceLaws.{first_line_lem, first_from_lem, first_spoiled}
 use borrow.Author.Rules.{rules}
 use Rattle.fast_move.proofs.heard_first.Statement.{statement}
 use Rattle.fast_move.proofs.heard_first.Tie as tie
@@ -38,18 +38,18 @@ returns c = search rules
 
 -- src/lib.rt:161:1
 returns-2 : tie.Need-returns-2
-returns-2 c = search first-line
+returns-2 c = search first_line_lem
 
 -- src/lib.rt:161:1
 returns-3 : tie.Need-returns-3
-returns-3 c = search first-from
+returns-3 c = search first_from_lem
 
 -- src/lib.rt:161:1
 returns-4 : tie.Need-returns-4
-returns-4 c = search first-spoiled
+returns-4 c = search first_spoiled
 
-pub heard-first-spec : {M : Type 1} → statement M
-heard-first-spec =
+pub heard_first_spec : {M : Type 1} → statement M
+heard_first_spec =
     tie.close
     (tie.spec
     enum_told

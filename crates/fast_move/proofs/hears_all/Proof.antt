@@ -1,4 +1,4 @@
-use Rattle.fast_move.specs.MoveLaws.{hears-is}
+use Rattle.fast_move.specs.MoveLaws.{hears_is}
 use borrow.Author.Rules.{rules}
 use Rattle.fast_move.proofs.hears_all.Statement.{statement}
 use Rattle.fast_move.proofs.hears_all.Tie as tie
@@ -17,7 +17,7 @@ both-requires c κs = search rules
 
 -- src/lib.rt:76:1
 returns : tie.Need-returns
-returns c = search hears-is
+returns c = search hears_is
 
-pub hears-all-spec : {M : Type 1} → statement M
-hears-all-spec = tie.close (tie.spec heard-rest-requires both-requires returns)
+pub hears_all_spec : {M : Type 1} → statement M
+hears_all_spec = tie.close (tie.spec heard-rest-requires both-requires returns)

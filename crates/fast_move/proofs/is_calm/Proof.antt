@@ -1,4 +1,4 @@
-use Rattle.fast_move.specs.MoveLaws.{calm-idle}
+use Rattle.fast_move.specs.MoveLaws.{calm_idle}
 use borrow.Author.Rules.{rules}
 use Rattle.fast_move.proofs.is_calm.Statement.{statement}
 use Rattle.fast_move.proofs.is_calm.Tie as tie
@@ -21,7 +21,7 @@ is-idle-requires c κs = search rules
 
 -- src/lib.rt:87:1
 returns-2 : tie.Need-returns-2
-returns-2 c = search calm-idle
+returns-2 c = search calm_idle
 
-pub is-calm-spec : {M : Type 1} → statement M
-is-calm-spec = tie.close (tie.spec is-sending-requires returns is-idle-requires returns-2)
+pub is_calm_spec : {M : Type 1} → statement M
+is_calm_spec = tie.close (tie.spec is-sending-requires returns is-idle-requires returns-2)

@@ -1,5 +1,5 @@
 use native.Mathlib.Omega.{arith}
-use Rattle.fast_move.specs.AdvanceLaws.{line-audible, once-silent, once-line, once-from, once-spoiled}
+use Rattle.fast_move.specs.AdvanceLaws.{line_audible, once_silent, once_line, once_from, once_spoiled}
 use borrow.Author.Rules.{rules}
 use Rattle.fast_move.proofs.move_at_once.Statement.{statement}
 use Rattle.fast_move.proofs.move_at_once.Tie as tie
@@ -24,7 +24,7 @@ enum-told-2 c = search rules
 
 -- src/lib.rt:154:23
 hear-line-requires : tie.Need-hear-line-requires
-hear-line-requires c κs = (omega arith, omega arith, search rules, search rules, omega arith, search line-audible)
+hear-line-requires c κs = (omega arith, omega arith, search rules, search rules, omega arith, search line_audible)
 
 -- src/lib.rt:155:49
 enum-told-3 : tie.Need-enum-told-3
@@ -48,7 +48,7 @@ same_length c = search rules
 
 -- src/lib.rt:138:1
 returns : tie.Need-returns
-returns c = search once-silent
+returns c = search once_silent
 
 -- src/lib.rt:138:1
 same-length-2 : tie.Need-same-length-2
@@ -56,7 +56,7 @@ same-length-2 c = search rules
 
 -- src/lib.rt:138:1
 returns-2 : tie.Need-returns-2
-returns-2 c = search once-line
+returns-2 c = search once_line
 
 -- src/lib.rt:138:1
 same-length-3 : tie.Need-same-length-3
@@ -64,7 +64,7 @@ same-length-3 c = search rules
 
 -- src/lib.rt:138:1
 returns-3 : tie.Need-returns-3
-returns-3 c = search once-from
+returns-3 c = search once_from
 
 -- src/lib.rt:138:1
 same-length-4 : tie.Need-same-length-4
@@ -72,7 +72,7 @@ same-length-4 c = search rules
 
 -- src/lib.rt:138:1
 returns-4 : tie.Need-returns-4
-returns-4 c = search once-spoiled
+returns-4 c = search once_spoiled
 
 pub move_at_once_spec : {M : Type 1} → statement M
 move_at_once_spec =

@@ -1,4 +1,4 @@
-use Rattle.fast_move.specs.MoveLaws.{rests-is}
+use Rattle.fast_move.specs.MoveLaws.{rests_is}
 use borrow.Author.Rules.{rules}
 use Rattle.fast_move.proofs.rests_all.Statement.{statement}
 use Rattle.fast_move.proofs.rests_all.Tie as tie
@@ -21,7 +21,7 @@ both-requires-2 c κs = search rules
 
 -- src/lib.rt:66:1
 returns : tie.Need-returns
-returns c = search rests-is
+returns c = search rests_is
 
-pub rests-all-spec : {M : Type 1} → statement M
-rests-all-spec = tie.close (tie.spec frames-rest-requires both-requires both-requires-2 returns)
+pub rests_all_spec : {M : Type 1} → statement M
+rests_all_spec = tie.close (tie.spec frames-rest-requires both-requires both-requires-2 returns)

@@ -1,5 +1,5 @@
 -- `fast_own::turn_alone` meets its contract. Assumes nothing.
-use Rattle.fast_own.specs.OwnLaws.{outcome-kept, turn_is}
+use Rattle.fast_own.specs.OwnLaws.{outcome_kept, turn_is}
 use native.Mathlib.Omega.{arith}
 use borrow.Author.Rules.{rules}
 use Rattle.fast_own.proofs.turn_alone.Statement.{statement}
@@ -9,7 +9,7 @@ outcome-requires : tie.Need-outcome-requires
 outcome-requires c κs = search rules
 
 leave-requires : tie.Need-leave-requires
-leave-requires c κs = (omega arith, omega arith, search outcome-kept)
+leave-requires c κs = (omega arith, omega arith, search outcome_kept)
 
 same_length : tie.Need-same-length
 same_length c = search rules
@@ -17,5 +17,5 @@ same_length c = search rules
 returns : tie.Need-returns
 returns c = search turn_is
 
-pub turn-alone-spec : {M : Type 1} → statement M
-turn-alone-spec = tie.close (tie.spec outcome-requires leave-requires same_length returns)
+pub turn_alone_spec : {M : Type 1} → statement M
+turn_alone_spec = tie.close (tie.spec outcome-requires leave-requires same_length returns)

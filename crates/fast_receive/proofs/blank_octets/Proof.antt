@@ -5,7 +5,7 @@ use lib.ListN.{length}
 use borrow.Author.Rules.{rules}
 use native.Mathlib.Omega.{arith}
 use Rattle.fast_receive.specs.Zeros.{blanks}
-use Rattle.fast_receive.specs.CodeLaws.{blanks-none, blanks-more, blanks-end}
+use Rattle.fast_receive.specs.CodeLaws.{blanks_none, blanks_more, blanks_end}
 use Rattle.fast_receive.proofs.blank_octets.Statement.{statement}
 use Rattle.fast_receive.proofs.blank_octets.Tie as tie
 
@@ -16,7 +16,7 @@ abbrev decreases-loop : tie.decreases-loop
 decreases-loop area₀ j q n k₀ area k = n - k
 
 loop-holds : tie.Need-loop-init invariant-loop decreases-loop
-loop-holds c = (omega arith, refl, search blanks-none)
+loop-holds c = (omega arith, refl, search blanks_none)
 
 add-write-octet : tie.Need-overflow-add-write-octet invariant-loop decreases-loop
 add-write-octet c = omega arith
@@ -34,16 +34,16 @@ loop-less : tie.Need-loop-smaller invariant-loop decreases-loop
 loop-less c = omega arith
 
 loop-again : tie.Need-loop-preserved invariant-loop decreases-loop
-loop-again c = (omega arith, omega arith, search blanks-more)
+loop-again c = (omega arith, omega arith, search blanks_more)
 
 same_length : tie.Need-same-length invariant-loop decreases-loop
 same_length c = search rules
 
 returns : tie.Need-returns invariant-loop decreases-loop
-returns c = search blanks-end
+returns c = search blanks_end
 
-pub blank-octets-spec : {M : Type 1} → statement M
-blank-octets-spec =
+pub blank_octets_spec : {M : Type 1} → statement M
+blank_octets_spec =
     tie.close
     (tie.spec
     invariant-loop

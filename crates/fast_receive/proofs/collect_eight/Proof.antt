@@ -1,5 +1,5 @@
-use Rattle.fast_receive.specs.CodeLaws.{stay-row, stay-bits}
-use Rattle.fast_receive.specs.Strides.{stay-line, eight-heard, octet-heard}
+use Rattle.fast_receive.specs.CodeLaws.{stay_row, stay_bits}
+use Rattle.fast_receive.specs.Strides.{stay_line, eight_heard, octet_heard}
 use native.Mathlib.Omega.{arith}
 use borrow.Author.Rules.{rules}
 use Rattle.fast_receive.proofs.collect_eight.Statement.{statement}
@@ -17,7 +17,7 @@ stay-requires c κs = search rules
 
 -- src/lib.rt:94:9
 returns : tie.Need-returns
-returns c = (search stay-line, (omega arith, search stay-row, search stay-bits))
+returns c = (search stay_line, (omega arith, search stay_row, search stay_bits))
 
 -- src/lib.rt:97:9
 stay-requires-2 : tie.Need-stay-requires-2
@@ -25,7 +25,7 @@ stay-requires-2 c κs = search rules
 
 -- src/lib.rt:97:9
 returns-2 : tie.Need-returns-2
-returns-2 c = (search stay-line, (omega arith, search stay-row, search stay-bits))
+returns-2 c = (search stay_line, (omega arith, search stay_row, search stay_bits))
 
 -- src/lib.rt:100:9
 stay-requires-3 : tie.Need-stay-requires-3
@@ -33,11 +33,11 @@ stay-requires-3 c κs = search rules
 
 -- src/lib.rt:100:9
 returns-3 : tie.Need-returns-3
-returns-3 c = (search stay-line, (omega arith, search stay-row, search stay-bits))
+returns-3 c = (search stay_line, (omega arith, search stay_row, search stay_bits))
 
 -- src/lib.rt:102:9
 line-octet-requires : tie.Need-line-octet-requires
-line-octet-requires c κs = (omega arith, omega arith, omega arith, search eight-heard)
+line-octet-requires c κs = (omega arith, omega arith, omega arith, search eight_heard)
 
 -- src/lib.rt:104:9
 stay-requires-4 : tie.Need-stay-requires-4
@@ -49,7 +49,7 @@ same_length c = search rules
 
 -- src/lib.rt:104:9
 returns-4 : tie.Need-returns-4
-returns-4 c = (search stay-line, (omega arith, search stay-row, search stay-bits))
+returns-4 c = (search stay_line, (omega arith, search stay_row, search stay_bits))
 
 -- src/lib.rt:106:35
 cast-write-octet : tie.Need-overflow-cast-write-octet
@@ -77,10 +77,10 @@ same-length-2 c = search rules
 
 -- src/lib.rt:79:1
 returns-5 : tie.Need-returns-5
-returns-5 c = (search octet-heard, (omega arith, omega arith, omega arith))
+returns-5 c = (search octet_heard, (omega arith, omega arith, omega arith))
 
-pub collect-eight-spec : {M : Type 1} → statement M
-collect-eight-spec =
+pub collect_eight_spec : {M : Type 1} → statement M
+collect_eight_spec =
     tie.close
     (tie.spec
     stay-requires

@@ -1,5 +1,5 @@
 -- `fast_receive::collect_octets` meets its contract. Assumes nothing.
-use Rattle.fast_receive.specs.CodeLaws.{stay-heard, stay-row, stay-bits, octets-heard}
+use Rattle.fast_receive.specs.CodeLaws.{stay_heard, stay_row, stay_bits, octets_heard}
 use native.Mathlib.Omega.{arith}
 use borrow.Author.Rules.{rules}
 use Rattle.fast_receive.proofs.collect_octets.Statement.{statement}
@@ -9,19 +9,19 @@ stay-requires : tie.Need-stay-requires
 stay-requires c κs = search rules
 
 returns : tie.Need-returns
-returns c = (search stay-heard, (omega arith, search stay-row, search stay-bits))
+returns c = (search stay_heard, (omega arith, search stay_row, search stay_bits))
 
 stay-requires-2 : tie.Need-stay-requires-2
 stay-requires-2 c κs = search rules
 
 returns-2 : tie.Need-returns-2
-returns-2 c = (search stay-heard, (omega arith, search stay-row, search stay-bits))
+returns-2 c = (search stay_heard, (omega arith, search stay_row, search stay_bits))
 
 stay-requires-3 : tie.Need-stay-requires-3
 stay-requires-3 c κs = search rules
 
 returns-3 : tie.Need-returns-3
-returns-3 c = (search stay-heard, (omega arith, search stay-row, search stay-bits))
+returns-3 c = (search stay_heard, (omega arith, search stay_row, search stay_bits))
 
 cast-p : tie.Need-overflow-cast-p
 cast-p c = search rules
@@ -36,7 +36,7 @@ stay-requires-4 : tie.Need-stay-requires-4
 stay-requires-4 c κs = search rules
 
 returns-4 : tie.Need-returns-4
-returns-4 c = (search stay-heard, (omega arith, search stay-row, search stay-bits))
+returns-4 c = (search stay_heard, (omega arith, search stay_row, search stay_bits))
 
 copy-octets-requires : tie.Need-copy-octets-requires
 copy-octets-requires c κs = search rules
@@ -58,15 +58,15 @@ same_length c = search rules
 
 returns-5 : tie.Need-returns-5
 returns-5 c = (
-  octets-heard _ _ _ _ _ _ _ _ _ _ _ _
+  octets_heard _ _ _ _ _ _ _ _ _ _ _ _
       c.before.before.before.before.before.before.before.before.before.before.before.before.requires.0
       c.before.before.before.before.before.before.before.before.before.before.before.before.requires.1
       (λ k. omega (arith, c.before.before.before.before.before.before.before.before.before.before.shared-slice-known.given k)) c.before.before.before.before.before.before.before.before.before.if1.false c.before.before.before.before.before.before.before.before.if2.false c.before.before.before.before.before.before.before.if3.false c.before.before.before.before.before.before.octets-left.ensures c.before.before.before.before.before.if4.false c.either.ensures c.before.before.before.copy-octets.ensures,
   (omega arith, omega arith, omega arith),
 )
 
-pub collect-octets-spec : {M : Type 1} → statement M
-collect-octets-spec =
+pub collect_octets_spec : {M : Type 1} → statement M
+collect_octets_spec =
     tie.close
     (tie.spec
     stay-requires

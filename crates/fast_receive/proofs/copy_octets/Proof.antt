@@ -5,7 +5,7 @@ use lib.ListN.{length}
 use borrow.Author.Rules.{rules}
 use native.Mathlib.Omega.{arith}
 use Rattle.fast_receive.specs.Received.{copied}
-use Rattle.fast_receive.specs.CodeLaws.{copied_none, copied_more, copied-end}
+use Rattle.fast_receive.specs.CodeLaws.{copied_none, copied_more, copied_end}
 use Rattle.fast_receive.proofs.copy_octets.Statement.{statement}
 use Rattle.fast_receive.proofs.copy_octets.Tie as tie
 
@@ -43,10 +43,10 @@ same_length : tie.Need-same-length invariant-loop decreases-loop
 same_length c = search rules
 
 returns : tie.Need-returns invariant-loop decreases-loop
-returns c = search copied-end
+returns c = search copied_end
 
-pub copy-octets-spec : {M : Type 1} → statement M
-copy-octets-spec =
+pub copy_octets_spec : {M : Type 1} → statement M
+copy_octets_spec =
     tie.close
     (tie.spec
     invariant-loop

@@ -1,5 +1,5 @@
 use native.Mathlib.Omega.{arith}
-use Rattle.fast_receive.specs.Strides.{four-clean}
+use Rattle.fast_receive.specs.Strides.{four_clean}
 use borrow.Author.Rules.{rules}
 use Rattle.fast_receive.proofs.four_bits.Statement.{statement}
 use Rattle.fast_receive.proofs.four_bits.Tie as tie
@@ -97,10 +97,10 @@ add-result-4 c = search rules
 
 -- src/lib.rt:48:1
 returns : tie.Need-returns
-returns c = (λ h. search four-clean, omega arith)
+returns c = (λ h. search four_clean, omega arith)
 
-pub four-bits-spec : {M : Type 1} → statement M
-four-bits-spec =
+pub four_bits_spec : {M : Type 1} → statement M
+four_bits_spec =
     tie.close
     (tie.spec
     code-at-requires

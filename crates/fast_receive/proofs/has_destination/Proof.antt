@@ -1,5 +1,5 @@
 -- `fast_receive::has_destination` meets its contract. Assumes nothing.
-use Rattle.fast_receive.specs.EndLaws.{six-long, destination-is}
+use Rattle.fast_receive.specs.EndLaws.{six_long, destination_is}
 use borrow.Author.Rules.{rules}
 use Rattle.fast_receive.proofs.has_destination.Statement.{statement}
 use Rattle.fast_receive.proofs.has_destination.Tie as tie
@@ -11,11 +11,11 @@ buffer-requires : tie.Need-buffer-requires
 buffer-requires c κs = search rules
 
 is-addressed-requires : tie.Need-is-addressed-requires
-is-addressed-requires c κs = search six-long
+is-addressed-requires c κs = search six_long
 
 returns : tie.Need-returns
-returns c = search destination-is
+returns c = search destination_is
 
-pub has-destination-spec : {M : Type 1} → statement M
-has-destination-spec =
+pub has_destination_spec : {M : Type 1} → statement M
+has_destination_spec =
     tie.close (tie.spec read-address-requires buffer-requires is-addressed-requires returns)

@@ -1,7 +1,7 @@
-use Rattle.fast_receive.specs.Strides.{line_on, line-left}
+use Rattle.fast_receive.specs.Strides.{line_on, line_left}
 use Rattle.fast_receive.specs.CodeLaws.{all_none, all_end}
-use Rattle.fast_receive.specs.Received.{taken, heardAll, lineFrom}
-use Rattle.station_spec.specs.Receive.{row_in, bitsIn, rowLimit}
+use Rattle.fast_receive.specs.Received.{taken, heard_all, line_from}
+use Rattle.station_spec.specs.Receive.{row_in, bits_in, row_limit}
 use lib.ListN.{length}
 use mathlib.Core.Path.{◌≡◌, refl}
 use Prim.Native.Nat.{◌≤◌, ◌<◌, ◌-◌, ◌+◌}
@@ -15,8 +15,8 @@ use Rattle.fast_receive.proofs.hear_some.Reads as hear-some-reads
 
 abbrev invariant-loop : tie.invariant-loop
 invariant-loop area₀ j u e m q₀ s₀ area q s =
-    (s ≤ m) × (length area ≡ length area₀) × (taken q area ≡ heardAll j e (lineFrom area₀ j u) s (taken q₀ area₀))
-    × (row_in q < rowLimit) × (bitsIn q ≤ bitsIn q₀ + s)
+    (s ≤ m) × (length area ≡ length area₀) × (taken q area ≡ heard_all j e (line_from area₀ j u) s (taken q₀ area₀))
+    × (row_in q < row_limit) × (bits_in q ≤ bits_in q₀ + s)
 
 abbrev decreases-loop : tie.decreases-loop
 decreases-loop area₀ j u e m q₀ s₀ area q s = m - s
@@ -40,7 +40,7 @@ sub-hear-some c = omega arith
 -- src/lib.rt:160:13
 hear-some-requires : tie.Need-hear-some-requires invariant-loop decreases-loop
 hear-some-requires c κs =
-    (omega arith, omega arith, omega arith, omega arith, omega arith, search line-left, omega arith)
+    (omega arith, omega arith, omega arith, omega arith, omega arith, search line_left, omega arith)
 
 -- src/lib.rt:162:9
 add-s : tie.Need-overflow-add-s invariant-loop decreases-loop
@@ -62,8 +62,8 @@ same_length c = search rules
 returns : tie.Need-returns invariant-loop decreases-loop
 returns c = (search all_end, (omega arith, omega arith))
 
-pub hear-line-spec : {M : Type 1} → statement M
-hear-line-spec =
+pub hear_line_spec : {M : Type 1} → statement M
+hear_line_spec =
     tie.close
     (tie.spec
     invariant-loop

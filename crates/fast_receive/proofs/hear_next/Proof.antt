@@ -1,4 +1,4 @@
-use Rattle.fast_receive.specs.Strides.{pass-heard, next_one}
+use Rattle.fast_receive.specs.Strides.{pass_heard, next_one}
 use native.Mathlib.Omega.{arith}
 use borrow.Author.Rules.{rules}
 use Rattle.fast_receive.proofs.hear_next.Statement.{statement}
@@ -15,7 +15,7 @@ pass-preamble-requires c κs = search rules
 
 -- src/lib.rt:252:9
 returns : tie.Need-returns
-returns c = (search pass-heard, (omega arith, omega arith, omega arith, omega arith))
+returns c = (search pass_heard, (omega arith, omega arith, omega arith, omega arith))
 
 -- src/lib.rt:254:9
 packet-bit-requires : tie.Need-packet-bit-requires
@@ -33,8 +33,8 @@ same_length c = search rules
 returns-2 : tie.Need-returns-2
 returns-2 c = (search next_one, (omega arith, omega arith, omega arith, omega arith))
 
-pub hear-next-spec : {M : Type 1} → statement M
-hear-next-spec =
+pub hear_next_spec : {M : Type 1} → statement M
+hear_next_spec =
     tie.close
     (tie.spec
     pass-preamble-requires

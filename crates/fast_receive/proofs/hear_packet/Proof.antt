@@ -1,5 +1,5 @@
 -- `fast_receive::hear_packet` meets its contract. Assumes nothing.
-use Rattle.fast_receive.specs.CodeLaws.{packet-heard}
+use Rattle.fast_receive.specs.CodeLaws.{packet_heard}
 use native.Mathlib.Omega.{arith}
 use borrow.Author.Rules.{rules}
 use Rattle.fast_receive.proofs.hear_packet.Statement.{statement}
@@ -33,10 +33,10 @@ same_length : tie.Need-same-length
 same_length c = search rules
 
 returns : tie.Need-returns
-returns c = (search packet-heard, (omega arith, omega arith))
+returns c = (search packet_heard, (omega arith, omega arith))
 
-pub hear-packet-spec : {M : Type 1} → statement M
-hear-packet-spec =
+pub hear_packet_spec : {M : Type 1} → statement M
+hear_packet_spec =
     tie.close
     (tie.spec
     hear-to-octet-requires

@@ -37,8 +37,8 @@ same-length-2 c = search rules
 returns-2 : tie.Need-returns-2
 returns-2 c = (search some_one, (omega arith, omega arith, omega arith, omega arith))
 
-pub hear-some-spec : {M : Type 1} → statement M
-hear-some-spec =
+pub hear_some_spec : {M : Type 1} → statement M
+hear_some_spec =
     tie.close
     (tie.spec
     hear-eight-requires

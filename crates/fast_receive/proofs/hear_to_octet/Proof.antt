@@ -1,6 +1,6 @@
 use Rattle.fast_receive.specs.CodeLaws.{all_none, join}
-use Rattle.fast_receive.specs.Received.{taken, heardAll, bitsFrom}
-use Rattle.station_spec.specs.Receive.{row_in, bitsIn, rowLimit}
+use Rattle.fast_receive.specs.Received.{taken, heard_all, bits_from}
+use Rattle.station_spec.specs.Receive.{row_in, bits_in, row_limit}
 use lib.ListN.{length}
 use mathlib.Core.Path.{◌≡◌, refl}
 use Prim.Native.Nat.{◌≤◌, ◌<◌, ◌-◌, ◌+◌}
@@ -15,8 +15,8 @@ use Rattle.fast_receive.proofs.hear_next.Reads as hear-next-reads
 
 abbrev invariant-loop : tie.invariant-loop
 invariant-loop area₀ j frame a e m q₀ s₀ area q s =
-    (s ≤ m) × (length area ≡ length area₀) × (taken q area ≡ heardAll j e (bitsFrom frame a) s (taken q₀ area₀))
-    × (row_in q < rowLimit) × (bitsIn q ≤ bitsIn q₀ + s)
+    (s ≤ m) × (length area ≡ length area₀) × (taken q area ≡ heard_all j e (bits_from frame a) s (taken q₀ area₀))
+    × (row_in q < row_limit) × (bits_in q ≤ bits_in q₀ + s)
 
 abbrev decreases-loop : tie.decreases-loop
 decreases-loop area₀ j frame a e m q₀ s₀ area q s = m - s
@@ -73,8 +73,8 @@ same-length-2 c = search rules
 returns-2 : tie.Need-returns-2 invariant-loop decreases-loop
 returns-2 c = (search rules, (omega arith, omega arith, omega arith))
 
-pub hear-to-octet-spec : {M : Type 1} → statement M
-hear-to-octet-spec =
+pub hear_to_octet_spec : {M : Type 1} → statement M
+hear_to_octet_spec =
     tie.close
     (tie.spec
     invariant-loop

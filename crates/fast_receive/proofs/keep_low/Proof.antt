@@ -1,6 +1,6 @@
 -- `fast_receive::keep_low` meets its contract. Assumes nothing.
 use native.Mathlib.Omega.{arith}
-use Rattle.fast_receive.specs.CodeLaws.{buffer-long, low-kept}
+use Rattle.fast_receive.specs.CodeLaws.{buffer_long, low_kept_lem}
 use borrow.Author.Rules.{rules}
 use Rattle.fast_receive.proofs.keep_low.Statement.{statement}
 use Rattle.fast_receive.proofs.keep_low.Tie as tie
@@ -12,7 +12,7 @@ shared-slice-read-wide : tie.Need-shared-slice-read-wide
 shared-slice-read-wide c =
     omega (
       arith,
-      buffer-long _ _ _ c.before.buffer.ensures c.before.before.before.before.requires.0
+      buffer_long _ _ _ c.before.buffer.ensures c.before.before.before.before.requires.0
           c.before.before.before.before.requires.1,
     )
 
@@ -35,10 +35,10 @@ same_length : tie.Need-same-length
 same_length c = search rules
 
 returns : tie.Need-returns
-returns c = search low-kept
+returns c = search low_kept_lem
 
-pub keep-low-spec : {M : Type 1} → statement M
-keep-low-spec =
+pub keep_low_spec : {M : Type 1} → statement M
+keep_low_spec =
     tie.close
     (tie.spec
     buffer-requires

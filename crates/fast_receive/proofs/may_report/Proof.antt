@@ -1,7 +1,7 @@
 -- `fast_receive::may_report` meets its contract. Assumes nothing.
-use Rattle.fast_receive.specs.EndLaws.{may-listening, may-readable, may-seeking, may-short, may-own, may-early}
-use Rattle.fast_receive.specs.EndLaws.{may-addressed}
-use Rattle.fast_receive.specs.CodeLaws.{collecting-room}
+use Rattle.fast_receive.specs.EndLaws.{may_listening, may_readable, may_seeking, may_short, may_own, may_early}
+use Rattle.fast_receive.specs.EndLaws.{may_addressed}
+use Rattle.fast_receive.specs.CodeLaws.{collecting_room}
 use borrow.Author.Rules.{rules}
 use Rattle.fast_receive.proofs.may_report.Statement.{statement}
 use Rattle.fast_receive.proofs.may_report.Tie as tie
@@ -22,34 +22,34 @@ enum-known-r-2 : tie.Need-enum-known-r-2
 enum-known-r-2 c = search rules
 
 add-if1 : tie.Need-overflow-add-if1
-add-if1 c = search collecting-room
+add-if1 c = search collecting_room
 
 returns : tie.Need-returns
-returns c = search may-short
+returns c = search may_short
 
 returns-2 : tie.Need-returns-2
-returns-2 c = search may-own
+returns-2 c = search may_own
 
 returns-3 : tie.Need-returns-3
-returns-3 c = search may-early
+returns-3 c = search may_early
 
 has-destination-requires : tie.Need-has-destination-requires
 has-destination-requires c κs = search rules
 
 returns-4 : tie.Need-returns-4
-returns-4 c = search may-listening
+returns-4 c = search may_listening
 
 returns-5 : tie.Need-returns-5
-returns-5 c = search may-readable
+returns-5 c = search may_readable
 
 returns-6 : tie.Need-returns-6
-returns-6 c = search may-seeking
+returns-6 c = search may_seeking
 
 returns-7 : tie.Need-returns-7
-returns-7 c = search may-addressed
+returns-7 c = search may_addressed
 
-pub may-report-spec : {M : Type 1} → statement M
-may-report-spec =
+pub may_report_spec : {M : Type 1} → statement M
+may_report_spec =
     tie.close
     (tie.spec
     enum_told

@@ -1,4 +1,4 @@
-use Rattle.fast_receive.specs.Strides.{pass-stay, seeking-row, seeking-passes}
+use Rattle.fast_receive.specs.Strides.{pass_stay, seeking_row, seeking_passes}
 use native.Mathlib.Omega.{arith}
 use borrow.Author.Rules.{rules}
 use Rattle.fast_receive.proofs.pass_preamble.Statement.{statement}
@@ -13,15 +13,15 @@ enum-known-r c = search rules
 
 -- src/lib.rt:236:9
 returns : tie.Need-returns
-returns c = (search pass-stay, (omega arith, omega arith, omega arith))
+returns c = (search pass_stay, (omega arith, omega arith, omega arith))
 
 -- src/lib.rt:241:5
 pass-row-requires : tie.Need-pass-row-requires
-pass-row-requires c κs = (omega arith, search seeking-row)
+pass-row-requires c κs = (omega arith, search seeking_row)
 
 -- src/lib.rt:230:1
 returns-2 : tie.Need-returns-2
-returns-2 c = (search seeking-passes, (omega arith, omega arith, omega arith))
+returns-2 c = (search seeking_passes, (omega arith, omega arith, omega arith))
 
-pub pass-preamble-spec : {M : Type 1} → statement M
-pass-preamble-spec = tie.close (tie.spec enum-known-r returns pass-row-requires returns-2)
+pub pass_preamble_spec : {M : Type 1} → statement M
+pass_preamble_spec = tie.close (tie.spec enum-known-r returns pass-row-requires returns-2)

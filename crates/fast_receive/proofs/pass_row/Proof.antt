@@ -1,4 +1,4 @@
-use Rattle.fast_receive.specs.Strides.{pass-none, pass-some}
+use Rattle.fast_receive.specs.Strides.{pass_none, pass_some}
 use native.Mathlib.Omega.{arith}
 use borrow.Author.Rules.{rules}
 use Rattle.fast_receive.proofs.pass_row.Statement.{statement}
@@ -14,7 +14,7 @@ preamble-left-requires c κs = search rules
 
 -- src/lib.rt:214:9
 returns : tie.Need-returns
-returns c = (search pass-none, (omega arith, omega arith, omega arith))
+returns c = (search pass_none, (omega arith, omega arith, omega arith))
 
 -- src/lib.rt:221:31
 add-t10 : tie.Need-overflow-add-t10
@@ -35,11 +35,11 @@ either-requires c κs = search rules
 -- src/lib.rt:207:1
 returns-2 : tie.Need-returns-2
 returns-2 c = (
-  pass-some _ _ _ _ _ _ _ _ c.before.before.preamble-left.ensures c.before.if1.false c.either.ensures,
+  pass_some _ _ _ _ _ _ _ _ c.before.before.preamble-left.ensures c.before.if1.false c.either.ensures,
   (omega arith, omega arith, omega arith),
 )
 
-pub pass-row-spec : {M : Type 1} → statement M
-pass-row-spec =
+pub pass_row_spec : {M : Type 1} → statement M
+pass_row_spec =
     tie.close
     (tie.spec preamble-left-requires returns add-t10 mul-t12 add-t13 either-requires returns-2)

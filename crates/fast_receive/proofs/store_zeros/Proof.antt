@@ -1,11 +1,11 @@
 -- `fast_receive::store_zeros` meets its contract. Assumes nothing.
-use Rattle.fast_receive.specs.CodeLaws.{zeros-past, zeros-in}
+use Rattle.fast_receive.specs.CodeLaws.{zeros_past, zeros_in}
 use borrow.Author.Rules.{rules}
 use Rattle.fast_receive.proofs.store_zeros.Statement.{statement}
 use Rattle.fast_receive.proofs.store_zeros.Tie as tie
 
 returns : tie.Need-returns
-returns c = search zeros-past
+returns c = search zeros_past
 
 sub-capped : tie.Need-overflow-sub-capped
 sub-capped c = search rules
@@ -32,10 +32,10 @@ same_length : tie.Need-same-length
 same_length c = search rules
 
 returns-2 : tie.Need-returns-2
-returns-2 c = search zeros-in
+returns-2 c = search zeros_in
 
-pub store-zeros-spec : {M : Type 1} → statement M
-store-zeros-spec =
+pub store_zeros_spec : {M : Type 1} → statement M
+store_zeros_spec =
     tie.close
     (tie.spec
     returns

@@ -1,5 +1,5 @@
 -- `fast_rest::frames_rest` meets its contract. Assumes nothing.
-use Rattle.fast_rest.specs.RestLaws.{frame-none, frame-waits, frame-backs, frame-sends, frame-heads, frame-jams}
+use Rattle.fast_rest.specs.RestLaws.{frame_none, frame_waits, frame_backs, frame_sends, frame_heads, frame_jams}
 use borrow.Author.Rules.{rules}
 use Rattle.fast_rest.proofs.frames_rest.Statement.{statement}
 use Rattle.fast_rest.proofs.frames_rest.Tie as tie
@@ -32,25 +32,25 @@ enum-told-5 : tie.Need-enum-told-5
 enum-told-5 c = search rules
 
 returns : tie.Need-returns
-returns c = search frame-none
+returns c = search frame_none
 
 returns-2 : tie.Need-returns-2
-returns-2 c = search frame-waits
+returns-2 c = search frame_waits
 
 returns-3 : tie.Need-returns-3
-returns-3 c = search frame-backs
+returns-3 c = search frame_backs
 
 returns-4 : tie.Need-returns-4
-returns-4 c = search frame-sends
+returns-4 c = search frame_sends
 
 returns-5 : tie.Need-returns-5
-returns-5 c = search frame-heads
+returns-5 c = search frame_heads
 
 returns-6 : tie.Need-returns-6
-returns-6 c = search frame-jams
+returns-6 c = search frame_jams
 
-pub frames-rest-spec : {M : Type 1} → statement M
-frames-rest-spec =
+pub frames_rest_spec : {M : Type 1} → statement M
+frames_rest_spec =
     tie.close
     (tie.spec
     enum_told

@@ -1,5 +1,5 @@
 -- `fast_rest::rest` meets its contract. Assumes nothing.
-use Rattle.fast_rest.specs.RestLaws.{rested-is}
+use Rattle.fast_rest.specs.RestLaws.{rested_is}
 use borrow.Author.Rules.{rules}
 use Rattle.fast_rest.proofs.rest.Statement.{statement}
 use Rattle.fast_rest.proofs.rest.Tie as tie
@@ -20,10 +20,10 @@ either-requires : tie.Need-either-requires
 either-requires c κs = search rules
 
 returns : tie.Need-returns
-returns c = search rested-is
+returns c = search rested_is
 
-pub rest-spec : {M : Type 1} → statement M
-rest-spec =
+pub rest_spec : {M : Type 1} → statement M
+rest_spec =
     tie.close
     (tie.spec
     rest-deference-requires

@@ -1,5 +1,5 @@
 -- `fast_rest::rest_transmitter` meets its contract. Assumes nothing.
-use Rattle.fast_rest.specs.RestLaws.{tx-none, tx-waits, tx-backs, tx-over, tx-sends, tx-heads, tx-jams}
+use Rattle.fast_rest.specs.RestLaws.{tx_none, tx_waits, tx_backs, tx_over, tx_sends, tx_heads, tx_jams}
 use borrow.Author.Rules.{rules}
 use Rattle.fast_rest.proofs.rest_transmitter.Statement.{statement}
 use Rattle.fast_rest.proofs.rest_transmitter.Tie as tie
@@ -17,7 +17,7 @@ sub-t10 : tie.Need-overflow-sub-t10
 sub-t10 c = search rules
 
 returns : tie.Need-returns
-returns c = search tx-backs
+returns c = search tx_backs
 
 enum-known-x-2 : tie.Need-enum-known-x-2
 enum-known-x-2 c = search rules
@@ -29,25 +29,25 @@ enum-known-x-4 : tie.Need-enum-known-x-4
 enum-known-x-4 c = search rules
 
 returns-2 : tie.Need-returns-2
-returns-2 c = search tx-none
+returns-2 c = search tx_none
 
 returns-3 : tie.Need-returns-3
-returns-3 c = search tx-waits
+returns-3 c = search tx_waits
 
 returns-4 : tie.Need-returns-4
-returns-4 c = search tx-over
+returns-4 c = search tx_over
 
 returns-5 : tie.Need-returns-5
-returns-5 c = search tx-sends
+returns-5 c = search tx_sends
 
 returns-6 : tie.Need-returns-6
-returns-6 c = search tx-heads
+returns-6 c = search tx_heads
 
 returns-7 : tie.Need-returns-7
-returns-7 c = search tx-jams
+returns-7 c = search tx_jams
 
-pub rest-transmitter-spec : {M : Type 1} → statement M
-rest-transmitter-spec =
+pub rest_transmitter_spec : {M : Type 1} → statement M
+rest_transmitter_spec =
     tie.close
     (tie.spec
     enum_told

@@ -1,5 +1,5 @@
 -- `fast_rest::rests_for` meets its contract. Assumes nothing.
-use Rattle.fast_rest.specs.RestLaws.{rest-quiet, rest-busy, rest_over, rest-gap}
+use Rattle.fast_rest.specs.RestLaws.{rest_quiet, rest_busy, rest_over, rest_gap}
 use borrow.Author.Rules.{rules}
 use Rattle.fast_rest.proofs.rests_for.Statement.{statement}
 use Rattle.fast_rest.proofs.rests_for.Tie as tie
@@ -29,16 +29,16 @@ sub-result : tie.Need-overflow-sub-result
 sub-result c = search rules
 
 returns-2 : tie.Need-returns-2
-returns-2 c = search rest-quiet
+returns-2 c = search rest_quiet
 
 returns-3 : tie.Need-returns-3
-returns-3 c = search rest-busy
+returns-3 c = search rest_busy
 
 returns-4 : tie.Need-returns-4
-returns-4 c = search rest-gap
+returns-4 c = search rest_gap
 
-pub rests-for-spec : {M : Type 1} → statement M
-rests-for-spec =
+pub rests_for_spec : {M : Type 1} → statement M
+rests_for_spec =
     tie.close
     (tie.spec
     enum_told

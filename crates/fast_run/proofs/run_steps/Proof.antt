@@ -6,15 +6,15 @@ use mathlib.Core.Path.{◌≡◌, refl}
 use lib.ListN.{length}
 use Rattle.bus_spec.specs.declared.course.Ended.TheVariants.{All}
 use Rattle.bus_spec.specs.Run.{run_of}
-use Rattle.bus_spec.specs.RunLaws.{Runnable, NoneLate, none-late-first, none-late-more, run-first, run-zero, run_end}
-use Rattle.fast_advance.specs.AdvanceLaws.{advance-runs, run-goes-on, run-stops, run-bounded}
-use Rattle.station_tally.specs.TallyLaws.{Bounded, zero-bounded}
+use Rattle.bus_spec.specs.RunLaws.{Runnable, NoneLate, none_late_first, none_late_more, run_first, run_zero, run_end_lem}
+use Rattle.fast_advance.specs.AdvanceLaws.{advance_runs, run_goes_on, run_stops, run_bounded}
+use Rattle.station_tally.specs.TallyLaws.{Bounded, zero_bounded}
 use Rattle.fast_run.proofs.run_steps.Statement.{statement}
 use Rattle.fast_run.proofs.run_steps.Tie as tie
-use Rattle.sheet_layout.specs.Limits.{maxStations}
+use Rattle.sheet_layout.specs.Limits.{max_stations}
 
 abbrev invariant-loop : tie.invariant-loop
-invariant-loop area words n ended₀ t events i₀ ended i = (i ≤ maxStations) × (ended ≡ All) × NoneLate events i
+invariant-loop area words n ended₀ t events i₀ ended i = (i ≤ max_stations) × (ended ≡ All) × NoneLate events i
 
 abbrev decreases-loop : tie.decreases-loop
 decreases-loop area words n ended₀ t events i₀ ended i = 16 - i
@@ -28,7 +28,7 @@ abbrev decreases-steps : tie.decreases-steps
 decreases-steps area₀ words₀ n ended₀ t₀ area words ended t = n - t
 
 steps-holds : tie.Need-steps-init invariant-loop decreases-loop invariant-steps decreases-steps
-steps-holds c = (omega arith, refl, refl, refl, search run-first, search zero-bounded, search run-zero)
+steps-holds c = (omega arith, refl, refl, refl, search run_first, search zero_bounded, search run_zero)
 
 sub-advance : tie.Need-overflow-sub-advance invariant-loop decreases-loop invariant-steps decreases-steps
 sub-advance c = omega arith
@@ -46,14 +46,14 @@ add-t : tie.Need-overflow-add-t invariant-loop decreases-loop invariant-steps de
 add-t c = omega arith
 
 loop-holds : tie.Need-loop-init invariant-loop decreases-loop invariant-steps decreases-steps
-loop-holds c = (omega arith, search rules, search none-late-first)
+loop-holds c = (omega arith, search rules, search none_late_first)
 
 steps-less : tie.Need-steps-smaller invariant-loop decreases-loop invariant-steps decreases-steps
 steps-less c = omega arith
 
 steps-again : tie.Need-steps-preserved invariant-loop decreases-loop invariant-steps decreases-steps
 steps-again c =
-    (omega arith, omega arith, omega arith, search rules, search advance-runs, search run-bounded, search run-goes-on)
+    (omega arith, omega arith, omega arith, search rules, search advance_runs, search run_bounded, search run_goes_on)
 
 mul-e : tie.Need-overflow-mul-e invariant-loop decreases-loop invariant-steps decreases-steps
 mul-e c = omega arith
@@ -77,7 +77,7 @@ loop-less : tie.Need-loop-smaller invariant-loop decreases-loop invariant-steps 
 loop-less c = omega arith
 
 loop-again : tie.Need-loop-preserved invariant-loop decreases-loop invariant-steps decreases-steps
-loop-again c = (omega arith, search rules, search none-late-more)
+loop-again c = (omega arith, search rules, search none_late_more)
 
 same_length : tie.Need-same-length invariant-loop decreases-loop invariant-steps decreases-steps
 same_length c = omega arith
@@ -86,7 +86,7 @@ same-length-2 : tie.Need-same-length-2 invariant-loop decreases-loop invariant-s
 same-length-2 c = omega arith
 
 returns : tie.Need-returns invariant-loop decreases-loop invariant-steps decreases-steps
-returns c = search run_end
+returns c = search run_end_lem
 
 same-length-3 : tie.Need-same-length-3 invariant-loop decreases-loop invariant-steps decreases-steps
 same-length-3 c = omega arith
@@ -95,10 +95,10 @@ same-length-4 : tie.Need-same-length-4 invariant-loop decreases-loop invariant-s
 same-length-4 c = omega arith
 
 returns-2 : tie.Need-returns-2 invariant-loop decreases-loop invariant-steps decreases-steps
-returns-2 c = search run-stops
+returns-2 c = search run_stops
 
-pub run-steps-spec : {M : Type 1} → statement M
-run-steps-spec =
+pub run_steps_spec : {M : Type 1} → statement M
+run_steps_spec =
     tie.close
     (tie.spec
     invariant-loop

@@ -1,5 +1,5 @@
 -- `fast_search::any_emitted` meets its contract. Assumes nothing.
-use Rattle.fast_search.specs.SearchLaws.{NoneEmitted, emitted-none, emitted-more, emitted-hit, emitted-end}
+use Rattle.fast_search.specs.SearchLaws.{NoneEmitted, emitted_none, emitted_more, emitted_hit, emitted_end}
 use native.Mathlib.Omega.{arith}
 use Prim.Native.Nat.{◌≤◌, ◌-◌}
 use Rattle.fast_search.proofs.any_emitted.Statement.{statement}
@@ -12,13 +12,13 @@ abbrev decreases-loop : tie.decreases-loop
 decreases-loop area n i₀ i = n - i
 
 loop-holds : tie.Need-loop-init invariant-loop decreases-loop
-loop-holds c = (omega arith, search emitted-none)
+loop-holds c = (omega arith, search emitted_none)
 
 emitted-requires : tie.Need-emitted-requires invariant-loop decreases-loop
 emitted-requires c κs = (omega arith, omega arith)
 
 returns : tie.Need-returns invariant-loop decreases-loop
-returns c = search emitted-hit
+returns c = search emitted_hit
 
 add-i : tie.Need-overflow-add-i invariant-loop decreases-loop
 add-i c = omega arith
@@ -27,13 +27,13 @@ loop-less : tie.Need-loop-smaller invariant-loop decreases-loop
 loop-less c = omega arith
 
 loop-again : tie.Need-loop-preserved invariant-loop decreases-loop
-loop-again c = (omega arith, search emitted-more)
+loop-again c = (omega arith, search emitted_more)
 
 returns-2 : tie.Need-returns-2 invariant-loop decreases-loop
-returns-2 c = search emitted-end
+returns-2 c = search emitted_end
 
-pub any-emitted-spec : {M : Type 1} → statement M
-any-emitted-spec =
+pub any_emitted_spec : {M : Type 1} → statement M
+any_emitted_spec =
     tie.close
     (tie.spec
     invariant-loop

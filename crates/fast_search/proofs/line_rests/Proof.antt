@@ -1,5 +1,5 @@
 -- `fast_search::line_rests` meets its contract. Assumes nothing.
-use Rattle.fast_search.specs.SearchLaws.{line_clear, NoneUsed, used-none, used-more, used-hit, used-end}
+use Rattle.fast_search.specs.SearchLaws.{line_clear, NoneUsed, used_none, used_more, used_hit, used_end}
 use native.Mathlib.Omega.{arith}
 use Prim.Native.Nat.{◌≤◌, ◌-◌}
 use Rattle.fast_search.proofs.line_rests.Statement.{statement}
@@ -24,7 +24,7 @@ smaller-requires : tie.Need-smaller-requires invariant-loop decreases-loop
 smaller-requires c κs = tt
 
 loop-holds : tie.Need-loop-init invariant-loop decreases-loop
-loop-holds c = (omega arith, search used-none)
+loop-holds c = (omega arith, search used_none)
 
 add-read-symbol : tie.Need-overflow-add-read-symbol invariant-loop decreases-loop
 add-read-symbol c = omega arith
@@ -36,7 +36,7 @@ read-symbol-requires : tie.Need-read-symbol-requires invariant-loop decreases-lo
 read-symbol-requires c κs = (omega arith, omega arith)
 
 returns-2 : tie.Need-returns-2 invariant-loop decreases-loop
-returns-2 c = search used-hit
+returns-2 c = search used_hit
 
 add-s : tie.Need-overflow-add-s invariant-loop decreases-loop
 add-s c = omega arith
@@ -45,13 +45,13 @@ loop-less : tie.Need-loop-smaller invariant-loop decreases-loop
 loop-less c = omega arith
 
 loop-again : tie.Need-loop-preserved invariant-loop decreases-loop
-loop-again c = (omega arith, search used-more)
+loop-again c = (omega arith, search used_more)
 
 returns-3 : tie.Need-returns-3 invariant-loop decreases-loop
-returns-3 c = search used-end
+returns-3 c = search used_end
 
-pub line-rests-spec : {M : Type 1} → statement M
-line-rests-spec =
+pub line_rests_spec : {M : Type 1} → statement M
+line_rests_spec =
     tie.close
     (tie.spec
     invariant-loop

@@ -1,5 +1,5 @@
 -- `fast_station::emits_for` meets its contract. Assumes nothing.
-use Rattle.fast_station.specs.CodeLaws.{for-backs, for-heads, for-jams, for-none, for-sends, for-waits}
+use Rattle.fast_station.specs.CodeLaws.{for_backs, for_heads, for_jams, for_none, for_sends, for_waits}
 use borrow.Author.Rules.{rules}
 use Rattle.fast_station.proofs.emits_for.Statement.{statement}
 use Rattle.fast_station.proofs.emits_for.Tie as tie
@@ -38,25 +38,25 @@ less-requires-3 : tie.Need-less-requires-3
 less-requires-3 c κs = search rules
 
 returns : tie.Need-returns
-returns c = search for-none
+returns c = search for_none
 
 returns-2 : tie.Need-returns-2
-returns-2 c = search for-waits
+returns-2 c = search for_waits
 
 returns-3 : tie.Need-returns-3
-returns-3 c = search for-backs
+returns-3 c = search for_backs
 
 returns-4 : tie.Need-returns-4
-returns-4 c = search for-sends
+returns-4 c = search for_sends
 
 returns-5 : tie.Need-returns-5
-returns-5 c = search for-heads
+returns-5 c = search for_heads
 
 returns-6 : tie.Need-returns-6
-returns-6 c = search for-jams
+returns-6 c = search for_jams
 
-pub emits-for-spec : {M : Type 1} → statement M
-emits-for-spec =
+pub emits_for_spec : {M : Type 1} → statement M
+emits_for_spec =
     tie.close
     (tie.spec
     enum_told

@@ -1,5 +1,5 @@
 -- `fast_station::hear_on` meets its contract. Assumes nothing.
-use Rattle.fast_station.specs.CodeLaws.{hear-is}
+use Rattle.fast_station.specs.CodeLaws.{hear_is}
 use borrow.Author.Rules.{rules}
 use Rattle.fast_station.proofs.hear_on.Statement.{statement}
 use Rattle.fast_station.proofs.hear_on.Tie as tie
@@ -20,10 +20,10 @@ either-requires : tie.Need-either-requires
 either-requires c κs = search rules
 
 returns : tie.Need-returns
-returns c = search hear-is
+returns c = search hear_is
 
-pub hear-on-spec : {M : Type 1} → statement M
-hear-on-spec =
+pub hear_on_spec : {M : Type 1} → statement M
+hear_on_spec =
     tie.close
     (tie.spec
     hear-deference-requires

@@ -1,5 +1,5 @@
 -- `fast_station::heard_rest` meets its contract. Assumes nothing.
-use Rattle.fast_station.specs.CodeLaws.{rest-backs, rest-heads, rest-jams, rest-none, rest-sends, rest-waits}
+use Rattle.fast_station.specs.CodeLaws.{rest_backs, rest_heads, rest_jams, rest_none, rest_sends, rest_waits}
 use borrow.Author.Rules.{rules}
 use Rattle.fast_station.proofs.heard_rest.Statement.{statement}
 use Rattle.fast_station.proofs.heard_rest.Tie as tie
@@ -32,25 +32,25 @@ enum-told-5 : tie.Need-enum-told-5
 enum-told-5 c = search rules
 
 returns : tie.Need-returns
-returns c = search rest-none
+returns c = search rest_none
 
 returns-2 : tie.Need-returns-2
-returns-2 c = search rest-waits
+returns-2 c = search rest_waits
 
 returns-3 : tie.Need-returns-3
-returns-3 c = search rest-backs
+returns-3 c = search rest_backs
 
 returns-4 : tie.Need-returns-4
-returns-4 c = search rest-sends
+returns-4 c = search rest_sends
 
 returns-5 : tie.Need-returns-5
-returns-5 c = search rest-heads
+returns-5 c = search rest_heads
 
 returns-6 : tie.Need-returns-6
-returns-6 c = search rest-jams
+returns-6 c = search rest_jams
 
-pub heard-rest-spec : {M : Type 1} → statement M
-heard-rest-spec =
+pub heard_rest_spec : {M : Type 1} → statement M
+heard_rest_spec =
     tie.close
     (tie.spec
     enum_told

@@ -1,6 +1,6 @@
-use Rattle.fast_window.specs.MovedLaws.{frame-room}
+use Rattle.fast_window.specs.MovedLaws.{frame_room_lem}
 use native.Mathlib.Omega.{arith}
-use Rattle.fast_window.specs.MovedLaws.{held-frame, frame-long}
+use Rattle.fast_window.specs.MovedLaws.{held_frame, frame_long}
 use borrow.Author.Rules.{rules}
 use Rattle.fast_window.proofs.hold_frame.Statement.{statement}
 use Rattle.fast_window.proofs.hold_frame.Tie as tie
@@ -19,11 +19,11 @@ frame-requires c κs = search rules
 
 -- src/lib.rt:79:5
 store-requires : tie.Need-store-requires
-store-requires c κs = search frame-room
+store-requires c κs = search frame_room_lem
 
 -- src/lib.rt:74:1
 returns : tie.Need-returns
-returns c = search held-frame
+returns c = search held_frame
 
-pub hold-frame-spec : {M : Type 1} → statement M
-hold-frame-spec = tie.close (tie.spec slice-aggregate-store frame-requires store-requires returns)
+pub hold_frame_spec : {M : Type 1} → statement M
+hold_frame_spec = tie.close (tie.spec slice-aggregate-store frame-requires store-requires returns)

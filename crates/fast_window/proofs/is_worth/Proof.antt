@@ -41,8 +41,8 @@ loop-again c = omega arith
 returns-2 : tie.Need-returns-2 invariant-loop decreases-loop
 returns-2 c = search rules
 
-pub is-worth-spec : {M : Type 1} → statement M
-is-worth-spec =
+pub is_worth_spec : {M : Type 1} → statement M
+is_worth_spec =
     tie.close
     (tie.spec
     invariant-loop

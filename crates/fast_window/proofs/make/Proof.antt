@@ -1,4 +1,4 @@
-use Rattle.fast_window.specs.WindowLaws.{window-made}
+use Rattle.fast_window.specs.WindowLaws.{window_made}
 use borrow.Author.Rules.{rules}
 use Rattle.fast_window.proofs.make.Statement.{statement}
 use Rattle.fast_window.proofs.make.Tie as tie
@@ -25,7 +25,7 @@ same_length c = search rules
 
 -- src/lib.rt:134:1
 returns : tie.Need-returns
-returns c = search window-made
+returns c = search window_made
 
 pub make_spec : {M : Type 1} → statement M
 make_spec =

@@ -1,5 +1,5 @@
-use Rattle.fast_window.specs.WindowLaws.{single-none, single_more, single-end}
-use Rattle.bus_spec.specs.RunLaws.{Runnable, run-first, run-ready, run-clock, run-next}
+use Rattle.fast_window.specs.WindowLaws.{single_none, single_more, single_end}
+use Rattle.bus_spec.specs.RunLaws.{Runnable, run_first, run_ready, run_clock, run_next}
 use Rattle.fast_plan.specs.Plan.{steps}
 use lib.ListN.{length}
 use mathlib.Core.Path.{◌≡◌, refl}
@@ -20,11 +20,11 @@ decreases-loop area₀ r s₀ area s = r - s
 
 -- src/lib.rt:206:5
 loop-holds : tie.Need-loop-init invariant-loop decreases-loop
-loop-holds c = (omega arith, refl, search single-none, search run-first)
+loop-holds c = (omega arith, refl, search single_none, search run_first)
 
 -- src/lib.rt:207:9
 step-requires : tie.Need-step-requires invariant-loop decreases-loop
-step-requires c κs = (omega arith, search run-clock, search run-ready)
+step-requires c κs = (omega arith, search run_clock, search run_ready)
 
 -- src/lib.rt:208:9
 add-s : tie.Need-overflow-add-s invariant-loop decreases-loop
@@ -36,7 +36,7 @@ loop-less c = omega arith
 
 -- src/lib.rt:206:5
 loop-again : tie.Need-loop-preserved invariant-loop decreases-loop
-loop-again c = (omega arith, omega arith, search single_more, search run-next)
+loop-again c = (omega arith, omega arith, search single_more, search run_next)
 
 -- src/lib.rt:201:1
 same_length : tie.Need-same-length invariant-loop decreases-loop
@@ -44,10 +44,10 @@ same_length c = search rules
 
 -- src/lib.rt:201:1
 returns : tie.Need-returns invariant-loop decreases-loop
-returns c = search single-end
+returns c = search single_end
 
-pub make-singly-spec : {M : Type 1} → statement M
-make-singly-spec =
+pub make_singly_spec : {M : Type 1} → statement M
+make_singly_spec =
     tie.close
     (tie.spec
     invariant-loop

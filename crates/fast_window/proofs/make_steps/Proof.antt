@@ -1,4 +1,4 @@
-use Rattle.fast_window.specs.WindowLaws.{steps-settles, steps-settled}
+use Rattle.fast_window.specs.WindowLaws.{steps_settles, steps_settled}
 use borrow.Author.Rules.{rules}
 use Rattle.fast_window.proofs.make_steps.Statement.{statement}
 use Rattle.fast_window.proofs.make_steps.Tie as tie
@@ -18,7 +18,7 @@ move-all-requires c κs = search rules
 
 -- src/lib.rt:130:5
 settle-lines-requires : tie.Need-settle-lines-requires
-settle-lines-requires c κs = search steps-settles
+settle-lines-requires c κs = search steps_settles
 
 -- src/lib.rt:124:1
 same_length : tie.Need-same-length
@@ -26,9 +26,9 @@ same_length c = search rules
 
 -- src/lib.rt:124:1
 returns : tie.Need-returns
-returns c = search steps-settled
+returns c = search steps_settled
 
-pub make-steps-spec : {M : Type 1} → statement M
-make-steps-spec =
+pub make_steps_spec : {M : Type 1} → statement M
+make_steps_spec =
     tie.close
     (tie.spec emitters-requires move-all-requires settle-lines-requires same_length returns)

@@ -1,12 +1,12 @@
-use Rattle.fast_window.specs.MovedLaws.{sight-from, sight-octets, sight-bit}
+use Rattle.fast_window.specs.MovedLaws.{sight_from, sight_octets, sight_bit}
 use borrow.Author.Rules.{rules}
 use Prim.Native.Nat.{◌≤◌, ◌-◌}
 use mathlib.Core.Path.{◌≡◌, refl}
 use lib.ListN.{length}
 use native.Mathlib.Omega.{arith}
-use Rattle.fast_plan.specs.Exact.{ownAll}
+use Rattle.fast_plan.specs.Exact.{own_all}
 use Rattle.fast_heard.specs.Hearing.{plan_of}
-use Rattle.fast_window.specs.MovedLaws.{all_none, all-moving, all_more, all_end, begins-gap}
+use Rattle.fast_window.specs.MovedLaws.{all_none, all_moving, all_more, all_end, begins_gap}
 use Rattle.fast_window.proofs.move_all.Statement.{statement}
 use Rattle.fast_window.proofs.move_all.Tie as tie
 use Rattle.fast_window.proofs.move_all.Reads as reads
@@ -15,7 +15,7 @@ use Rattle.fast_window.proofs.move_station.Reads as move-station-reads
 
 abbrev invariant-loop : tie.invariant-loop
 invariant-loop area₀ f depth n t m seen j₀ area j =
-    (j ≤ n) × (length area ≡ length area₀) × (area ≡ ownAll area₀ (plan_of area₀) m j area₀)
+    (j ≤ n) × (length area ≡ length area₀) × (area ≡ own_all area₀ (plan_of area₀) m j area₀)
 
 abbrev decreases-loop : tie.decreases-loop
 decreases-loop area₀ f depth n t m seen j₀ area j = n - j
@@ -38,11 +38,11 @@ move-station-requires c κs = (
   omega arith,
   omega arith,
   omega arith,
-  search sight-bit,
-  search sight-from,
-  search sight-octets,
-  search begins-gap,
-  search all-moving,
+  search sight_bit,
+  search sight_from,
+  search sight_octets,
+  search begins_gap,
+  search all_moving,
 )
 
 -- src/lib.rt:164:9
@@ -65,8 +65,8 @@ same_length c = search rules
 returns : tie.Need-returns invariant-loop decreases-loop
 returns c = search all_end
 
-pub move-all-spec : {M : Type 1} → statement M
-move-all-spec =
+pub move_all_spec : {M : Type 1} → statement M
+move_all_spec =
     tie.close
     (tie.spec
     invariant-loop

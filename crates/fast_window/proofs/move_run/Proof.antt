@@ -1,5 +1,5 @@
 use native.Mathlib.Omega.{arith}
-use Rattle.fast_window.specs.MovedLaws.{run-audible, run_moved}
+use Rattle.fast_window.specs.MovedLaws.{run_audible, run_moved}
 use borrow.Author.Rules.{rules}
 use Rattle.fast_window.proofs.move_run.Statement.{statement}
 use Rattle.fast_window.proofs.move_run.Tie as tie
@@ -36,7 +36,7 @@ add-advance c = search rules
 -- src/lib.rt:62:5
 advance-requires : tie.Need-advance-requires
 advance-requires c κs =
-    (omega arith, omega arith, omega arith, omega arith, omega arith, omega arith, search rules, search run-audible)
+    (omega arith, omega arith, omega arith, omega arith, omega arith, omega arith, search rules, search run_audible)
 
 -- src/lib.rt:41:1
 same_length : tie.Need-same-length

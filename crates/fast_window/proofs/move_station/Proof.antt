@@ -1,4 +1,4 @@
-use Rattle.fast_window.specs.MovedLaws.{station-moved}
+use Rattle.fast_window.specs.MovedLaws.{station_moved}
 use borrow.Author.Rules.{rules}
 use Rattle.fast_window.proofs.move_station.Statement.{statement}
 use Rattle.fast_window.proofs.move_station.Tie as tie
@@ -37,10 +37,10 @@ same_length c = search rules
 
 -- src/lib.rt:84:1
 returns : tie.Need-returns
-returns c = search station-moved
+returns c = search station_moved
 
-pub move-station-spec : {M : Type 1} → statement M
-move-station-spec =
+pub move_station_spec : {M : Type 1} → statement M
+move_station_spec =
     tie.close
     (tie.spec
     cast-octets

@@ -1,5 +1,5 @@
 use native.Mathlib.Omega.{arith}
-use Rattle.bus_spec.specs.Ready.{ready-few}
+use Rattle.bus_spec.specs.Ready.{ready_few}
 use Rattle.fast_window.specs.WindowLaws.{begins}
 use borrow.Author.Rules.{rules}
 use Rattle.fast_window.proofs.pass.Statement.{statement}
@@ -34,7 +34,7 @@ read-figures-requires c κs = search rules
 
 -- src/lib.rt:165:5
 pass-from-requires : tie.Need-pass-from-requires
-pass-from-requires c κs = (search ready-few, omega arith, omega arith, search begins)
+pass-from-requires c κs = (search ready_few, omega arith, omega arith, search begins)
 
 -- src/lib.rt:157:1
 same_length : tie.Need-same-length

@@ -77,8 +77,8 @@ carried-requires-8 c κs = search rules
 returns : tie.Need-returns
 returns c = search eight_is
 
-pub after-eight-spec : {M : Type 1} → statement M
-after-eight-spec =
+pub after_eight_spec : {M : Type 1} → statement M
+after_eight_spec =
     tie.close
     (tie.spec
     add-carried

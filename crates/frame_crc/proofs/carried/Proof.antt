@@ -1,7 +1,7 @@
 -- `frame_crc::carried` meets its contract. Assumes nothing.
 use native.Mathlib.Omega.{arith}
 use Prim.Native.Nat.{◌-◌}
-use Rattle.frame_crc.specs.Table.{halves-shifts}
+use Rattle.frame_crc.specs.Table.{halves_shifts}
 use borrow.Author.Rules.{rules}
 use Rattle.frame_crc.proofs.carried.Statement.{statement}
 use Rattle.frame_crc.proofs.carried.Tie as tie
@@ -43,10 +43,10 @@ element-copy-out-result-2 : tie.Need-element-copy-out-result-2
 element-copy-out-result-2 c = search rules
 
 returns : tie.Need-returns
-returns c = (search halves-shifts, omega arith)
+returns c = (search halves_shifts, omega arith)
 
-pub carried-spec : {M : Type 1} → statement M
-carried-spec =
+pub carried_spec : {M : Type 1} → statement M
+carried_spec =
     tie.close
     (tie.spec
     wide-requires

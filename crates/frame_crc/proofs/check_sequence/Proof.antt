@@ -1,5 +1,5 @@
 -- `frame_crc::check_sequence` meets its contract. Assumes nothing.
-use Rattle.frame_crc.specs.Division.{sequence-is}
+use Rattle.frame_crc.specs.Division.{sequence_is}
 use borrow.Author.Rules.{rules}
 use Rattle.frame_crc.proofs.check_sequence.Statement.{statement}
 use Rattle.frame_crc.proofs.check_sequence.Tie as tie
@@ -20,8 +20,8 @@ cast-t16 : tie.Need-overflow-cast-t16
 cast-t16 c = search rules
 
 returns : tie.Need-returns
-returns c = search sequence-is
+returns c = search sequence_is
 
-pub check-sequence-spec : {M : Type 1} → statement M
-check-sequence-spec =
+pub check_sequence_spec : {M : Type 1} → statement M
+check_sequence_spec =
     tie.close (tie.spec crc-of-requires cast-t4 cast-t7 cast-t11 cast-t16 returns)

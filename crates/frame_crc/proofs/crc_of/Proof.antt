@@ -5,7 +5,7 @@ use mathlib.Core.Path.{◌≡◌, refl}
 use lib.ListN.{length, drop}
 use Rattle.octets.specs.Bits.{bits_of}
 use Rattle.frame_crc.specs.Division.{register, ones}
-use Rattle.frame_crc.specs.Register.{eight-more, octets-more, octets-end}
+use Rattle.frame_crc.specs.Register.{eight_more, octets_more, octets_end}
 use borrow.Author.Rules.{rules}
 use Rattle.frame_crc.proofs.crc_of.Statement.{statement}
 use Rattle.frame_crc.proofs.crc_of.Tie as tie
@@ -41,7 +41,7 @@ loop-less : tie.Need-loop-smaller invariant-loop decreases-loop invariant-loop2 
 loop-less c = omega arith
 
 loop-again : tie.Need-loop-preserved invariant-loop decreases-loop invariant-loop2 decreases-loop2
-loop-again c = (omega arith, search eight-more)
+loop-again c = (omega arith, search eight_more)
 
 loop2-holds : tie.Need-loop2-init invariant-loop decreases-loop invariant-loop2 decreases-loop2
 loop2-holds c = search rules
@@ -59,13 +59,13 @@ loop2-less : tie.Need-loop2-smaller invariant-loop decreases-loop invariant-loop
 loop2-less c = omega arith
 
 loop2-again : tie.Need-loop2-preserved invariant-loop decreases-loop invariant-loop2 decreases-loop2
-loop2-again c = (omega arith, search octets-more)
+loop2-again c = (omega arith, search octets_more)
 
 returns : tie.Need-returns invariant-loop decreases-loop invariant-loop2 decreases-loop2
-returns c = search octets-end
+returns c = search octets_end
 
-pub crc-of-spec : {M : Type 1} → statement M
-crc-of-spec =
+pub crc_of_spec : {M : Type 1} → statement M
+crc_of_spec =
     tie.close
     (tie.spec
     invariant-loop

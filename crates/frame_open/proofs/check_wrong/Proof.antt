@@ -1,11 +1,11 @@
 -- `frame_open::check_wrong` meets its contract. Assumes nothing.
-use Rattle.frame_open.specs.OpenLaws.{wrong-spoiled, wrong-clean}
+use Rattle.frame_open.specs.OpenLaws.{wrong_spoiled, wrong_clean}
 use borrow.Author.Rules.{rules}
 use Rattle.frame_open.proofs.check_wrong.Statement.{statement}
 use Rattle.frame_open.proofs.check_wrong.Tie as tie
 
 returns : tie.Need-returns
-returns c = search wrong-spoiled
+returns c = search wrong_spoiled
 
 sub-end : tie.Need-overflow-sub-end
 sub-end c = search rules
@@ -38,10 +38,10 @@ same-requires : tie.Need-same-requires
 same-requires c κs = search rules
 
 returns-2 : tie.Need-returns-2
-returns-2 c = search wrong-clean
+returns-2 c = search wrong_clean
 
-pub check-wrong-spec : {M : Type 1} → statement M
-check-wrong-spec =
+pub check_wrong_spec : {M : Type 1} → statement M
+check_wrong_spec =
     tie.close
     (tie.spec
     returns

@@ -8,9 +8,9 @@ use native.Mathlib.Omega.{arith}
 use types.Run.{OneOf}
 use denote.Enum.Declared.{tag_of}
 use borrow.Author.Rules.{rules}
-use Rattle.octets.specs.Variant.{first-six}
-use Rattle.frame_open.specs.Open.{statusAnswer, receiveOK, opened}
-use Rattle.frame_open.specs.OpenLaws.{client-room, client-ok, client-none, other-status, refused-status}
+use Rattle.octets.specs.Variant.{first_six}
+use Rattle.frame_open.specs.Open.{status_answer, receive_oK, opened}
+use Rattle.frame_open.specs.OpenLaws.{client_room, client_ok, client_none, other_status, refused_status}
 use Rattle.frame_open.specs.declared.ReceiveStatus.{ReceiveStatus}
 use Rattle.frame_open.specs.declared.ReceiveStatus.TheVariants.{Refused, Fragment, FrameTooLong, FrameCheckError}
 use Rattle.frame_open.specs.declared.ReceiveStatus.TheVariants.{AlignmentError, LengthError, ReceiveOk}
@@ -19,17 +19,17 @@ use Rattle.frame_open.proofs.client_data.Statement.{statement}
 use Rattle.frame_open.proofs.client_data.Tie as tie
 
 -- the way of `else`: the status is one of the first six
-other_way : (f : List ℕ) (e : ℕ) (r : ReceiveStatus) → statusAnswer r ≡ (opened false f e).status
+other_way : (f : List ℕ) (e : ℕ) (r : ReceiveStatus) → status_answer r ≡ (opened false f e).status
     → OneOf (0 ∷ 1 ∷ 2 ∷ 3 ∷ 4 ∷ 5 ∷ []) (tag_of the_type r) → [] ≡ (opened false f e).clientData
-other_way f e r p h = client-none f e r p (not-ok r (first-six (tag_of the_type r) h))
+other_way f e r p h = client_none f e r p (not-ok r (first_six (tag_of the_type r) h))
   where
-    not-ok : (r : ReceiveStatus) → tag_of the_type r < 6 → (n : ℕ) → statusAnswer r ≡ receiveOK n → ⊥
-    not-ok (Refused k) h n q = refused-status k n q
-    not-ok Fragment h n q = other-status 0 n (λ z. omega arith) q
-    not-ok FrameTooLong h n q = other-status 1 n (λ z. omega arith) q
-    not-ok FrameCheckError h n q = other-status 2 n (λ z. omega arith) q
-    not-ok AlignmentError h n q = other-status 3 n (λ z. omega arith) q
-    not-ok LengthError h n q = other-status 4 n (λ z. omega arith) q
+    not-ok : (r : ReceiveStatus) → tag_of the_type r < 6 → (n : ℕ) → status_answer r ≡ receive_oK n → ⊥
+    not-ok (Refused k) h n q = refused_status k n q
+    not-ok Fragment h n q = other_status 0 n (λ z. omega arith) q
+    not-ok FrameTooLong h n q = other_status 1 n (λ z. omega arith) q
+    not-ok FrameCheckError h n q = other_status 2 n (λ z. omega arith) q
+    not-ok AlignmentError h n q = other_status 3 n (λ z. omega arith) q
+    not-ok LengthError h n q = other_status 4 n (λ z. omega arith) q
     not-ok (ReceiveOk k) h n q = absurd (omega arith)
 
 status-requires : tie.Need-status-requires
@@ -47,7 +47,7 @@ returns c = search other_way
 add-end : tie.Need-overflow-add-end
 add-end c =
     let h : 14 + c.before.n.given.0.0 ≤ length
-    c.before.before.before.before.before.args.frame.now = search client-room in omega arith
+    c.before.before.before.before.before.args.frame.now = search client_room in omega arith
 
 sub-result : tie.Need-overflow-sub-result
 sub-result c = search rules
@@ -56,13 +56,13 @@ part-result-start : tie.Need-slice-bounds-result-start
 part-result-start c = search rules
 
 part-result-end : tie.Need-slice-bounds-result-end
-part-result-end c = search client-room
+part-result-end c = search client_room
 
 returns-2 : tie.Need-returns-2
-returns-2 c = search client-ok
+returns-2 c = search client_ok
 
-pub client-data-spec : {M : Type 1} → statement M
-client-data-spec =
+pub client_data_spec : {M : Type 1} → statement M
+client_data_spec =
     tie.close
     (tie.spec
     status-requires

@@ -1,14 +1,14 @@
 -- `frame_open::reception_status` meets its contract. Assumes nothing.
-use Rattle.frame_open.specs.OpenLaws.{opened-refused, opened-fragment, opened-long, opened-check, opened-rules}
+use Rattle.frame_open.specs.OpenLaws.{opened_refused, opened_fragment, opened_long, opened_check, opened_rules}
 use borrow.Author.Rules.{rules}
 use Rattle.frame_open.proofs.reception_status.Statement.{statement}
 use Rattle.frame_open.proofs.reception_status.Tie as tie
 
 returns : tie.Need-returns
-returns c = search opened-refused
+returns c = search opened_refused
 
 returns-2 : tie.Need-returns-2
-returns-2 c = search opened-fragment
+returns-2 c = search opened_fragment
 
 get16-requires : tie.Need-get16-requires
 get16-requires c κs = search rules
@@ -20,7 +20,7 @@ max-frame-requires : tie.Need-max-frame-requires
 max-frame-requires c κs = search rules
 
 returns-3 : tie.Need-returns-3
-returns-3 c = search opened-long
+returns-3 c = search opened_long
 
 check-wrong-requires : tie.Need-check-wrong-requires
 check-wrong-requires c κs = search rules
@@ -29,7 +29,7 @@ check-error-requires : tie.Need-check-error-requires
 check-error-requires c κs = search rules
 
 returns-4 : tie.Need-returns-4
-returns-4 c = search opened-check
+returns-4 c = search opened_check
 
 sub-end : tie.Need-overflow-sub-end
 sub-end c = search rules
@@ -47,10 +47,10 @@ unpad-requires : tie.Need-unpad-requires
 unpad-requires c κs = search rules
 
 returns-5 : tie.Need-returns-5
-returns-5 c = search opened-rules
+returns-5 c = search opened_rules
 
-pub reception-status-spec : {M : Type 1} → statement M
-reception-status-spec =
+pub reception_status_spec : {M : Type 1} → statement M
+reception_status_spec =
     tie.close
     (tie.spec
     returns

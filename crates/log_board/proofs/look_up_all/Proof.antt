@@ -53,10 +53,10 @@ use denote.Triple.Table.{entered, cited}
 use denote.Triple.Walked.{says, Stays, stay_none_slice, stay_none, gave_slice, walk_of, Goes-none_slice, Goes-none}
 use denote.Triple.Walked.{Goes-gave_slice, Walks, ends_at, walked, walk_Meets}
 use denote.Exit.{yes}
-use Rattle.octets.specs.Base.{doneAnswer, outcome}
+use Rattle.octets.specs.Base.{done_answer, outcome}
 use Rattle.octets.specs.declared.Done.{Done}
 use Rattle.log_entry.specs.declared.Entry.{Entry}
-use Rattle.log_lookup.specs.Lookup.{lookedUp}
+use Rattle.log_lookup.specs.Lookup.{looked_up}
 use Rattle.log_entry.specs.contracts.Entry as T
 use Rattle.log_entry.proofs.Entry.TheLaws as T'
 use Rattle.octets.specs.contracts.Done as R
@@ -179,7 +179,7 @@ module _ {M : Type 1} {𝓤 : Ura M} (𝓛 : Logic 𝓤) (mem : Memory → SProp
       frame ! $ done !) $ frame ! $ done !
 
   exits : (r : Done) (w : Val) (zs : List ℕ) → n < 2 ^ 32 → length zs ≡ length os
-      → outcome (doneAnswer r) zs ≡ lookedUp n ws es os
+      → outcome (done_answer r) zs ≡ looked_up n ws es os
       → ent 𝓤 (⋆ 𝓛 (‵ (RT.own r (w ∷ [])) ∷ Toks ∷ ‵ (finally u32 z.name zs) ∷ ‵ OwnWin ∷ ‵ OwnArr ∷ []))
       (Post w)
   exits r w zs fits l e =
@@ -263,8 +263,8 @@ module _ {M : Type 1} {𝓤 : Ura M} (𝓛 : Logic 𝓤) (mem : Memory → SProp
         split ! $ move ! (1 ∷ []) $ use1 𝓛
         (some (λ (zs : Unit {0} × (Unit {0} × (Unit {0} × (List ℕ × Unit {0})))). ‵
         (lasts g.ended (ν ∷ [], (μ, (θ, tt))) (log l₅ δ, (n, (y, (z, tt)))) zs) ⊛ raw
-        (fact 𝓤 (outcome (doneAnswer r) zs.1.1.1.0 ≡ lookedUp n ws es os)))) (id⊢ 𝓤 _) $ pick ! (λ zs.
-        split ! $ move ! (1 ∷ []) $ heard ! (outcome (doneAnswer r) zs.1.1.1.0 ≡ lookedUp n ws es os)
+        (fact 𝓤 (outcome (done_answer r) zs.1.1.1.0 ≡ looked_up n ws es os)))) (id⊢ 𝓤 _) $ pick ! (λ zs.
+        split ! $ move ! (1 ∷ []) $ heard ! (outcome (done_answer r) zs.1.1.1.0 ≡ looked_up n ws es os)
         (λ e. fsplit ! $ drop ! $ fsplit ! $ drop ! $ fsplit ! $ drop ! $ fsplit ! $ fsplit ! $ move ! (1 ∷ []) $ feq_l !
         (λ l.
         -- [the last list; true; the tokens and the result; windows; what is lent; true; array; _9; …]
@@ -326,9 +326,9 @@ module _ {M : Type 1} {𝓤 : Ura M} (𝓛 : Logic 𝓤) (mem : Memory → SProp
       )
       (f.clauses 𝓛 mem run) (WpFn 𝓤 H 𝓣.C 𝓣.Λ code.function) (WpFn-mono 𝓤 H 𝓛.laws 𝓣 code.function) walks
 
-pub look-up-all-spec : {M : Type 1} → stated.statement M
+pub look_up_all_spec : {M : Type 1} → stated.statement M
 unfolding code.routine tables_of
-look-up-all-spec 𝓤 𝓛 𝓜 𝓡 =
+look_up_all_spec 𝓤 𝓛 𝓜 𝓡 =
     entered 𝓤 𝓛.H (triple_of 𝓛 f.signature (f.spec 𝓛 𝓜.mem 𝓡.run))
     (tables 𝓤 𝓛.H 𝓜 𝓡 code.env).C (tables 𝓤 𝓛.H 𝓜 𝓡 code.env).Λ #log-board·look-up-all code.function
     (code.unfolded 𝓤 𝓛.H 𝓜 𝓡)

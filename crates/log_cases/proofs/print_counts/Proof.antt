@@ -46,8 +46,8 @@ loop-again c = omega arith
 returns : tie.Need-returns invariant-loop decreases-loop
 returns c = omega arith
 
-pub print-counts-spec : {M : Type 1} → statement M
-print-counts-spec =
+pub print_counts_spec : {M : Type 1} → statement M
+print_counts_spec =
     tie.close
     (tie.spec
     invariant-loop

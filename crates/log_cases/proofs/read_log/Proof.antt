@@ -40,8 +40,8 @@ loop-again c = omega arith
 returns : tie.Need-returns invariant-loop decreases-loop
 returns c = omega arith
 
-pub read-log-spec : {M : Type 1} → statement M
-read-log-spec =
+pub read_log_spec : {M : Type 1} → statement M
+read_log_spec =
     tie.close
     (tie.spec
     invariant-loop

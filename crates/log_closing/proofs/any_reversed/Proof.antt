@@ -4,20 +4,20 @@ use mathlib.Core.Path.{◌≡◌, refl}
 use mathlib.Core.Bool.{false}
 use native.Mathlib.Omega.{arith}
 use Rattle.octets.specs.Base.{some}
-use Rattle.octets.specs.BaseLaws.{some-none, some_end}
-use Rattle.log_entry.specs.Log.{windowCount, reversedWindow}
-use Rattle.log_closing.specs.CloseLaws.{reversed-more, reversed-hit}
+use Rattle.octets.specs.BaseLaws.{some_none, some_end}
+use Rattle.log_entry.specs.Log.{window_count, reversed_window}
+use Rattle.log_closing.specs.CloseLaws.{reversed_more, reversed_hit}
 use Rattle.log_closing.proofs.any_reversed.Statement.{statement}
 use Rattle.log_closing.proofs.any_reversed.Tie as tie
 
 abbrev invariant-loop : tie.invariant-loop
-invariant-loop windows m w₀ w = (w ≤ m) × (some (reversedWindow windows) w ≡ false) × (m ≡ windowCount windows)
+invariant-loop windows m w₀ w = (w ≤ m) × (some (reversed_window windows) w ≡ false) × (m ≡ window_count windows)
 
 abbrev decreases-loop : tie.decreases-loop
 decreases-loop windows m w₀ w = m - w
 
 loop-holds : tie.Need-loop-init invariant-loop decreases-loop
-loop-holds c = (omega arith, some-none _, refl)
+loop-holds c = (omega arith, some_none _, refl)
 
 mul-if1 : tie.Need-overflow-mul-if1 invariant-loop decreases-loop
 mul-if1 c = omega arith
@@ -44,7 +44,7 @@ shared-slice-read-if1-2 : tie.Need-shared-slice-read-if1-2 invariant-loop decrea
 shared-slice-read-if1-2 c = omega arith
 
 returns : tie.Need-returns invariant-loop decreases-loop
-returns c = search reversed-hit
+returns c = search reversed_hit
 
 add-w : tie.Need-overflow-add-w invariant-loop decreases-loop
 add-w c = omega arith
@@ -53,13 +53,13 @@ loop-less : tie.Need-loop-smaller invariant-loop decreases-loop
 loop-less c = omega arith
 
 loop-again : tie.Need-loop-preserved invariant-loop decreases-loop
-loop-again c = (omega arith, search reversed-more, omega arith)
+loop-again c = (omega arith, search reversed_more, omega arith)
 
 returns-2 : tie.Need-returns-2 invariant-loop decreases-loop
 returns-2 c = search some_end
 
-pub any-reversed-spec : {M : Type 1} → statement M
-any-reversed-spec =
+pub any_reversed_spec : {M : Type 1} → statement M
+any_reversed_spec =
     tie.close
     (tie.spec
     invariant-loop

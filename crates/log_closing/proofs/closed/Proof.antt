@@ -1,7 +1,7 @@
 -- `log_closing::closed` meets its contract. Assumes nothing.
 use native.Mathlib.Omega.{arith}
 use borrow.Author.Rules.{rules}
-use Rattle.log_closing.specs.CloseLaws.{room_for, closed-refused, closed-made}
+use Rattle.log_closing.specs.CloseLaws.{room_for, closed_refused, closed_made}
 use Rattle.log_closing.proofs.closed.Statement.{statement}
 use Rattle.log_closing.proofs.closed.Tie as tie
 
@@ -9,7 +9,7 @@ refusal-requires : tie.Need-refusal-requires
 refusal-requires c κs = search rules
 
 returns : tie.Need-returns
-returns c = search closed-refused
+returns c = search closed_refused
 
 mul-put-first : tie.Need-overflow-mul-put-first
 mul-put-first c = search rules
@@ -22,7 +22,7 @@ same_length : tie.Need-same-length
 same_length c = search rules
 
 returns-2 : tie.Need-returns-2
-returns-2 c = search closed-made
+returns-2 c = search closed_made
 
-pub closed-spec : {M : Type 1} → statement M
-closed-spec = tie.close (tie.spec refusal-requires returns mul-put-first put-first-requires same_length returns-2)
+pub closed_spec : {M : Type 1} → statement M
+closed_spec = tie.close (tie.spec refusal-requires returns mul-put-first put-first-requires same_length returns-2)

@@ -5,8 +5,8 @@ use Prim.Native.Nat.{◌≤◌, ◌-◌}
 use mathlib.Core.Path.{◌≡◌, refl}
 use lib.ListN.{length, take, length-set}
 use lib.Seq.{sets}
-use Rattle.octets.specs.Store.{stored-all}
-use Rattle.log_closing.specs.CloseLaws.{put-more}
+use Rattle.octets.specs.Store.{stored_all_lem}
+use Rattle.log_closing.specs.CloseLaws.{put_more}
 use Rattle.log_closing.proofs.put.Statement.{statement}
 use Rattle.log_closing.proofs.put.Tie as tie
 
@@ -38,13 +38,13 @@ loop-less : tie.Need-loop-smaller invariant-loop decreases-loop
 loop-less c = omega arith
 
 loop-again : tie.Need-loop-preserved invariant-loop decreases-loop
-loop-again c = (omega arith, simp length-set (search rules), search put-more)
+loop-again c = (omega arith, simp length-set (search rules), search put_more)
 
 same_length : tie.Need-same-length invariant-loop decreases-loop
 same_length c = search rules
 
 returns : tie.Need-returns invariant-loop decreases-loop
-returns c = search stored-all
+returns c = search stored_all_lem
 
 pub put_spec : {M : Type 1} → statement M
 put_spec =

@@ -22,5 +22,5 @@ same_length c = search rules
 returns : tie.Need-returns
 returns c = search put_first
 
-pub put-first-spec : {M : Type 1} → statement M
-put-first-spec = tie.close (tie.spec sub-put part-put-start part-put-end put-requires same_length returns)
+pub put_first_spec : {M : Type 1} → statement M
+put_first_spec = tie.close (tie.spec sub-put part-put-start part-put-end put-requires same_length returns)

@@ -31,8 +31,8 @@ number-requires-5 c κs = search rules
 returns : tie.Need-returns
 returns c = search refusal_is
 
-pub refusal-spec : {M : Type 1} → statement M
-refusal-spec =
+pub refusal_spec : {M : Type 1} → statement M
+refusal_spec =
     tie.close
     (tie.spec
     any-astray-requires

@@ -85,8 +85,8 @@ loop-again c = omega arith
 returns : tie.Need-returns invariant-loop decreases-loop
 returns c = omega arith
 
-pub read-windows-spec : {M : Type 1} → statement M
-read-windows-spec =
+pub read_windows_spec : {M : Type 1} → statement M
+read_windows_spec =
     tie.close
     (tie.spec
     invariant-loop

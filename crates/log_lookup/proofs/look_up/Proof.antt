@@ -51,14 +51,14 @@ use denote.Triple.Spec.{Meets, triple_of}
 use denote.Triple.Table.{entered as enteredᵀ, cited}
 use denote.Triple.Walked.{says, Stays, stay_none_slice, stay_none, gave_slice, walk_of, Goes-none_slice, Goes-none, Goes-gave_slice, Walks, ends_at, walked, walk_Meets}
 use denote.Exit.{yes}
-use Rattle.octets.specs.Base.{doneAnswer, outcome}
+use Rattle.octets.specs.Base.{done_answer, outcome}
 use Rattle.octets.specs.declared.Done.{Done}
 use Rattle.log_entry.specs.declared.Entry.{Entry}
 use Rattle.log_entry.specs.declared.State.{State}
 use Rattle.log_windows.specs.Grow.{opened_of, entered_of, over}
-use Rattle.log_windows.specs.Whole.{none, over-next}
-use Rattle.log_closing.specs.Close.{closedOf}
-use Rattle.log_lookup.specs.Lookup.{lookedUp}
+use Rattle.log_windows.specs.Whole.{none, over_next}
+use Rattle.log_closing.specs.Close.{closed_of}
+use Rattle.log_lookup.specs.Lookup.{looked_up}
 use Rattle.log_lookup.specs.Looked.{looked}
 use Rattle.log_walk.proofs.While.{tests, told}
 use Rattle.log_entry.specs.contracts.Entry as T
@@ -238,7 +238,7 @@ module _ {M : Type 1} {𝓤 : Ura M} (𝓛 : Logic 𝓤) (mem : Memory → SProp
   said-entered : (s : State) (e : Entry) (r : State) → ent 𝓤 (ensured 𝓛 entered.ended (entered.clauses 𝓛 mem run) (μ, tt) (s, (y, fields e)) tt r) (fact 𝓤 (r ≡ entered_of ws s e))
   said-entered s e r = ex_e 𝓤 _ (λ l. snd∗ 𝓤 (sem 𝓛 (lasts entered.ended (μ, tt) (s, (y, fields e)) l)) (fact 𝓤 (r ≡ entered_of ws s e)))
 
-  exits : (r : Done) (w : Val) (zs : List ℕ) → n < 2 ^ 32 → length zs ≡ length os → outcome (doneAnswer r) zs ≡ lookedUp n ws es os
+  exits : (r : Done) (w : Val) (zs : List ℕ) → n < 2 ^ 32 → length zs ≡ length os → outcome (done_answer r) zs ≡ looked_up n ws es os
       → ent 𝓤 (⋆ 𝓛 (‵ (RT.own r (w ∷ [])) ∷ Toks ∷ ‵ (finally u32 z.name zs) ∷ ‵ OwnWin ∷ ‵ (flft κ q) ∷ ‵ OwnLog ∷ [])) (Post w)
   exits r w zs fits l e =
       qed 𝓛 (‵ (RT.own r (w ∷ [])) ∷ Toks ∷ ‵ (finally u32 z.name zs) ∷ ‵ OwnWin ∷ ‵ (flft κ q) ∷ ‵ OwnLog ∷ []) ∵
@@ -316,8 +316,8 @@ module _ {M : Type 1} {𝓤 : Ura M} (𝓛 : Logic 𝓤) (mem : Memory → SProp
           (and_then ! (load ! (from ! (stop !)) (look ! 20 refl)) (and_then ! (load ! (from ! (stop !)) (look ! 24 refl)) (and_then ! (load ! (from ! (stop !)) (look ! 4 refl)) (no_more !)))) (λ w.
           use1 𝓛 (later (some (λ (r : Done). (Toks ⊛ ‵ (RT.own r (w ∷ []))) ⊛ raw (ensured 𝓛 closed.ended (closed.clauses 𝓛 mem run) (μ, (ν, tt)) (t.s, (y, (z, tt))) tt r)))) (id⊢ 𝓤 _) $ await ! tt $ pick ! (λ r.
           -- what `closed` ensures, at some last list
-          split ! $ move ! (1 ∷ []) $ use1 𝓛 (some (λ (zs : Unit {0} × (Unit {0} × (List ℕ × Unit {0}))). ‵ (lasts closed.ended (μ, (ν, tt)) (t.s, (y, (z, tt))) zs) ⊛ raw (fact 𝓤 (outcome (doneAnswer r) zs.1.1.0 ≡ closedOf ws t.s os)))) (id⊢ 𝓤 _) $ pick ! (λ zs.
-          split ! $ move ! (1 ∷ []) $ heard ! (outcome (doneAnswer r) zs.1.1.0 ≡ closedOf ws t.s os) (λ e. fsplit ! $ drop ! $ fsplit ! $ drop ! $ fsplit ! $ fsplit ! $ move ! (1 ∷ []) $ feq_l ! (λ l.
+          split ! $ move ! (1 ∷ []) $ use1 𝓛 (some (λ (zs : Unit {0} × (Unit {0} × (List ℕ × Unit {0}))). ‵ (lasts closed.ended (μ, (ν, tt)) (t.s, (y, (z, tt))) zs) ⊛ raw (fact 𝓤 (outcome (done_answer r) zs.1.1.0 ≡ closed_of ws t.s os)))) (id⊢ 𝓤 _) $ pick ! (λ zs.
+          split ! $ move ! (1 ∷ []) $ heard ! (outcome (done_answer r) zs.1.1.0 ≡ closed_of ws t.s os) (λ e. fsplit ! $ drop ! $ fsplit ! $ drop ! $ fsplit ! $ fsplit ! $ move ! (1 ∷ []) $ feq_l ! (λ l.
           -- [the last list; true; the tokens and the result; windows; log's token; log; _13; …]
           move ! (1 ∷ []) $ drop ! $ move ! (1 ∷ []) $ split ! $ move ! (1 ∷ []) $
           peeks ! RT (Is RT) (shows 𝓛 RT) r (w ∷ []) (λ is. land ! (from ! (stop !)) (init ! 32 refl ((EL.lawful R.the_type R'.the_laws 𝓛 tt).typed r _ is).0) $
@@ -348,7 +348,7 @@ module _ {M : Type 1} {𝓤 : Ura M} (𝓛 : Logic 𝓤) (mem : Memory → SProp
           next_fits t h = let r : length es < 2 ^ 64 = gl.0 in omega arith
 
           next : (t : Known) → t.k < length es → (w : Val) → Typed w → Known
-          next t h w ty = record { k = t.k + 1; s = s' t; u = w; within = omega arith; left = sym (over-next ws t.s es t.k h) ∙ t.left; typed = ty }
+          next t h w ty = record { k = t.k + 1; s = s' t; u = w; within = omega arith; left = sym (over_next ws t.s es t.k h) ∙ t.left; typed = ty }
 
           fewer : (t : Known) → (h : t.k < length es) → length es - (t.k + 1) < length es - t.k
           fewer t h = omega arith
@@ -389,9 +389,9 @@ module _ {M : Type 1} {𝓤 : Ura M} (𝓛 : Logic 𝓤) (mem : Memory → SProp
   meets = walk_Meets 𝓛 f.ended stayed (Goes-none_slice 𝓛 3 (0 ∷ []) tt (plain (λ _. RE)) yes, (Goes-none 𝓛 3 (λ _. u32) yes (λ κs x f. refl), (Goes-none_slice 𝓛 3 (1 ∷ []) tt (plain (λ _. u32)) yes, (Goes-gave_slice 𝓛 3 2 tt (plain (λ _. u32)), tt))))
       (f.clauses 𝓛 mem run) (WpFn 𝓤 H 𝓣.C 𝓣.Λ code.function) (WpFn-mono 𝓤 H 𝓛.laws 𝓣 code.function) walks
 
-pub look-up-spec : {M : Type 1} → stated.statement M
+pub look_up_spec : {M : Type 1} → stated.statement M
 unfolding code.routine tables_of
-look-up-spec 𝓤 𝓛 𝓜 𝓡 =
+look_up_spec 𝓤 𝓛 𝓜 𝓡 =
     enteredᵀ 𝓤 𝓛.H (triple_of 𝓛 f.signature (f.spec 𝓛 𝓜.mem 𝓡.run))
     (tables 𝓤 𝓛.H 𝓜 𝓡 code.env).C (tables 𝓤 𝓛.H 𝓜 𝓡 code.env).Λ #log-lookup·look-up code.function (code.unfolded 𝓤 𝓛.H 𝓜 𝓡)
     (meets 𝓛 𝓜.mem 𝓡.run (tables_of 𝓤 𝓛.H 𝓜 (tables 𝓤 𝓛.H 𝓜 𝓡 code.env))

@@ -46,8 +46,8 @@ add-all-requires c κs = search rules
 returns : tie.Need-returns
 returns c = search add_at
 
-pub add-at-spec : {M : Type 1} → statement M
-add-at-spec =
+pub add_at_spec : {M : Type 1} → statement M
+add_at_spec =
     tie.close
     (tie.spec
     mul-get32

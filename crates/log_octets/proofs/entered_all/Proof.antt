@@ -4,21 +4,21 @@ use mathlib.Core.Path.{◌≡◌, refl}
 use native.Mathlib.Omega.{arith}
 use lib.ListN.{length}
 use Rattle.log_windows.specs.Grow.{over}
-use Rattle.log_octets.specs.Octets.{entriesOf}
-use Rattle.log_octets.specs.OctetsLaws.{state_of, left_of, left-first, left-entered, left_end}
+use Rattle.log_octets.specs.Octets.{entries_of}
+use Rattle.log_octets.specs.OctetsLaws.{state_of, left_of, left_first, left_entered, left_end}
 use Rattle.log_octets.proofs.entered_all.Statement.{statement}
 use Rattle.log_octets.proofs.entered_all.Tie as tie
 
 abbrev invariant-loop : tie.invariant-loop
 invariant-loop windows log m stations astray₀ falls₀ last₀ counts₀ k₀ astray falls last counts k =
     (k ≤ m) × (m ≡ length log / 6) × (left_of windows (state_of stations last astray falls counts) log m k
-    ≡ over windows (state_of stations last₀ astray₀ falls₀ counts₀) (entriesOf log))
+    ≡ over windows (state_of stations last₀ astray₀ falls₀ counts₀) (entries_of log))
 
 abbrev decreases-loop : tie.decreases-loop
 decreases-loop windows log m stations astray₀ falls₀ last₀ counts₀ k₀ astray falls last counts k = m - k
 
 loop-holds : tie.Need-loop-init invariant-loop decreases-loop
-loop-holds c = (omega arith, refl, search left-first)
+loop-holds c = (omega arith, refl, search left_first)
 
 mul-get32 : tie.Need-overflow-mul-get32 invariant-loop decreases-loop
 mul-get32 c = omega arith
@@ -57,7 +57,7 @@ loop-again : tie.Need-loop-preserved invariant-loop decreases-loop
 loop-again c = (
   omega arith,
   omega arith,
-  left-entered _ _ _ _ _ _ _ _ _ _ _ _ _ _ _ (omega arith)
+  left_entered _ _ _ _ _ _ _ _ _ _ _ _ _ _ _ (omega arith)
       c.before.before.before.before.before.before.get32.ensures
       c.before.before.before.before.wide.ensures.0 c.before.before.before.either.ensures
       c.before.before.either2.ensures c.add_at.ensures
@@ -67,8 +67,8 @@ loop-again c = (
 returns : tie.Need-returns invariant-loop decreases-loop
 returns c = left_end _ _ _ _ _ _ c.before.loop.invariant.2 c.loop-test.false
 
-pub entered-all-spec : {M : Type 1} → statement M
-entered-all-spec =
+pub entered_all_spec : {M : Type 1} → statement M
+entered_all_spec =
     tie.close
     (tie.spec
     invariant-loop

@@ -1,6 +1,6 @@
 -- `log_octets::look_up_octets` meets its contract. Assumes nothing.
 use borrow.Author.Rules.{rules}
-use Rattle.log_octets.specs.OctetsLaws.{octets-refused, octets-made}
+use Rattle.log_octets.specs.OctetsLaws.{octets_refused, octets_made}
 use Rattle.log_octets.proofs.look_up_octets.Statement.{statement}
 use Rattle.log_octets.proofs.look_up_octets.Tie as tie
 
@@ -8,7 +8,7 @@ any-unknown-requires : tie.Need-any-unknown-requires
 any-unknown-requires c κs = search rules
 
 returns : tie.Need-returns
-returns c = search octets-refused
+returns c = search octets_refused
 
 opened-requires : tie.Need-opened-requires
 opened-requires c κs = search rules
@@ -23,10 +23,10 @@ same_length : tie.Need-same-length
 same_length c = search rules
 
 returns-2 : tie.Need-returns-2
-returns-2 c = search octets-made
+returns-2 c = search octets_made
 
-pub look-up-octets-spec : {M : Type 1} → statement M
-look-up-octets-spec =
+pub look_up_octets_spec : {M : Type 1} → statement M
+look_up_octets_spec =
     tie.close
     (tie.spec
     any-unknown-requires

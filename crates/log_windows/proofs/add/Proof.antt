@@ -1,5 +1,5 @@
 -- `log_windows::add` meets its contract. Assumes nothing.
-use Rattle.log_windows.specs.GrowLaws.{add-in, add-out}
+use Rattle.log_windows.specs.GrowLaws.{add_in, add_out}
 use borrow.Author.Rules.{rules}
 use Rattle.log_windows.proofs.add.Statement.{statement}
 use Rattle.log_windows.proofs.add.Tie as tie
@@ -35,10 +35,10 @@ element-write-counts : tie.Need-element-write-counts
 element-write-counts c = search rules
 
 returns : tie.Need-returns
-returns c = search add-in
+returns c = search add_in
 
 returns-2 : tie.Need-returns-2
-returns-2 c = search add-out
+returns-2 c = search add_out
 
 pub add_spec : {M : Type 1} → statement M
 add_spec =

@@ -2,7 +2,7 @@
 use Prim.Native.Nat.{◌≤◌, ◌-◌}
 use mathlib.Core.Path.{◌≡◌}
 use native.Mathlib.Omega.{arith}
-use Rattle.octets.specs.Turns.{turns, turns-none, turns_more}
+use Rattle.octets.specs.Turns.{turns, turns_none, turns_more}
 use Rattle.log_windows.specs.Grow.{added}
 use Rattle.log_windows.specs.GrowLaws.{all_end}
 use Rattle.log_windows.proofs.add_all.Statement.{statement}
@@ -19,7 +19,7 @@ placed-requires : tie.Need-placed-requires invariant-loop decreases-loop
 placed-requires c κs = tt
 
 loop-holds : tie.Need-loop-init invariant-loop decreases-loop
-loop-holds c = (omega arith, search turns-none)
+loop-holds c = (omega arith, search turns_none)
 
 add-requires : tie.Need-add-requires invariant-loop decreases-loop
 add-requires c κs = omega arith
@@ -36,8 +36,8 @@ loop-again c = (omega arith, search turns_more)
 returns : tie.Need-returns invariant-loop decreases-loop
 returns c = search all_end
 
-pub add-all-spec : {M : Type 1} → statement M
-add-all-spec =
+pub add_all_spec : {M : Type 1} → statement M
+add_all_spec =
     tie.close
     (tie.spec
     invariant-loop

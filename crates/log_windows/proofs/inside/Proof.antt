@@ -1,5 +1,5 @@
 -- `log_windows::inside` meets its contract. Assumes nothing.
-use Rattle.log_windows.specs.GrowLaws.{in-other, in-early, in-past}
+use Rattle.log_windows.specs.GrowLaws.{in_other, in_early, in_past}
 use borrow.Author.Rules.{rules}
 use Rattle.log_windows.proofs.inside.Statement.{statement}
 use Rattle.log_windows.proofs.inside.Tie as tie
@@ -14,7 +14,7 @@ shared-slice-read-if1 : tie.Need-shared-slice-read-if1
 shared-slice-read-if1 c = search rules
 
 returns : tie.Need-returns
-returns c = search in-other
+returns c = search in_other
 
 mul-if2 : tie.Need-overflow-mul-if2
 mul-if2 c = search rules
@@ -29,7 +29,7 @@ shared-slice-read-if2 : tie.Need-shared-slice-read-if2
 shared-slice-read-if2 c = search rules
 
 returns-2 : tie.Need-returns-2
-returns-2 c = search in-early
+returns-2 c = search in_early
 
 mul-result : tie.Need-overflow-mul-result
 mul-result c = search rules
@@ -44,10 +44,10 @@ shared-slice-read-result : tie.Need-shared-slice-read-result
 shared-slice-read-result c = search rules
 
 returns-3 : tie.Need-returns-3
-returns-3 c = search in-past
+returns-3 c = search in_past
 
-pub inside-spec : {M : Type 1} → statement M
-inside-spec =
+pub inside_spec : {M : Type 1} → statement M
+inside_spec =
     tie.close
     (tie.spec
     mul-if1

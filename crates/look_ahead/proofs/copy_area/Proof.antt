@@ -22,7 +22,7 @@ same_length c = search rules
 returns : tie.Need-returns
 returns c = search copy_is
 
-pub copy-area-spec : {M : Type 1} → statement M
-copy-area-spec =
+pub copy_area_spec : {M : Type 1} → statement M
+copy_area_spec =
     tie.close
     (tie.spec sub-store part-store-start part-store-end store-requires same_length returns)

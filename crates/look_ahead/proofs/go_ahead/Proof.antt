@@ -1,5 +1,5 @@
 -- `look_ahead::go_ahead` meets its contract. Assumes nothing.
-use Rattle.look_ahead.specs.LookLaws.{ahead-all}
+use Rattle.look_ahead.specs.LookLaws.{ahead_all}
 use borrow.Author.Rules.{rules}
 use Rattle.look_ahead.proofs.go_ahead.Statement.{statement}
 use Rattle.look_ahead.proofs.go_ahead.Tie as tie
@@ -20,10 +20,10 @@ same_length : tie.Need-same-length
 same_length c = search rules
 
 returns : tie.Need-returns
-returns c = search ahead-all
+returns c = search ahead_all
 
-pub go-ahead-spec : {M : Type 1} → statement M
-go-ahead-spec =
+pub go_ahead_spec : {M : Type 1} → statement M
+go_ahead_spec =
     tie.close
     (tie.spec
     run-ahead-requires

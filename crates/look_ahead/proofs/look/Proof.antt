@@ -1,5 +1,5 @@
 -- `look_ahead::look` meets its contract. Assumes nothing.
-use Rattle.look_ahead.specs.LookLaws.{look-refused, look-made, look-first, look-second, look-few}
+use Rattle.look_ahead.specs.LookLaws.{look_refused, look_made, look_first, look_second, look_few}
 use borrow.Author.Rules.{rules}
 use Rattle.look_ahead.proofs.look.Statement.{statement}
 use Rattle.look_ahead.proofs.look.Tie as tie
@@ -14,16 +14,16 @@ same_length : tie.Need-same-length
 same_length c = search rules
 
 returns : tie.Need-returns
-returns c = search look-refused
+returns c = search look_refused
 
 go-ahead-requires : tie.Need-go-ahead-requires
-go-ahead-requires c κs = ((search look-first, search look-second), search look-few)
+go-ahead-requires c κs = ((search look_first, search look_second), search look_few)
 
 same-length-2 : tie.Need-same-length-2
 same-length-2 c = search rules
 
 returns-2 : tie.Need-returns-2
-returns-2 c = search look-made
+returns-2 c = search look_made
 
 pub look_spec : {M : Type 1} → statement M
 look_spec =

@@ -1,5 +1,5 @@
 -- `look_ahead::read_all` meets its contract. Assumes nothing.
-use Rattle.look_ahead.specs.LookLaws.{counters-all}
+use Rattle.look_ahead.specs.LookLaws.{counters_all}
 use borrow.Author.Rules.{rules}
 use Rattle.look_ahead.proofs.read_all.Statement.{statement}
 use Rattle.look_ahead.proofs.read_all.Tie as tie
@@ -11,7 +11,7 @@ put-counters-requires : tie.Need-put-counters-requires
 put-counters-requires c κs = search rules
 
 returns : tie.Need-returns
-returns c = search counters-all
+returns c = search counters_all
 
-pub read-all-spec : {M : Type 1} → statement M
-read-all-spec = tie.close (tie.spec slice-aggregate-put-counters put-counters-requires returns)
+pub read_all_spec : {M : Type 1} → statement M
+read_all_spec = tie.close (tie.spec slice-aggregate-put-counters put-counters-requires returns)

@@ -1,5 +1,5 @@
 -- `marks::has_name` meets its contract. Assumes nothing.
-use Rattle.marks.specs.MarkLaws.{name-is}
+use Rattle.marks.specs.MarkLaws.{name_is}
 use borrow.Author.Rules.{rules}
 use Rattle.marks.proofs.has_name.Statement.{statement}
 use Rattle.marks.proofs.has_name.Tie as tie
@@ -29,10 +29,10 @@ same-requires : tie.Need-same-requires
 same-requires c κs = search rules
 
 returns : tie.Need-returns
-returns c = search name-is
+returns c = search name_is
 
-pub has-name-spec : {M : Type 1} → statement M
-has-name-spec =
+pub has_name_spec : {M : Type 1} → statement M
+has_name_spec =
     tie.close
     (tie.spec
     mul_at

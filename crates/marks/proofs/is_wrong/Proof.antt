@@ -1,5 +1,5 @@
 -- `marks::is_wrong` meets its contract. Assumes nothing.
-use Rattle.marks.specs.MarkLaws.{wrong-is}
+use Rattle.marks.specs.MarkLaws.{wrong_is}
 use borrow.Author.Rules.{rules}
 use Rattle.marks.proofs.is_wrong.Statement.{statement}
 use Rattle.marks.proofs.is_wrong.Tie as tie
@@ -26,10 +26,10 @@ refusal-requires : tie.Need-refusal-requires
 refusal-requires c κs = search rules
 
 returns : tie.Need-returns
-returns c = search wrong-is
+returns c = search wrong_is
 
-pub is-wrong-spec : {M : Type 1} → statement M
-is-wrong-spec =
+pub is_wrong_spec : {M : Type 1} → statement M
+is_wrong_spec =
     tie.close
     (tie.spec
     mul_at

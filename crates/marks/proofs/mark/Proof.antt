@@ -1,7 +1,7 @@
 -- `marks::mark` meets its contract. Assumes nothing.
 use native.Mathlib.Omega.{arith}
-use Rattle.area_check.specs.AreaCheckLaws.{passes-long}
-use Rattle.marks.specs.MarkLaws.{mark-area, mark-short, mark-full, mark_made}
+use Rattle.area_check.specs.AreaCheckLaws.{passes_long}
+use Rattle.marks.specs.MarkLaws.{mark_area, mark_short, mark_full, mark_made}
 use borrow.Author.Rules.{rules}
 use Rattle.marks.proofs.mark.Statement.{statement}
 use Rattle.marks.proofs.mark.Tie as tie
@@ -10,10 +10,10 @@ refusal-requires : tie.Need-refusal-requires
 refusal-requires c κs = search rules
 
 returns : tie.Need-returns
-returns c = search mark-area
+returns c = search mark_area
 
 returns-2 : tie.Need-returns-2
-returns-2 c = search mark-short
+returns-2 c = search mark_short
 
 place-for-requires : tie.Need-place-for-requires
 place-for-requires c κs = search rules
@@ -22,10 +22,10 @@ same_length : tie.Need-same-length
 same_length c = search rules
 
 returns-3 : tie.Need-returns-3
-returns-3 c = search mark-full
+returns-3 c = search mark_full
 
 write-mark-requires : tie.Need-write-mark-requires
-write-mark-requires c κs = (omega arith, omega arith, search passes-long)
+write-mark-requires c κs = (omega arith, omega arith, search passes_long)
 
 same-length-2 : tie.Need-same-length-2
 same-length-2 c = search rules

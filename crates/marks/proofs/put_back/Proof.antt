@@ -31,8 +31,8 @@ same_length c = search rules
 returns : tie.Need-returns
 returns c = search back_is
 
-pub put-back-spec : {M : Type 1} → statement M
-put-back-spec =
+pub put_back_spec : {M : Type 1} → statement M
+put_back_spec =
     tie.close
     (tie.spec
     mul_at

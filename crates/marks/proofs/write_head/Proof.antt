@@ -1,5 +1,5 @@
 -- `marks::write_head` meets its contract. Assumes nothing.
-use Rattle.marks.specs.MarkLaws.{head-is}
+use Rattle.marks.specs.MarkLaws.{head_is}
 use borrow.Author.Rules.{rules}
 use Rattle.marks.proofs.write_head.Statement.{statement}
 use Rattle.marks.proofs.write_head.Tie as tie
@@ -26,10 +26,10 @@ same_length : tie.Need-same-length
 same_length c = search rules
 
 returns : tie.Need-returns
-returns c = search head-is
+returns c = search head_is
 
-pub write-head-spec : {M : Type 1} → statement M
-write-head-spec =
+pub write_head_spec : {M : Type 1} → statement M
+write_head_spec =
     tie.close
     (tie.spec
     mul-store

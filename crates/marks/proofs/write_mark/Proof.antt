@@ -1,5 +1,5 @@
 -- `marks::write_mark` meets its contract. Assumes nothing.
-use Rattle.marks.specs.MarkLaws.{mark-is}
+use Rattle.marks.specs.MarkLaws.{mark_is}
 use borrow.Author.Rules.{rules}
 use Rattle.marks.proofs.write_mark.Statement.{statement}
 use Rattle.marks.proofs.write_mark.Tie as tie
@@ -29,10 +29,10 @@ same_length : tie.Need-same-length
 same_length c = search rules
 
 returns : tie.Need-returns
-returns c = mark-is _ _ _ _ _ _ c.before.before.store2.ensures c.before.before.before.before.before.before.before.write-head.ensures
+returns c = mark_is _ _ _ _ _ _ c.before.before.store2.ensures c.before.before.before.before.before.before.before.write-head.ensures
 
-pub write-mark-spec : {M : Type 1} → statement M
-write-mark-spec =
+pub write_mark_spec : {M : Type 1} → statement M
+write_mark_spec =
     tie.close
     (tie.spec
     write-head-requires

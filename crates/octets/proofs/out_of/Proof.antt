@@ -1,5 +1,5 @@
 -- `octets::out_of` meets its contract. Assumes nothing.
-use Rattle.octets.specs.BaseLaws.{outside-is}
+use Rattle.octets.specs.BaseLaws.{outside_is}
 use borrow.Author.Rules.{rules}
 use Rattle.octets.proofs.out_of.Statement.{statement}
 use Rattle.octets.proofs.out_of.Tie as tie
@@ -8,7 +8,7 @@ either-requires : tie.Need-either-requires
 either-requires c κs = search rules
 
 returns : tie.Need-returns
-returns c = search outside-is
+returns c = search outside_is
 
-pub out-of-spec : {M : Type 1} → statement M
-out-of-spec = tie.close (tie.spec either-requires returns)
+pub out_of_spec : {M : Type 1} → statement M
+out_of_spec = tie.close (tie.spec either-requires returns)

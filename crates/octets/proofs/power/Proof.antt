@@ -10,5 +10,5 @@ shl-result c = search rules
 returns : tie.Need-returns
 returns c = search shift_is
 
-pub power-spec : {M : Type 1} → statement M
-power-spec = tie.close (tie.spec shl-result returns)
+pub power_spec : {M : Type 1} → statement M
+power_spec = tie.close (tie.spec shl-result returns)

@@ -4,7 +4,7 @@ use Prim.Native.Nat.{◌≤◌, ◌-◌}
 use mathlib.Core.Path.{◌≡◌, refl}
 use lib.ListN.{length, drop}
 use Rattle.octets.specs.Equal.{equal}
-use Rattle.octets.specs.EqualLaws.{equal-lengths, equal-more, equal-differs, equal-end}
+use Rattle.octets.specs.EqualLaws.{equal_lengths, equal_more, equal_differs, equal_end}
 use Rattle.octets_copies.proofs.same.Statement.{statement}
 use Rattle.octets_copies.proofs.same.Tie as tie
 
@@ -15,7 +15,7 @@ abbrev decreases-loop : tie.decreases-loop
 decreases-loop a b i₀ i = length a - i
 
 returns : tie.Need-returns invariant-loop decreases-loop
-returns c = search equal-lengths
+returns c = search equal_lengths
 
 loop-holds : tie.Need-loop-init invariant-loop decreases-loop
 loop-holds c = (omega arith, omega arith, refl)
@@ -27,7 +27,7 @@ shared-slice-read-if2-2 : tie.Need-shared-slice-read-if2-2 invariant-loop decrea
 shared-slice-read-if2-2 c = omega arith
 
 returns-2 : tie.Need-returns-2 invariant-loop decreases-loop
-returns-2 c = search equal-differs
+returns-2 c = search equal_differs
 
 add-i : tie.Need-overflow-add-i invariant-loop decreases-loop
 add-i c = omega arith
@@ -36,10 +36,10 @@ loop-less : tie.Need-loop-smaller invariant-loop decreases-loop
 loop-less c = omega arith
 
 loop-again : tie.Need-loop-preserved invariant-loop decreases-loop
-loop-again c = (omega arith, omega arith, search equal-more)
+loop-again c = (omega arith, omega arith, search equal_more)
 
 returns-3 : tie.Need-returns-3 invariant-loop decreases-loop
-returns-3 c = search equal-end
+returns-3 c = search equal_end
 
 pub same_spec : {M : Type 1} → statement M
 same_spec =

@@ -1,5 +1,5 @@
 -- `octets_copies::six` meets its contract. Assumes nothing.
-use Rattle.octets.specs.Store.{six-octets}
+use Rattle.octets.specs.Store.{six_octets}
 use borrow.Author.Rules.{rules}
 use Rattle.octets_copies.proofs.six.Statement.{statement}
 use Rattle.octets_copies.proofs.six.Tie as tie
@@ -38,10 +38,10 @@ shared-slice-read-t19 : tie.Need-shared-slice-read-t19
 shared-slice-read-t19 c = search rules
 
 returns : tie.Need-returns
-returns c = search six-octets
+returns c = search six_octets
 
-pub six-spec : {M : Type 1} → statement M
-six-spec =
+pub six_spec : {M : Type 1} → statement M
+six_spec =
     tie.close
     (tie.spec
     shared-slice-read-t4

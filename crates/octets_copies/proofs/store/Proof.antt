@@ -5,7 +5,7 @@ use Prim.Native.Nat.{◌≤◌, ◌-◌}
 use mathlib.Core.Path.{◌≡◌, refl}
 use lib.ListN.{length, take, length-set}
 use lib.Seq.{sets}
-use Rattle.octets.specs.Store.{stored_more, stored-all}
+use Rattle.octets.specs.Store.{stored_more, stored_all_lem}
 use Rattle.octets_copies.proofs.store.Statement.{statement}
 use Rattle.octets_copies.proofs.store.Tie as tie
 
@@ -40,7 +40,7 @@ same_length : tie.Need-same-length invariant-loop decreases-loop
 same_length c = search rules
 
 returns : tie.Need-returns invariant-loop decreases-loop
-returns c = search stored-all
+returns c = search stored_all_lem
 
 pub store_spec : {M : Type 1} → statement M
 store_spec =

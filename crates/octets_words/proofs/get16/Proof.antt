@@ -1,7 +1,7 @@
 -- `octets_words::get16` meets its contract. Assumes nothing.
 use native.Mathlib.Omega.{arith}
 use Prim.Native.Nat.{◌-◌}
-use Rattle.octets.specs.NumberLaws.{get-two}
+use Rattle.octets.specs.NumberLaws.{get_two}
 use borrow.Author.Rules.{rules}
 use Rattle.octets_words.proofs.get16.Statement.{statement}
 use Rattle.octets_words.proofs.get16.Tie as tie
@@ -28,10 +28,10 @@ add-result : tie.Need-overflow-add-result
 add-result c = search rules
 
 returns : tie.Need-returns
-returns c = (search get-two, omega arith)
+returns c = (search get_two, omega arith)
 
-pub get16-spec : {M : Type 1} → statement M
-get16-spec =
+pub get16_spec : {M : Type 1} → statement M
+get16_spec =
     tie.close
     (tie.spec
     shared-slice-read-wide

@@ -1,5 +1,5 @@
 -- `octets_words::get32` meets its contract. Assumes nothing.
-use Rattle.octets.specs.NumberLaws.{get-four}
+use Rattle.octets.specs.NumberLaws.{get_four}
 use borrow.Author.Rules.{rules}
 use Rattle.octets_words.proofs.get32.Statement.{statement}
 use Rattle.octets_words.proofs.get32.Tie as tie
@@ -56,10 +56,10 @@ add-result-3 : tie.Need-overflow-add-result-3
 add-result-3 c = search rules
 
 returns : tie.Need-returns
-returns c = search get-four
+returns c = search get_four
 
-pub get32-spec : {M : Type 1} → statement M
-get32-spec =
+pub get32_spec : {M : Type 1} → statement M
+get32_spec =
     tie.close
     (tie.spec
     shared-slice-read-wide

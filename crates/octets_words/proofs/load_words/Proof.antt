@@ -5,20 +5,20 @@ use mathlib.Core.List.{◌++◌}
 use native.Mathlib.Omega.{arith}
 use borrow.Author.Rules.{rules}
 use lib.ListN.{length, drop, length-set}
-use Rattle.octets.specs.Words.{wordsAt}
-use Rattle.octets.specs.WordsLaws.{load-none, load-more, load-end}
+use Rattle.octets.specs.Words.{words_at}
+use Rattle.octets.specs.WordsLaws.{load_none, load_more, load_end}
 use Rattle.octets_words.proofs.load_words.Statement.{statement}
 use Rattle.octets_words.proofs.load_words.Tie as tie
 
 abbrev invariant-loop : tie.invariant-loop
 invariant-loop s at words₀ k₀ words k =
-    (k ≤ length words₀) × (length words ≡ length words₀) × (words ≡ wordsAt k s at ++ drop k words₀)
+    (k ≤ length words₀) × (length words ≡ length words₀) × (words ≡ words_at k s at ++ drop k words₀)
 
 abbrev decreases-loop : tie.decreases-loop
 decreases-loop s at words₀ k₀ words k = length words₀ - k
 
 loop-holds : tie.Need-loop-init invariant-loop decreases-loop
-loop-holds c = (omega arith, refl, search load-none)
+loop-holds c = (omega arith, refl, search load_none)
 
 mul-get32 : tie.Need-overflow-mul-get32 invariant-loop decreases-loop
 mul-get32 c = omega arith
@@ -42,16 +42,16 @@ loop-less : tie.Need-loop-smaller invariant-loop decreases-loop
 loop-less c = omega arith
 
 loop-again : tie.Need-loop-preserved invariant-loop decreases-loop
-loop-again c = (omega arith, simp length-set (search rules), search load-more)
+loop-again c = (omega arith, simp length-set (search rules), search load_more)
 
 same_length : tie.Need-same-length invariant-loop decreases-loop
 same_length c = search rules
 
 returns : tie.Need-returns invariant-loop decreases-loop
-returns c = search load-end
+returns c = search load_end
 
-pub load-words-spec : {M : Type 1} → statement M
-load-words-spec =
+pub load_words_spec : {M : Type 1} → statement M
+load_words_spec =
     tie.close
     (tie.spec
     invariant-loop

@@ -28,6 +28,6 @@ same_length c = search rules
 returns : tie.Need-returns
 returns c = search put_two
 
-pub put16-spec : {M : Type 1} → statement M
-put16-spec =
+pub put16_spec : {M : Type 1} → statement M
+put16_spec =
     tie.close (tie.spec cast-s slice-write-s cast-s-2 add-s slice-write-s-2 same_length returns)

@@ -45,8 +45,8 @@ same_length c = search rules
 returns : tie.Need-returns
 returns c = search put_four
 
-pub put32-spec : {M : Type 1} → statement M
-put32-spec =
+pub put32_spec : {M : Type 1} → statement M
+put32_spec =
     tie.close
     (tie.spec
     cast-s

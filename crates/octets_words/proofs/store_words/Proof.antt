@@ -4,19 +4,19 @@ use mathlib.Core.Path.{◌≡◌, refl}
 use native.Mathlib.Omega.{arith}
 use borrow.Author.Rules.{rules}
 use lib.ListN.{length}
-use Rattle.octets.specs.Words.{putWords}
-use Rattle.octets.specs.WordsLaws.{put-none, put-more, put-end}
+use Rattle.octets.specs.Words.{put_words}
+use Rattle.octets.specs.WordsLaws.{put_none, put_more, put_end}
 use Rattle.octets_words.proofs.store_words.Statement.{statement}
 use Rattle.octets_words.proofs.store_words.Tie as tie
 
 abbrev invariant-loop : tie.invariant-loop
-invariant-loop s₀ at words k₀ s k = (k ≤ length words) × (length s ≡ length s₀) × (s ≡ putWords k s₀ at words)
+invariant-loop s₀ at words k₀ s k = (k ≤ length words) × (length s ≡ length s₀) × (s ≡ put_words k s₀ at words)
 
 abbrev decreases-loop : tie.decreases-loop
 decreases-loop s₀ at words k₀ s k = length words - k
 
 loop-holds : tie.Need-loop-init invariant-loop decreases-loop
-loop-holds c = (omega arith, refl, search put-none)
+loop-holds c = (omega arith, refl, search put_none)
 
 mul-put32 : tie.Need-overflow-mul-put32 invariant-loop decreases-loop
 mul-put32 c = omega arith
@@ -40,16 +40,16 @@ loop-less : tie.Need-loop-smaller invariant-loop decreases-loop
 loop-less c = omega arith
 
 loop-again : tie.Need-loop-preserved invariant-loop decreases-loop
-loop-again c = (omega arith, omega arith, put-more _ _ _ _ _ _ c.before.before.put32.ensures (search))
+loop-again c = (omega arith, omega arith, put_more _ _ _ _ _ _ c.before.before.put32.ensures (search))
 
 same_length : tie.Need-same-length invariant-loop decreases-loop
 same_length c = search rules
 
 returns : tie.Need-returns invariant-loop decreases-loop
-returns c = search put-end
+returns c = search put_end
 
-pub store-words-spec : {M : Type 1} → statement M
-store-words-spec =
+pub store_words_spec : {M : Type 1} → statement M
+store_words_spec =
     tie.close
     (tie.spec
     invariant-loop

@@ -4,20 +4,20 @@ use borrow.Author.Rules.{rules}
 use Prim.Native.Nat.{◌≤◌, ◌-◌, ◌+◌, ◌*◌}
 use mathlib.Core.Path.{◌≡◌, refl}
 use lib.ListN.{length, length-set}
-use Rattle.plan_draws.specs.Draws.{drawsIn}
-use Rattle.plan_draws.specs.DrawsLaws.{draws-none, draws-more, draws-end, row_room, row_next, row_first}
+use Rattle.plan_draws.specs.Draws.{draws_in}
+use Rattle.plan_draws.specs.DrawsLaws.{draws_none, draws_more, draws_end, row_room, row_next, row_first}
 use Rattle.plan_draws.proofs.read_draws.Statement.{statement}
 use Rattle.plan_draws.proofs.read_draws.Tie as tie
 
 abbrev invariant-loop : tie.invariant-loop
 invariant-loop s at n d all₀ place₀ i₀ all place i =
-    (i ≤ n) × (length all ≡ 16) × (place ≡ at + 2 * (i * d)) × (all ≡ drawsIn s at i d)
+    (i ≤ n) × (length all ≡ 16) × (place ≡ at + 2 * (i * d)) × (all ≡ draws_in s at i d)
 
 abbrev decreases-loop : tie.decreases-loop
 decreases-loop s at n d all₀ place₀ i₀ all place i = n - i
 
 loop-holds : tie.Need-loop-init invariant-loop decreases-loop
-loop-holds c = (omega arith, refl, search row_first, search draws-none)
+loop-holds c = (omega arith, refl, search row_first, search draws_none)
 
 read-row-requires : tie.Need-read-row-requires invariant-loop decreases-loop
 read-row-requires c κs = (omega arith, search row_room)
@@ -43,13 +43,13 @@ loop-less : tie.Need-loop-smaller invariant-loop decreases-loop
 loop-less c = omega arith
 
 loop-again : tie.Need-loop-preserved invariant-loop decreases-loop
-loop-again c = (omega arith, simp length-set (search rules), search row_next, search draws-more)
+loop-again c = (omega arith, simp length-set (search rules), search row_next, search draws_more)
 
 returns : tie.Need-returns invariant-loop decreases-loop
-returns c = search draws-end
+returns c = search draws_end
 
-pub read-draws-spec : {M : Type 1} → statement M
-read-draws-spec =
+pub read_draws_spec : {M : Type 1} → statement M
+read_draws_spec =
     tie.close
     (tie.spec
     invariant-loop

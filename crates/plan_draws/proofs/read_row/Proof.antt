@@ -5,7 +5,7 @@ use Prim.Native.Nat.{◌≤◌, ◌-◌}
 use mathlib.Core.Path.{◌≡◌, refl}
 use lib.ListN.{length, length-set}
 use Rattle.plan_draws.specs.Draws.{row_in}
-use Rattle.plan_draws.specs.DrawsLaws.{row-none, row_more, row-end}
+use Rattle.plan_draws.specs.DrawsLaws.{row_none, row_more, row_end}
 use Rattle.plan_draws.proofs.read_row.Statement.{statement}
 use Rattle.plan_draws.proofs.read_row.Tie as tie
 
@@ -16,7 +16,7 @@ abbrev decreases-loop : tie.decreases-loop
 decreases-loop s at d row₀ k₀ row k = d - k
 
 loop-holds : tie.Need-loop-init invariant-loop decreases-loop
-loop-holds c = (omega arith, refl, search row-none)
+loop-holds c = (omega arith, refl, search row_none)
 
 mul-get16 : tie.Need-overflow-mul-get16 invariant-loop decreases-loop
 mul-get16 c = omega arith
@@ -46,10 +46,10 @@ loop-again : tie.Need-loop-preserved invariant-loop decreases-loop
 loop-again c = (omega arith, simp length-set (search rules), search row_more)
 
 returns : tie.Need-returns invariant-loop decreases-loop
-returns c = search row-end
+returns c = search row_end
 
-pub read-row-spec : {M : Type 1} → statement M
-read-row-spec =
+pub read_row_spec : {M : Type 1} → statement M
+read_row_spec =
     tie.close
     (tie.spec
     invariant-loop

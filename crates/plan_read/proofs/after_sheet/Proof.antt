@@ -1,7 +1,7 @@
 -- `plan_read::after_sheet` meets its contract. Assumes nothing.
 use native.Mathlib.Omega.{arith}
 use Prim.Native.Nat.{◌≤◌, ◌-◌, ◌*◌}
-use Rattle.plan_read.specs.PlanLaws.{few, sheet-no-depth, sheet-depth, sheet-draws, sheet-rest}
+use Rattle.plan_read.specs.PlanLaws.{few, sheet_no_depth, sheet_depth, sheet_draws, sheet_rest}
 use borrow.Author.Rules.{rules}
 use Rattle.plan_read.proofs.after_sheet.Statement.{statement}
 use Rattle.plan_read.proofs.after_sheet.Tie as tie
@@ -10,7 +10,7 @@ unread-plan-requires : tie.Need-unread-plan-requires
 unread-plan-requires c κs = search rules
 
 returns : tie.Need-returns
-returns c = search sheet-no-depth
+returns c = search sheet_no_depth
 
 shared-slice-read-wide : tie.Need-shared-slice-read-wide
 shared-slice-read-wide c = search rules
@@ -25,7 +25,7 @@ unread-plan-requires-2 : tie.Need-unread-plan-requires-2
 unread-plan-requires-2 c κs = search rules
 
 returns-2 : tie.Need-returns-2
-returns-2 c = search sheet-depth
+returns-2 c = search sheet_depth
 
 add-c : tie.Need-overflow-add-c
 add-c c = search rules
@@ -55,7 +55,7 @@ unread-plan-requires-3 : tie.Need-unread-plan-requires-3
 unread-plan-requires-3 c κs = search rules
 
 returns-3 : tie.Need-returns-3
-returns-3 c = search sheet-draws
+returns-3 c = search sheet_draws
 
 add-read-rest : tie.Need-overflow-add-read-rest
 add-read-rest c = search rules
@@ -64,10 +64,10 @@ read-rest-requires : tie.Need-read-rest-requires
 read-rest-requires c κs = search rules
 
 returns-4 : tie.Need-returns-4
-returns-4 c = search sheet-rest
+returns-4 c = search sheet_rest
 
-pub after-sheet-spec : {M : Type 1} → statement M
-after-sheet-spec =
+pub after_sheet_spec : {M : Type 1} → statement M
+after_sheet_spec =
     tie.close
     (tie.spec
     unread-plan-requires

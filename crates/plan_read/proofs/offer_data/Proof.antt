@@ -22,6 +22,6 @@ part-result-end c = search rules
 returns : tie.Need-returns
 returns c = search data_is
 
-pub offer-data-spec : {M : Type 1} → statement M
-offer-data-spec =
+pub offer_data_spec : {M : Type 1} → statement M
+offer_data_spec =
     tie.close (tie.spec add-from add-end sub-result part-result-start part-result-end returns)

@@ -6,15 +6,15 @@ use mathlib.Core.Bool.{false}
 use lib.ListN.{length}
 use borrow.Author.Rules.{rules}
 use Rattle.octets.specs.Base.{some}
-use Rattle.octets.specs.BaseLaws.{some-none}
-use Rattle.plan_read.specs.Plan.{offerPlace, timeBefore, timeFalls}
-use Rattle.plan_read.specs.PlanLaws.{walk_first, walk-zero, walk-short, walk-falls, walk-cut, walk-place}
-use Rattle.plan_read.specs.PlanLaws.{walk-time, walk-rising, walk-left, walk_end}
+use Rattle.octets.specs.BaseLaws.{some_none}
+use Rattle.plan_read.specs.Plan.{offer_place, time_before, time_falls}
+use Rattle.plan_read.specs.PlanLaws.{walk_first, walk_zero, walk_short, walk_falls, walk_cut, walk_place}
+use Rattle.plan_read.specs.PlanLaws.{walk_time, walk_rising, walk_left, walk_end}
 use Rattle.plan_read.proofs.offers_wrong.Statement.{statement}
 use Rattle.plan_read.proofs.offers_wrong.Tie as tie
 
 abbrev invariant-loop : tie.invariant-loop
-invariant-loop s named at count n extra place₀ last₀ k₀ place last k = (k ≤ count) × (place ≤ length s) × (place ≡ offerPlace s named at k) × (last ≡ timeBefore s named at k) × (some (timeFalls s named at) k ≡ false)
+invariant-loop s named at count n extra place₀ last₀ k₀ place last k = (k ≤ count) × (place ≤ length s) × (place ≡ offer_place s named at k) × (last ≡ time_before s named at k) × (some (time_falls s named at) k ≡ false)
 
 abbrev decreases-loop : tie.decreases-loop
 decreases-loop s named at count n extra place₀ last₀ k₀ place last k = count - k
@@ -23,19 +23,19 @@ name-size-requires : tie.Need-name-size-requires invariant-loop decreases-loop
 name-size-requires c κs = search rules
 
 loop-holds : tie.Need-loop-init invariant-loop decreases-loop
-loop-holds c = (omega arith, omega arith, search walk_first, search walk-zero, search some-none)
+loop-holds c = (omega arith, omega arith, search walk_first, search walk_zero, search some_none)
 
 sub-if1 : tie.Need-overflow-sub-if1 invariant-loop decreases-loop
 sub-if1 c = omega arith
 
 returns : tie.Need-returns invariant-loop decreases-loop
-returns c = search walk-short
+returns c = search walk_short
 
 get32-requires : tie.Need-get32-requires invariant-loop decreases-loop
 get32-requires c κs = omega arith
 
 returns-2 : tie.Need-returns-2 invariant-loop decreases-loop
-returns-2 c = search walk-falls
+returns-2 c = search walk_falls
 
 add-get16 : tie.Need-overflow-add-get16 invariant-loop decreases-loop
 add-get16 c = omega arith
@@ -56,7 +56,7 @@ add-if3 : tie.Need-overflow-add-if3 invariant-loop decreases-loop
 add-if3 c = omega arith
 
 returns-3 : tie.Need-returns-3 invariant-loop decreases-loop
-returns-3 c = search walk-cut
+returns-3 c = search walk_cut
 
 add-place : tie.Need-overflow-add-place invariant-loop decreases-loop
 add-place c = omega arith
@@ -74,19 +74,19 @@ loop-less : tie.Need-loop-smaller invariant-loop decreases-loop
 loop-less c = omega arith
 
 loop-again : tie.Need-loop-preserved invariant-loop decreases-loop
-loop-again c = (omega arith, omega arith, search walk-place, search walk-time, search walk-rising)
+loop-again c = (omega arith, omega arith, search walk_place, search walk_time, search walk_rising)
 
 sub-if4 : tie.Need-overflow-sub-if4 invariant-loop decreases-loop
 sub-if4 c = omega arith
 
 returns-4 : tie.Need-returns-4 invariant-loop decreases-loop
-returns-4 c = search walk-left
+returns-4 c = search walk_left
 
 returns-5 : tie.Need-returns-5 invariant-loop decreases-loop
 returns-5 c = search walk_end
 
-pub offers-wrong-spec : {M : Type 1} → statement M
-offers-wrong-spec =
+pub offers_wrong_spec : {M : Type 1} → statement M
+offers_wrong_spec =
     tie.close
     (tie.spec
     invariant-loop

@@ -1,5 +1,5 @@
 -- `plan_read::read_name` meets its contract. Assumes nothing.
-use Rattle.plan_read.specs.PlanLaws.{name-fits, name-is, name-none}
+use Rattle.plan_read.specs.PlanLaws.{name_fits, name_is, name_none}
 use borrow.Author.Rules.{rules}
 use Rattle.plan_read.proofs.read_name.Statement.{statement}
 use Rattle.plan_read.proofs.read_name.Tie as tie
@@ -11,13 +11,13 @@ add-get16-2 : tie.Need-overflow-add-get16-2
 add-get16-2 c = search rules
 
 get16-requires : tie.Need-get16-requires
-get16-requires c κs = search name-fits
+get16-requires c κs = search name_fits
 
 returns : tie.Need-returns
-returns c = search name-is
+returns c = search name_is
 
 returns-2 : tie.Need-returns-2
-returns-2 c = search name-none
+returns-2 c = search name_none
 
-pub read-name-spec : {M : Type 1} → statement M
-read-name-spec = tie.close (tie.spec add-get16 add-get16-2 get16-requires returns returns-2)
+pub read_name_spec : {M : Type 1} → statement M
+read_name_spec = tie.close (tie.spec add-get16 add-get16-2 get16-requires returns returns-2)

@@ -1,5 +1,5 @@
 -- `plan_read::read_offer` meets its contract. Assumes nothing.
-use Rattle.plan_read.specs.PlanLaws.{offer-in}
+use Rattle.plan_read.specs.PlanLaws.{offer_in_lem}
 use borrow.Author.Rules.{rules}
 use Rattle.plan_read.proofs.read_offer.Statement.{statement}
 use Rattle.plan_read.proofs.read_offer.Tie as tie
@@ -44,10 +44,10 @@ read-name-requires : tie.Need-read-name-requires
 read-name-requires c κs = search rules
 
 returns : tie.Need-returns
-returns c = search offer-in
+returns c = search offer_in_lem
 
-pub read-offer-spec : {M : Type 1} → statement M
-read-offer-spec =
+pub read_offer_spec : {M : Type 1} → statement M
+read_offer_spec =
     tie.close
     (tie.spec
     get32-requires

@@ -1,5 +1,5 @@
 -- `plan_read::read_plan` meets its contract. Assumes nothing.
-use Rattle.plan_read.specs.PlanLaws.{sheet-within, sheet-few, plan-refused, plan-read}
+use Rattle.plan_read.specs.PlanLaws.{sheet_within, sheet_few, plan_refused, plan_read}
 use borrow.Author.Rules.{rules}
 use Rattle.plan_read.proofs.read_plan.Statement.{statement}
 use Rattle.plan_read.proofs.read_plan.Tie as tie
@@ -17,16 +17,16 @@ enum-known-read-2 : tie.Need-enum-known-read-2
 enum-known-read-2 c = search rules
 
 after-sheet-requires : tie.Need-after-sheet-requires
-after-sheet-requires c κs = search (sheet-within, sheet-few)
+after-sheet-requires c κs = search (sheet_within, sheet_few)
 
 returns : tie.Need-returns
-returns c = search plan-refused
+returns c = search plan_refused
 
 returns-2 : tie.Need-returns-2
-returns-2 c = search plan-read
+returns-2 c = search plan_read
 
-pub read-plan-spec : {M : Type 1} → statement M
-read-plan-spec =
+pub read_plan_spec : {M : Type 1} → statement M
+read_plan_spec =
     tie.close
     (tie.spec
     read-sheet-requires

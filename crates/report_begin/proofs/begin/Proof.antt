@@ -1,5 +1,5 @@
 -- `report_begin::begin` meets its contract. Assumes nothing.
-use Rattle.report_spec.specs.PieceLaws.{begin-short, begin-room, begin-front}
+use Rattle.report_spec.specs.PieceLaws.{begin_short, begin_room, begin_front}
 use borrow.Author.Rules.{rules}
 use Rattle.report_begin.proofs.begin.Statement.{statement}
 use Rattle.report_begin.proofs.begin.Tie as tie
@@ -11,7 +11,7 @@ withhold-requires : tie.Need-withhold-requires
 withhold-requires c κs = search rules
 
 returns : tie.Need-returns
-returns c = search begin-short
+returns c = search begin_short
 
 no-progress-requires-2 : tie.Need-no-progress-requires-2
 no-progress-requires-2 c κs = search rules
@@ -20,7 +20,7 @@ withhold-requires-2 : tie.Need-withhold-requires-2
 withhold-requires-2 c κs = search rules
 
 returns-2 : tie.Need-returns-2
-returns-2 c = search begin-room
+returns-2 c = search begin_room
 
 sub-begin-on : tie.Need-overflow-sub-begin-on
 sub-begin-on c = search rules
@@ -41,10 +41,10 @@ same-length-2 : tie.Need-same-length-2
 same-length-2 c = search rules
 
 returns-3 : tie.Need-returns-3
-returns-3 c = search begin-front
+returns-3 c = search begin_front
 
-pub begin-spec : {M : Type 1} → statement M
-begin-spec =
+pub begin_spec : {M : Type 1} → statement M
+begin_spec =
     tie.close
     (tie.spec
     no-progress-requires

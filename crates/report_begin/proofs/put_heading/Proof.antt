@@ -1,5 +1,5 @@
 -- `report_begin::put_heading` meets its contract. Assumes nothing.
-use Rattle.report_spec.specs.PieceLaws.{heading-yes, heading-no}
+use Rattle.report_spec.specs.PieceLaws.{heading_yes, heading_no}
 use borrow.Author.Rules.{rules}
 use Rattle.report_begin.proofs.put_heading.Statement.{statement}
 use Rattle.report_begin.proofs.put_heading.Tie as tie
@@ -17,7 +17,7 @@ same_length : tie.Need-same-length
 same_length c = search rules
 
 returns : tie.Need-returns
-returns c = search heading-yes
+returns c = search heading_yes
 
 slice-aggregate-put-first-2 : tie.Need-slice-aggregate-put-first-2
 slice-aggregate-put-first-2 c = search rules
@@ -29,10 +29,10 @@ same-length-2 : tie.Need-same-length-2
 same-length-2 c = search rules
 
 returns-2 : tie.Need-returns-2
-returns-2 c = search heading-no
+returns-2 c = search heading_no
 
-pub put-heading-spec : {M : Type 1} → statement M
-put-heading-spec =
+pub put_heading_spec : {M : Type 1} → statement M
+put_heading_spec =
     tie.close
     (tie.spec
     fits-well-requires

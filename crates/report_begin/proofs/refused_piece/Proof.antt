@@ -1,5 +1,5 @@
 -- `report_begin::refused_piece` meets its contract. Assumes nothing.
-use Rattle.report_spec.specs.PieceLaws.{refused-size, refused-text}
+use Rattle.report_spec.specs.PieceLaws.{refused_size, refused_text}
 use borrow.Author.Rules.{rules}
 use Rattle.report_begin.proofs.refused_piece.Statement.{statement}
 use Rattle.report_begin.proofs.refused_piece.Tie as tie
@@ -17,10 +17,10 @@ same_length : tie.Need-same-length
 same_length c = search rules
 
 returns : tie.Need-returns
-returns c = (search refused-size, (search rules, search refused-text))
+returns c = (search refused_size, (search rules, search refused_text))
 
-pub refused-piece-spec : {M : Type 1} → statement M
-refused-piece-spec =
+pub refused_piece_spec : {M : Type 1} → statement M
+refused_piece_spec =
     tie.close
     (tie.spec
     slice-aggregate-put-counted

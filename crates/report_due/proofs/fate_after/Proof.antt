@@ -1,11 +1,11 @@
 -- `report_due::fate_after` meets its contract. Assumes nothing.
-use Rattle.report_due.specs.DueLaws.{fate-same, fate-none, fate-collides, fate-late, fate-sent, fate-given-up, fate-late-ended}
+use Rattle.report_due.specs.DueLaws.{fate_same, fate_none, fate_collides, fate_late, fate_sent, fate_given_up, fate_late_ended}
 use borrow.Author.Rules.{rules}
 use Rattle.report_due.proofs.fate_after.Statement.{statement}
 use Rattle.report_due.proofs.fate_after.Tie as tie
 
 returns : tie.Need-returns
-returns c = search fate-same
+returns c = search fate_same
 
 enum_told : tie.Need-enum-told
 enum_told c = search rules
@@ -26,25 +26,25 @@ enum-told-6 : tie.Need-enum-told-6
 enum-told-6 c = search rules
 
 returns-2 : tie.Need-returns-2
-returns-2 c = search fate-none
+returns-2 c = search fate_none
 
 returns-3 : tie.Need-returns-3
-returns-3 c = search fate-collides
+returns-3 c = search fate_collides
 
 returns-4 : tie.Need-returns-4
-returns-4 c = search fate-late
+returns-4 c = search fate_late
 
 returns-5 : tie.Need-returns-5
-returns-5 c = search fate-sent
+returns-5 c = search fate_sent
 
 returns-6 : tie.Need-returns-6
-returns-6 c = search fate-given-up
+returns-6 c = search fate_given_up
 
 returns-7 : tie.Need-returns-7
-returns-7 c = search fate-late-ended
+returns-7 c = search fate_late_ended
 
-pub fate-after-spec : {M : Type 1} → statement M
-fate-after-spec =
+pub fate_after_spec : {M : Type 1} → statement M
+fate_after_spec =
     tie.close
     (tie.spec
     returns

@@ -1,5 +1,5 @@
 -- `report_due::named_fate` meets its contract. Assumes nothing.
-use Rattle.report_due.specs.DueLaws.{named_none, named_past, named-is}
+use Rattle.report_due.specs.DueLaws.{named_none, named_past, named_is}
 use borrow.Author.Rules.{rules}
 use Rattle.report_due.proofs.named_fate.Statement.{statement}
 use Rattle.report_due.proofs.named_fate.Tie as tie
@@ -35,10 +35,10 @@ wide-requires : tie.Need-wide-requires
 wide-requires c κs = search rules
 
 returns-3 : tie.Need-returns-3
-returns-3 c = search named-is
+returns-3 c = search named_is
 
-pub named-fate-spec : {M : Type 1} → statement M
-named-fate-spec =
+pub named_fate_spec : {M : Type 1} → statement M
+named_fate_spec =
     tie.close
     (tie.spec
     add-get16

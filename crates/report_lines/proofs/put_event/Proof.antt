@@ -1,7 +1,7 @@
 -- `report_lines::put_event` meets its contract. Assumes nothing.
-use Rattle.report_lines.specs.EventsLaws.{text-none, text-collision, text-late, text-sent, text-given-up}
-use Rattle.report_lines.specs.EventsLaws.{text-late-end, text-ok, text-too-long, text-alignment, text-check}
-use Rattle.report_lines.specs.EventsLaws.{text-length}
+use Rattle.report_lines.specs.EventsLaws.{text_none, text_collision, text_late, text_sent, text_given_up}
+use Rattle.report_lines.specs.EventsLaws.{text_late_end, text_ok, text_too_long, text_alignment, text_check}
+use Rattle.report_lines.specs.EventsLaws.{text_length}
 use native.Mathlib.Omega.{arith}
 use borrow.Author.Rules.{rules}
 use Rattle.report_lines.proofs.put_event.Statement.{statement}
@@ -68,70 +68,70 @@ put-line-requires-10 : tie.Need-put-line-requires-10
 put-line-requires-10 c κs = search rules
 
 returns : tie.Need-returns
-returns c = (search text-none, omega arith)
+returns c = (search text_none, omega arith)
 
 same_length : tie.Need-same-length
 same_length c = search rules
 
 returns-2 : tie.Need-returns-2
-returns-2 c = (search text-collision, omega arith)
+returns-2 c = (search text_collision, omega arith)
 
 same-length-2 : tie.Need-same-length-2
 same-length-2 c = search rules
 
 returns-3 : tie.Need-returns-3
-returns-3 c = (search text-late, omega arith)
+returns-3 c = (search text_late, omega arith)
 
 same-length-3 : tie.Need-same-length-3
 same-length-3 c = search rules
 
 returns-4 : tie.Need-returns-4
-returns-4 c = (search text-sent, omega arith)
+returns-4 c = (search text_sent, omega arith)
 
 same-length-4 : tie.Need-same-length-4
 same-length-4 c = search rules
 
 returns-5 : tie.Need-returns-5
-returns-5 c = (search text-given-up, omega arith)
+returns-5 c = (search text_given_up, omega arith)
 
 same-length-5 : tie.Need-same-length-5
 same-length-5 c = search rules
 
 returns-6 : tie.Need-returns-6
-returns-6 c = (search text-late-end, omega arith)
+returns-6 c = (search text_late_end, omega arith)
 
 same-length-6 : tie.Need-same-length-6
 same-length-6 c = search rules
 
 returns-7 : tie.Need-returns-7
-returns-7 c = (search text-ok, omega arith)
+returns-7 c = (search text_ok, omega arith)
 
 same-length-7 : tie.Need-same-length-7
 same-length-7 c = search rules
 
 returns-8 : tie.Need-returns-8
-returns-8 c = (search text-too-long, omega arith)
+returns-8 c = (search text_too_long, omega arith)
 
 same-length-8 : tie.Need-same-length-8
 same-length-8 c = search rules
 
 returns-9 : tie.Need-returns-9
-returns-9 c = (search text-alignment, omega arith)
+returns-9 c = (search text_alignment, omega arith)
 
 same-length-9 : tie.Need-same-length-9
 same-length-9 c = search rules
 
 returns-10 : tie.Need-returns-10
-returns-10 c = (search text-check, omega arith)
+returns-10 c = (search text_check, omega arith)
 
 same-length-10 : tie.Need-same-length-10
 same-length-10 c = search rules
 
 returns-11 : tie.Need-returns-11
-returns-11 c = (search text-length, omega arith)
+returns-11 c = (search text_length, omega arith)
 
-pub put-event-spec : {M : Type 1} → statement M
-put-event-spec =
+pub put_event_spec : {M : Type 1} → statement M
+put_event_spec =
     tie.close
     (tie.spec
     slice-aggregate-put-line

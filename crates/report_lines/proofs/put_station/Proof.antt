@@ -1,6 +1,6 @@
 -- `report_lines::put_station` meets its contract. Assumes nothing.
 use native.Mathlib.Omega.{arith}
-use Rattle.report_lines.specs.EventsLaws.{station-is}
+use Rattle.report_lines.specs.EventsLaws.{station_is}
 use borrow.Author.Rules.{rules}
 use Rattle.report_lines.proofs.put_station.Statement.{statement}
 use Rattle.report_lines.proofs.put_station.Tie as tie
@@ -27,10 +27,10 @@ same_length : tie.Need-same-length
 same_length c = search rules
 
 returns : tie.Need-returns
-returns c = (search station-is, omega arith)
+returns c = (search station_is, omega arith)
 
-pub put-station-spec : {M : Type 1} → statement M
-put-station-spec =
+pub put_station_spec : {M : Type 1} → statement M
+put_station_spec =
     tie.close
     (tie.spec
     transmit-word-requires

@@ -4,16 +4,16 @@ use Prim.Native.Nat.{◌≤◌, ◌-◌, ◌*◌}
 use mathlib.Core.Path.{◌≡◌, refl}
 use lib.ListN.{length}
 use Rattle.report_text.specs.Text.{written, puts}
-use Rattle.report_lines.specs.Events.{stepLines}
+use Rattle.report_lines.specs.Events.{step_lines}
 use Rattle.report_lines.specs.EventsLaws.{lines_none, lines_more, lines_end}
 use Rattle.report_lines.proofs.put_step.Statement.{statement}
 use Rattle.report_lines.proofs.put_step.Tie as tie
-use Rattle.sheet_layout.specs.Limits.{maxStations}
+use Rattle.sheet_layout.specs.Limits.{max_stations}
 
 abbrev invariant-loop : tie.invariant-loop
 invariant-loop out₀ t events at₀ i₀ out at i =
-    (i ≤ maxStations) × (length out ≡ length out₀) × (at ≤ 96 * i)
-    × (written at out ≡ puts out₀ 0 (stepLines t events i))
+    (i ≤ max_stations) × (length out ≡ length out₀) × (at ≤ 96 * i)
+    × (written at out ≡ puts out₀ 0 (step_lines t events i))
 
 abbrev decreases-loop : tie.decreases-loop
 decreases-loop out₀ t events at₀ i₀ out at i = 16 - i
@@ -48,8 +48,8 @@ same_length c = omega arith
 returns : tie.Need-returns invariant-loop decreases-loop
 returns c = (search lines_end, omega arith)
 
-pub put-step-spec : {M : Type 1} → statement M
-put-step-spec =
+pub put_step_spec : {M : Type 1} → statement M
+put_step_spec =
     tie.close
     (tie.spec
     invariant-loop

@@ -1,6 +1,6 @@
 -- `report_next::advance` meets its contract. Assumes nothing.
 use borrow.Author.Rules.{rules}
-use Rattle.report_spec.specs.PieceLaws.{advance-short, advance-front}
+use Rattle.report_spec.specs.PieceLaws.{advance_short, advance_front}
 use Rattle.report_next.proofs.advance.Statement.{statement}
 use Rattle.report_next.proofs.advance.Tie as tie
 
@@ -8,7 +8,7 @@ withhold-requires : tie.Need-withhold-requires
 withhold-requires c κs = search rules
 
 returns : tie.Need-returns
-returns c = search advance-short
+returns c = search advance_short
 
 sub-advance-on : tie.Need-overflow-sub-advance-on
 sub-advance-on c = search rules
@@ -29,10 +29,10 @@ same-length-2 : tie.Need-same-length-2
 same-length-2 c = search rules
 
 returns-2 : tie.Need-returns-2
-returns-2 c = search advance-front
+returns-2 c = search advance_front
 
-pub advance-spec : {M : Type 1} → statement M
-advance-spec =
+pub advance_spec : {M : Type 1} → statement M
+advance_spec =
     tie.close
     (tie.spec
     withhold-requires

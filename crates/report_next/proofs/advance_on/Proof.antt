@@ -1,6 +1,6 @@
 -- `report_next::advance_on` meets its contract. Assumes nothing.
 use native.Mathlib.Omega.{arith}
-use Rattle.report_spec.specs.PieceLaws.{on-refused, on-ended, on-last, on-next, refusal-room-left, refusal-offers, refusal-steps}
+use Rattle.report_spec.specs.PieceLaws.{on_refused, on_ended, on_last, on_next, refusal_room_left, refusal_offers, refusal_steps}
 use borrow.Author.Rules.{rules}
 use Rattle.report_next.proofs.advance_on.Statement.{statement}
 use Rattle.report_next.proofs.advance_on.Tie as tie
@@ -15,16 +15,16 @@ same_length : tie.Need-same-length
 same_length c = search rules
 
 returns : tie.Need-returns
-returns c = search on-refused
+returns c = search on_refused
 
 same-length-2 : tie.Need-same-length-2
 same-length-2 c = search rules
 
 returns-2 : tie.Need-returns-2
-returns-2 c = search on-ended
+returns-2 c = search on_ended
 
 end-piece-requires : tie.Need-end-piece-requires
-end-piece-requires c κs = (search rules, search refusal-room-left)
+end-piece-requires c κs = (search rules, search refusal_room_left)
 
 same-length-3 : tie.Need-same-length-3
 same-length-3 c = search rules
@@ -33,10 +33,10 @@ same-length-4 : tie.Need-same-length-4
 same-length-4 c = search rules
 
 returns-3 : tie.Need-returns-3
-returns-3 c = search on-last
+returns-3 c = search on_last
 
 next-piece-requires : tie.Need-next-piece-requires
-next-piece-requires c κs = ((search rules, search refusal-steps, omega arith), (search refusal-offers, search refusal-room-left))
+next-piece-requires c κs = ((search rules, search refusal_steps, omega arith), (search refusal_offers, search refusal_room_left))
 
 same-length-5 : tie.Need-same-length-5
 same-length-5 c = search rules
@@ -45,10 +45,10 @@ same-length-6 : tie.Need-same-length-6
 same-length-6 c = search rules
 
 returns-4 : tie.Need-returns-4
-returns-4 c = search on-next
+returns-4 c = search on_next
 
-pub advance-on-spec : {M : Type 1} → statement M
-advance-on-spec =
+pub advance_on_spec : {M : Type 1} → statement M
+advance_on_spec =
     tie.close
     (tie.spec
     refusal-requires

@@ -19,8 +19,8 @@ same_length c = search rules
 returns : tie.Need-returns
 returns c = search end_is
 
-pub end-piece-spec : {M : Type 1} → statement M
-end-piece-spec =
+pub end_piece_spec : {M : Type 1} → statement M
+end_piece_spec =
     tie.close
     (tie.spec
     slice-aggregate-put-counted

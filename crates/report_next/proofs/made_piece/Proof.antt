@@ -1,5 +1,5 @@
 -- `report_next::made_piece` meets its contract. Assumes nothing.
-use Rattle.report_spec.specs.PieceLaws.{made-piece}
+use Rattle.report_spec.specs.PieceLaws.{made_piece}
 use borrow.Author.Rules.{rules}
 use Rattle.report_next.proofs.made_piece.Statement.{statement}
 use Rattle.report_next.proofs.made_piece.Tie as tie
@@ -26,10 +26,10 @@ same-length-2 : tie.Need-same-length-2
 same-length-2 c = search rules
 
 returns : tie.Need-returns
-returns c = search made-piece
+returns c = search made_piece
 
-pub made-piece-spec : {M : Type 1} → statement M
-made-piece-spec =
+pub made_piece_spec : {M : Type 1} → statement M
+made_piece_spec =
     tie.close
     (tie.spec
     make-offer-requires

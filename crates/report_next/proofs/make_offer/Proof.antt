@@ -1,14 +1,14 @@
 -- `report_next::make_offer` meets its contract. Assumes nothing.
-use Rattle.report_spec.specs.PieceLaws.{offer-reads, data-room, made-is}
+use Rattle.report_spec.specs.PieceLaws.{offer_reads, data_room, made_is}
 use borrow.Author.Rules.{rules}
 use Rattle.report_next.proofs.make_offer.Statement.{statement}
 use Rattle.report_next.proofs.make_offer.Tie as tie
 
 read-offer-requires : tie.Need-read-offer-requires
-read-offer-requires c κs = search offer-reads
+read-offer-requires c κs = search offer_reads
 
 offer-data-requires : tie.Need-offer-data-requires
-offer-data-requires c κs = search data-room
+offer-data-requires c κs = search data_room
 
 cast-offer : tie.Need-overflow-cast-offer
 cast-offer c = search rules
@@ -20,10 +20,10 @@ same_length : tie.Need-same-length
 same_length c = search rules
 
 returns : tie.Need-returns
-returns c = search made-is
+returns c = search made_is
 
-pub make-offer-spec : {M : Type 1} → statement M
-make-offer-spec =
+pub make_offer_spec : {M : Type 1} → statement M
+make_offer_spec =
     tie.close
     (tie.spec
     read-offer-requires

@@ -1,5 +1,5 @@
 -- `report_next::next_piece` meets its contract. Assumes nothing.
-use Rattle.report_spec.specs.PieceLaws.{ready-inside, ready-small, goes-offer, goes_step}
+use Rattle.report_spec.specs.PieceLaws.{ready_inside, ready_small, goes_offer, goes_step}
 use borrow.Author.Rules.{rules}
 use Rattle.report_next.proofs.next_piece.Statement.{statement}
 use Rattle.report_next.proofs.next_piece.Tie as tie
@@ -11,7 +11,7 @@ next-ready-requires : tie.Need-next-ready-requires
 next-ready-requires c κs = search rules
 
 offer-piece-requires : tie.Need-offer-piece-requires
-offer-piece-requires c κs = ((search ready-inside, search ready-small, search rules), search rules)
+offer-piece-requires c κs = ((search ready_inside, search ready_small, search rules), search rules)
 
 same_length : tie.Need-same-length
 same_length c = search rules
@@ -20,7 +20,7 @@ same-length-2 : tie.Need-same-length-2
 same-length-2 c = search rules
 
 returns : tie.Need-returns
-returns c = search goes-offer
+returns c = search goes_offer
 
 step-piece-requires : tie.Need-step-piece-requires
 step-piece-requires c κs = search rules
@@ -34,8 +34,8 @@ same-length-4 c = search rules
 returns-2 : tie.Need-returns-2
 returns-2 c = search goes_step
 
-pub next-piece-spec : {M : Type 1} → statement M
-next-piece-spec =
+pub next_piece_spec : {M : Type 1} → statement M
+next_piece_spec =
     tie.close
     (tie.spec
     read-clock-requires

@@ -1,14 +1,14 @@
 -- `report_spec::end_within` meets its contract. Assumes nothing.
-use Rattle.report_spec.specs.PieceLaws.{ends-none, ends-short, ends-cut, ends_at}
+use Rattle.report_spec.specs.PieceLaws.{ends_none, ends_short, ends_cut, ends_at}
 use borrow.Author.Rules.{rules}
 use Rattle.report_spec.proofs.end_within.Statement.{statement}
 use Rattle.report_spec.proofs.end_within.Tie as tie
 
 returns : tie.Need-returns
-returns c = search ends-none
+returns c = search ends_none
 
 returns-2 : tie.Need-returns-2
-returns-2 c = search ends-short
+returns-2 c = search ends_short
 
 add-get16 : tie.Need-overflow-add-get16
 add-get16 c = search rules
@@ -29,7 +29,7 @@ add-if3 : tie.Need-overflow-add-if3
 add-if3 c = search rules
 
 returns-3 : tie.Need-returns-3
-returns-3 c = search ends-cut
+returns-3 c = search ends_cut
 
 add-result : tie.Need-overflow-add-result
 add-result c = search rules
@@ -43,8 +43,8 @@ add-result-3 c = search rules
 returns-4 : tie.Need-returns-4
 returns-4 c = search ends_at
 
-pub end-within-spec : {M : Type 1} → statement M
-end-within-spec =
+pub end_within_spec : {M : Type 1} → statement M
+end_within_spec =
     tie.close
     (tie.spec
     returns

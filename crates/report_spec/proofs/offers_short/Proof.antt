@@ -1,11 +1,11 @@
 -- `report_spec::offers_short` meets its contract. Assumes nothing.
-use Rattle.report_spec.specs.PieceLaws.{short-many, short-is}
+use Rattle.report_spec.specs.PieceLaws.{short_many, short_is}
 use borrow.Author.Rules.{rules}
 use Rattle.report_spec.proofs.offers_short.Statement.{statement}
 use Rattle.report_spec.proofs.offers_short.Tie as tie
 
 returns : tie.Need-returns
-returns c = search short-many
+returns c = search short_many
 
 cast-offers-lie : tie.Need-overflow-cast-offers-lie
 cast-offers-lie c = search rules
@@ -14,7 +14,7 @@ offers-lie-requires : tie.Need-offers-lie-requires
 offers-lie-requires c κs = search rules
 
 returns-2 : tie.Need-returns-2
-returns-2 c = search short-is
+returns-2 c = search short_is
 
-pub offers-short-spec : {M : Type 1} → statement M
-offers-short-spec = tie.close (tie.spec returns cast-offers-lie offers-lie-requires returns-2)
+pub offers_short_spec : {M : Type 1} → statement M
+offers_short_spec = tie.close (tie.spec returns cast-offers-lie offers-lie-requires returns-2)

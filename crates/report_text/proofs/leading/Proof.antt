@@ -4,7 +4,7 @@ use Prim.Native.Nat.{◌≤◌, ◌-◌}
 use mathlib.Core.Path.{◌≡◌, refl}
 use lib.ListN.{drop}
 use Rattle.report_text.specs.Text.{lean}
-use Rattle.report_text.specs.TextLaws.{lead-more, lead-found, lead-last}
+use Rattle.report_text.specs.TextLaws.{lead_more, lead_found, lead_last}
 use Rattle.report_text.proofs.leading.Statement.{statement}
 use Rattle.report_text.proofs.leading.Tie as tie
 
@@ -21,7 +21,7 @@ array-read-if1 : tie.Need-array-read-if1 invariant-loop decreases-loop
 array-read-if1 c = omega arith
 
 returns : tie.Need-returns invariant-loop decreases-loop
-returns c = (search lead-found, omega arith)
+returns c = (search lead_found, omega arith)
 
 add-j : tie.Need-overflow-add-j invariant-loop decreases-loop
 add-j c = omega arith
@@ -30,13 +30,13 @@ loop-less : tie.Need-loop-smaller invariant-loop decreases-loop
 loop-less c = omega arith
 
 loop-again : tie.Need-loop-preserved invariant-loop decreases-loop
-loop-again c = (omega arith, search lead-more)
+loop-again c = (omega arith, search lead_more)
 
 returns-2 : tie.Need-returns-2 invariant-loop decreases-loop
-returns-2 c = (search lead-last, omega arith)
+returns-2 c = (search lead_last, omega arith)
 
-pub leading-spec : {M : Type 1} → statement M
-leading-spec =
+pub leading_spec : {M : Type 1} → statement M
+leading_spec =
     tie.close
     (tie.spec
     invariant-loop

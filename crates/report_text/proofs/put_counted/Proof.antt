@@ -17,5 +17,5 @@ same_length c = search rules
 returns : tie.Need-returns
 returns c = (search counted_is, omega arith)
 
-pub put-counted-spec : {M : Type 1} → statement M
-put-counted-spec = tie.close (tie.spec put-word-requires put-number-requires same_length returns)
+pub put_counted_spec : {M : Type 1} → statement M
+put_counted_spec = tie.close (tie.spec put-word-requires put-number-requires same_length returns)

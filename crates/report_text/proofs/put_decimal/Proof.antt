@@ -1,6 +1,6 @@
 -- `report_text::put_decimal` meets its contract. Assumes nothing.
 use native.Mathlib.Omega.{arith}
-use Rattle.report_text.specs.TextLaws.{decimal-is}
+use Rattle.report_text.specs.TextLaws.{decimal_is}
 use borrow.Author.Rules.{rules}
 use Rattle.report_text.proofs.put_decimal.Statement.{statement}
 use Rattle.report_text.proofs.put_decimal.Tie as tie
@@ -33,10 +33,10 @@ same_length : tie.Need-same-length
 same_length c = search rules
 
 returns : tie.Need-returns
-returns c = (search decimal-is, omega arith)
+returns c = (search decimal_is, omega arith)
 
-pub put-decimal-spec : {M : Type 1} → statement M
-put-decimal-spec =
+pub put_decimal_spec : {M : Type 1} → statement M
+put_decimal_spec =
     tie.close
     (tie.spec
     spell-requires

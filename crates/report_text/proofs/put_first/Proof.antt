@@ -1,6 +1,6 @@
 -- `report_text::put_first` meets its contract. Assumes nothing.
 use native.Mathlib.Omega.{arith}
-use Rattle.report_text.specs.TextLaws.{first-is}
+use Rattle.report_text.specs.TextLaws.{first_is}
 use borrow.Author.Rules.{rules}
 use Rattle.report_text.proofs.put_first.Statement.{statement}
 use Rattle.report_text.proofs.put_first.Tie as tie
@@ -21,10 +21,10 @@ same_length : tie.Need-same-length
 same_length c = search rules
 
 returns : tie.Need-returns
-returns c = (search first-is, omega arith)
+returns c = (search first_is, omega arith)
 
-pub put-first-spec : {M : Type 1} → statement M
-put-first-spec =
+pub put_first_spec : {M : Type 1} → statement M
+put_first_spec =
     tie.close
     (tie.spec
     slice-aggregate-put-counted

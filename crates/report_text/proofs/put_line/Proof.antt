@@ -1,6 +1,6 @@
 -- `report_text::put_line` meets its contract. Assumes nothing.
 use native.Mathlib.Omega.{arith}
-use Rattle.report_text.specs.TextLaws.{line-is}
+use Rattle.report_text.specs.TextLaws.{line_is}
 use borrow.Author.Rules.{rules}
 use Rattle.report_text.proofs.put_line.Statement.{statement}
 use Rattle.report_text.proofs.put_line.Tie as tie
@@ -15,7 +15,7 @@ same_length : tie.Need-same-length
 same_length c = search rules
 
 returns : tie.Need-returns
-returns c = (search line-is, omega arith)
+returns c = (search line_is, omega arith)
 
-pub put-line-spec : {M : Type 1} → statement M
-put-line-spec = tie.close (tie.spec put-place-requires put-counted-requires same_length returns)
+pub put_line_spec : {M : Type 1} → statement M
+put_line_spec = tie.close (tie.spec put-place-requires put-counted-requires same_length returns)

@@ -20,6 +20,6 @@ same_length c = search rules
 returns : tie.Need-returns
 returns c = (search lone_is, omega arith)
 
-pub put-lone-spec : {M : Type 1} → statement M
-put-lone-spec =
+pub put_lone_spec : {M : Type 1} → statement M
+put_lone_spec =
     tie.close (tie.spec put-place-requires store-requires add-result same_length returns)

@@ -20,6 +20,6 @@ same_length c = search rules
 returns : tie.Need-returns
 returns c = (search number_is, omega arith)
 
-pub put-number-spec : {M : Type 1} → statement M
-put-number-spec =
+pub put_number_spec : {M : Type 1} → statement M
+put_number_spec =
     tie.close (tie.spec put-decimal-requires slice-write-out add-result same_length returns)

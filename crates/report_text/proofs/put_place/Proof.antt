@@ -17,5 +17,5 @@ same_length c = search rules
 returns : tie.Need-returns
 returns c = (search place_is, omega arith)
 
-pub put-place-spec : {M : Type 1} → statement M
-put-place-spec = tie.close (tie.spec put-number-requires put-number-requires-2 same_length returns)
+pub put_place_spec : {M : Type 1} → statement M
+put_place_spec = tie.close (tie.spec put-number-requires put-number-requires-2 same_length returns)

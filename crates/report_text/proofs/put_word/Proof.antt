@@ -1,6 +1,6 @@
 -- `report_text::put_word` meets its contract. Assumes nothing.
 use native.Mathlib.Omega.{arith}
-use Rattle.report_text.specs.TextLaws.{word-is}
+use Rattle.report_text.specs.TextLaws.{word_is}
 use borrow.Author.Rules.{rules}
 use Rattle.report_text.proofs.put_word.Statement.{statement}
 use Rattle.report_text.proofs.put_word.Tie as tie
@@ -21,8 +21,8 @@ same_length : tie.Need-same-length
 same_length c = search rules
 
 returns : tie.Need-returns
-returns c = (search word-is, omega arith)
+returns c = (search word_is, omega arith)
 
-pub put-word-spec : {M : Type 1} → statement M
-put-word-spec =
+pub put_word_spec : {M : Type 1} → statement M
+put_word_spec =
     tie.close (tie.spec store-requires add-end slice-write-out add-result same_length returns)

@@ -5,7 +5,7 @@ use mathlib.Core.Path.{◌≡◌, refl}
 use mathlib.Core.List.{◌++◌}
 use lib.ListN.{length, drop}
 use Rattle.report_text.specs.Text.{digits}
-use Rattle.report_text.specs.TextLaws.{spell-first, spell-length, spell-more, spell-end}
+use Rattle.report_text.specs.TextLaws.{spell_first, spell_length, spell_more, spell_end}
 use Rattle.report_text.proofs.spell.Statement.{statement}
 use Rattle.report_text.proofs.spell.Tie as tie
 
@@ -16,7 +16,7 @@ abbrev decreases-loop : tie.decreases-loop
 decreases-loop n all₀ v₀ k₀ all v k = k
 
 loop-holds : tie.Need-loop-init invariant-loop decreases-loop
-loop-holds c = (refl, omega arith, search spell-first)
+loop-holds c = (refl, omega arith, search spell_first)
 
 sub-k : tie.Need-overflow-sub-k invariant-loop decreases-loop
 sub-k c = omega arith
@@ -34,13 +34,13 @@ loop-less : tie.Need-loop-smaller invariant-loop decreases-loop
 loop-less c = omega arith
 
 loop-again : tie.Need-loop-preserved invariant-loop decreases-loop
-loop-again c = (search spell-length, omega arith, search spell-more)
+loop-again c = (search spell_length, omega arith, search spell_more)
 
 returns : tie.Need-returns invariant-loop decreases-loop
-returns c = search spell-end
+returns c = search spell_end
 
-pub spell-spec : {M : Type 1} → statement M
-spell-spec =
+pub spell_spec : {M : Type 1} → statement M
+spell_spec =
     tie.close
     (tie.spec
     invariant-loop

@@ -1,6 +1,6 @@
 -- `report_whole::rest_fits` meets its contract. Assumes nothing.
-use Rattle.report_whole.specs.PartLaws.{may-advance, along-more, along-less}
-use Rattle.report_whole.specs.PrintLaws.{along-over, fits_all}
+use Rattle.report_whole.specs.PartLaws.{may_advance, along_more, along_less}
+use Rattle.report_whole.specs.PrintLaws.{along_over, fits_all}
 use Prim.Native.Nat.{◌≤◌}
 use mathlib.Core.Path.{◌≡◌}
 use lib.ListN.{length}
@@ -25,7 +25,7 @@ slice-aggregate-next : tie.Need-slice-aggregate-next invariant-loop decreases-lo
 slice-aggregate-next c = omega arith
 
 next-requires : tie.Need-next-requires invariant-loop decreases-loop
-next-requires c κs = (search may-advance, omega arith)
+next-requires c κs = (search may_advance, omega arith)
 
 sub-if2 : tie.Need-overflow-sub-if2 invariant-loop decreases-loop
 sub-if2 c = omega arith
@@ -34,16 +34,16 @@ same_length : tie.Need-same-length invariant-loop decreases-loop
 same_length c = omega arith
 
 returns : tie.Need-returns invariant-loop decreases-loop
-returns c = search along-over
+returns c = search along_over
 
 add_at : tie.Need-overflow-add-at invariant-loop decreases-loop
 add_at c = omega arith
 
 loop-less : tie.Need-loop-smaller invariant-loop decreases-loop
-loop-less c = search along-less
+loop-less c = search along_less
 
 loop-again : tie.Need-loop-preserved invariant-loop decreases-loop
-loop-again c = (search along-more, omega arith, omega arith, omega arith)
+loop-again c = (search along_more, omega arith, omega arith, omega arith)
 
 same-length-2 : tie.Need-same-length-2 invariant-loop decreases-loop
 same-length-2 c = omega arith
@@ -51,8 +51,8 @@ same-length-2 c = omega arith
 returns-2 : tie.Need-returns-2 invariant-loop decreases-loop
 returns-2 c = search fits_all
 
-pub rest-fits-spec : {M : Type 1} → statement M
-rest-fits-spec =
+pub rest_fits_spec : {M : Type 1} → statement M
+rest_fits_spec =
     tie.close
     (tie.spec
     invariant-loop

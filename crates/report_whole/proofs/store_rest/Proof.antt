@@ -1,6 +1,6 @@
 -- `report_whole::store_rest` meets its contract. Assumes nothing.
-use Rattle.report_whole.specs.PartLaws.{may-advance, along-more, along-room, along-less}
-use Rattle.report_whole.specs.PrintLaws.{along-store, along-area, along-text, all-place, all-area, all-text}
+use Rattle.report_whole.specs.PartLaws.{may_advance, along_more, along_room, along_less}
+use Rattle.report_whole.specs.PrintLaws.{along_store, along_area, along_text, all_place, all_area, all_text}
 use mathlib.Core.Path.{◌≡◌, refl}
 use lib.ListN.{length, drop}
 use lib.Seq.{sets}
@@ -29,7 +29,7 @@ slice-aggregate-next : tie.Need-slice-aggregate-next invariant-loop decreases-lo
 slice-aggregate-next c = omega arith
 
 next-requires : tie.Need-next-requires invariant-loop decreases-loop
-next-requires c κs = (search may-advance, omega arith)
+next-requires c κs = (search may_advance, omega arith)
 
 sub-store : tie.Need-overflow-sub-store invariant-loop decreases-loop
 sub-store c = search rules
@@ -41,21 +41,21 @@ part-store-end : tie.Need-slice-bounds-store-end invariant-loop decreases-loop
 part-store-end c = search rules
 
 store-requires : tie.Need-store-requires invariant-loop decreases-loop
-store-requires c κs = search along-store
+store-requires c κs = search along_store
 
 add_at : tie.Need-overflow-add-at invariant-loop decreases-loop
 add_at c =
     omega (
       arith,
-      along-room _ _ _ _ _ _ _ _
+      along_room _ _ _ _ _ _ _ _
           c.before.before.before.before.before.before.before.before.before.before.before.before.before.before.loop.invariant.0 c.before.before.before.before.before.before.before.before.before.before.before.before.if1.true c.before.before.before.before.before.before.before.before.before.next.ensures.1 c.before.before.before.before.before.before.before.before.before.next.ensures.0,
     )
 
 loop-less : tie.Need-loop-smaller invariant-loop decreases-loop
-loop-less c = search along-less
+loop-less c = search along_less
 
 loop-again : tie.Need-loop-preserved invariant-loop decreases-loop
-loop-again c = (search along-more, omega arith, omega arith, omega arith, search along-area, search along-text)
+loop-again c = (search along_more, omega arith, omega arith, omega arith, search along_area, search along_text)
 
 same_length : tie.Need-same-length invariant-loop decreases-loop
 same_length c = omega arith
@@ -64,10 +64,10 @@ same-length-2 : tie.Need-same-length-2 invariant-loop decreases-loop
 same-length-2 c = omega arith
 
 returns : tie.Need-returns invariant-loop decreases-loop
-returns c = (search all-place, (search all-text, search all-area))
+returns c = (search all_place, (search all_text, search all_area))
 
-pub store-rest-spec : {M : Type 1} → statement M
-store-rest-spec =
+pub store_rest_spec : {M : Type 1} → statement M
+store_rest_spec =
     tie.close
     (tie.spec
     invariant-loop

@@ -1,6 +1,6 @@
 -- `report_whole::store_run` meets its contract. Assumes nothing.
-use Rattle.report_whole.specs.PartLaws.{begun-along}
-use Rattle.report_whole.specs.PrintLaws.{begun-store, begun-text, begun-area}
+use Rattle.report_whole.specs.PartLaws.{begun_along}
+use Rattle.report_whole.specs.PrintLaws.{begun_store, begun_text, begun_area}
 use native.Mathlib.Omega.{arith}
 use borrow.Author.Rules.{rules}
 use Rattle.report_whole.proofs.store_run.Statement.{statement}
@@ -22,10 +22,10 @@ part-store-end : tie.Need-slice-bounds-store-end
 part-store-end c = search rules
 
 store-requires : tie.Need-store-requires
-store-requires c κs = search begun-store
+store-requires c κs = search begun_store
 
 store-rest-requires : tie.Need-store-rest-requires
-store-rest-requires c κs = (search begun-along, omega arith)
+store-rest-requires c κs = (search begun_along, omega arith)
 
 same_length : tie.Need-same-length
 same_length c = search rules
@@ -34,10 +34,10 @@ same-length-2 : tie.Need-same-length-2
 same-length-2 c = search rules
 
 returns : tie.Need-returns
-returns c = (search rules, (search begun-text, search begun-area))
+returns c = (search rules, (search begun_text, search begun_area))
 
-pub store-run-spec : {M : Type 1} → statement M
-store-run-spec =
+pub store_run_spec : {M : Type 1} → statement M
+store_run_spec =
     tie.close
     (tie.spec
     slice-aggregate-first

@@ -1,6 +1,6 @@
 -- `sheet_check::address_wrong` meets its contract. Assumes nothing.
 use Prim.Native.Nat.{◌-◌}
-use Rattle.sheet_check.specs.PlainLaws.{wrong-is}
+use Rattle.sheet_check.specs.PlainLaws.{wrong_is}
 use borrow.Author.Rules.{rules}
 use Rattle.sheet_check.proofs.address_wrong.Statement.{statement}
 use Rattle.sheet_check.proofs.address_wrong.Tie as tie
@@ -18,8 +18,8 @@ either-requires : tie.Need-either-requires
 either-requires c κs = search rules
 
 returns : tie.Need-returns
-returns c = search wrong-is
+returns c = search wrong_is
 
-pub address-wrong-spec : {M : Type 1} → statement M
-address-wrong-spec =
+pub address_wrong_spec : {M : Type 1} → statement M
+address_wrong_spec =
     tie.close (tie.spec mul-group shared-slice-read-group repeats-requires either-requires returns)

@@ -1,5 +1,5 @@
 -- `sheet_check::figures_out` meets its contract. Assumes nothing.
-use Rattle.sheet_layout.specs.CheckLaws.{figures-is}
+use Rattle.sheet_layout.specs.CheckLaws.{figures_is}
 use borrow.Author.Rules.{rules}
 use Rattle.sheet_check.proofs.figures_out.Statement.{statement}
 use Rattle.sheet_check.proofs.figures_out.Tie as tie
@@ -44,10 +44,10 @@ either-requires-6 : tie.Need-either-requires-6
 either-requires-6 c κs = search rules
 
 returns : tie.Need-returns
-returns c = search figures-is
+returns c = search figures_is
 
-pub figures-out-spec : {M : Type 1} → statement M
-figures-out-spec =
+pub figures_out_spec : {M : Type 1} → statement M
+figures_out_spec =
     tie.close
     (tie.spec
     out-of-requires

@@ -1,5 +1,5 @@
 -- `sheet_check::gap1_out` meets its contract. Assumes nothing.
-use Rattle.sheet_layout.specs.CheckLaws.{gap1-is}
+use Rattle.sheet_layout.specs.CheckLaws.{gap1_is}
 use borrow.Author.Rules.{rules}
 use Rattle.sheet_check.proofs.gap1_out.Statement.{statement}
 use Rattle.sheet_check.proofs.gap1_out.Tie as tie
@@ -20,9 +20,9 @@ either-requires : tie.Need-either-requires
 either-requires c κs = search rules
 
 returns : tie.Need-returns
-returns c = search gap1-is
+returns c = search gap1_is
 
-pub gap1-out-spec : {M : Type 1} → statement M
-gap1-out-spec =
+pub gap1_out_spec : {M : Type 1} → statement M
+gap1_out_spec =
     tie.close
     (tie.spec out-of-requires cast-either mul-either cast-either-2 either-requires returns)

@@ -3,7 +3,7 @@ use mir.Syntax.{w8}
 use mir.Val.{Fits}
 use lib.ListN.{get_or}
 use Rattle.sheet_check.specs.PlainLaws.{number_is}
-use Rattle.octets.specs.NumberLaws.{octets-by}
+use Rattle.octets.specs.NumberLaws.{octets_by}
 use borrow.Author.Rules.{rules}
 use Rattle.sheet_check.proofs.number.Statement.{statement}
 use Rattle.sheet_check.proofs.number.Tie as tie
@@ -36,14 +36,14 @@ returns : tie.Need-returns
 returns c = (
   search number_is,
   (
-    octets-by _
+    octets_by _
         (λ k. let f : Fits w8 (get_or c.before.before.before.before.args.t1 k 0) = search rules in f.fits),
     search rules,
   ),
 )
 
-pub number-spec : {M : Type 1} → statement M
-number-spec =
+pub number_spec : {M : Type 1} → statement M
+number_spec =
     tie.close
     (tie.spec
     slice-aggregate-get16

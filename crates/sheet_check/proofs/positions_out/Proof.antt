@@ -4,20 +4,20 @@ use Prim.Native.Nat.{◌≤◌, ◌-◌}
 use mathlib.Core.Path.{◌≡◌}
 use mathlib.Core.Bool.{false}
 use Rattle.octets.specs.Base.{some}
-use Rattle.octets.specs.BaseLaws.{some-none, some_end}
-use Rattle.sheet_check.specs.Plain.{highAt}
-use Rattle.sheet_check.specs.PlainLaws.{high-more, high-hit}
+use Rattle.octets.specs.BaseLaws.{some_none, some_end}
+use Rattle.sheet_check.specs.Plain.{high_at}
+use Rattle.sheet_check.specs.PlainLaws.{high_more, high_hit}
 use Rattle.sheet_check.proofs.positions_out.Statement.{statement}
 use Rattle.sheet_check.proofs.positions_out.Tie as tie
 
 abbrev invariant-loop : tie.invariant-loop
-invariant-loop positions n i₀ i = (i ≤ n) × (some (highAt positions) i ≡ false)
+invariant-loop positions n i₀ i = (i ≤ n) × (some (high_at positions) i ≡ false)
 
 abbrev decreases-loop : tie.decreases-loop
 decreases-loop positions n i₀ i = n - i
 
 loop-holds : tie.Need-loop-init invariant-loop decreases-loop
-loop-holds c = (omega arith, search some-none)
+loop-holds c = (omega arith, search some_none)
 
 mul-if1 : tie.Need-overflow-mul-if1 invariant-loop decreases-loop
 mul-if1 c = omega arith
@@ -26,7 +26,7 @@ shared-slice-read-if1 : tie.Need-shared-slice-read-if1 invariant-loop decreases-
 shared-slice-read-if1 c = omega arith
 
 returns : tie.Need-returns invariant-loop decreases-loop
-returns c = search high-hit
+returns c = search high_hit
 
 add-i : tie.Need-overflow-add-i invariant-loop decreases-loop
 add-i c = omega arith
@@ -35,13 +35,13 @@ loop-less : tie.Need-loop-smaller invariant-loop decreases-loop
 loop-less c = omega arith
 
 loop-again : tie.Need-loop-preserved invariant-loop decreases-loop
-loop-again c = (omega arith, search high-more)
+loop-again c = (omega arith, search high_more)
 
 returns-2 : tie.Need-returns-2 invariant-loop decreases-loop
 returns-2 c = search some_end
 
-pub positions-out-spec : {M : Type 1} → statement M
-positions-out-spec =
+pub positions_out_spec : {M : Type 1} → statement M
+positions_out_spec =
     tie.close
     (tie.spec
     invariant-loop

@@ -1,6 +1,6 @@
 -- `sheet_check::refusal` meets its contract. Assumes nothing.
 use Prim.Native.Nat.{◌-◌}
-use Rattle.sheet_check.specs.PlainLaws.{refusal-figures, refusal-plain}
+use Rattle.sheet_check.specs.PlainLaws.{refusal_figures, refusal_plain}
 use borrow.Author.Rules.{rules}
 use Rattle.sheet_check.proofs.refusal.Statement.{statement}
 use Rattle.sheet_check.proofs.refusal.Tie as tie
@@ -9,7 +9,7 @@ figures-out-requires : tie.Need-figures-out-requires
 figures-out-requires c κs = search rules
 
 returns : tie.Need-returns
-returns c = search refusal-figures
+returns c = search refusal_figures
 
 places-requires : tie.Need-places-requires
 places-requires c κs = search rules
@@ -33,10 +33,10 @@ stations-refusal-requires : tie.Need-stations-refusal-requires
 stations-refusal-requires c κs = search rules
 
 returns-2 : tie.Need-returns-2
-returns-2 c = search refusal-plain
+returns-2 c = search refusal_plain
 
-pub refusal-spec : {M : Type 1} → statement M
-refusal-spec =
+pub refusal_spec : {M : Type 1} → statement M
+refusal_spec =
     tie.close
     (tie.spec
     figures-out-requires

@@ -4,20 +4,20 @@ use Prim.Native.Nat.{◌≤◌, ◌-◌}
 use mathlib.Core.Path.{◌≡◌}
 use mathlib.Core.Bool.{false}
 use Rattle.octets.specs.Base.{some}
-use Rattle.octets.specs.BaseLaws.{some-none, some_end}
-use Rattle.sheet_check.specs.Plain.{dropsAt}
-use Rattle.sheet_check.specs.PlainLaws.{drops-more, drops-hit}
+use Rattle.octets.specs.BaseLaws.{some_none, some_end}
+use Rattle.sheet_check.specs.Plain.{drops_at}
+use Rattle.sheet_check.specs.PlainLaws.{drops_more, drops_hit}
 use Rattle.sheet_check.proofs.unordered.Statement.{statement}
 use Rattle.sheet_check.proofs.unordered.Tie as tie
 
 abbrev invariant-loop : tie.invariant-loop
-invariant-loop positions n i₀ i = (i ≤ n) × (some (dropsAt positions) i ≡ false)
+invariant-loop positions n i₀ i = (i ≤ n) × (some (drops_at positions) i ≡ false)
 
 abbrev decreases-loop : tie.decreases-loop
 decreases-loop positions n i₀ i = n - i
 
 loop-holds : tie.Need-loop-init invariant-loop decreases-loop
-loop-holds c = (omega arith, search some-none)
+loop-holds c = (omega arith, search some_none)
 
 add-if1 : tie.Need-overflow-add-if1 invariant-loop decreases-loop
 add-if1 c = omega arith
@@ -35,7 +35,7 @@ shared-slice-read-if1-2 : tie.Need-shared-slice-read-if1-2 invariant-loop decrea
 shared-slice-read-if1-2 c = omega arith
 
 returns : tie.Need-returns invariant-loop decreases-loop
-returns c = search drops-hit
+returns c = search drops_hit
 
 add-i : tie.Need-overflow-add-i invariant-loop decreases-loop
 add-i c = omega arith
@@ -44,13 +44,13 @@ loop-less : tie.Need-loop-smaller invariant-loop decreases-loop
 loop-less c = omega arith
 
 loop-again : tie.Need-loop-preserved invariant-loop decreases-loop
-loop-again c = (omega arith, search drops-more)
+loop-again c = (omega arith, search drops_more)
 
 returns-2 : tie.Need-returns-2 invariant-loop decreases-loop
 returns-2 c = search some_end
 
-pub unordered-spec : {M : Type 1} → statement M
-unordered-spec =
+pub unordered_spec : {M : Type 1} → statement M
+unordered_spec =
     tie.close
     (tie.spec
     invariant-loop

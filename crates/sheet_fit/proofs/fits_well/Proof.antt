@@ -1,5 +1,5 @@
 -- `sheet_fit::fits_well` meets its contract. Assumes nothing.
-use Rattle.sheet_layout.specs.CheckLaws.{fits-is}
+use Rattle.sheet_layout.specs.CheckLaws.{fits_is}
 use borrow.Author.Rules.{rules}
 use Rattle.sheet_fit.proofs.fits_well.Statement.{statement}
 use Rattle.sheet_fit.proofs.fits_well.Tie as tie
@@ -38,10 +38,10 @@ both-requires-2 : tie.Need-both-requires-2
 both-requires-2 c κs = search rules
 
 returns : tie.Need-returns
-returns c = search fits-is
+returns c = search fits_is
 
-pub fits-well-spec : {M : Type 1} → statement M
-fits-well-spec =
+pub fits_well_spec : {M : Type 1} → statement M
+fits_well_spec =
     tie.close
     (tie.spec
     span-requires

@@ -17,5 +17,5 @@ add-result c = search rules
 returns : tie.Need-returns
 returns c = (search gap_is, omega arith)
 
-pub gap-spec : {M : Type 1} → statement M
-gap-spec = tie.close (tie.spec cast-result cast-result-2 add-result returns)
+pub gap_spec : {M : Type 1} → statement M
+gap_spec = tie.close (tie.spec cast-result cast-result-2 add-result returns)

@@ -1,5 +1,5 @@
 -- `sheet_fit::outward` meets its contract. Assumes nothing.
-use Rattle.sheet_fit.specs.MarginLaws.{round-left, position-left, outward-round, outward-position}
+use Rattle.sheet_fit.specs.MarginLaws.{round_left, position_left, outward_round, outward_position}
 use borrow.Author.Rules.{rules}
 use Rattle.sheet_fit.proofs.outward.Statement.{statement}
 use Rattle.sheet_fit.proofs.outward.Tie as tie
@@ -20,7 +20,7 @@ cast-half : tie.Need-overflow-cast-half
 cast-half c = search rules
 
 sub-half : tie.Need-overflow-sub-half
-sub-half c = search round-left
+sub-half c = search round_left
 
 cast-last : tie.Need-overflow-cast-last
 cast-last c = search rules
@@ -35,7 +35,7 @@ element-copy-out-last : tie.Need-element-copy-out-last
 element-copy-out-last c = search rules
 
 sub-end : tie.Need-overflow-sub-end
-sub-end c = search position-left
+sub-end c = search position_left
 
 cast-if1 : tie.Need-overflow-cast-if1
 cast-if1 c = search rules
@@ -44,13 +44,13 @@ cast-result : tie.Need-overflow-cast-result
 cast-result c = search rules
 
 returns : tie.Need-returns
-returns c = search outward-round
+returns c = search outward_round
 
 returns-2 : tie.Need-returns-2
-returns-2 c = search outward-position
+returns-2 c = search outward_position
 
-pub outward-spec : {M : Type 1} → statement M
-outward-spec =
+pub outward_spec : {M : Type 1} → statement M
+outward_spec =
     tie.close
     (tie.spec
     span-requires

@@ -1,5 +1,5 @@
 -- `sheet_fit::span` meets its contract. Assumes nothing.
-use Rattle.sheet_layout.specs.CheckLaws.{span-apart, span_none}
+use Rattle.sheet_layout.specs.CheckLaws.{span_apart, span_none}
 use borrow.Author.Rules.{rules}
 use Rattle.sheet_fit.proofs.span.Statement.{statement}
 use Rattle.sheet_fit.proofs.span.Tie as tie
@@ -23,13 +23,13 @@ sub-result : tie.Need-overflow-sub-result
 sub-result c = search rules
 
 returns : tie.Need-returns
-returns c = search span-apart
+returns c = search span_apart
 
 returns-2 : tie.Need-returns-2
 returns-2 c = search span_none
 
-pub span-spec : {M : Type 1} → statement M
-span-spec =
+pub span_spec : {M : Type 1} → statement M
+span_spec =
     tie.close
     (tie.spec
     cast-n

@@ -28,8 +28,8 @@ add-result-7 c = search rules
 returns : tie.Need-returns
 returns c = (search ends_is, search rules)
 
-pub fields-end-spec : {M : Type 1} → statement M
-fields-end-spec =
+pub fields_end_spec : {M : Type 1} → statement M
+fields_end_spec =
     tie.close
     (tie.spec
     add-result

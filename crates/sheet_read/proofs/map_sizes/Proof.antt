@@ -1,5 +1,5 @@
 -- `sheet_read::map_sizes` meets its contract. Assumes nothing.
-use Rattle.sheet_read.specs.SheetLaws.{sizes-is}
+use Rattle.sheet_read.specs.SheetLaws.{sizes_is}
 use borrow.Author.Rules.{rules}
 use Rattle.sheet_read.proofs.map_sizes.Statement.{statement}
 use Rattle.sheet_read.proofs.map_sizes.Tie as tie
@@ -26,10 +26,10 @@ field-size-requires-7 : tie.Need-field-size-requires-7
 field-size-requires-7 c κs = search rules
 
 returns : tie.Need-returns
-returns c = (search sizes-is, search rules)
+returns c = (search sizes_is, search rules)
 
-pub map-sizes-spec : {M : Type 1} → statement M
-map-sizes-spec =
+pub map_sizes_spec : {M : Type 1} → statement M
+map_sizes_spec =
     tie.close
     (tie.spec
     field-size-requires

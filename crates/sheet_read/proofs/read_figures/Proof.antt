@@ -1,5 +1,5 @@
 -- `sheet_read::read_figures` meets its contract. Assumes nothing.
-use Rattle.sheet_read.specs.SheetLaws.{figures-of}
+use Rattle.sheet_read.specs.SheetLaws.{figures_of_lem}
 use native.Mathlib.Omega.{arith}
 use borrow.Author.Rules.{rules}
 use Rattle.sheet_read.proofs.read_figures.Statement.{statement}
@@ -47,10 +47,10 @@ read-field-requires-7 c κs =
     (omega (arith, c.before.before.before.before.before.before.before.before.before.before.before.before.before.requires), omega (arith, c.before.before.before.before.before.before.before.before.before.before.before.before.before.requires))
 
 returns : tie.Need-returns
-returns c = search figures-of
+returns c = search figures_of_lem
 
-pub read-figures-spec : {M : Type 1} → statement M
-read-figures-spec =
+pub read_figures_spec : {M : Type 1} → statement M
+read_figures_spec =
     tie.close
     (tie.spec
     add-gap1-at

@@ -1,5 +1,5 @@
 -- `sheet_read::read_layout` meets its contract. Assumes nothing.
-use Rattle.sheet_read.specs.SheetLaws.{layout-of}
+use Rattle.sheet_read.specs.SheetLaws.{layout_of_lem}
 use borrow.Author.Rules.{rules}
 use Rattle.sheet_read.proofs.read_layout.Statement.{statement}
 use Rattle.sheet_read.proofs.read_layout.Tie as tie
@@ -17,9 +17,9 @@ read-taps-requires : tie.Need-read-taps-requires
 read-taps-requires c κs = search rules
 
 returns : tie.Need-returns
-returns c = search layout-of
+returns c = search layout_of_lem
 
-pub read-layout-spec : {M : Type 1} → statement M
-read-layout-spec =
+pub read_layout_spec : {M : Type 1} → statement M
+read_layout_spec =
     tie.close
     (tie.spec read-figures-requires add-read-taps places-requires read-taps-requires returns)

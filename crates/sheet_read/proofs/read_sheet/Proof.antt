@@ -1,6 +1,6 @@
 -- `sheet_read::read_sheet` meets its contract. Assumes nothing.
-use Rattle.sheet_read.specs.SheetLaws.{sheet-empty, sheet-no-count, sheet-short, sheet-unknown, sheet-refused}
-use Rattle.sheet_read.specs.SheetLaws.{sheet-read}
+use Rattle.sheet_read.specs.SheetLaws.{sheet_empty, sheet_no_count, sheet_short, sheet_unknown, sheet_refused}
+use Rattle.sheet_read.specs.SheetLaws.{sheet_read}
 use borrow.Author.Rules.{rules}
 use Rattle.sheet_read.proofs.read_sheet.Statement.{statement}
 use Rattle.sheet_read.proofs.read_sheet.Tie as tie
@@ -9,7 +9,7 @@ unread-sheet-requires : tie.Need-unread-sheet-requires
 unread-sheet-requires c κs = search rules
 
 returns : tie.Need-returns
-returns c = search sheet-empty
+returns c = search sheet_empty
 
 shared-slice-read-wide : tie.Need-shared-slice-read-wide
 shared-slice-read-wide c = search rules
@@ -27,7 +27,7 @@ unread-sheet-requires-2 : tie.Need-unread-sheet-requires-2
 unread-sheet-requires-2 c κs = search rules
 
 returns-2 : tie.Need-returns-2
-returns-2 c = search sheet-no-count
+returns-2 c = search sheet_no_count
 
 shared-slice-read-wide-2 : tie.Need-shared-slice-read-wide-2
 shared-slice-read-wide-2 c = search rules
@@ -51,13 +51,13 @@ unread-sheet-requires-3 : tie.Need-unread-sheet-requires-3
 unread-sheet-requires-3 c κs = search rules
 
 returns-3 : tie.Need-returns-3
-returns-3 c = search sheet-short
+returns-3 c = search sheet_short
 
 unread-sheet-requires-4 : tie.Need-unread-sheet-requires-4
 unread-sheet-requires-4 c κs = search rules
 
 returns-4 : tie.Need-returns-4
-returns-4 c = search sheet-unknown
+returns-4 c = search sheet_unknown
 
 read-layout-requires : tie.Need-read-layout-requires
 read-layout-requires c κs = search rules
@@ -69,13 +69,13 @@ unread-sheet-requires-5 : tie.Need-unread-sheet-requires-5
 unread-sheet-requires-5 c κs = search rules
 
 returns-5 : tie.Need-returns-5
-returns-5 c = search sheet-refused
+returns-5 c = search sheet_refused
 
 returns-6 : tie.Need-returns-6
-returns-6 c = search sheet-read
+returns-6 c = search sheet_read
 
-pub read-sheet-spec : {M : Type 1} → statement M
-read-sheet-spec =
+pub read_sheet_spec : {M : Type 1} → statement M
+read_sheet_spec =
     tie.close
     (tie.spec
     unread-sheet-requires

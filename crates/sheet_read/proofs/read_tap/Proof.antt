@@ -1,5 +1,5 @@
 -- `sheet_read::read_tap` meets its contract. Assumes nothing.
-use Rattle.sheet_read.specs.SheetLaws.{tap-in}
+use Rattle.sheet_read.specs.SheetLaws.{tap_in_lem}
 use borrow.Author.Rules.{rules}
 use Rattle.sheet_read.proofs.read_tap.Statement.{statement}
 use Rattle.sheet_read.proofs.read_tap.Tie as tie
@@ -17,8 +17,8 @@ wide-requires : tie.Need-wide-requires
 wide-requires c κs = search rules
 
 returns : tie.Need-returns
-returns c = search tap-in
+returns c = search tap_in_lem
 
-pub read-tap-spec : {M : Type 1} → statement M
-read-tap-spec =
+pub read_tap_spec : {M : Type 1} → statement M
+read_tap_spec =
     tie.close (tie.spec add_six six-requires shared-slice-read-wide wide-requires returns)

@@ -1,5 +1,5 @@
 -- `sheet_write::absent` meets its contract. Assumes nothing.
-use Rattle.sheet_write.specs.WriteLaws.{row-absent}
+use Rattle.sheet_write.specs.WriteLaws.{row_absent}
 use borrow.Author.Rules.{rules}
 use Rattle.sheet_write.proofs.absent.Statement.{statement}
 use Rattle.sheet_write.proofs.absent.Tie as tie
@@ -11,7 +11,7 @@ array-read-result : tie.Need-array-read-result
 array-read-result c = search rules
 
 returns : tie.Need-returns
-returns c = search row-absent
+returns c = search row_absent
 
-pub absent-spec : {M : Type 1} → statement M
-absent-spec = tie.close (tie.spec mul-result array-read-result returns)
+pub absent_spec : {M : Type 1} → statement M
+absent_spec = tie.close (tie.spec mul-result array-read-result returns)

@@ -3,13 +3,13 @@ use native.Mathlib.Omega.{arith}
 use lib.ListN.{length}
 use mathlib.Core.Path.{◌≡◌}
 use Prim.Native.Nat.{◌-◌, ◌*◌, ◌≤◌}
-use Rattle.sheet_write.specs.Write.{fieldsOctets}
-use Rattle.sheet_write.specs.WriteLaws.{fields-none, fields-size, fields-sized}
+use Rattle.sheet_write.specs.Write.{fields_octets}
+use Rattle.sheet_write.specs.WriteLaws.{fields_none, fields_size, fields_sized}
 use Rattle.sheet_write.proofs.fields_size.Statement.{statement}
 use Rattle.sheet_write.proofs.fields_size.Tie as tie
 
 abbrev invariant-loop : tie.invariant-loop
-invariant-loop all size₀ k₀ size k = (k ≤ 7) × (size ≡ length (fieldsOctets all k)) × (size ≤ 2 * k)
+invariant-loop all size₀ k₀ size k = (k ≤ 7) × (size ≡ length (fields_octets all k)) × (size ≤ 2 * k)
 
 abbrev decreases-loop : tie.decreases-loop
 decreases-loop all size₀ k₀ size k = 7 - k
@@ -18,7 +18,7 @@ values-requires : tie.Need-values-requires invariant-loop decreases-loop
 values-requires c κs = omega arith
 
 loop-holds : tie.Need-loop-init invariant-loop decreases-loop
-loop-holds c = (omega arith, search fields-none, omega arith)
+loop-holds c = (omega arith, search fields_none, omega arith)
 
 mul-field-size : tie.Need-overflow-mul-field-size invariant-loop decreases-loop
 mul-field-size c = omega arith
@@ -39,13 +39,13 @@ loop-less : tie.Need-loop-smaller invariant-loop decreases-loop
 loop-less c = omega arith
 
 loop-again : tie.Need-loop-preserved invariant-loop decreases-loop
-loop-again c = (omega arith, search fields-size, omega arith)
+loop-again c = (omega arith, search fields_size, omega arith)
 
 returns : tie.Need-returns invariant-loop decreases-loop
-returns c = (search fields-sized, omega arith)
+returns c = (search fields_sized, omega arith)
 
-pub fields-size-spec : {M : Type 1} → statement M
-fields-size-spec =
+pub fields_size_spec : {M : Type 1} → statement M
+fields_size_spec =
     tie.close
     (tie.spec
     invariant-loop

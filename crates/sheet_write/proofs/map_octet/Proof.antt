@@ -2,13 +2,13 @@
 use native.Mathlib.Omega.{arith}
 use mathlib.Core.Path.{◌≡◌}
 use Prim.Native.Nat.{◌-◌, ◌<◌, ◌≤◌}
-use Rattle.sheet_write.specs.Write.{mapFrom}
-use Rattle.sheet_write.specs.WriteLaws.{map_first, map_more, map-lower, map-end}
+use Rattle.sheet_write.specs.Write.{map_from}
+use Rattle.sheet_write.specs.WriteLaws.{map_first, map_more, map_lower, map_end}
 use Rattle.sheet_write.proofs.map_octet.Statement.{statement}
 use Rattle.sheet_write.proofs.map_octet.Tie as tie
 
 abbrev invariant-loop : tie.invariant-loop
-invariant-loop all map₀ k₀ map k = (k ≤ 7) × (map ≡ mapFrom all k (7 - k)) × (map < 128)
+invariant-loop all map₀ k₀ map k = (k ≤ 7) × (map ≡ map_from all k (7 - k)) × (map < 128)
 
 abbrev decreases-loop : tie.decreases-loop
 decreases-loop all map₀ k₀ map k = k
@@ -41,13 +41,13 @@ loop-less : tie.Need-loop-smaller invariant-loop decreases-loop
 loop-less c = omega arith
 
 loop-again : tie.Need-loop-preserved invariant-loop decreases-loop
-loop-again c = (omega arith, search map_more, search map-lower)
+loop-again c = (omega arith, search map_more, search map_lower)
 
 returns : tie.Need-returns invariant-loop decreases-loop
-returns c = (search map-end, omega arith)
+returns c = (search map_end, omega arith)
 
-pub map-octet-spec : {M : Type 1} → statement M
-map-octet-spec =
+pub map_octet_spec : {M : Type 1} → statement M
+map_octet_spec =
     tie.close
     (tie.spec
     invariant-loop

@@ -1,7 +1,7 @@
 -- `sheet_write::put_field` meets its contract. Assumes nothing.
 use native.Mathlib.Omega.{arith}
 use lib.ListN.{length-set}
-use Rattle.sheet_write.specs.WriteLaws.{end_none, put-none, end-one, end-both, put_one, put_both}
+use Rattle.sheet_write.specs.WriteLaws.{end_none, put_none, end_one, end_both, put_one, put_both}
 use borrow.Author.Rules.{rules}
 use Rattle.sheet_write.proofs.put_field.Statement.{statement}
 use Rattle.sheet_write.proofs.put_field.Tie as tie
@@ -10,7 +10,7 @@ absent-requires : tie.Need-absent-requires
 absent-requires c κs = search rules
 
 returns : tie.Need-returns
-returns c = (search end_none, (search put-none, omega arith))
+returns c = (search end_none, (search put_none, omega arith))
 
 field-width-requires : tie.Need-field-width-requires
 field-width-requires c κs = search rules
@@ -28,7 +28,7 @@ same_length : tie.Need-same-length
 same_length c = search rules
 
 returns-2 : tie.Need-returns-2
-returns-2 c = (search end-one, (search put_one, omega arith))
+returns-2 c = (search end_one, (search put_one, omega arith))
 
 cast-out-2 : tie.Need-overflow-cast-out-2
 cast-out-2 c = search rules
@@ -39,8 +39,8 @@ slice-write-out-2 c = search rules
 cast-out-3 : tie.Need-overflow-cast-out-3
 cast-out-3 c = search rules
 
-add-out : tie.Need-overflow-add-out
-add-out c = search rules
+add_out : tie.Need-overflow-add-out
+add_out c = search rules
 
 slice-write-out-3 : tie.Need-slice-write-out-3
 slice-write-out-3 c = simp length-set (omega arith)
@@ -52,10 +52,10 @@ same-length-2 : tie.Need-same-length-2
 same-length-2 c = search rules
 
 returns-3 : tie.Need-returns-3
-returns-3 c = (search end-both, (search put_both, omega arith))
+returns-3 c = (search end_both, (search put_both, omega arith))
 
-pub put-field-spec : {M : Type 1} → statement M
-put-field-spec =
+pub put_field_spec : {M : Type 1} → statement M
+put_field_spec =
     tie.close
     (tie.spec
     absent-requires
@@ -69,7 +69,7 @@ put-field-spec =
     cast-out-2
     slice-write-out-2
     cast-out-3
-    add-out
+    add_out
     slice-write-out-3
     add-result-2
     same-length-2

@@ -1,5 +1,5 @@
 -- `sheet_write::put_head` meets its contract. Assumes nothing.
-use Rattle.sheet_write.specs.WriteLaws.{head-end, head-put}
+use Rattle.sheet_write.specs.WriteLaws.{head_end, head_put}
 use borrow.Author.Rules.{rules}
 use Rattle.sheet_write.proofs.put_head.Statement.{statement}
 use Rattle.sheet_write.proofs.put_head.Tie as tie
@@ -20,9 +20,9 @@ same_length : tie.Need-same-length
 same_length c = search rules
 
 returns : tie.Need-returns
-returns c = (search head-end, search head-put)
+returns c = (search head_end, search head_put)
 
-pub put-head-spec : {M : Type 1} → statement M
-put-head-spec =
+pub put_head_spec : {M : Type 1} → statement M
+put_head_spec =
     tie.close
     (tie.spec map-octet-requires put-fields-requires cast-out slice-write-out same_length returns)

@@ -1,5 +1,5 @@
 -- `sheet_write::put_stations` meets its contract. Assumes nothing.
-use Rattle.sheet_write.specs.WriteLaws.{tap-put}
+use Rattle.sheet_write.specs.WriteLaws.{tap_put_lem}
 use borrow.Author.Rules.{rules}
 use Rattle.sheet_write.proofs.put_stations.Statement.{statement}
 use Rattle.sheet_write.proofs.put_stations.Tie as tie
@@ -23,10 +23,10 @@ same_length : tie.Need-same-length
 same_length c = search rules
 
 returns : tie.Need-returns
-returns c = search tap-put
+returns c = search tap_put_lem
 
-pub put-stations-spec : {M : Type 1} → statement M
-put-stations-spec =
+pub put_stations_spec : {M : Type 1} → statement M
+put_stations_spec =
     tie.close
     (tie.spec
     add-put-taps

@@ -1,5 +1,5 @@
 -- `sheet_write::put_tap` meets its contract. Assumes nothing.
-use Rattle.sheet_write.specs.WriteLaws.{tap-put}
+use Rattle.sheet_write.specs.WriteLaws.{tap_put_lem}
 use borrow.Author.Rules.{rules}
 use Rattle.sheet_write.proofs.put_tap.Statement.{statement}
 use Rattle.sheet_write.proofs.put_tap.Tie as tie
@@ -23,10 +23,10 @@ same_length : tie.Need-same-length
 same_length c = search rules
 
 returns : tie.Need-returns
-returns c = (search tap-put, search rules)
+returns c = (search tap_put_lem, search rules)
 
-pub put-tap-spec : {M : Type 1} → statement M
-put-tap-spec =
+pub put_tap_spec : {M : Type 1} → statement M
+put_tap_spec =
     tie.close
     (tie.spec
     add-store

@@ -1,5 +1,5 @@
 -- `sheet_write::sheet_size` meets its contract. Assumes nothing.
-use Rattle.sheet_write.specs.WriteLaws.{sheet-size, sheet-parts, sheet-most}
+use Rattle.sheet_write.specs.WriteLaws.{sheet_size_lem, sheet_parts, sheet_most}
 use borrow.Author.Rules.{rules}
 use Rattle.sheet_write.proofs.sheet_size.Statement.{statement}
 use Rattle.sheet_write.proofs.sheet_size.Tie as tie
@@ -20,10 +20,10 @@ add-result-2 : tie.Need-overflow-add-result-2
 add-result-2 c = search rules
 
 returns : tie.Need-returns
-returns c = (search sheet-size, (search sheet-parts, search sheet-most))
+returns c = (search sheet_size_lem, (search sheet_parts, search sheet_most))
 
-pub sheet-size-spec : {M : Type 1} → statement M
-sheet-size-spec =
+pub sheet_size_spec : {M : Type 1} → statement M
+sheet_size_spec =
     tie.close
     (tie.spec
     cast-taps-size

@@ -1,5 +1,5 @@
 -- `sheet_write::write_sheet` meets its contract. Assumes nothing.
-use Rattle.sheet_write.specs.WriteLaws.{write-refused, write-short, write-made, count_low, count-high}
+use Rattle.sheet_write.specs.WriteLaws.{write_refused, write_short, write_made, count_low, count_high}
 use native.Mathlib.Omega.{arith}
 use borrow.Author.Rules.{rules}
 use Rattle.sheet_write.proofs.write_sheet.Statement.{statement}
@@ -9,16 +9,16 @@ refusal-requires : tie.Need-refusal-requires
 refusal-requires c κs = search rules
 
 returns : tie.Need-returns
-returns c = search write-refused
+returns c = search write_refused
 
 sheet-size-requires : tie.Need-sheet-size-requires
-sheet-size-requires c κs = search count-high
+sheet-size-requires c κs = search count_high
 
 returns-2 : tie.Need-returns-2
-returns-2 c = search write-short
+returns-2 c = search write_short
 
 put-sheet-requires : tie.Need-put-sheet-requires
-put-sheet-requires c κs = ((search count_low, search count-high), omega arith)
+put-sheet-requires c κs = ((search count_low, search count_high), omega arith)
 
 cast-t10 : tie.Need-overflow-cast-t10
 cast-t10 c = search rules
@@ -27,10 +27,10 @@ same_length : tie.Need-same-length
 same_length c = search rules
 
 returns-3 : tie.Need-returns-3
-returns-3 c = search write-made
+returns-3 c = search write_made
 
-pub write-sheet-spec : {M : Type 1} → statement M
-write-sheet-spec =
+pub write_sheet_spec : {M : Type 1} → statement M
+write_sheet_spec =
     tie.close
     (tie.spec
     refusal-requires

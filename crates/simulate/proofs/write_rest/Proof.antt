@@ -1,6 +1,6 @@
 -- `simulate::write_rest` meets its contract. Assumes nothing.
-use Rattle.report_whole.specs.PartLaws.{may-advance, along-part, along-less}
-use Rattle.simulate.specs.Written.{most, next-room, next-end, next-most, not_done, all_done}
+use Rattle.report_whole.specs.PartLaws.{may_advance, along_part, along_less}
+use Rattle.simulate.specs.Written.{most, next_room, next_end, next_most, not_done, all_done}
 use Prim.Native.Nat.{◌+◌, ◌*◌, ◌≤◌}
 use mathlib.Core.Path.{◌≡◌}
 use lib.ListN.{length}
@@ -25,7 +25,7 @@ slice-aggregate-next : tie.Need-slice-aggregate-next invariant-loop decreases-lo
 slice-aggregate-next c = omega arith
 
 next-requires : tie.Need-next-requires invariant-loop decreases-loop
-next-requires c κs = (search may-advance, omega arith)
+next-requires c κs = (search may_advance, omega arith)
 
 sub-write-piece : tie.Need-overflow-sub-write-piece invariant-loop decreases-loop
 sub-write-piece c = search rules
@@ -38,7 +38,7 @@ part-write-piece-end c = search rules
 
 write-piece-requires : tie.Need-write-piece-requires invariant-loop decreases-loop
 write-piece-requires c κs =
-    (along-part _ _ _ _ _ _ _ _ c.before.before.before.before.before.before.before.before.before.before.loop.invariant.0 c.before.before.before.before.before.before.before.before.if1.true c.before.before.before.before.before.next.ensures.1 c.before.before.before.before.before.next.ensures.0, search next-room)
+    (along_part _ _ _ _ _ _ _ _ c.before.before.before.before.before.before.before.before.before.before.loop.invariant.0 c.before.before.before.before.before.before.before.before.if1.true c.before.before.before.before.before.next.ensures.1 c.before.before.before.before.before.next.ensures.0, search next_room)
 
 same_length : tie.Need-same-length invariant-loop decreases-loop
 same_length c = omega arith
@@ -47,10 +47,10 @@ returns : tie.Need-returns invariant-loop decreases-loop
 returns c = search not_done
 
 loop-less : tie.Need-loop-smaller invariant-loop decreases-loop
-loop-less c = search along-less
+loop-less c = search along_less
 
 loop-again : tie.Need-loop-preserved invariant-loop decreases-loop
-loop-again c = (search next-end, search next-most, omega arith, omega arith)
+loop-again c = (search next_end, search next_most, omega arith, omega arith)
 
 same-length-2 : tie.Need-same-length-2 invariant-loop decreases-loop
 same-length-2 c = omega arith
@@ -58,8 +58,8 @@ same-length-2 c = omega arith
 returns-2 : tie.Need-returns-2 invariant-loop decreases-loop
 returns-2 c = search all_done
 
-pub write-rest-spec : {M : Type 1} → statement M
-write-rest-spec =
+pub write_rest_spec : {M : Type 1} → statement M
+write_rest_spec =
     tie.close
     (tie.spec
     invariant-loop

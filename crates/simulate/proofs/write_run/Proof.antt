@@ -1,6 +1,6 @@
 -- `simulate::write_run` meets its contract. Assumes nothing.
-use Rattle.report_whole.specs.PartLaws.{begun-part}
-use Rattle.simulate.specs.Written.{first_fits, first-end, first-most, not_done}
+use Rattle.report_whole.specs.PartLaws.{begun_part}
+use Rattle.simulate.specs.Written.{first_fits, first_end, first_most, not_done}
 use borrow.Author.Rules.{rules}
 use Rattle.simulate.proofs.write_run.Statement.{statement}
 use Rattle.simulate.proofs.write_run.Tie as tie
@@ -22,7 +22,7 @@ part-write-piece-end c = search rules
 
 write-piece-requires : tie.Need-write-piece-requires
 write-piece-requires c κs = (
-  begun-part _ _ _ _ _ _ c.before.before.before.before.before.first.ensures.1
+  begun_part _ _ _ _ _ _ c.before.before.before.before.before.first.ensures.1
       c.before.before.before.before.before.before.before.before.before.before.requires
       c.before.before.before.before.before.first.ensures.0,
   search first_fits,
@@ -35,7 +35,7 @@ returns : tie.Need-returns
 returns c = search not_done
 
 write-rest-requires : tie.Need-write-rest-requires
-write-rest-requires c κs = (search first-end, search first-most)
+write-rest-requires c κs = (search first_end, search first_most)
 
 same-length-2 : tie.Need-same-length-2
 same-length-2 c = search rules
@@ -43,8 +43,8 @@ same-length-2 c = search rules
 returns-2 : tie.Need-returns-2
 returns-2 c = search rules
 
-pub write-run-spec : {M : Type 1} → statement M
-write-run-spec =
+pub write_run_spec : {M : Type 1} → statement M
+write_run_spec =
     tie.close
     (tie.spec
     slice-aggregate-first

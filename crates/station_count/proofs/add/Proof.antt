@@ -1,5 +1,5 @@
 -- `station_count::add` meets its contract. Assumes nothing.
-use Rattle.station_spec.specs.CountLaws.{added_more, added-top}
+use Rattle.station_spec.specs.CountLaws.{added_more, added_top}
 use native.Mathlib.Omega.{arith}
 use borrow.Author.Rules.{rules}
 use Rattle.station_count.proofs.add.Statement.{statement}
@@ -33,7 +33,7 @@ array-write-next-2 : tie.Need-array-write-next-2
 array-write-next-2 c = search rules
 
 returns-2 : tie.Need-returns-2
-returns-2 c = search added-top
+returns-2 c = search added_top
 
 pub add_spec : {M : Type 1} → statement M
 add_spec =

@@ -1,5 +1,5 @@
 -- `station_count::add_if` meets its contract. Assumes nothing.
-use Rattle.station_spec.specs.CountLaws.{added-yes, added-no}
+use Rattle.station_spec.specs.CountLaws.{added_yes, added_no}
 use borrow.Author.Rules.{rules}
 use Rattle.station_count.proofs.add_if.Statement.{statement}
 use Rattle.station_count.proofs.add_if.Tie as tie
@@ -8,10 +8,10 @@ add-requires : tie.Need-add-requires
 add-requires c κs = search rules
 
 returns : tie.Need-returns
-returns c = search added-yes
+returns c = search added_yes
 
 returns-2 : tie.Need-returns-2
-returns-2 c = search added-no
+returns-2 c = search added_no
 
-pub add-if-spec : {M : Type 1} → statement M
-add-if-spec = tie.close (tie.spec add-requires returns returns-2)
+pub add_if_spec : {M : Type 1} → statement M
+add_if_spec = tie.close (tie.spec add-requires returns returns-2)

@@ -1,6 +1,6 @@
 -- `station_count::count_receive` meets its contract. Assumes nothing.
-use Rattle.station_spec.specs.CountLaws.{receive-none, receive_ok, receive-long, receive-alignment, receive-check}
-use Rattle.station_spec.specs.CountLaws.{receive-length}
+use Rattle.station_spec.specs.CountLaws.{receive_none, receive_ok, receive_long, receive_alignment, receive_check}
+use Rattle.station_spec.specs.CountLaws.{receive_length}
 use borrow.Author.Rules.{rules}
 use Rattle.station_count.proofs.count_receive.Statement.{statement}
 use Rattle.station_count.proofs.count_receive.Tie as tie
@@ -45,25 +45,25 @@ add-requires-6 : tie.Need-add-requires-6
 add-requires-6 c κs = search rules
 
 returns : tie.Need-returns
-returns c = search receive-none
+returns c = search receive_none
 
 returns-2 : tie.Need-returns-2
 returns-2 c = search receive_ok
 
 returns-3 : tie.Need-returns-3
-returns-3 c = search receive-long
+returns-3 c = search receive_long
 
 returns-4 : tie.Need-returns-4
-returns-4 c = search receive-alignment
+returns-4 c = search receive_alignment
 
 returns-5 : tie.Need-returns-5
-returns-5 c = search receive-check
+returns-5 c = search receive_check
 
 returns-6 : tie.Need-returns-6
-returns-6 c = search receive-length
+returns-6 c = search receive_length
 
-pub count-receive-spec : {M : Type 1} → statement M
-count-receive-spec =
+pub count_receive_spec : {M : Type 1} → statement M
+count_receive_spec =
     tie.close
     (tie.spec
     enum_told

@@ -28,8 +28,8 @@ add-if-requires-3 c κs = search rules
 returns : tie.Need-returns
 returns c = search sent_is
 
-pub count-sent-spec : {M : Type 1} → statement M
-count-sent-spec =
+pub count_sent_spec : {M : Type 1} → statement M
+count_sent_spec =
     tie.close
     (tie.spec
     add-requires

@@ -1,6 +1,6 @@
 -- `station_count::count_transmit` meets its contract. Assumes nothing.
-use Rattle.station_spec.specs.CountLaws.{transmit-none, transmit-collision, transmit-late, transmit-sent}
-use Rattle.station_spec.specs.CountLaws.{transmit-given-up, transmit-late-ended}
+use Rattle.station_spec.specs.CountLaws.{transmit_none, transmit_collision, transmit_late, transmit_sent}
+use Rattle.station_spec.specs.CountLaws.{transmit_given_up, transmit_late_ended}
 use borrow.Author.Rules.{rules}
 use Rattle.station_count.proofs.count_transmit.Statement.{statement}
 use Rattle.station_count.proofs.count_transmit.Tie as tie
@@ -42,25 +42,25 @@ add-requires-5 : tie.Need-add-requires-5
 add-requires-5 c κs = search rules
 
 returns : tie.Need-returns
-returns c = search transmit-none
+returns c = search transmit_none
 
 returns-2 : tie.Need-returns-2
-returns-2 c = search transmit-collision
+returns-2 c = search transmit_collision
 
 returns-3 : tie.Need-returns-3
-returns-3 c = search transmit-late
+returns-3 c = search transmit_late
 
 returns-4 : tie.Need-returns-4
-returns-4 c = search transmit-sent
+returns-4 c = search transmit_sent
 
 returns-5 : tie.Need-returns-5
-returns-5 c = search transmit-given-up
+returns-5 c = search transmit_given_up
 
 returns-6 : tie.Need-returns-6
-returns-6 c = search transmit-late-ended
+returns-6 c = search transmit_late_ended
 
-pub count-transmit-spec : {M : Type 1} → statement M
-count-transmit-spec =
+pub count_transmit_spec : {M : Type 1} → statement M
+count_transmit_spec =
     tie.close
     (tie.spec
     enum_told

@@ -1,5 +1,5 @@
 -- `station_defer::defer` meets its contract. Assumes nothing.
-use Rattle.station_spec.specs.DeferLaws.{defer-quiet, defer-busy, defer-gap}
+use Rattle.station_spec.specs.DeferLaws.{defer_quiet, defer_busy, defer_gap}
 use borrow.Author.Rules.{rules}
 use Rattle.station_defer.proofs.defer.Statement.{statement}
 use Rattle.station_defer.proofs.defer.Tie as tie
@@ -23,16 +23,16 @@ gap-rule-requires : tie.Need-gap-rule-requires
 gap-rule-requires c κs = search rules
 
 returns : tie.Need-returns
-returns c = search defer-quiet
+returns c = search defer_quiet
 
 returns-2 : tie.Need-returns-2
-returns-2 c = search defer-busy
+returns-2 c = search defer_busy
 
 returns-3 : tie.Need-returns-3
-returns-3 c = search defer-gap
+returns-3 c = search defer_gap
 
-pub defer-spec : {M : Type 1} → statement M
-defer-spec =
+pub defer_spec : {M : Type 1} → statement M
+defer_spec =
     tie.close
     (tie.spec
     enum_told

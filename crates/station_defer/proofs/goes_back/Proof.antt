@@ -13,5 +13,5 @@ both-requires-2 c κs = search rules
 returns : tie.Need-returns
 returns c = search back_is
 
-pub goes-back-spec : {M : Type 1} → statement M
-goes-back-spec = tie.close (tie.spec both-requires both-requires-2 returns)
+pub goes_back_spec : {M : Type 1} → statement M
+goes_back_spec = tie.close (tie.spec both-requires both-requires-2 returns)

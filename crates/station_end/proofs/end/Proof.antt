@@ -1,5 +1,5 @@
 -- `station_end::end` meets its contract. Assumes nothing.
-use Rattle.station_spec.specs.ReceiveLaws.{end-listening, end-readable, end-seeking, end-collecting}
+use Rattle.station_spec.specs.ReceiveLaws.{end_listening, end_readable, end_seeking, end_collecting}
 use borrow.Author.Rules.{rules}
 use Rattle.station_end.proofs.end.Statement.{statement}
 use Rattle.station_end.proofs.end.Tie as tie
@@ -29,19 +29,19 @@ decide-requires : tie.Need-decide-requires
 decide-requires c κs = search rules
 
 returns : tie.Need-returns
-returns c = search end-listening
+returns c = search end_listening
 
 returns-2 : tie.Need-returns-2
-returns-2 c = search end-readable
+returns-2 c = search end_readable
 
 returns-3 : tie.Need-returns-3
-returns-3 c = search end-seeking
+returns-3 c = search end_seeking
 
 returns-4 : tie.Need-returns-4
-returns-4 c = search end-collecting
+returns-4 c = search end_collecting
 
-pub end-spec : {M : Type 1} → statement M
-end-spec =
+pub end_spec : {M : Type 1} → statement M
+end_spec =
     tie.close
     (tie.spec
     enum_told

@@ -1,5 +1,5 @@
 -- `station_end::got_error` meets its contract. Assumes nothing.
-use Rattle.station_spec.specs.ReceiveLaws.{got-long, got-check, got-alignment, got-length}
+use Rattle.station_spec.specs.ReceiveLaws.{got_long, got_check, got_alignment, got_length}
 use borrow.Author.Rules.{rules}
 use Rattle.station_end.proofs.got_error.Statement.{statement}
 use Rattle.station_end.proofs.got_error.Tie as tie
@@ -32,22 +32,22 @@ returns-2 : tie.Need-returns-2
 returns-2 c = search rules
 
 returns-3 : tie.Need-returns-3
-returns-3 c = search got-long
+returns-3 c = search got_long
 
 returns-4 : tie.Need-returns-4
-returns-4 c = search got-check
+returns-4 c = search got_check
 
 returns-5 : tie.Need-returns-5
-returns-5 c = search got-alignment
+returns-5 c = search got_alignment
 
 returns-6 : tie.Need-returns-6
-returns-6 c = search got-length
+returns-6 c = search got_length
 
 returns-7 : tie.Need-returns-7
 returns-7 c = search rules
 
-pub got-error-spec : {M : Type 1} → statement M
-got-error-spec =
+pub got_error_spec : {M : Type 1} → statement M
+got_error_spec =
     tie.close
     (tie.spec
     enum_told

@@ -40,8 +40,8 @@ either-requires c κs = search rules
 returns : tie.Need-returns
 returns c = search address_is
 
-pub is-addressed-spec : {M : Type 1} → statement M
-is-addressed-spec =
+pub is_addressed_spec : {M : Type 1} → statement M
+is_addressed_spec =
     tie.close
     (tie.spec
     sub_same

@@ -1,5 +1,5 @@
 -- `station_end::open_buffer` meets its contract. Assumes nothing.
-use Rattle.station_spec.specs.ReceiveLaws.{open-long, open-rules}
+use Rattle.station_spec.specs.ReceiveLaws.{open_long, open_rules}
 use borrow.Author.Rules.{rules}
 use Rattle.station_end.proofs.open_buffer.Statement.{statement}
 use Rattle.station_end.proofs.open_buffer.Tie as tie
@@ -8,7 +8,7 @@ cast-octets : tie.Need-overflow-cast-octets
 cast-octets c = search rules
 
 returns : tie.Need-returns
-returns c = search open-long
+returns c = search open_long
 
 sub-reception-status : tie.Need-overflow-sub-reception-status
 sub-reception-status c = search rules
@@ -23,10 +23,10 @@ reception-status-requires : tie.Need-reception-status-requires
 reception-status-requires c κs = search rules
 
 returns-2 : tie.Need-returns-2
-returns-2 c = search open-rules
+returns-2 c = search open_rules
 
-pub open-buffer-spec : {M : Type 1} → statement M
-open-buffer-spec =
+pub open_buffer_spec : {M : Type 1} → statement M
+open_buffer_spec =
     tie.close
     (tie.spec
     cast-octets

@@ -7,25 +7,25 @@ use native.Mathlib.Omega.{arith}
 use types.Run.{OneOf}
 use denote.Enum.Declared.{tag_of}
 use borrow.Author.Rules.{rules}
-use Rattle.octets.specs.Variant.{first-six}
+use Rattle.octets.specs.Variant.{first_six}
 use Rattle.frame_open.specs.declared.ReceiveStatus.{ReceiveStatus}
-use Rattle.frame_open.specs.Open.{statusAnswer}
+use Rattle.frame_open.specs.Open.{status_answer}
 use Rattle.frame_open.specs.contracts.ReceiveStatus.{the_type}
 use Rattle.station_spec.specs.declared.ReceiveEvent.{ReceiveEvent}
 use Rattle.station_state.specs.declared.Receiver.TheVariants.{Listening}
-use Rattle.station_spec.specs.Receive.{openAnswer, deciding, opening}
-use Rattle.station_spec.specs.ReceiveLaws.{gotError, opening-ok, opening-error, ok-small}
+use Rattle.station_spec.specs.Receive.{open_answer, deciding, opening}
+use Rattle.station_spec.specs.ReceiveLaws.{got_error, opening_ok, opening_error, ok_small}
 use Rattle.station_end.proofs.open_reception.Statement.{statement}
 use Rattle.station_end.proofs.open_reception.Tie as tie
 
 -- the way of `else`: the status is one of the first six
 other_way : (buffer : List ℕ) (n : ℕ) (sp : Bool) (s : ReceiveStatus) (v : ReceiveEvent)
-    → statusAnswer s ≡ openAnswer buffer n sp
-    → v ≡ gotError s (n / 8) → OneOf (0 ∷ 1 ∷ 2 ∷ 3 ∷ 4 ∷ 5 ∷ []) (tag_of the_type s)
+    → status_answer s ≡ open_answer buffer n sp
+    → v ≡ got_error s (n / 8) → OneOf (0 ∷ 1 ∷ 2 ∷ 3 ∷ 4 ∷ 5 ∷ []) (tag_of the_type s)
     → deciding Listening v ≡ opening buffer n sp
 other_way buffer n sp s v p q h =
-    opening-error buffer n sp s v p q
-    (λ k e. let t : tag_of the_type s ≡ 6 = ap (tag_of the_type) e in let l : tag_of the_type s < 6 = first-six
+    opening_error buffer n sp s v p q
+    (λ k e. let t : tag_of the_type s ≡ 6 = ap (tag_of the_type) e in let l : tag_of the_type s < 6 = first_six
     (tag_of the_type s) h in omega arith)
 
 open-buffer-requires : tie.Need-open-buffer-requires
@@ -41,12 +41,12 @@ returns : tie.Need-returns
 returns c = search other_way
 
 cast-t12 : tie.Need-overflow-cast-t12
-cast-t12 c = let h : c.before.status.given.0.0 < 4294967296 = search ok-small in omega arith
+cast-t12 c = let h : c.before.status.given.0.0 < 4294967296 = search ok_small in omega arith
 
 returns-2 : tie.Need-returns-2
-returns-2 c = search opening-ok
+returns-2 c = search opening_ok
 
-pub open-reception-spec : {M : Type 1} → statement M
-open-reception-spec =
+pub open_reception_spec : {M : Type 1} → statement M
+open_reception_spec =
     tie.close
     (tie.spec open-buffer-requires enum-known-status got-error-requires returns cast-t12 returns-2)

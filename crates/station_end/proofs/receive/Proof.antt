@@ -1,5 +1,5 @@
 -- `station_end::receive` meets its contract. Assumes nothing.
-use Rattle.station_spec.specs.ReceiveLaws.{receive-nothing, receive-clean, receive-spoiled}
+use Rattle.station_spec.specs.ReceiveLaws.{receive_nothing, receive_clean, receive_spoiled}
 use borrow.Author.Rules.{rules}
 use Rattle.station_end.proofs.receive.Statement.{statement}
 use Rattle.station_end.proofs.receive.Tie as tie
@@ -23,16 +23,16 @@ hear-requires-2 : tie.Need-hear-requires-2
 hear-requires-2 c κs = search rules
 
 returns : tie.Need-returns
-returns c = search receive-nothing
+returns c = search receive_nothing
 
 returns-2 : tie.Need-returns-2
-returns-2 c = search receive-clean
+returns-2 c = search receive_clean
 
 returns-3 : tie.Need-returns-3
-returns-3 c = search receive-spoiled
+returns-3 c = search receive_spoiled
 
-pub receive-spec : {M : Type 1} → statement M
-receive-spec =
+pub receive_spec : {M : Type 1} → statement M
+receive_spec =
     tie.close
     (tie.spec
     enum_told

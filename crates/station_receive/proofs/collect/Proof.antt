@@ -1,5 +1,5 @@
 -- `station_receive::collect` meets its contract. Assumes nothing.
-use Rattle.station_spec.specs.ReceiveLaws.{collect-is}
+use Rattle.station_spec.specs.ReceiveLaws.{collect_is}
 use borrow.Author.Rules.{rules}
 use Rattle.station_receive.proofs.collect.Statement.{statement}
 use Rattle.station_receive.proofs.collect.Tie as tie
@@ -14,7 +14,7 @@ add-t9 : tie.Need-overflow-add-t9
 add-t9 c = search rules
 
 returns : tie.Need-returns
-returns c = search collect-is
+returns c = search collect_is
 
-pub collect-spec : {M : Type 1} → statement M
-collect-spec = tie.close (tie.spec either-requires stored-bit-requires add-t9 returns)
+pub collect_spec : {M : Type 1} → statement M
+collect_spec = tie.close (tie.spec either-requires stored-bit-requires add-t9 returns)

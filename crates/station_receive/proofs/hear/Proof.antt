@@ -1,5 +1,5 @@
 -- `station_receive::hear` meets its contract. Assumes nothing.
-use Rattle.station_spec.specs.ReceiveLaws.{hear-listening, hear-readable, hear-seeking, hear-collecting}
+use Rattle.station_spec.specs.ReceiveLaws.{hear_listening, hear_readable, hear_seeking, hear_collecting}
 use Rattle.station_spec.specs.ReceiveLaws.{row_of, bits_of}
 use borrow.Author.Rules.{rules}
 use Rattle.station_receive.proofs.hear.Statement.{statement}
@@ -36,19 +36,19 @@ collect-requires : tie.Need-collect-requires
 collect-requires c κs = search bits_of
 
 returns : tie.Need-returns
-returns c = search hear-listening
+returns c = search hear_listening
 
 returns-2 : tie.Need-returns-2
-returns-2 c = search hear-readable
+returns-2 c = search hear_readable
 
 returns-3 : tie.Need-returns-3
-returns-3 c = search hear-seeking
+returns-3 c = search hear_seeking
 
 returns-4 : tie.Need-returns-4
-returns-4 c = search hear-collecting
+returns-4 c = search hear_collecting
 
-pub hear-spec : {M : Type 1} → statement M
-hear-spec =
+pub hear_spec : {M : Type 1} → statement M
+hear_spec =
     tie.close
     (tie.spec
     enum_told

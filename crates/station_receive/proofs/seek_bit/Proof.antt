@@ -1,5 +1,5 @@
 -- `station_receive::seek_bit` meets its contract. Assumes nothing.
-use Rattle.station_spec.specs.ReceiveLaws.{seek_found, seek-more}
+use Rattle.station_spec.specs.ReceiveLaws.{seek_found, seek_more}
 use borrow.Author.Rules.{rules}
 use Rattle.station_receive.proofs.seek_bit.Statement.{statement}
 use Rattle.station_receive.proofs.seek_bit.Tie as tie
@@ -11,7 +11,7 @@ returns : tie.Need-returns
 returns c = search seek_found
 
 returns-2 : tie.Need-returns-2
-returns-2 c = search seek-more
+returns-2 c = search seek_more
 
-pub seek-bit-spec : {M : Type 1} → statement M
-seek-bit-spec = tie.close (tie.spec next-row-requires returns returns-2)
+pub seek_bit_spec : {M : Type 1} → statement M
+seek_bit_spec = tie.close (tie.spec next-row-requires returns returns-2)

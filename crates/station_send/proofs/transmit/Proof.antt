@@ -1,6 +1,6 @@
 -- `station_send::transmit` meets its contract. Assumes nothing.
-use Rattle.station_spec.specs.TransmitLaws.{transmit-none, transmit-starts, transmit-waits, transmit-backs}
-use Rattle.station_spec.specs.TransmitLaws.{transmit-sends, transmit-heads, transmit-jams, number_of}
+use Rattle.station_spec.specs.TransmitLaws.{transmit_none, transmit_starts, transmit_waits, transmit_backs}
+use Rattle.station_spec.specs.TransmitLaws.{transmit_sends, transmit_heads, transmit_jams, number_of}
 use native.Mathlib.Omega.{arith}
 use borrow.Author.Rules.{rules}
 use Rattle.station_send.proofs.transmit.Statement.{statement}
@@ -46,28 +46,28 @@ jam-bit-requires : tie.Need-jam-bit-requires
 jam-bit-requires c κs = search rules
 
 returns : tie.Need-returns
-returns c = search transmit-none
+returns c = search transmit_none
 
 returns-2 : tie.Need-returns-2
-returns-2 c = search transmit-starts
+returns-2 c = search transmit_starts
 
 returns-3 : tie.Need-returns-3
-returns-3 c = search transmit-waits
+returns-3 c = search transmit_waits
 
 returns-4 : tie.Need-returns-4
-returns-4 c = search transmit-backs
+returns-4 c = search transmit_backs
 
 returns-5 : tie.Need-returns-5
-returns-5 c = search transmit-sends
+returns-5 c = search transmit_sends
 
 returns-6 : tie.Need-returns-6
-returns-6 c = search transmit-heads
+returns-6 c = search transmit_heads
 
 returns-7 : tie.Need-returns-7
-returns-7 c = search transmit-jams
+returns-7 c = search transmit_jams
 
-pub transmit-spec : {M : Type 1} → statement M
-transmit-spec =
+pub transmit_spec : {M : Type 1} → statement M
+transmit_spec =
     tie.close
     (tie.spec
     enum_told

@@ -1,5 +1,5 @@
 -- `station_step::deferred_after` meets its contract. Assumes nothing.
-use Rattle.station_spec.specs.StepLaws.{deferred-is}
+use Rattle.station_spec.specs.StepLaws.{deferred_is}
 use borrow.Author.Rules.{rules}
 use Rattle.station_step.proofs.deferred_after.Statement.{statement}
 use Rattle.station_step.proofs.deferred_after.Tie as tie
@@ -14,7 +14,7 @@ either-requires : tie.Need-either-requires
 either-requires c κs = search rules
 
 returns : tie.Need-returns
-returns c = search deferred-is
+returns c = search deferred_is
 
-pub deferred-after-spec : {M : Type 1} → statement M
-deferred-after-spec = tie.close (tie.spec both-requires both-requires-2 either-requires returns)
+pub deferred_after_spec : {M : Type 1} → statement M
+deferred_after_spec = tie.close (tie.spec both-requires both-requires-2 either-requires returns)

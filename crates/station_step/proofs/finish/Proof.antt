@@ -1,5 +1,5 @@
 -- `station_step::finish` meets its contract. Assumes nothing.
-use Rattle.station_spec.specs.StepLaws.{finished-is}
+use Rattle.station_spec.specs.StepLaws.{finished_is}
 use borrow.Author.Rules.{rules}
 use Rattle.station_step.proofs.finish.Statement.{statement}
 use Rattle.station_step.proofs.finish.Tie as tie
@@ -14,7 +14,7 @@ deferred-after-requires : tie.Need-deferred-after-requires
 deferred-after-requires c κs = search rules
 
 returns : tie.Need-returns
-returns c = search finished-is
+returns c = search finished_is
 
 pub finish_spec : {M : Type 1} → statement M
 finish_spec =

@@ -1,5 +1,5 @@
 -- `station_symbols::symbol_of` meets its contract. Assumes nothing.
-use Rattle.station_symbols.specs.PacketLaws.{symbol-bit}
+use Rattle.station_symbols.specs.PacketLaws.{symbol_bit}
 use borrow.Author.Rules.{rules}
 use Rattle.station_symbols.proofs.symbol_of.Statement.{statement}
 use Rattle.station_symbols.proofs.symbol_of.Tie as tie
@@ -20,12 +20,12 @@ returns : tie.Need-returns
 returns c = search rules
 
 returns-2 : tie.Need-returns-2
-returns-2 c = search symbol-bit
+returns-2 c = search symbol_bit
 
 returns-3 : tie.Need-returns-3
 returns-3 c = search rules
 
-pub symbol-of-spec : {M : Type 1} → statement M
-symbol-of-spec =
+pub symbol_of_spec : {M : Type 1} → statement M
+symbol_of_spec =
     tie.close
     (tie.spec enum_told enum-known-e packet-bit-requires enum-told-2 returns returns-2 returns-3)

@@ -1,5 +1,5 @@
 -- `station_tally::bump` meets its contract. Assumes nothing.
-use Rattle.station_tally.specs.TallyLaws.{bump-is}
+use Rattle.station_tally.specs.TallyLaws.{bump_is}
 use borrow.Author.Rules.{rules}
 use Rattle.station_tally.proofs.bump.Statement.{statement}
 use Rattle.station_tally.proofs.bump.Tie as tie
@@ -23,10 +23,10 @@ same_length : tie.Need-same-length
 same_length c = search rules
 
 returns : tie.Need-returns
-returns c = search bump-is
+returns c = search bump_is
 
-pub bump-spec : {M : Type 1} → statement M
-bump-spec =
+pub bump_spec : {M : Type 1} → statement M
+bump_spec =
     tie.close
     (tie.spec
     mul_words

@@ -1,5 +1,5 @@
 -- `station_tally::count_sent` meets its contract. Assumes nothing.
-use Rattle.station_tally.specs.TallyLaws.{sent-counted}
+use Rattle.station_tally.specs.TallyLaws.{sent_counted_lem}
 use borrow.Author.Rules.{rules}
 use Rattle.station_tally.proofs.count_sent.Statement.{statement}
 use Rattle.station_tally.proofs.count_sent.Tie as tie
@@ -14,7 +14,7 @@ same_length : tie.Need-same-length
 same_length c = search rules
 
 returns : tie.Need-returns
-returns c = search sent-counted
+returns c = search sent_counted_lem
 
-pub count-sent-spec : {M : Type 1} → statement M
-count-sent-spec = tie.close (tie.spec transmit-word-requires count-requires same_length returns)
+pub count_sent_spec : {M : Type 1} → statement M
+count_sent_spec = tie.close (tie.spec transmit-word-requires count-requires same_length returns)

@@ -1,5 +1,5 @@
 -- `station_tally::is_transmit` meets its contract. Assumes nothing.
-use Rattle.station_tally.specs.TallyLaws.{transmit-is}
+use Rattle.station_tally.specs.TallyLaws.{transmit_is}
 use borrow.Author.Rules.{rules}
 use Rattle.station_tally.proofs.is_transmit.Statement.{statement}
 use Rattle.station_tally.proofs.is_transmit.Tie as tie
@@ -8,7 +8,7 @@ transmit-word-requires : tie.Need-transmit-word-requires
 transmit-word-requires c κs = search rules
 
 returns : tie.Need-returns
-returns c = search transmit-is
+returns c = search transmit_is
 
-pub is-transmit-spec : {M : Type 1} → statement M
-is-transmit-spec = tie.close (tie.spec transmit-word-requires returns)
+pub is_transmit_spec : {M : Type 1} → statement M
+is_transmit_spec = tie.close (tie.spec transmit-word-requires returns)

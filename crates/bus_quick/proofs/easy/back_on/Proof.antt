@@ -1,5 +1,5 @@
 -- `bus_quick::easy::back_on` meets its contract. Assumes nothing.
-use Rattle.bus_quick.specs.Easy.{back-now}
+use Rattle.bus_quick.specs.Easy.{back_now}
 use Rattle.bus_quick.specs.Quick.{not_taken}
 use borrow.Author.Rules.{rules}
 use Rattle.bus_quick.proofs.easy.back_on.Statement.{statement}
@@ -18,7 +18,7 @@ same_length : tie.Need-same-length
 same_length c = search rules
 
 returns : tie.Need-returns
-returns c = search back-now
+returns c = search back_now
 
 same-length-2 : tie.Need-same-length-2
 same-length-2 c = search rules
@@ -26,8 +26,8 @@ same-length-2 c = search rules
 returns-2 : tie.Need-returns-2
 returns-2 c = search not_taken
 
-pub back-on-spec : {M : Type 1} → statement M
-back-on-spec =
+pub back_on_spec : {M : Type 1} → statement M
+back_on_spec =
     tie.close
     (tie.spec
     read-word-requires

@@ -77,8 +77,8 @@ add-result-2 c = search rules
 returns : tie.Need-returns
 returns c = (search sum_is, omega arith)
 
-pub bare-sum-spec : {M : Type 1} → statement M
-bare-sum-spec =
+pub bare_sum_spec : {M : Type 1} → statement M
+bare_sum_spec =
     tie.close
     (tie.spec
     read-word-requires

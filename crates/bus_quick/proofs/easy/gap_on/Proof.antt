@@ -1,5 +1,5 @@
 -- `bus_quick::easy::gap_on` meets its contract. Assumes nothing.
-use Rattle.bus_quick.specs.Easy.{gap-now}
+use Rattle.bus_quick.specs.Easy.{gap_now}
 use Rattle.bus_quick.specs.Quick.{not_taken, calm_more}
 use native.Mathlib.Omega.{arith}
 use borrow.Author.Rules.{rules}
@@ -37,7 +37,7 @@ same_length c = search rules
 
 returns : tie.Need-returns
 returns c =
-    gap-now _ _ _ _ _ _ c.before.before.before.before.before.before.before.before.before.before.before.before.before.before.before.before.before.before.requires.0 c.before.before.before.before.before.before.before.before.before.before.before.before.before.before.before.before.before.before.requires.1 c.before.before.before.before.before.before.before.before.before.before.before.before.before.before.before.before.before.before.requires.2 c.before.before.before.before.before.before.before.before.before.before.before.before.before.before.before.before.before.before.requires.4 c.before.before.before.before.before.before.before.before.before.before.before.before.before.before.before.before.before.before.requires.5 _ _ _ _ _ c.before.before.before.before.before.before.before.before.before.before.before.before.before.before.before.before.before.before.requires.6 c.before.before.write_word.ensures c.before.before.before.before.before.before.count_down.ensures c.before.before.before.before.before.before.before.before.before.calm.ensures c.before.before.before.before.before.before.before.before.if2.true c.before.before.before.before.before.before.before.before.before.before.before.read-word2.ensures c.before.before.before.before.before.before.before.before.before.before.before.before.before.if1.true c.before.before.before.before.before.before.before.before.before.before.before.before.before.before.before.before.before.before.requires.3 c.before.before.before.before.before.before.before.before.before.before.before.before.before.before.before.read_word.ensures
+    gap_now _ _ _ _ _ _ c.before.before.before.before.before.before.before.before.before.before.before.before.before.before.before.before.before.before.requires.0 c.before.before.before.before.before.before.before.before.before.before.before.before.before.before.before.before.before.before.requires.1 c.before.before.before.before.before.before.before.before.before.before.before.before.before.before.before.before.before.before.requires.2 c.before.before.before.before.before.before.before.before.before.before.before.before.before.before.before.before.before.before.requires.4 c.before.before.before.before.before.before.before.before.before.before.before.before.before.before.before.before.before.before.requires.5 _ _ _ _ _ c.before.before.before.before.before.before.before.before.before.before.before.before.before.before.before.before.before.before.requires.6 c.before.before.write_word.ensures c.before.before.before.before.before.before.count_down.ensures c.before.before.before.before.before.before.before.before.before.calm.ensures c.before.before.before.before.before.before.before.before.if2.true c.before.before.before.before.before.before.before.before.before.before.before.read-word2.ensures c.before.before.before.before.before.before.before.before.before.before.before.before.before.if1.true c.before.before.before.before.before.before.before.before.before.before.before.before.before.before.before.before.before.before.requires.3 c.before.before.before.before.before.before.before.before.before.before.before.before.before.before.before.read_word.ensures
 
 same-length-2 : tie.Need-same-length-2
 same-length-2 c = search rules
@@ -51,8 +51,8 @@ same-length-3 c = search rules
 returns-3 : tie.Need-returns-3
 returns-3 c = search not_taken
 
-pub gap-on-spec : {M : Type 1} → statement M
-gap-on-spec =
+pub gap_on_spec : {M : Type 1} → statement M
+gap_on_spec =
     tie.close
     (tie.spec
     read-word-requires

@@ -1,5 +1,5 @@
 -- `bus_quick::easy::is_plain` meets its contract. Assumes nothing.
-use Rattle.bus_quick.specs.Easy.{plain-is}
+use Rattle.bus_quick.specs.Easy.{plain_is}
 use borrow.Author.Rules.{rules}
 use Rattle.bus_quick.proofs.easy.is_plain.Statement.{statement}
 use Rattle.bus_quick.proofs.easy.is_plain.Tie as tie
@@ -59,10 +59,10 @@ both-requires-4 : tie.Need-both-requires-4
 both-requires-4 c κs = search rules
 
 returns : tie.Need-returns
-returns c = search plain-is
+returns c = search plain_is
 
-pub is-plain-spec : {M : Type 1} → statement M
-is-plain-spec =
+pub is_plain_spec : {M : Type 1} → statement M
+is_plain_spec =
     tie.close
     (tie.spec
     read-word-requires

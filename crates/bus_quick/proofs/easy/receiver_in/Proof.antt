@@ -1,5 +1,5 @@
 -- `bus_quick::easy::receiver_in` meets its contract. Assumes nothing.
-use Rattle.bus_quick.specs.Easy.{receiver-in}
+use Rattle.bus_quick.specs.Easy.{receiver_in_lem}
 use borrow.Author.Rules.{rules}
 use Rattle.bus_quick.proofs.easy.receiver_in.Statement.{statement}
 use Rattle.bus_quick.proofs.easy.receiver_in.Tie as tie
@@ -17,8 +17,8 @@ both-requires-3 : tie.Need-both-requires-3
 both-requires-3 c κs = search rules
 
 returns : tie.Need-returns
-returns c = search receiver-in
+returns c = search receiver_in_lem
 
-pub receiver-in-spec : {M : Type 1} → statement M
-receiver-in-spec =
+pub receiver_in_spec : {M : Type 1} → statement M
+receiver_in_spec =
     tie.close (tie.spec both-requires mul-both both-requires-2 both-requires-3 returns)

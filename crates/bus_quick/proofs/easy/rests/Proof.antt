@@ -1,6 +1,6 @@
 -- `bus_quick::easy::rests` meets its contract. Assumes nothing.
-use Rattle.bus_quick.specs.Easy.{bare-is}
-use Rattle.octets.specs.NumberLaws.{octets-by}
+use Rattle.bus_quick.specs.Easy.{bare_is}
+use Rattle.octets.specs.NumberLaws.{octets_by}
 use native.Mathlib.Omega.{arith}
 use borrow.Author.Rules.{rules}
 use Rattle.bus_quick.proofs.easy.rests.Statement.{statement}
@@ -44,13 +44,13 @@ both-requires-2 c κs = search rules
 
 returns : tie.Need-returns
 returns c = (
-  search bare-is,
-  octets-by _ (λ k.
+  search bare_is,
+  octets_by _ (λ k.
       omega (arith, c.before.before.before.before.before.before.shared-slice-known.given k)),
 )
 
-pub rests-spec : {M : Type 1} → statement M
-rests-spec =
+pub rests_spec : {M : Type 1} → statement M
+rests_spec =
     tie.close
     (tie.spec
     bare-sum-requires

@@ -1,5 +1,5 @@
 -- `bus_quick::easy::transmitter_in` meets its contract. Assumes nothing.
-use Rattle.bus_quick.specs.Easy.{transmitter-in}
+use Rattle.bus_quick.specs.Easy.{transmitter_in_lem}
 use borrow.Author.Rules.{rules}
 use Rattle.bus_quick.proofs.easy.transmitter_in.Statement.{statement}
 use Rattle.bus_quick.proofs.easy.transmitter_in.Tie as tie
@@ -14,7 +14,7 @@ both-requires : tie.Need-both-requires
 both-requires c κs = search rules
 
 returns : tie.Need-returns
-returns c = search transmitter-in
+returns c = search transmitter_in_lem
 
-pub transmitter-in-spec : {M : Type 1} → statement M
-transmitter-in-spec = tie.close (tie.spec cast-both mul-both both-requires returns)
+pub transmitter_in_spec : {M : Type 1} → statement M
+transmitter_in_spec = tie.close (tie.spec cast-both mul-both both-requires returns)

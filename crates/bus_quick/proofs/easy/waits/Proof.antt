@@ -1,5 +1,5 @@
 -- `bus_quick::easy::waits` meets its contract. Assumes nothing.
-use Rattle.bus_quick.specs.Easy.{plain-found}
+use Rattle.bus_quick.specs.Easy.{plain_found}
 use Rattle.bus_quick.specs.Quick.{not_taken, found}
 use native.Mathlib.Omega.{arith}
 use borrow.Author.Rules.{rules}
@@ -11,7 +11,7 @@ is-plain-requires c κs = search rules
 
 gaps-requires : tie.Need-gaps-requires
 gaps-requires c κs =
-    (omega arith, omega arith, plain-found _ _ _ c.before.before.is_plain.ensures c.before.if1.true)
+    (omega arith, omega arith, plain_found _ _ _ c.before.before.is_plain.ensures c.before.if1.true)
 
 gap-on-requires : tie.Need-gap-on-requires
 gap-on-requires c κs = (
@@ -20,7 +20,7 @@ gap-on-requires c κs = (
   search rules,
   omega arith,
   search rules,
-  plain-found _ _ _
+  plain_found _ _ _
       c.before.before.before.before.before.is_plain.ensures
       c.before.before.before.before.if1.true,
   found _ _ c.before.before.gaps.ensures.0
@@ -37,7 +37,7 @@ backs-requires : tie.Need-backs-requires
 backs-requires c κs = (
   omega arith,
   omega arith,
-  plain-found _ _ _ c.before.before.before.before.before.is_plain.ensures
+  plain_found _ _ _ c.before.before.before.before.before.is_plain.ensures
       c.before.before.before.before.if1.true,
 )
 
@@ -47,7 +47,7 @@ back-on-requires c κs = (
   omega arith,
   search rules,
   search rules,
-  plain-found _ _ _
+  plain_found _ _ _
       c.before.before.before.before.before.before.before.before.is_plain.ensures
       c.before.before.before.before.before.before.before.if1.true,
   found _ _
@@ -72,8 +72,8 @@ same-length-4 c = search rules
 returns-4 : tie.Need-returns-4
 returns-4 c = search not_taken
 
-pub waits-spec : {M : Type 1} → statement M
-waits-spec =
+pub waits_spec : {M : Type 1} → statement M
+waits_spec =
     tie.close
     (tie.spec
     is-plain-requires

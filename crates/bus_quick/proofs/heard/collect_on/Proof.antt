@@ -1,5 +1,5 @@
 -- `bus_quick::heard::collect_on` meets its contract. Assumes nothing.
-use Rattle.bus_quick.specs.Quick.{collected-is}
+use Rattle.bus_quick.specs.Quick.{collected_is}
 use mathlib.Core.Path.{refl}
 use borrow.Author.Rules.{rules}
 use Rattle.bus_quick.proofs.heard.collect_on.Statement.{statement}
@@ -25,13 +25,13 @@ same_length c = search rules
 
 returns : tie.Need-returns
 returns c =
-    collected-is _ _ _ _ _ _ _ _ c.before.before.keep_one.ensures
+    collected_is _ _ _ _ _ _ _ _ c.before.before.keep_one.ensures
     c.before.before.before.before.before.before.spoil.ensures
     c.before.before.before.before.before.before.before.before.before.before.write_word.ensures refl
     c.before.before.before.before.before.before.before.before.before.before.before.before.read_word.ensures
 
-pub collect-on-spec : {M : Type 1} → statement M
-collect-on-spec =
+pub collect_on_spec : {M : Type 1} → statement M
+collect_on_spec =
     tie.close
     (tie.spec
     read-word-requires

@@ -1,5 +1,5 @@
 -- `bus_quick::heard::count_down` meets its contract. Assumes nothing.
-use Rattle.bus_quick.specs.Quick.{down-one, down-none}
+use Rattle.bus_quick.specs.Quick.{down_one, down_none}
 use native.Mathlib.Omega.{arith}
 use borrow.Author.Rules.{rules}
 use Rattle.bus_quick.proofs.heard.count_down.Statement.{statement}
@@ -24,12 +24,12 @@ same_length : tie.Need-same-length
 same_length c = search rules
 
 returns : tie.Need-returns
-returns c = search down-one
+returns c = search down_one
 
 returns-2 : tie.Need-returns-2
-returns-2 c = search down-none
+returns-2 c = search down_none
 
-pub count-down-spec : {M : Type 1} → statement M
-count-down-spec =
+pub count_down_spec : {M : Type 1} → statement M
+count_down_spec =
     tie.close
     (tie.spec read-word-requires sub-write-word write-word-requires same_length returns returns-2)

@@ -1,5 +1,5 @@
 -- `bus_quick::heard::keep_one` meets its contract. Assumes nothing.
-use Rattle.bus_quick.specs.Quick.{one_kept, one-dropped}
+use Rattle.bus_quick.specs.Quick.{one_kept, one_dropped}
 use borrow.Author.Rules.{rules}
 use Rattle.bus_quick.proofs.heard.keep_one.Statement.{statement}
 use Rattle.bus_quick.proofs.heard.keep_one.Tie as tie
@@ -17,8 +17,8 @@ returns : tie.Need-returns
 returns c = search one_kept
 
 returns-2 : tie.Need-returns-2
-returns-2 c = search one-dropped
+returns-2 c = search one_dropped
 
-pub keep-one-spec : {M : Type 1} → statement M
-keep-one-spec =
+pub keep_one_spec : {M : Type 1} → statement M
+keep_one_spec =
     tie.close (tie.spec capped-requires store-bit-requires same_length returns returns-2)

@@ -1,5 +1,5 @@
 -- `bus_quick::heard::quick_heard` meets its contract. Assumes nothing.
-use Rattle.bus_quick.specs.Quick.{calm-cleared, hears-room, hears-row, count-number, heard-taken, not_taken}
+use Rattle.bus_quick.specs.Quick.{calm_cleared, hears_room, hears_row, count_number, heard_taken, not_taken}
 use mathlib.Core.Path.{refl}
 use native.Mathlib.Omega.{arith}
 use borrow.Author.Rules.{rules}
@@ -25,7 +25,7 @@ count-down-requires : tie.Need-count-down-requires
 count-down-requires c κs = (
   omega arith,
   omega arith,
-  λ z. calm-cleared _ _ _ _ _ _
+  λ z. calm_cleared _ _ _ _ _ _
       c.before.before.before.before.before.before.before.before.before.before.before.before.before.before.before.before.requires.0.0 c.before.before.before.before.before.before.before.before.before.before.read_word.ensures c.before.before.before.put-arrival.ensures c.before.before.before.before.before.before.before.before.calm.ensures c.before.before.before.before.before.before.before.if2.true z,
 )
 
@@ -35,15 +35,15 @@ receive-on-requires c κs = (
   omega arith,
   omega (
     arith,
-    count-number _ _ _
+    count_number _ _ _
         c.before.before.before.before.before.before.before.before.before.before.before.before.before.before.before.before.before.before.before.before.requires.0.0 c.before.before.before.before.before.before.before.before.before.before.before.before.before.before.before.before.before.before.before.before.requires.0.3 c.before.before.before.before.before.before.before.before.before.before.before.before.before.before.before.before.before.hears.ensures.1 _ _ _ c.before.before.before.count_down.ensures c.before.before.before.before.before.before.before.put-arrival.ensures,
-    hears-room _ _ _ c.before.before.before.before.before.before.before.before.before.before.before.before.before.before.before.before.before.before.before.before.requires.0.4 _ _ refl c.before.before.before.before.before.before.before.before.before.before.before.before.before.before.before.before.before.hears.ensures.0 c.before.before.before.before.before.before.before.before.before.before.before.before.before.before.before.before.if1.true,
+    hears_room _ _ _ c.before.before.before.before.before.before.before.before.before.before.before.before.before.before.before.before.before.before.before.before.requires.0.4 _ _ refl c.before.before.before.before.before.before.before.before.before.before.before.before.before.before.before.before.before.hears.ensures.0 c.before.before.before.before.before.before.before.before.before.before.before.before.before.before.before.before.if1.true,
   ),
   λ z. omega (
     arith,
-    count-number _ _ _
+    count_number _ _ _
         c.before.before.before.before.before.before.before.before.before.before.before.before.before.before.before.before.before.before.before.before.requires.0.0 c.before.before.before.before.before.before.before.before.before.before.before.before.before.before.before.before.before.before.before.before.requires.0.3 c.before.before.before.before.before.before.before.before.before.before.before.before.before.before.before.before.before.hears.ensures.1 _ _ _ c.before.before.before.count_down.ensures c.before.before.before.before.before.before.before.put-arrival.ensures,
-    hears-row _ _ _ c.before.before.before.before.before.before.before.before.before.before.before.before.before.before.before.before.before.before.before.before.requires.0.4 _ _ refl c.before.before.before.before.before.before.before.before.before.before.before.before.before.before.before.before.before.hears.ensures.0 c.before.before.before.before.before.before.before.before.before.before.before.before.before.before.before.before.if1.true _ c.before.before.before.before.before.before.before.before.before.read-word2.ensures z,
+    hears_row _ _ _ c.before.before.before.before.before.before.before.before.before.before.before.before.before.before.before.before.before.before.before.before.requires.0.4 _ _ refl c.before.before.before.before.before.before.before.before.before.before.before.before.before.before.before.before.before.hears.ensures.0 c.before.before.before.before.before.before.before.before.before.before.before.before.before.before.before.before.if1.true _ c.before.before.before.before.before.before.before.before.before.read-word2.ensures z,
   ),
 )
 
@@ -52,7 +52,7 @@ same_length c = search rules
 
 returns : tie.Need-returns
 returns c =
-    heard-taken _ _ _ _ _ _ c.before.before.before.before.before.before.before.before.before.before.before.before.before.before.before.before.before.before.before.before.before.before.before.requires.0.0 c.before.before.before.before.before.before.before.before.before.before.before.before.before.before.before.before.before.before.before.before.before.before.before.requires.0.3 c.before.before.before.before.before.before.before.before.before.before.before.before.before.before.before.before.before.before.before.before.hears.ensures.1 c.before.before.before.before.before.before.before.before.before.before.before.before.before.before.before.before.before.before.before.before.before.before.before.requires.0.5 _ _ _ _ _ _ _ _ c.before.before.receive-on.ensures c.before.before.before.before.before.before.count_down.ensures c.before.before.before.before.before.before.before.before.before.before.put-arrival.ensures (hears-room _ _ _ c.before.before.before.before.before.before.before.before.before.before.before.before.before.before.before.before.before.before.before.before.before.before.before.requires.0.4 _ _ refl c.before.before.before.before.before.before.before.before.before.before.before.before.before.before.before.before.before.before.before.before.hears.ensures.0 c.before.before.before.before.before.before.before.before.before.before.before.before.before.before.before.before.before.before.before.if1.true) c.before.before.before.before.before.before.before.before.before.before.before.before.read-word2.ensures c.before.before.before.before.before.before.before.before.before.before.before.before.before.before.before.before.before.read_word.ensures c.before.before.before.before.before.before.before.before.before.before.before.before.before.before.before.before.before.before.before.before.before.before.before.requires.1.0 c.before.before.before.before.before.before.before.before.before.before.before.before.before.before.before.before.before.before.before.before.before.before.before.requires.1.1 c.before.before.before.before.before.before.before.before.before.before.before.before.before.before.before.before.before.before.before.before.hears.ensures.0 c.before.before.before.before.before.before.before.before.before.before.before.before.before.before.before.before.before.before.before.if1.true c.before.before.before.before.before.before.before.before.before.before.before.before.before.before.before.calm.ensures c.before.before.before.before.before.before.before.before.before.before.before.before.before.before.if2.true
+    heard_taken _ _ _ _ _ _ c.before.before.before.before.before.before.before.before.before.before.before.before.before.before.before.before.before.before.before.before.before.before.before.requires.0.0 c.before.before.before.before.before.before.before.before.before.before.before.before.before.before.before.before.before.before.before.before.before.before.before.requires.0.3 c.before.before.before.before.before.before.before.before.before.before.before.before.before.before.before.before.before.before.before.before.hears.ensures.1 c.before.before.before.before.before.before.before.before.before.before.before.before.before.before.before.before.before.before.before.before.before.before.before.requires.0.5 _ _ _ _ _ _ _ _ c.before.before.receive-on.ensures c.before.before.before.before.before.before.count_down.ensures c.before.before.before.before.before.before.before.before.before.before.put-arrival.ensures (hears_room _ _ _ c.before.before.before.before.before.before.before.before.before.before.before.before.before.before.before.before.before.before.before.before.before.before.before.requires.0.4 _ _ refl c.before.before.before.before.before.before.before.before.before.before.before.before.before.before.before.before.before.before.before.before.hears.ensures.0 c.before.before.before.before.before.before.before.before.before.before.before.before.before.before.before.before.before.before.before.if1.true) c.before.before.before.before.before.before.before.before.before.before.before.before.read-word2.ensures c.before.before.before.before.before.before.before.before.before.before.before.before.before.before.before.before.before.read_word.ensures c.before.before.before.before.before.before.before.before.before.before.before.before.before.before.before.before.before.before.before.before.before.before.before.requires.1.0 c.before.before.before.before.before.before.before.before.before.before.before.before.before.before.before.before.before.before.before.before.before.before.before.requires.1.1 c.before.before.before.before.before.before.before.before.before.before.before.before.before.before.before.before.before.before.before.before.hears.ensures.0 c.before.before.before.before.before.before.before.before.before.before.before.before.before.before.before.before.before.before.before.if1.true c.before.before.before.before.before.before.before.before.before.before.before.before.before.before.before.calm.ensures c.before.before.before.before.before.before.before.before.before.before.before.before.before.before.if2.true
 
 same-length-2 : tie.Need-same-length-2
 same-length-2 c = search rules
@@ -66,8 +66,8 @@ same-length-3 c = search rules
 returns-3 : tie.Need-returns-3
 returns-3 c = search not_taken
 
-pub quick-heard-spec : {M : Type 1} → statement M
-quick-heard-spec =
+pub quick_heard_spec : {M : Type 1} → statement M
+quick_heard_spec =
     tie.close
     (tie.spec
     hears-requires

@@ -1,5 +1,5 @@
 -- `bus_quick::heard::seek_bit` meets its contract. Assumes nothing.
-use Rattle.bus_quick.specs.Quick.{row-delimiter, row-longer}
+use Rattle.bus_quick.specs.Quick.{row_delimiter, row_longer}
 use borrow.Author.Rules.{rules}
 use Rattle.bus_quick.proofs.heard.seek_bit.Statement.{statement}
 use Rattle.bus_quick.proofs.heard.seek_bit.Tie as tie
@@ -20,7 +20,7 @@ same_length : tie.Need-same-length
 same_length c = search rules
 
 returns : tie.Need-returns
-returns c = search row-delimiter
+returns c = search row_delimiter
 
 write-word-requires-3 : tie.Need-write-word-requires-3
 write-word-requires-3 c κs = search rules
@@ -29,10 +29,10 @@ same-length-2 : tie.Need-same-length-2
 same-length-2 c = search rules
 
 returns-2 : tie.Need-returns-2
-returns-2 c = search row-longer
+returns-2 c = search row_longer
 
-pub seek-bit-spec : {M : Type 1} → statement M
-seek-bit-spec =
+pub seek_bit_spec : {M : Type 1} → statement M
+seek_bit_spec =
     tie.close
     (tie.spec
     read-word-requires

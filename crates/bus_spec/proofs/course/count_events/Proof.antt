@@ -5,21 +5,21 @@ use Prim.Native.Nat.{◌+◌, ◌*◌, ◌≤◌, ◌-◌}
 use mathlib.Core.Path.{◌≡◌, refl}
 use lib.ListN.{length}
 use Rattle.bus_spec.specs.Run.{tallied}
-use Rattle.bus_spec.specs.RunLaws.{tally-none, tally-more, tally-end}
-use Rattle.station_tally.specs.TallyLaws.{Bounded, start-bounded, sent-bounded, got-bounded}
+use Rattle.bus_spec.specs.RunLaws.{tally_none, tally_more, tally_end}
+use Rattle.station_tally.specs.TallyLaws.{Bounded, start_bounded, sent_bounded, got_bounded}
 use Rattle.bus_spec.proofs.course.count_events.Statement.{statement}
 use Rattle.bus_spec.proofs.course.count_events.Tie as tie
-use Rattle.sheet_layout.specs.Limits.{maxStations}
+use Rattle.sheet_layout.specs.Limits.{max_stations}
 
 abbrev invariant-loop : tie.invariant-loop
 invariant-loop words₀ top events i₀ words i =
-    (i ≤ maxStations) × (length words ≡ length words₀) × (words ≡ tallied events i words₀) × Bounded words (top + 2 * i)
+    (i ≤ max_stations) × (length words ≡ length words₀) × (words ≡ tallied events i words₀) × Bounded words (top + 2 * i)
 
 abbrev decreases-loop : tie.decreases-loop
 decreases-loop words₀ top events i₀ words i = 16 - i
 
 loop-holds : tie.Need-loop-init invariant-loop decreases-loop
-loop-holds c = (omega arith, refl, search tally-none, search start-bounded)
+loop-holds c = (omega arith, refl, search tally_none, search start_bounded)
 
 cast-high : tie.Need-overflow-cast-high invariant-loop decreases-loop
 cast-high c = omega arith
@@ -43,7 +43,7 @@ add-count-got : tie.Need-overflow-add-count-got invariant-loop decreases-loop
 add-count-got c = omega arith
 
 count-got-requires : tie.Need-count-got-requires invariant-loop decreases-loop
-count-got-requires c κs = (omega arith, search sent-bounded, omega arith)
+count-got-requires c κs = (omega arith, search sent_bounded, omega arith)
 
 add-i : tie.Need-overflow-add-i invariant-loop decreases-loop
 add-i c = omega arith
@@ -52,16 +52,16 @@ loop-less : tie.Need-loop-smaller invariant-loop decreases-loop
 loop-less c = omega arith
 
 loop-again : tie.Need-loop-preserved invariant-loop decreases-loop
-loop-again c = (omega arith, omega arith, search tally-more, search got-bounded)
+loop-again c = (omega arith, omega arith, search tally_more, search got_bounded)
 
 same_length : tie.Need-same-length invariant-loop decreases-loop
 same_length c = omega arith
 
 returns : tie.Need-returns invariant-loop decreases-loop
-returns c = search tally-end
+returns c = search tally_end
 
-pub count-events-spec : {M : Type 1} → statement M
-count-events-spec =
+pub count_events_spec : {M : Type 1} → statement M
+count_events_spec =
     tie.close
     (tie.spec
     invariant-loop

@@ -4,15 +4,15 @@ use native.Mathlib.Omega.{arith}
 use Prim.Native.Nat.{◌≤◌, ◌-◌}
 use mathlib.Core.Path.{◌≡◌, refl}
 use lib.ListN.{length}
-use Rattle.octets.specs.Turns.{turns, turns-none}
-use Rattle.bus_spec.specs.Medium.{codeTo}
-use Rattle.bus_spec.specs.MediumLaws.{push-none, push-position, push-more, push-all}
+use Rattle.octets.specs.Turns.{turns, turns_none}
+use Rattle.bus_spec.specs.Medium.{code_to}
+use Rattle.bus_spec.specs.MediumLaws.{push_none, push_position, push_more, push_all}
 use Rattle.bus_spec.proofs.medium.push.Statement.{statement}
 use Rattle.bus_spec.proofs.medium.push.Tie as tie
 
 abbrev invariant-loop : tie.invariant-loop
 invariant-loop area₀ n t i code p j₀ area j =
-    (j ≤ n) × (length area ≡ length area₀) × (area ≡ turns (codeTo t i code) j area₀)
+    (j ≤ n) × (length area ≡ length area₀) × (area ≡ turns (code_to t i code) j area₀)
 
 abbrev decreases-loop : tie.decreases-loop
 decreases-loop area₀ n t i code p j₀ area j = n - j
@@ -21,16 +21,16 @@ symbol-code-requires : tie.Need-symbol-code-requires invariant-loop decreases-lo
 symbol-code-requires c κs = search rules
 
 returns : tie.Need-returns invariant-loop decreases-loop
-returns c = search push-none
+returns c = search push_none
 
 read-position-requires : tie.Need-read-position-requires invariant-loop decreases-loop
 read-position-requires c κs = omega arith
 
 loop-holds : tie.Need-loop-init invariant-loop decreases-loop
-loop-holds c = (omega arith, refl, search turns-none)
+loop-holds c = (omega arith, refl, search turns_none)
 
 send-to-requires : tie.Need-send-to-requires invariant-loop decreases-loop
-send-to-requires c κs = (omega arith, omega arith, omega arith, omega arith, search push-position)
+send-to-requires c κs = (omega arith, omega arith, omega arith, omega arith, search push_position)
 
 add-j : tie.Need-overflow-add-j invariant-loop decreases-loop
 add-j c = omega arith
@@ -42,7 +42,7 @@ loop-again : tie.Need-loop-preserved invariant-loop decreases-loop
 loop-again c = (
   omega arith,
   omega arith,
-  push-more _ _ _ _ _ _ _ c.before.before.send-to.ensures
+  push_more _ _ _ _ _ _ _ c.before.before.send-to.ensures
       c.before.before.before.before.before.loop.invariant.2,
 )
 
@@ -50,7 +50,7 @@ same_length : tie.Need-same-length invariant-loop decreases-loop
 same_length c = search rules
 
 returns-2 : tie.Need-returns-2 invariant-loop decreases-loop
-returns-2 c = search push-all
+returns-2 c = search push_all
 
 pub push_spec : {M : Type 1} → statement M
 push_spec =

@@ -1,11 +1,11 @@
 -- `bus_spec::medium::send_to` meets its contract. Assumes nothing.
-use Rattle.bus_spec.specs.MediumLaws.{send-own, send-apart}
+use Rattle.bus_spec.specs.MediumLaws.{send_own, send_apart}
 use borrow.Author.Rules.{rules}
 use Rattle.bus_spec.proofs.medium.send_to.Statement.{statement}
 use Rattle.bus_spec.proofs.medium.send_to.Tie as tie
 
 returns : tie.Need-returns
-returns c = search send-own
+returns c = search send_own
 
 read-position-requires : tie.Need-read-position-requires
 read-position-requires c κs = search rules
@@ -26,10 +26,10 @@ same_length : tie.Need-same-length
 same_length c = search rules
 
 returns-2 : tie.Need-returns-2
-returns-2 c = search send-apart
+returns-2 c = search send_apart
 
-pub send-to-spec : {M : Type 1} → statement M
-send-to-spec =
+pub send_to_spec : {M : Type 1} → statement M
+send_to_spec =
     tie.close
     (tie.spec
     returns

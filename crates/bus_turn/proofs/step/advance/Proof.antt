@@ -1,5 +1,5 @@
 -- `bus_turn::step::advance` meets its contract. Assumes nothing.
-use Rattle.bus_spec.specs.CodeLaws.{advanced-is}
+use Rattle.bus_spec.specs.CodeLaws.{advanced_is}
 use borrow.Author.Rules.{rules}
 use Rattle.bus_turn.proofs.step.advance.Statement.{statement}
 use Rattle.bus_turn.proofs.step.advance.Tie as tie
@@ -17,8 +17,8 @@ same_length : tie.Need-same-length
 same_length c = search rules
 
 returns : tie.Need-returns
-returns c = (search advanced-is, search rules)
+returns c = (search advanced_is, search rules)
 
-pub advance-spec : {M : Type 1} → statement M
-advance-spec =
+pub advance_spec : {M : Type 1} → statement M
+advance_spec =
     tie.close (tie.spec turn-all-requires add-write-clock write-clock-requires same_length returns)

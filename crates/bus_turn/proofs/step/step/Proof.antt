@@ -1,6 +1,6 @@
 -- `bus_turn::step::step` meets its contract. Assumes nothing.
 use native.Mathlib.Omega.{arith}
-use Rattle.bus_spec.specs.Ready.{ready-few, ready-able, step_is, step-events}
+use Rattle.bus_spec.specs.Ready.{ready_few, ready_able, step_is, step_events}
 use borrow.Author.Rules.{rules}
 use Rattle.bus_turn.proofs.step.step.Statement.{statement}
 use Rattle.bus_turn.proofs.step.step.Tie as tie
@@ -21,13 +21,13 @@ read-figures-requires : tie.Need-read-figures-requires
 read-figures-requires c κs = search rules
 
 advance-requires : tie.Need-advance-requires
-advance-requires c κs = (search ready-few, omega arith, omega arith, search ready-able)
+advance-requires c κs = (search ready_few, omega arith, omega arith, search ready_able)
 
 same_length : tie.Need-same-length
 same_length c = search rules
 
 returns : tie.Need-returns
-returns c = (search step_is, search step-events)
+returns c = (search step_is, search step_events)
 
 pub step_spec : {M : Type 1} → statement M
 step_spec =

@@ -1,5 +1,5 @@
 -- `c_words::numbers::event_words` meets its contract. Assumes nothing.
-use Rattle.c_words.specs.AnswersLaws.{events-are}
+use Rattle.c_words.specs.AnswersLaws.{events_are}
 use borrow.Author.Rules.{rules}
 use Rattle.c_words.proofs.numbers.event_words.Statement.{statement}
 use Rattle.c_words.proofs.numbers.event_words.Tie as tie
@@ -17,10 +17,10 @@ receive-value-requires : tie.Need-receive-value-requires
 receive-value-requires c κs = search rules
 
 returns : tie.Need-returns
-returns c = search events-are
+returns c = search events_are
 
-pub event-words-spec : {M : Type 1} → statement M
-event-words-spec =
+pub event_words_spec : {M : Type 1} → statement M
+event_words_spec =
     tie.close
     (tie.spec
     transmit-word-requires

@@ -1,5 +1,5 @@
 -- `frame_build::builder::seal` meets its contract. Assumes nothing.
-use Rattle.frame_build.specs.BuildLaws.{seal-is}
+use Rattle.frame_build.specs.BuildLaws.{seal_is}
 use borrow.Author.Rules.{rules}
 use Rattle.frame_build.proofs.builder.seal.Statement.{statement}
 use Rattle.frame_build.proofs.builder.seal.Tie as tie
@@ -26,10 +26,10 @@ same_length : tie.Need-same-length
 same_length c = search rules
 
 returns : tie.Need-returns
-returns c = search seal-is
+returns c = search seal_is
 
-pub seal-spec : {M : Type 1} → statement M
-seal-spec =
+pub seal_spec : {M : Type 1} → statement M
+seal_spec =
     tie.close
     (tie.spec
     sub-check-sequence

@@ -1,5 +1,5 @@
 -- `frame_build::builder::write_covered` meets its contract. Assumes nothing.
-use Rattle.frame_build.specs.BuildLaws.{covered-is}
+use Rattle.frame_build.specs.BuildLaws.{covered_is}
 use borrow.Author.Rules.{rules}
 use Rattle.frame_build.proofs.builder.write_covered.Statement.{statement}
 use Rattle.frame_build.proofs.builder.write_covered.Tie as tie
@@ -14,8 +14,8 @@ same_length : tie.Need-same-length
 same_length c = search rules
 
 returns : tie.Need-returns
-returns c = search covered-is
+returns c = search covered_is
 
-pub write-covered-spec : {M : Type 1} → statement M
-write-covered-spec =
+pub write_covered_spec : {M : Type 1} → statement M
+write_covered_spec =
     tie.close (tie.spec write-header-requires write-data-requires same_length returns)

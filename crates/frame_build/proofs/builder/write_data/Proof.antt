@@ -31,8 +31,8 @@ same_length c = search rules
 returns : tie.Need-returns
 returns c = search data_is
 
-pub write-data-spec : {M : Type 1} → statement M
-write-data-spec =
+pub write_data_spec : {M : Type 1} → statement M
+write_data_spec =
     tie.close
     (tie.spec
     store-requires

@@ -30,8 +30,8 @@ returns c =
     c.before.before.before.before.before.before.before.before.before.before.before.store.ensures
     (search rules) (omega arith)
 
-pub write-header-spec : {M : Type 1} → statement M
-write-header-spec =
+pub write_header_spec : {M : Type 1} → statement M
+write_header_spec =
     tie.close
     (tie.spec
     slice-aggregate-store

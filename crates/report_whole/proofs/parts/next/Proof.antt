@@ -1,5 +1,5 @@
 -- `report_whole::parts::next` meets its contract. Assumes nothing.
-use Rattle.report_whole.specs.PartLaws.{next-is, next-within}
+use Rattle.report_whole.specs.PartLaws.{next_is, next_within}
 use borrow.Author.Rules.{rules}
 use Rattle.report_whole.proofs.parts.next.Statement.{statement}
 use Rattle.report_whole.proofs.parts.next.Tie as tie
@@ -17,8 +17,8 @@ same-length-2 : tie.Need-same-length-2
 same-length-2 c = search rules
 
 returns : tie.Need-returns
-returns c = (search next-is, search next-within)
+returns c = (search next_is, search next_within)
 
-pub next-spec : {M : Type 1} → statement M
-next-spec =
+pub next_spec : {M : Type 1} → statement M
+next_spec =
     tie.close (tie.spec advance-requires size-of-requires same_length same-length-2 returns)

@@ -52,8 +52,8 @@ same_length c = search rules
 returns : tie.Need-returns invariant-loop decreases-loop
 returns c = omega arith
 
-pub poke-all-spec : {M : Type 1} → statement M
-poke-all-spec =
+pub poke_all_spec : {M : Type 1} → statement M
+poke_all_spec =
     tie.close
     (tie.spec
     invariant-loop

@@ -46,8 +46,8 @@ shared-slice-read-digit-2 c = search rules
 digit-requires-2 : tie.Need-digit-requires-2 invariant-loop decreases-loop
 digit-requires-2 c κs = search rules
 
-add-out : tie.Need-overflow-add-out invariant-loop decreases-loop
-add-out c = search rules
+add_out : tie.Need-overflow-add-out invariant-loop decreases-loop
+add_out c = search rules
 
 cast-out : tie.Need-overflow-cast-out invariant-loop decreases-loop
 cast-out c = search rules
@@ -70,8 +70,8 @@ same-length-2 c = search rules
 returns-2 : tie.Need-returns-2 invariant-loop decreases-loop
 returns-2 c = search rules
 
-pub decode-spec : {M : Type 1} → statement M
-decode-spec =
+pub decode_spec : {M : Type 1} → statement M
+decode_spec =
     tie.close
     (tie.spec
     invariant-loop
@@ -87,7 +87,7 @@ decode-spec =
     add-digit
     shared-slice-read-digit-2
     digit-requires-2
-    add-out
+    add_out
     cast-out
     slice-write-out
     add-i

@@ -5,10 +5,10 @@ use mathlib.Core.Path.{◌≡◌}
 use lib.ListN.{length}
 use Rattle.vectors.proofs.script.run_lines.Statement.{statement}
 use Rattle.vectors.proofs.script.run_lines.Tie as tie
-use Rattle.area.specs.Offsets.{areaSize}
+use Rattle.area.specs.Offsets.{area_size}
 
 abbrev invariant-loop : tie.invariant-loop
-invariant-loop text area₀ at₀ area at = (at ≤ length text + 1) × (length area ≡ areaSize)
+invariant-loop text area₀ at₀ area at = (at ≤ length text + 1) × (length area ≡ area_size)
 
 abbrev decreases-loop : tie.decreases-loop
 decreases-loop text area₀ at₀ area at = length text + 1 - at
@@ -46,8 +46,8 @@ loop-again c = search rules
 returns : tie.Need-returns invariant-loop decreases-loop
 returns c = search rules
 
-pub run-lines-spec : {M : Type 1} → statement M
-run-lines-spec =
+pub run_lines_spec : {M : Type 1} → statement M
+run_lines_spec =
     tie.close
     (tie.spec
     invariant-loop

@@ -38,8 +38,8 @@ loop-again c = search rules
 returns : tie.Need-returns invariant-loop decreases-loop
 returns c = search rules
 
-pub print-octets-spec : {M : Type 1} → statement M
-print-octets-spec =
+pub print_octets_spec : {M : Type 1} → statement M
+print_octets_spec =
     tie.close
     (tie.spec
     invariant-loop
