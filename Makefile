@@ -17,8 +17,7 @@ VERSION := $(shell sed -n 's/^VERSION = "\(.*\)"/\1/p' python/wisavulome/__init_
 SONAME := libwisavulome.so.1
 SHARED := target/$(SONAME)
 PYTHON_VERSION := $(shell $(PYTHON) -c 'import sys; print("python%d.%d" % sys.version_info[:2])')
-# Where this Python looks below PREFIX: Debian's own below /usr/local in dist-packages, every other in site-packages.
-PYTHON_FOLDER ?= $(shell $(PYTHON) -c 'import sys; own, other = (sys.argv[1] + "/lib/$(PYTHON_VERSION)/" + name for name in ("dist-packages", "site-packages")); print(own if own in sys.path else other)' "$(PREFIX)")
+PYTHON_FOLDER ?= $(PREFIX)/lib/$(PYTHON_VERSION)/site-packages
 TO = $(DESTDIR)$(PREFIX)
 TO_PYTHON = $(DESTDIR)$(PYTHON_FOLDER)/wisavulome
 
@@ -45,15 +44,11 @@ install: $(SHARED)
 	install -m 644 examples/worked.c examples/worked.rs examples/worked.py "$(TO)/share/wisavulome/examples"
 	install -m 644 python/wisavulome/*.py "$(TO_PYTHON)"
 	install -m 755 tools/wisavulome "$(TO)/bin/wisavulome"
-	install -d "$(TO)/share/man/man1" "$(TO)/share/bash-completion/completions"
-	$(PYTHON) -B tools/pages man >"$(TO)/share/man/man1/wisavulome.1"
-	$(PYTHON) -B tools/pages completion >"$(TO)/share/bash-completion/completions/wisavulome"
 
 uninstall:
 	rm -f "$(TO)/lib/libwisavulome.a" "$(TO)/lib/libwisavulome.so" "$(TO)/lib/$(SONAME)"
 	rm -f "$(TO)/lib/libwisavulome.so.$(VERSION)" "$(TO)/lib/pkgconfig/wisavulome.pc"
 	rm -f "$(TO)/include/wisavulome.h" "$(TO)/include/wisavulome.cdef" "$(TO)/bin/wisavulome"
-	rm -f "$(TO)/share/man/man1/wisavulome.1" "$(TO)/share/bash-completion/completions/wisavulome"
 	rm -rf "$(TO)/share/wisavulome" "$(TO_PYTHON)"
 
 check-install: $(SHARED)

@@ -88,39 +88,6 @@ class WholeCase(unittest.TestCase):
         self.assertEqual(runinput.write(text), WHOLE_CASE)
 
 
-class Names(unittest.TestCase):
-    """Offers that come after others (request N12)."""
-
-    OFFERS = """offer at 0 station 0 to station 1 value 0x0800 data 46 zeros
-offer at 0 station 1 to station 0 value 0x0800 after 1 data 46 zeros
-run 1500
-"""
-
-    def test_write(self):
-        second = 23 + 15 + 46
-        named = WHOLE_CASE[:21] + b"\x80\x02" + WHOLE_CASE[23:second] + b"\0\0"
-        named += WHOLE_CASE[second:-4] + b"\0\1" + WHOLE_CASE[-4:]
-        self.assertEqual(runinput.write(TWO + self.OFFERS), named)
-        text, whole = runinput.read(named)
-        self.assertTrue(whole)
-        self.assertIn("value 0x0800 after 0 data 46 zeros\n", text)
-        self.assertIn("value 0x0800 after 1 data 46 zeros\n", text)
-        self.assertEqual(runinput.write(text), named)
-
-    def test_no_offers(self):
-        octets = runinput.write(TWO + "names\nrun 1\n")
-        self.assertEqual(octets[21:23], b"\x80\0")
-        text, whole = runinput.read(octets)
-        self.assertTrue(whole)
-        self.assertEqual(runinput.write(text), octets)
-
-    def test_name_cut_off(self):
-        octets = runinput.write(TWO + self.OFFERS)
-        text, whole = runinput.read(octets[:-5])
-        self.assertFalse(whole)
-        self.assertIn("(its name is missing)", text)
-
-
 class Stored(unittest.TestCase):
     """The stored run inputs."""
 
@@ -418,7 +385,7 @@ class Errors(unittest.TestCase):
         draws = station.strip() + " draws" + " 1" * 256
         self.assertEqual(self.refusal(draws + "\nrun 1"), "line 1: D 256 is too wide for its field (at most 255)")
         offer = "offer 0 station 0 to broadcast value 0 data empty\n"
-        self.assertIn("line 32768: offer 32768 is too many", self.refusal(offer * 32768 + "run 1"))
+        self.assertIn("line 65536: offer count 65536 is too wide", self.refusal(offer * 65536 + "run 1"))
 
     def test_no_run(self):
         self.assertEqual(self.refusal(TWO), "line 2: ends without a 'run' line")

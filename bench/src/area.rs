@@ -31,12 +31,10 @@ use crate::{program, Refusal, LAST_CLOCK, STATIONS};
 pub const AREA: usize = 57_344;
 /// Octets of what the calls write into an output.
 pub const SHEET_OUT: usize = 196;
-pub const PLAN_OUT: usize = SHEET_OUT + 24;
-pub const PROGRESS: usize = 84;
+pub const PLAN_OUT: usize = SHEET_OUT + 20;
 pub const RUN_OUT: usize = 4 * (WORDS + 3);
 pub const COUNTERS_OUT: usize = 4 * COUNTERS;
 pub const STATION_OUT: usize = 64;
-pub const LOOK_OUT: usize = RUN_OUT + COUNTERS_OUT * STATIONS;
 
 /// The margin of a layout that does not fit.
 const NO_MARGIN: u32 = 256;
@@ -468,7 +466,7 @@ pub fn check_layout(octets: &[u8]) -> Answer {
     }
 }
 
-/// The layout as [`read_sheet`] writes it, then D, where the draws begin, the number of offers, where the first begins, the bit times, whether there are names.
+/// The layout as [`read_sheet`] writes it, then D, where the draws begin, the number of offers, where the first begins, the bit times.
 pub fn read_plan(input: &[u8], out: &mut [u8]) -> Answer {
     let numbers = program::numbers(input)?;
     room(out, PLAN_OUT)?;
@@ -588,41 +586,6 @@ pub fn run(area: &mut [u8], n: u32, out: &mut [u8]) -> Answer {
     }
     put_ran(&ran, out);
     Ok(ran.steps)
-}
-
-/// Request N9: "answer every station's counters, and how many events of each word, that a copy would give after making the offer and running
-/// so long. .. It refuses a short second area under 1, then offer, then run; more than 65,535 bit times falls under 13."
-#[allow(clippy::too_many_arguments)]
-pub fn look(
-    area: &[u8],
-    second: &mut [u8],
-    station: u32,
-    destination: u64,
-    value: u16,
-    data: &[u8],
-    n: u32,
-    out: &mut [u8],
-) -> Answer {
-    if second.len() < AREA {
-        return Err(1);
-    }
-    let mut copy = area.to_vec();
-    offer(&mut copy, station, destination, value, data)?;
-    if n > 65_535 {
-        return Err(13);
-    }
-    let mut told = [0; RUN_OUT];
-    run(&mut copy, n, &mut told)?;
-    room(out, LOOK_OUT)?;
-    second[..AREA].copy_from_slice(&copy[..AREA]);
-    out[..RUN_OUT].copy_from_slice(&told);
-    for i in 0..STATIONS {
-        let place = &mut out[RUN_OUT + COUNTERS_OUT * i..][..COUNTERS_OUT];
-        if counters(&copy, i as u32, place) == Err(10) {
-            place.fill(0);
-        }
-    }
-    Ok(0)
 }
 
 pub fn read_frame(area: &[u8], station: u32, out: &mut [u8]) -> Answer {

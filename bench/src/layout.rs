@@ -43,10 +43,10 @@ impl Layout {
         self.late_end == 0
     }
 
-    /// "A layout now fits if 2 × S ≤ slot, 2 × S ≤ 576 + E and G ≤ 64 + jam."
+    /// "A layout fits if 2 × S + G ≤ slot and G ≤ 64 + jam."
     pub fn fits(&self) -> bool {
         let span = self.distance(0, self.places.len() - 1);
-        2 * span <= self.slot && 2 * span <= 576 && self.gap() <= 64 + self.jam
+        2 * span + self.gap() <= self.slot && self.gap() <= 64 + self.jam
     }
 
     /// Refusals 5 to 8 on the resulting values, defaults filled in. A position's range is that of its one octet.
@@ -164,9 +164,8 @@ mod tests {
 
     #[test]
     fn p1_and_p2() {
-        assert_eq!(fits(&sheet(&[0], 255)), Ok(true));
-        assert_eq!(fits(&sheet(&[1, 1, 144], 200)), Ok(true));
-        assert_eq!(fits(&sheet(&[1, 1, 144], 201)), Ok(false));
+        assert_eq!(fits(&sheet(&[0], 208)), Ok(true));
+        assert_eq!(fits(&sheet(&[0], 209)), Ok(false));
         assert_eq!(fits(&sheet(&[8, 32], 10)), Ok(true));
         assert_eq!(fits(&sheet(&[8, 31], 10)), Ok(false));
     }

@@ -81,36 +81,6 @@ pub fn run_stepwise(area: &mut [u8], n: u32, out: &mut [u8]) -> Answer {
     answer(unsafe { c::wisavulome_run_stepwise(area.as_mut_ptr(), area.len(), n, out.as_mut_ptr(), out.len()) })
 }
 
-/// Look ahead, into the second area.
-#[allow(clippy::too_many_arguments)]
-pub fn look(
-    area: &[u8],
-    second: &mut [u8],
-    station: u32,
-    destination: u64,
-    value: u16,
-    data: &[u8],
-    n: u32,
-    out: &mut [u8],
-) -> Answer {
-    answer(unsafe {
-        c::wisavulome_look(
-            area.as_ptr(),
-            area.len(),
-            second.as_mut_ptr(),
-            second.len(),
-            station,
-            destination,
-            value,
-            data.as_ptr(),
-            data.len(),
-            n,
-            out.as_mut_ptr(),
-            out.len(),
-        )
-    })
-}
-
 pub fn read_frame(area: &[u8], station: u32, out: &mut [u8]) -> Answer {
     answer(unsafe { c::wisavulome_read_frame(area.as_ptr(), area.len(), station, out.as_mut_ptr(), out.len()) })
 }

@@ -20,32 +20,18 @@ struct Offer<'a> {
     destination: Address,
     value: u16,
     data: &'a [u8],
-    /// The number, from 1, of the offer that it comes after; 0 for none.
-    name: u16,
-}
-
-/// What has become of an offer.
-#[derive(Clone, Copy, PartialEq)]
-enum Fate {
-    Ahead,
-    Held,
-    Sent,
-    Lost,
 }
 
 struct Plan<'a> {
     layout: Layout,
     /// Station by station.
     draws: Vec<Vec<u16>>,
-    named: bool,
     offers: Vec<Offer<'a>>,
     bit_times: u32,
 }
 
 const LARGEST_PLAN: usize = 16_384;
 const MOST_OFFERS: u16 = 64;
-/// In an offer count: the offers have names.
-const NAMED: u16 = 0x8000;
 
 /// Octets still to be read; running out is refused by the number given.
 struct Reader<'a> {
@@ -77,7 +63,7 @@ impl<'a> Reader<'a> {
     }
 }
 
-/// Refusals 3 to 8, 9, 16, 19, then 13.
+/// Refusals 3 to 8, 9, 16, then 13.
 fn read_plan(input: &[u8]) -> Result<Plan<'_>, Refusal> {
     let (layout, used) = layout::read_sheet(input)?;
     let mut reader = Reader { rest: &input[used..], short: 9 };
@@ -90,8 +76,7 @@ fn read_plan(input: &[u8]) -> Result<Plan<'_>, Refusal> {
         return Err(16);
     }
     reader.short = 16;
-    let word = reader.two()?;
-    let (named, count) = (word & NAMED != 0, word & !NAMED);
+    let count = reader.two()?;
     if count > MOST_OFFERS {
         return Err(16);
     }
@@ -103,33 +88,29 @@ fn read_plan(input: &[u8]) -> Result<Plan<'_>, Refusal> {
         let value = reader.two()?;
         let size = reader.two()?;
         let data = reader.take(size.into())?;
-        let name = if named { reader.two()? } else { 0 };
         if offers.last().is_some_and(|last| time < last.time) {
             return Err(16);
         }
-        offers.push(Offer { time, station, destination, value, data, name });
+        offers.push(Offer { time, station, destination, value, data });
     }
     let bit_times = reader.four()?;
     if !reader.rest.is_empty() {
         return Err(16);
     }
-    if offers.iter().enumerate().any(|(number, offer)| usize::from(offer.name) > number) {
-        return Err(19);
-    }
     if bit_times > LAST_CLOCK {
         return Err(13);
     }
-    Ok(Plan { layout, draws, named, offers, bit_times })
+    Ok(Plan { layout, draws, offers, bit_times })
 }
 
-/// D, where the draws begin, the number of offers, where the first begins, the bit times, and 1 where there are names.
-pub fn numbers(input: &[u8]) -> Result<[u32; 6], Refusal> {
+/// D, where the draws begin, the number of offers, where the first begins, the bit times.
+pub fn numbers(input: &[u8]) -> Result<[u32; 5], Refusal> {
     let plan = read_plan(input)?;
     let (layout, used) = layout::read_sheet(input)?;
     let depth = plan.draws[0].len();
     let drawn = used + 1;
     let first = drawn + 2 * layout.places.len() * depth + 2;
-    Ok([depth as u32, drawn as u32, plan.offers.len() as u32, first as u32, plan.bit_times, plan.named.into()])
+    Ok([depth as u32, drawn as u32, plan.offers.len() as u32, first as u32, plan.bit_times])
 }
 
 /// What the run program prints for an input.
@@ -145,47 +126,20 @@ fn report<E: Engine>(plan: &Plan) -> String {
     let mut text = format!("stations {} fit {fits}\n", plan.layout.places.len());
     let mut line = |args: std::fmt::Arguments| writeln!(text, "{args}").expect("writing to a string");
     let mut engine = E::start(&plan.layout, &plan.draws);
-    let mut fates = vec![Fate::Ahead; plan.offers.len()];
+    let mut offers = plan.offers.iter().peekable();
     let mut clock = 0;
     let mut late = false;
     while clock < plan.bit_times && !late {
-        // "just before the first step that is both at or past its time and after the named offer's `sent`", in plan order
-        for (number, offer) in plan.offers.iter().enumerate() {
-            if fates[number] != Fate::Ahead || offer.time > clock {
-                continue;
-            }
-            let named = match offer.name {
-                0 => Fate::Sent,
-                name => fates[usize::from(name) - 1],
-            };
-            match named {
-                Fate::Ahead | Fate::Held => {}
-                Fate::Sent => match engine.offer(offer.station.into(), offer.destination, offer.value, offer.data) {
-                    Ok(()) => fates[number] = Fate::Held,
-                    Err(refusal) => {
-                        line(format_args!("{clock} {} refused {refusal}", offer.station));
-                        fates[number] = Fate::Lost;
-                    }
-                },
-                Fate::Lost => {
-                    line(format_args!("{clock} {} dropped", offer.station));
-                    fates[number] = Fate::Lost;
-                }
+        // "An offer is made, in plan order, just before the step of its time."
+        while let Some(offer) = offers.next_if(|offer| offer.time == clock) {
+            let made = engine.offer(offer.station.into(), offer.destination, offer.value, offer.data);
+            if let Err(refusal) = made {
+                line(format_args!("{} {} refused {refusal}", offer.time, offer.station));
             }
         }
         let stepped = engine.step(&mut |station, event| {
             line(format_args!("{clock} {station} {} {}", event.word.text(), event.number));
             late |= event.word == Word::Late && plan.layout.late_ends_run();
-            let end = match event.word {
-                Word::Sent => Fate::Sent,
-                Word::GivenUp | Word::LateEnd => Fate::Lost,
-                _ => return,
-            };
-            for (offer, fate) in plan.offers.iter().zip(&mut fates) {
-                if usize::from(offer.station) == station && *fate == Fate::Held {
-                    *fate = end;
-                }
-            }
         });
         stepped.expect("the bit times asked end by the last clock");
         clock += 1;

@@ -8,7 +8,7 @@ use common::{
     by_station, cases, damaged, damaged_sheet, draws, made_up_area, offer, run_input, same_area, setting, sheet,
     spelled, Rng, Setting,
 };
-use wisavulome_bench::area::{self, AREA, COUNTERS_OUT, LOOK_OUT, PLAN_OUT, PROGRESS, RUN_OUT, SHEET_OUT, STATION_OUT};
+use wisavulome_bench::area::{self, AREA, COUNTERS_OUT, PLAN_OUT, RUN_OUT, SHEET_OUT, STATION_OUT};
 use wisavulome_bench::events::WORDS;
 use wisavulome_bench::marks::{self, MARK, MARKS, STORE};
 use wisavulome_bench::plain::World;
@@ -181,7 +181,7 @@ fn run_inputs() {
         );
         tally.note(printed);
         let (mut pieces, mut own) = (Vec::new(), before.clone());
-        let (mut progress, mut piece) = (rng.octets(PROGRESS), rng.octets(2048));
+        let (mut progress, mut piece) = (rng.octets(16), rng.octets(2048));
         let mut size = ours::begin(&input, &mut own, &mut progress, &mut piece).expect("the first piece");
         pieces.extend(&piece[..size as usize]);
         while area::word(&progress, 12) == 0 {
@@ -192,7 +192,7 @@ fn run_inputs() {
         let left = if printed.is_ok() { &own } else { &before };
         assert!(area == *left, "{}: the area", context());
     }
-    tally.demand(&[0, 3, 9, 15, 16, 19]);
+    tally.demand(&[0, 3, 9, 15, 16]);
 }
 
 /// A place, an area or an output that is too short, and a place of any octets: a refusal changes nothing.
@@ -203,13 +203,13 @@ fn places_of_runs() {
         let rng = &mut Rng::new(17, case);
         let Some(input) = run_input(rng) else { continue };
         let mut area = if rng.one_in(8) { lent(rng, AREA) } else { rng.octets(AREA) };
-        let mut progress = rng.octets(PROGRESS);
+        let mut progress = rng.octets(16);
         let mut out = rng.octets(2048);
         if area.len() >= AREA {
             ours::begin(&input, &mut area, &mut progress, &mut out).expect("the first piece");
         }
         match rng.below(6) {
-            0 => progress.truncate(rng.below(PROGRESS as u64) as usize),
+            0 => progress.truncate(rng.below(16) as usize),
             1 => out.truncate(rng.below(2048) as usize),
             2 => progress[8] = 2,
             3 => progress[..4].copy_from_slice(&rng.pick(&[16_384u32, u32::MAX, 0]).to_be_bytes()),
@@ -223,7 +223,7 @@ fn places_of_runs() {
         if answer.is_err() {
             assert!((area, progress.clone(), out) == before, "case {case}: a refusal that changes what was lent");
         }
-        if check != 0 || progress.len() < PROGRESS {
+        if check != 0 || progress.len() < 16 {
             assert_eq!(answer, Err(if check == 0 { 15 } else { check }), "case {case}");
         }
     }
@@ -548,59 +548,6 @@ fn lists_with_marks() {
         }
     }
     tally.demand(&[0, 1, 2, 10, 11, 12, 15, 17, 18]);
-}
-
-/// Looks ahead between offers and runs, and from areas that no fresh start made; then the same for real.
-#[test]
-fn looks() {
-    let mut tally = Tally::default();
-    for case in 0..cases(150) {
-        let rng = &mut Rng::new(19, case);
-        let Setting { sheet, layout, depth, draws } = setting(rng);
-        let longer = rng.pick(&[0, 0, 1, 40]);
-        let mut area = rng.octets(AREA + longer);
-        if rng.one_in(4) {
-            let octets = made_up_area(rng);
-            area[..AREA].copy_from_slice(&octets[..AREA]);
-        } else {
-            ours::start(&mut area, &sheet, depth, &draws).expect("a fresh start");
-        }
-        for turn in 0..rng.range(3, 12) {
-            let context = || format!("case {case}, turn {turn}");
-            let offer = offer(rng, &layout, true);
-            let bit_times = match rng.below(12) {
-                0 => rng.pick(&[65_536, u32::MAX, 20_000_000]),
-                1 => 65_535,
-                2..=6 => rng.range(0, 60),
-                _ => rng.range(0, 3000),
-            };
-            let (first, second) = (short(rng, AREA, area.len()), lent(rng, AREA));
-            let mut ours_second = second.clone();
-            let mut plain_second = second;
-            let out = lent(rng, LOOK_OUT);
-            let held = area.clone();
-            let (station, to, value, data) = (offer.station, offer.destination, offer.value, &offer.data);
-            let answer = same_out(
-                &out,
-                &context,
-                |out| ours::look(&area[..first], &mut ours_second, station, to, value, data, bit_times, out),
-                |out| area::look(&area[..first], &mut plain_second, station, to, value, data, bit_times, out),
-            );
-            tally.note(answer);
-            assert!(area == held, "{}: the first area changed", context());
-            assert!(ours_second == plain_second, "{}: the second areas differ", context());
-            if rng.one_in(2) {
-                let mut told = [0; RUN_OUT];
-                let made = ours::offer(&mut area, station, to, value, data);
-                let ran = if bit_times > 65_535 { Err(13) } else { ours::run(&mut area, bit_times, &mut told) };
-                if answer == Ok(0) {
-                    assert!(made.is_ok() && ran.is_ok(), "{}: refused for real", context());
-                    assert!(ours_second[..AREA] == area[..AREA], "{}: the real area differs", context());
-                }
-            }
-        }
-    }
-    tally.demand(&[0, 1, 2, 10, 11, 12, 13, 15]);
 }
 
 /// Most stations offer at about the same time, again and again, with runs of a few bit times to a few packets in between.

@@ -19,9 +19,8 @@
  * the draws; 10 no such station; 11 the data or the length/type value; 12 the station still has a frame; 13 the clock would pass
  * 16,777,216; 14 no readable frame; 15 the lent output or store is too short; 16 the plan is over 16,384 octets, is short, has octets left
  * over, over 64 offers, or offer times that fall; over 64 windows. They are checked in this order (a run input makes check 13 last). 17 no
- * mark of that name; 18 four others stand; a mark checks 1, 2, 15, 18 in this order, a return 1, 15, 17, 2. Of a run input, after 16 and before
- * 13: 19 an offer names its own number or one above it. Of windows over a log: 20 a window's second time is below its first; 21 the times of
- * the entries fall.
+ * mark of that name; 18 four others stand; a mark checks 1, 2, 15, 18 in this order, a return 1, 15, 17, 2. Of windows over a log: 20 a
+ * window's second time is below its first; 21 the times of the entries fall.
  */
 #ifndef WISAVULOME_H
 #define WISAVULOME_H
@@ -53,14 +52,13 @@ extern "C" {
 #define WISAVULOME_STEP_OUT 256
 #define WISAVULOME_RUN_OUT 52
 #define WISAVULOME_COUNTERS_OUT 68
-#define WISAVULOME_LOOK_OUT 1140
 #define WISAVULOME_STATION_OUT 64
 #define WISAVULOME_FRAME_OUT 1522
-#define WISAVULOME_PLAN_OUT 220
+#define WISAVULOME_PLAN_OUT 216
 #define WISAVULOME_PIECE_OUT 2048
 
 /* the octets of where a run stands */
-#define WISAVULOME_PROGRESS 84
+#define WISAVULOME_PROGRESS 16
 
 /* the octets of a log's entry, the numbers of a window and of its answer, and the most windows */
 #define WISAVULOME_LOG_ENTRY 6
@@ -142,9 +140,9 @@ uint32_t wisavulome_check_layout(const uint8_t *layout, size_t layout_len);
  * Refusals 3 to 8, 15 (under those octets). out: the sheet. Two sheets that say the same give the same octets. */
 uint32_t wisavulome_write_sheet(const uint8_t *sheet, size_t sheet_len, uint8_t *out, size_t out_len);
 
-/* Reads a run input: sheet, draws, offers, bit times. Answer: 0. Refusals 3 to 9, 13, 16, 19, and after them 15 (under 220 octets).
+/* Reads a run input: sheet, draws, offers, bit times. Answer: 0. Refusals 3 to 9, 13, 16, and after them 15 (under 216 octets).
  * out: the layout as wisavulome_read_sheet writes it, 196 octets; then D, the octet at which the draws begin, the number of offers, the octet
- * at which the first offer begins, the bit times, 1 where the offers have names (the top bit of their count stands) or 0. */
+ * at which the first offer begins, the bit times. */
 uint32_t wisavulome_read_plan(const uint8_t *input, size_t input_len, uint8_t *out, size_t out_len);
 
 /* Builds a frame from destination, source, length/type value and data. Answer: the octets of the frame, 64 to 1522. Refusals 11, 15.
@@ -191,14 +189,6 @@ uint32_t wisavulome_run(uint8_t *area, size_t area_len, uint32_t n, uint8_t *out
 /* The same run, made step by step: the reference, which is slower. It answers, refuses and writes what wisavulome_run does. */
 uint32_t wisavulome_run_stepwise(uint8_t *area, size_t area_len, uint32_t n, uint8_t *out, size_t out_len);
 
-/* Looks ahead: what a copy of the work area would give after an offer (as wisavulome_offer takes it) and a run of n bit times, n at most 65535.
- * The work area is only read; the second area, as long at least, whatever it holds, takes the copy and then holds it as the run left it.
- * Answer: 0. Refusals 1 (the second area, then the first), 2, 10, 11, 12, 13, 15 (under 1140 octets); with a refusal the second area is as it was.
- * out: how many events of each word came in the run, and how it ended, 52 octets as wisavulome_run writes them; then for each of 16 stations,
- * from octet 52 + 68 i on, its counters after the run, as wisavulome_counters writes them; 0 where there is no such station. */
-uint32_t wisavulome_look(const uint8_t *area, size_t area_len, uint8_t *second, size_t second_len, uint32_t station, uint64_t destination,
-                         uint16_t value, const uint8_t *payload, size_t payload_len, uint32_t n, uint8_t *out, size_t out_len);
-
 /* Reads the frame that a station received, whole with its check sequence. Answer: its octets, 64 to 1522. Refusals 1, 2, 10, 14, 15.
  * out: the frame. */
 uint32_t wisavulome_read_frame(const uint8_t *area, size_t area_len, uint32_t station, uint8_t *out, size_t out_len);
@@ -228,11 +218,10 @@ uint32_t wisavulome_drop(uint8_t *store, size_t store_len, uint64_t name);
 
 /* What is printed for a run input, piece by piece: wisavulome_begin makes a fresh start and hands out the first piece, wisavulome_advance each
  * piece after it, until the fourth word of progress is not 0. Answer: the octets of the piece, 0 to 2048. Refusals of begin: 1, 15 (out under
- * 2048 octets, progress under 84); of advance: 1, 2, 13, 15, 16 (over 64 offers, or one that does not lie within the first 16,384 octets of the
- * input); where progress is under 84 octets 13 and 16 are not asked.
- * out: the piece. progress, written by begin, read and written by advance: the octet of the input at which the first offer begins, the number
- * of offers, the bit times left, 1 where the last line is handed out or 0, 1 where the offers have names or 0; then 64 octets, the fate of each
- * offer: 0 ahead, 1 held by its station, 2 sent, any other number lost (refused, dropped, given up or late-ended). Any octets are taken. */
+ * 2048 octets, progress under 16); of advance: 1, 2, 13, 15, 16 (the next offer does not lie within the first 16,384 octets of the input); where
+ * progress is under 16 octets 13 and 16 are not asked.
+ * out: the piece. progress, written by begin, read and written by advance: the octet of the input at which the next offer begins, the offers
+ * left, the bit times left, 1 where the last line is handed out or 0; any octets are taken. */
 uint32_t wisavulome_begin(const uint8_t *input, size_t input_len, uint8_t *area, size_t area_len, uint8_t *progress, size_t progress_len,
                           uint8_t *out, size_t out_len);
 uint32_t wisavulome_advance(const uint8_t *input, size_t input_len, uint8_t *area, size_t area_len, uint8_t *progress, size_t progress_len,

@@ -25,12 +25,11 @@ pub const CLIENT_OUT: usize = 8;
 pub const STEP_OUT: usize = 256;
 pub const RUN_OUT: usize = 52;
 pub const COUNTERS_OUT: usize = 68;
-pub const LOOK_OUT: usize = 1140;
 pub const STATION_OUT: usize = 64;
 pub const FRAME_OUT: usize = 1522;
-pub const PLAN_OUT: usize = 220;
+pub const PLAN_OUT: usize = 216;
 pub const PIECE_OUT: usize = 2048;
-pub const PROGRESS: usize = 84;
+pub const PROGRESS: usize = 16;
 
 // The octets of a log's entry, the numbers of a window and of its answer, and the most windows.
 pub const LOG_ENTRY: usize = 6;
@@ -107,7 +106,7 @@ unsafe extern "C" {
     // The octets of the sheet; refusals 3 to 8, 15. out: the shortest sheet with the same layout.
     pub fn wisavulome_write_sheet(sheet: *const u8, sheet_len: usize, out: *mut u8, out_len: usize) -> u32;
 
-    // 0; refusals 3 to 9, 13, 15, 16, 19. out: the layout's 196 octets, then 6 words.
+    // 0; refusals 3 to 9, 13, 15, 16. out: the layout's 196 octets, then 5 words.
     pub fn wisavulome_read_plan(input: *const u8, input_len: usize, out: *mut u8, out_len: usize) -> u32;
 
     // The octets of the frame; refusals 11, 15. out: the frame.
@@ -165,23 +164,6 @@ unsafe extern "C" {
     // The same run, made step by step.
     pub fn wisavulome_run_stepwise(area: *mut u8, area_len: usize, n: u32, out: *mut u8, out_len: usize) -> u32;
 
-    // 0; refusals 1, 2, 10, 11, 12, 13, 15. second: the copy, as the run left it. out: as of a run, then 16 times the
-    // seventeen counters.
-    pub fn wisavulome_look(
-        area: *const u8,
-        area_len: usize,
-        second: *mut u8,
-        second_len: usize,
-        station: u32,
-        destination: u64,
-        value: u16,
-        payload: *const u8,
-        payload_len: usize,
-        n: u32,
-        out: *mut u8,
-        out_len: usize,
-    ) -> u32;
-
     // The octets of the frame; refusals 1, 2, 10, 14, 15. out: the frame.
     pub fn wisavulome_read_frame(area: *const u8, area_len: usize, station: u32, out: *mut u8, out_len: usize) -> u32;
 
@@ -200,7 +182,7 @@ unsafe extern "C" {
     // 0; refusals 15, 17. store: the octet of that mark is 0.
     pub fn wisavulome_drop(store: *mut u8, store_len: usize, name: u64) -> u32;
 
-    // The octets of the first piece; refusals 1, 15. progress: 5 words and 64 octets, written; out: the piece.
+    // The octets of the first piece; refusals 1, 15. progress: 4 words, written; out: the piece.
     pub fn wisavulome_begin(
         input: *const u8,
         input_len: usize,
@@ -212,7 +194,7 @@ unsafe extern "C" {
         out_len: usize,
     ) -> u32;
 
-    // The octets of the next piece; refusals 1, 2, 13, 15, 16. progress: 5 words and 64 octets, read and written; out: the piece.
+    // The octets of the next piece; refusals 1, 2, 13, 15, 16. progress: 4 words, read and written; out: the piece.
     pub fn wisavulome_advance(
         input: *const u8,
         input_len: usize,
@@ -331,35 +313,6 @@ pub fn run(area: &mut [u8], n: u32, out: &mut [u8]) -> Answer {
 
 pub fn run_stepwise(area: &mut [u8], n: u32, out: &mut [u8]) -> Answer {
     answer(unsafe { wisavulome_run_stepwise(area.as_mut_ptr(), area.len(), n, out.as_mut_ptr(), out.len()) })
-}
-
-#[allow(clippy::too_many_arguments)]
-pub fn look(
-    area: &[u8],
-    second: &mut [u8],
-    station: u32,
-    destination: u64,
-    value: u16,
-    payload: &[u8],
-    n: u32,
-    out: &mut [u8],
-) -> Answer {
-    answer(unsafe {
-        wisavulome_look(
-            area.as_ptr(),
-            area.len(),
-            second.as_mut_ptr(),
-            second.len(),
-            station,
-            destination,
-            value,
-            payload.as_ptr(),
-            payload.len(),
-            n,
-            out.as_mut_ptr(),
-            out.len(),
-        )
-    })
 }
 
 pub fn read_frame(area: &[u8], station: u32, out: &mut [u8]) -> Answer {

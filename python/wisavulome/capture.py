@@ -8,7 +8,6 @@ import os
 import struct
 
 from . import VERSION, text
-from .arguments import file_name
 from .course import follow
 from .failure import GOOD, Failure
 from .heard import collected
@@ -23,8 +22,7 @@ station is an interface. A frame stands with its check sequence once where it wa
 and once where it was received (inbound); its time is the step that reports it, 100 ns a bit time.
 A reception that fails stands with the octets that were collected and with error flags. A comment
 tells offer, attempts, and where each attempt started and collided. A frame that was given up or
-late-ended stands where that was reported, outbound, none of its octets captured; so does, in the
-last step, a frame that a station still held, for example after a late collision that ended the run.
+late-ended stands where that was reported, outbound, none of its octets captured.
 
 Exit status: 0 written, 2 refused or usage, 3 the output could not be written; then no half file
 stays."""
@@ -52,16 +50,14 @@ def add_parser(subparsers):
     """The arguments of the subcommand."""
     parser = subparsers.add("capture", "a run as a pcapng capture", HELP)
     parser.add_argument("file", metavar="PLAN", help="a plan as text or octets")
-    parser.add_argument(
-        "-o", "--output", metavar="FILE", type=file_name, help="where to write; standard output if absent"
-    )
+    parser.add_argument("-o", "--output", metavar="FILE", help="where to write; standard output if absent")
     parser.add_argument("--window", metavar="A:B", help=WINDOW_HELP)
 
 
 def run(library, arguments, output):
     """The subcommand; answers the exit status."""
     source = read_plan_source(library, arguments.file)
-    course = follow(library, source.octets, source.names)
+    course = follow(library, source.octets)
     if arguments.output is None and is_terminal():
         raise Failure("a capture is not for a terminal: give it a file with -o, or a pipe")
     write_whole(arguments.output, capture(course, window_of(arguments.window, course.clock)), output)
@@ -76,12 +72,10 @@ def is_terminal():
 def capture(course, window):
     """The capture of a run's window."""
     blocks = [section(course)]
-    blocks += [interface(course.layout, number, tap) for number, tap in enumerate(course.layout.taps)]
+    blocks += [interface(number, tap) for number, tap in enumerate(course.layout.taps)]
     for event in course.events:
         if window[0] <= event.time < window[1]:
             blocks += packets_of(course, event)
-    if window[1] >= course.clock:
-        blocks += [unsent(fate, course.clock - 1, fate.outcome) for fate in course.fates if fate.is_open]
     return b"".join(blocks)
 
 
@@ -105,12 +99,11 @@ def section(course):
     return block(SECTION, struct.pack("<IHHq", MAGIC, 1, 0, -1), options)
 
 
-def interface(layout, number, tap):
+def interface(number, tap):
     """A station as an interface."""
-    described = f"{layout.called(number)} at {tap.position}, {text.render_address(tap.address)}"
     options = [
-        option(NAME, (layout.name(number) or f"station{number}").encode()),
-        option(DESCRIPTION, described.encode()),
+        option(NAME, f"station{number}".encode()),
+        option(DESCRIPTION, f"station {number} at {tap.position}, {text.render_address(tap.address)}".encode()),
         option(MAC, tap.address),
         option(IF_SPEED, struct.pack("<Q", SPEED)),
         option(RESOLUTION, bytes([9])),
@@ -135,7 +128,10 @@ def packets_of(course, event):
         fate = course.fates[event.offers[0] - 1]
         return [packet(event.station, event.time, fate.frame, OUTBOUND | FCS_OCTETS << 5, attempts_words(fate))]
     if fate_ended(course, event):
-        return [unsent(course.fates[event.offers[0] - 1], event.time, event.word)]
+        fate = course.fates[event.offers[0] - 1]
+        return [
+            packet(event.station, event.time, b"", OUTBOUND, f"{event.word}; {attempts_words(fate)}", len(fate.frame))
+        ]
     if not event.word.startswith("got"):
         return []
     words = f"{event.word} {event.number}; offer {', '.join(map(str, event.offers))}"
@@ -144,11 +140,6 @@ def packets_of(course, event):
         return [packet(event.station, event.time, octets, INBOUND | FCS_OCTETS << 5, words)]
     octets = collected(course, event)
     return [packet(event.station, event.time, octets, INBOUND | FCS_OCTETS << 5 | ERRORS[event.word], words)]
-
-
-def unsent(fate, time, word):
-    """A frame that was not sent: its size, and none of its octets."""
-    return packet(fate.offer.station, time, b"", OUTBOUND, f"{word}; {attempts_words(fate)}", len(fate.frame))
 
 
 def fate_ended(course, event):
@@ -163,4 +154,4 @@ def attempts_words(fate):
         hit = attempt.collision
         end = f", {hit.word} at bit {hit.number} in step {hit.time}" if hit else ""
         words.append(f"attempt {number} started in step {attempt.start}{end}")
-    return f"offer {fate.number}; {'; '.join(words) or 'no attempt'}"
+    return f"offer {fate.number}; {'; '.join(words)}"

@@ -5,16 +5,13 @@ import importlib
 import os
 import signal
 import sys
-from typing import Optional
 
 from . import VERSION
-from .failure import LONG, REFUSED, UNWRITTEN, Failure, OutputClosed, clipped
+from .failure import REFUSED, UNWRITTEN, Failure, OutputClosed
 from .library import Library, LibraryMissing, Refused
 from .output import Standard, complain, hold_descriptors
 
-# The arguments that name what is read, and what is written. Rows are both: a sweep goes on in them.
-INPUTS, OUTPUTS = ("file", "files", "log", "windows"), ("output", "entries", "worst", "write", "rows")
-COMMANDS = ("show", "fit", "run", "audit", "sweep", "write", "draw", "capture", "wave", "windows")
+COMMANDS = ("fit", "run", "audit", "sweep", "write", "draw", "capture", "wave", "windows")
 
 ABOUT = """A proved model of contention on one pair: CSMA/CD, bit time by bit time. A sheet says
 which station sits where, and the gap, slot and jam figures; a plan says who offers which frame
@@ -24,10 +21,10 @@ when. Every answer is the library's. 'wisavulome COMMAND --help' says more."""
 class Parser(argparse.ArgumentParser):
     """A parser whose help goes through our standard output, so that a failure to write it shows up."""
 
-    output: Optional[Standard] = None
+    output = None
 
-    def __init__(self, **more):
-        super().__init__(allow_abbrev=False, **more)
+    def __init__(self, *words, **more):
+        super().__init__(*words, allow_abbrev=False, **more)
 
     def _print_message(self, message, file=None):
         if file in (None, sys.stdout) and Parser.output is not None:
@@ -36,7 +33,7 @@ class Parser(argparse.ArgumentParser):
             complain(message.rstrip("\n"))
 
     def error(self, message):
-        complain(f"{self.prog}: {clipped(message, LONG)}")
+        complain(f"{self.prog}: {message}")
         complain(f"Try '{self.prog} --help'.")
         raise SystemExit(REFUSED)
 
@@ -76,39 +73,14 @@ def perform(words, output):
         arguments = build_parser(words).parse_args(words)
     except SystemExit as left:
         return left.code or 0
-    keep_inputs(arguments)
-    library = Library()
-    if library.is_unproved:
-        complain("wisavulome: the library was built WITHOUT proofs (target/unproved); 'tools/show --prove' proves it")
-    return module_of(arguments.command).run(library, arguments, output)
-
-
-def keep_inputs(arguments):
-    """No output is written over an input; but `write` may write a sheet or plan in its own place."""
-    given = vars(arguments)
-    inputs = [path for name in INPUTS for path in as_list(given.get(name))]
-    for path in (given.get(name) for name in OUTPUTS):
-        if arguments.command != "write" and path and any(is_same(path, each) for each in inputs):
-            raise Failure(f"{path} is an input: it is not written over")
-
-
-def as_list(given):
-    """What an argument names, one or several."""
-    return given if isinstance(given, list) else [given] if given else []
-
-
-def is_same(one, other):
-    """Whether two names are of one regular file that is there."""
-    return os.path.isfile(one) and os.path.isfile(other) and os.path.samefile(one, other)
+    return module_of(arguments.command).run(Library(), arguments, output)
 
 
 def main(words=None):
     """The command. Whatever happens it ends in one of the four statuses, and with no traceback."""
     output = Parser.output = Standard()
     hold_descriptors()
-    for number in (signal.SIGTERM, signal.SIGHUP):
-        if signal.getsignal(number) != signal.SIG_IGN:  # as under nohup
-            signal.signal(number, terminate)
+    signal.signal(signal.SIGTERM, terminate)
     try:
         status = perform(sys.argv[1:] if words is None else words, output)
         output.flush()
@@ -123,8 +95,8 @@ def main(words=None):
         return fail(output, "there is not enough memory", REFUSED)
     except KeyboardInterrupt:
         return end_by(signal.SIGINT, output)
-    except Terminated as asked:
-        return end_by(asked.number, output)
+    except Terminated:
+        return end_by(signal.SIGTERM, output)
 
 
 def fail(output, message, status):
@@ -141,16 +113,12 @@ def fail(output, message, status):
 
 
 class Terminated(BaseException):
-    """The command is asked to end, by this signal; files that are half written are taken away first."""
-
-    def __init__(self, number):
-        super().__init__(number)
-        self.number = number
+    """The command is asked to end; files that are half written are taken away first."""
 
 
-def terminate(number, _frame):
-    """The handler of such a signal."""
-    raise Terminated(number)
+def terminate(_number, _frame):
+    """The handler of that signal."""
+    raise Terminated
 
 
 def end_by(number, output):

@@ -6,12 +6,11 @@ every offer that was heard in its reception.
 """
 
 import re
-from dataclasses import dataclass, field, replace
+from dataclasses import dataclass, field
 from typing import Optional
 
 from . import text
-from .delays import AtLeast
-from .library import COLLISIONS, ENDINGS, EVENTS, HEADER_BITS, LATE, buffer_of
+from .library import COLLISIONS, ENDINGS, EVENTS, HEADER_BITS, LATE, Refused, buffer_of
 from .packet import packet_bits
 
 GOT_OK = "got ok"
@@ -20,22 +19,17 @@ LINE = re.compile(rf"([0-9]+) ([0-9]+) ({'|'.join(EVENTS)}|refused) ([0-9]+)")
 
 @dataclass
 class Event:
-    """A line of the run: an event, or an offer refused or dropped. The offers are counted from 1."""
+    """A line of the run: an event, or an offer's refusal. The offers are counted from 1."""
 
     time: int
     station: int
     word: str
-    number: Optional[int]  # none where an offer is dropped
+    number: int
     offers: tuple = ()
-
-    @property
-    def words(self):
-        """The word and its number."""
-        return self.word if self.number is None else f"{self.word} {self.number}"
 
     def line(self):
         """The line as it is printed."""
-        return f"{self.time} {self.station} {self.words}"
+        return f"{self.time} {self.station} {self.word} {self.number}"
 
 
 @dataclass
@@ -77,14 +71,11 @@ class Fate:
     number: int
     offer: text.Offer
     made: bool = False
-    clock: Optional[int] = None  # the step before which it was made or dropped
-    dropped: bool = False
     refusal: Optional[int] = None
     frame: bytes = b""
     attempts: list = field(default_factory=list)
     ending: Optional[Event] = None
     deliveries: list = field(default_factory=list)
-    cut: int = 0  # the first step that was not made
 
     @property
     def late(self):
@@ -94,8 +85,6 @@ class Fate:
     @property
     def outcome(self):
         """One word or two for what came of it."""
-        if self.dropped:
-            return "dropped"
         if not self.made:
             return "not made"
         if self.refusal is not None:
@@ -106,21 +95,8 @@ class Fate:
 
     @property
     def delay(self):
-        """The bit times from the offer's step to the step that ended it; AtLeast where the run ended first; or None."""
-        offered = self.offer.time or 0
-        if self.ending:
-            return self.ending.time - offered
-        return AtLeast(self.cut - offered) if self.is_open else None
-
-    @property
-    def is_open(self):
-        """Whether its station still has the frame at the end."""
-        return self.made and self.refusal is None and not self.ending
-
-    @property
-    def came_through(self):
-        """Whether the frame was sent, after no late collision, and every addressee got it."""
-        return self.outcome == "sent" and not self.late and self.count("got") == len(self.deliveries)
+        """The bit times from the offer's step to the step that ended it."""
+        return self.ending.time - self.offer.time if self.ending else None
 
     def count(self, state):
         """How many addressees are in a state."""
@@ -159,23 +135,19 @@ def parse_line(line):
     return Event(int(found[1]), int(found[2]), found[3], int(found[4]))
 
 
-def follow(library, octets, names=None):
-    """Runs a plan that the library takes; its stations may have names, by address."""
+def follow(library, octets):
+    """Runs a plan that the library takes."""
     head = library.read_plan(octets)
     plan = text.decode(octets)[0]
-    layout = replace(head.layout, names=names or {})
     area = buffer_of("area")
     fates = [Fate(number, offer) for number, offer in enumerate(plan.offers, 1)]
-    course = Course(layout, plan, head.times, 0, [], fates, area)
+    course = Course(head.layout, plan, head.times, 0, [], fates, area)
     holder = [None] * len(head.layout.taps)  # each station's last accepted offer
-    before = bytes(head.offers)  # all ahead
-    for piece, (now, _times) in library.pieces(octets, area):
-        decided = [number for number, (old, new) in enumerate(zip(before, now)) if new and not old]
-        before = now
-        if decided:
-            fate = course.fates[decided[0]]
-            fate.clock = library.station(area, 0).clock
-            make_offer(library, course, holder, fate, piece)
+    left = head.offers
+    for piece, (offers, _times) in library.pieces(octets, area):
+        if offers < left:
+            left = offers
+            make_offer(library, course, holder, course.fates[head.offers - offers - 1], piece)
             continue
         for line in piece.decode().splitlines():
             take_line(course, holder, line)
@@ -184,12 +156,7 @@ def follow(library, octets, names=None):
 
 
 def make_offer(library, course, holder, fate, piece):
-    """An offer was made, or dropped: it is accepted where the piece is empty."""
-    if piece.endswith(b" dropped\n"):
-        fate.dropped = True
-        time, station, word = piece.decode().split()
-        course.events.append(Event(int(time), int(station), word, None, (fate.number,)))
-        return
+    """An offer was made: it is accepted where the piece is empty."""
     fate.made = True
     if piece:
         event = parse_line(piece.decode().rstrip("\n"))
@@ -244,7 +211,6 @@ def finish(library, course, holder):
         attempt.cut = course.clock
     got = {(event.time, event.station): event for event in course.events if event.word == GOT_OK}
     for fate in course.fates:
-        fate.cut = course.clock
         deliver(course, fate, got)
     for event in course.events:
         if not event.offers:
@@ -253,12 +219,10 @@ def finish(library, course, holder):
 
 def addressees(course, fate):
     """The stations that a frame is addressed to."""
-    return addressees_of(course.layout, fate.offer)
-
-
-def addressees_of(layout, offer):
-    """The stations that an offer is addressed to."""
-    wanted = [number for number, tap in enumerate(layout.taps) if offer.destination in (tap.address, text.BROADCAST)]
+    offer = fate.offer
+    wanted = [
+        number for number, tap in enumerate(course.layout.taps) if offer.destination in (tap.address, text.BROADCAST)
+    ]
     return [number for number in wanted if number != offer.station]
 
 
@@ -283,7 +247,7 @@ def heard_in(course, event):
             away = course.layout.distance(attempt.station, event.station)
             spans.append((attempt.start + away, attempt.end + away, attempt.offer))
     begin = event.time
-    offers: set = set()
+    offers = set()
     while True:
         joined = [span for span in spans if span[0] < begin <= span[1] and span[1] <= event.time]
         if not joined:
@@ -306,9 +270,15 @@ def advance_to(library, octets, clock):
     return area
 
 
-def make_due(library, area, course, clock):
-    """Makes the offers that a run made just before the step of a clock; refused ones changed nothing."""
-    for fate in course.fates:
-        if fate.clock == clock and fate.made and fate.refusal is None:
-            offer = fate.offer
+def offers_at(plan, clock):
+    """The offers of a plan that are made just before the step of a clock."""
+    return [offer for offer in plan.offers if offer.time == clock]
+
+
+def make_due(library, area, plan, clock):
+    """Makes the offers that are due; refused ones change nothing."""
+    for offer in offers_at(plan, clock):
+        try:
             library.offer(area, offer.station, offer.destination, offer.value, offer.data)
+        except Refused:
+            pass

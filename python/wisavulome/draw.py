@@ -1,13 +1,12 @@
 """`wisavulome draw`: SVG of a sheet, a run or a sweep."""
 
-from .arguments import file_name, whole_number
 from .course import follow
 from .draw_run import draw_run
 from .draw_sheet import draw_sheet
 from .draw_sweep import draw_sweep
-from .failure import GOOD, Failure, printable
+from .failure import GOOD, Failure
 from .fit import judge_source
-from .output import write_whole
+from .output import printable, write_whole
 from .rows import HEADER as ROWS_HEADER
 from .rows import parse_rows
 from .source import is_sheet_alone, read_file, read_layout, read_source, shown, take_plan
@@ -33,12 +32,10 @@ def add_parser(subparsers):
     """The arguments of the subcommand."""
     parser = subparsers.add("draw", "a sheet, a run or a sweep as SVG", HELP)
     parser.add_argument("file", metavar="FILE", help="a sheet, a plan, or rows of a sweep")
-    parser.add_argument(
-        "-o", "--output", metavar="FILE", type=file_name, help="where to write; standard output if absent"
-    )
+    parser.add_argument("-o", "--output", metavar="FILE", help="where to write; standard output if absent")
     parser.add_argument("--sheet", action="store_true", help="of a plan: draw its sheet")
     parser.add_argument("--window", metavar="A:B", help=f"of a run: {WINDOW_HELP}")
-    parser.add_argument("--height", type=whole_number, help="of a run: the points that the window is high")
+    parser.add_argument("--height", type=int, help="of a run: the points that the window is high")
     parser.add_argument("--title", help="a title of your own")
 
 
@@ -69,7 +66,7 @@ def drawing(library, arguments):
         title = title_of(arguments, f"Sheet of {len(layout.taps)} stations")
         return draw_sheet(verdict, source.octets[: layout.used], title)
     take_plan(library, source)
-    course = follow(library, source.octets, source.names)
+    course = follow(library, source.octets)
     title = title_of(arguments, f"Run of {len(course.fates)} offers, {len(layout.taps)} stations")
     return draw_run(course, window_of(arguments.window, course.clock), source.octets, title, arguments.height)
 

@@ -1,8 +1,8 @@
 """The drawing of a sheet: pair, taps, distances, addresses, figures, and both inequalities as bars."""
 
 from . import text
-from .library import FIGURES, HEADER_BITS, SHORTEST_PACKET
-from .svg import Svg, rows_of, spread, text_width
+from .library import FIGURES, HEADER_BITS
+from .svg import Svg, spread, text_width
 
 WIDTH, LEFT, RIGHT = 900, 60, 840
 ROOM = RIGHT - LEFT
@@ -18,30 +18,17 @@ def draw_sheet(verdict, octets, title):
     places = [LEFT + ROOM * (tap.position - layout.taps[0].position) / layout.span for tap in layout.taps]
     bottom = draw_pair(svg, layout, places)
     below = max(draw_figures(svg, verdict, bottom + 34), draw_bars(svg, verdict, bottom + 34))
-    if not has_room(layout):
+    if len(layout.taps) > AT_TAP:
         below = draw_stations(svg, layout, below + 24)
     below = draw_octets(svg, octets, below + 24)
-    return svg.finished(below + 12, title, octets, "sheet", layout.names)
-
-
-def labels_of(layout):
-    """The stations for people: number and name."""
-    return [layout.called(number, "" if layout.name(number) else "station ") for number in range(len(layout.taps))]
-
-
-def has_room(layout):
-    """Whether there is room for the stations' names and addresses at their taps; else they are listed below."""
-    needed = sum(
-        max(text_width(label, 12, True), text_width("0" * 17, 10, mono=True)) + 4 for label in labels_of(layout)
-    )
-    return len(layout.taps) <= AT_TAP and needed <= ROOM + 80
+    return svg.finished(below + 12, title, octets, "sheet")
 
 
 def draw_pair(svg, layout, places):
     """The pair with its taps; answers where it ends."""
-    labels = labels_of(layout)
+    labels = [f"station {number}" for number in range(len(layout.taps))]
     addresses = [text.render_address(tap.address) for tap in layout.taps]
-    with_addresses = has_room(layout)
+    with_addresses = len(layout.taps) <= AT_TAP
     if not with_addresses:
         labels = [str(number) for number in range(len(layout.taps))]
     widths = [
@@ -102,10 +89,9 @@ def draw_bars(svg, verdict, top):
     """Both inequalities as bars, and the verdict; answers where they end."""
     layout = verdict.layout
     slot, jam = layout.figures["slot"], layout.figures["jam"]
-    round_trip = 2 * layout.span
-    words = f"2 x S = 2 x {layout.span} = {round_trip}, slot {slot}, shortest packet {SHORTEST_PACKET}"
-    most, left = min(slot, SHORTEST_PACKET), min(verdict.slot_margin, verdict.packet_margin)
-    bar(svg, top, words, [(round_trip, DARK)], most, left)
+    total = 2 * layout.span + layout.gap
+    words = f"2 x S + G = 2 x {layout.span} + {layout.gap} = {total}, slot {slot}"
+    bar(svg, top, words, [(2 * layout.span, DARK), (layout.gap, LIGHT)], slot, verdict.slot_margin)
     gap1, gap2 = layout.figures["gap1"], layout.figures["gap2"]
     words = f"G = {gap1} + {gap2} = {layout.gap}, {HEADER_BITS} + jam = {HEADER_BITS + jam}"
     bar(svg, top + 74, words, [(layout.gap, LIGHT)], HEADER_BITS + jam, verdict.jam_margin)
@@ -113,19 +99,7 @@ def draw_bars(svg, verdict, top):
     svg.text(380, top + 150, f"{longest}, with the last tap moved", 12)
     fits = layout.fits
     svg.text(RIGHT, top + 150, f"fit {'yes' if fits else 'no'}", 18, "end", bold=True, fill=GREEN if fits else RED)
-    draw_legend(svg, top + 174)
-    return top + 180
-
-
-def draw_legend(svg, y):
-    """What the colours of the bars mean."""
-    x = 380
-    for fill, words in [(DARK, "2 x S, there and back"), (LIGHT, "G, the gap"), ("#eeeeee", "margin")]:
-        svg.add("rect", x=x, y=y - 9, width=12, height=10, fill=fill)
-        svg.text(x + 17, y, words, 11, fill="#444")
-        x += 17 + text_width(words, 11) + 14
-    svg.line(x + 4, y - 11, x + 4, y + 2, stroke=RED, stroke_width=2)
-    svg.text(x + 11, y, "limit", 11, fill="#444")
+    return top + 156
 
 
 def bar(svg, top, words, parts, limit, margin):
@@ -151,15 +125,13 @@ def bar(svg, top, words, parts, limit, margin):
 
 def draw_stations(svg, layout, top):
     """The stations as a list, where there is no room at the taps; answers where it ends."""
-    half = rows_of(layout, 12, 180)
+    half = (len(layout.taps) + 1) // 2
     for number, tap in enumerate(layout.taps):
         x = LEFT + (number // half) * (ROOM / 2)
         y = top + 18 * (number % half)
         svg.text(x + 14, y, str(number), 12, "end", bold=True)
         svg.text(x + 70, y, f"at {tap.position}", 12, "end")
         svg.text(x + 84, y, text.render_address(tap.address), 11, mono=True)
-        if layout.name(number):
-            svg.text(x + 206, y, layout.name(number), 12)
     return top + 18 * half
 
 

@@ -2,43 +2,34 @@
 
 import os
 from dataclasses import dataclass
-from typing import Optional
 
-from . import text, whatif
-from .arguments import add_format, file_name
+from . import text
 from .failure import GOOD, NO, REFUSED, Failure
-from .library import FIGURES, HEADER_BITS, MAX_POSITION, SHORTEST_PACKET, Layout
-from .output import progress, write_whole
+from .library import FIGURES, HEADER_BITS, MAX_POSITION
+from .output import progress
 from .source import files_in, read_layout, read_source
-from .table import formatted
+from .table import as_csv, as_table
 
-SLOT_CLAUSE = "2 x S <= slot"
-PACKET_CLAUSE = f"2 x S <= {SHORTEST_PACKET}"
+SLOT_CLAUSE = "2 x S + G <= slot"
 JAM_CLAUSE = f"G <= {HEADER_BITS} + jam"
 
 HELP = """Says of each sheet whether it fits, why, and by how much. A sheet or plan is given as
 octets, as text (docs/RUN-INPUT.md), or as a drawing made by 'wisavulome draw'; '-' is standard
 input. A folder stands for all files in it.
 
-S is the last position less the first, G is gap1 + gap2. A layout fits if 2 x S <= slot, 2 x S <=
-576, the shortest packet, and G <= 64 + jam. A margin is how much is left of the right side; below 0
-the layout does not fit. The longest span is the one with the last tap as far out as it still fits,
-by the library's margin. In a table a default stands in parentheses.
-
-What if: --add, --drop, --move, --lengthen and --set change the sheet before it is judged, in the
-order in which they stand; --mend tells of a sheet that does not fit the smallest single changes
-with which it fits. The file stays as it is; --write FILE writes the changed sheet as text.
+S is the last position less the first, G is gap1 + gap2. A layout fits if 2 x S + G <= slot and G
+<= 64 + jam. A margin is how much is left of the right side; below 0 the layout does not fit. The
+longest span is the one with the last tap as far out as it still fits, by the library's margin. In a
+table a default stands in parentheses.
 
 Exit status: 0 all fit, 1 one does not, 2 one is refused or the call is wrong, 3 the output could
 not be written."""
 
-MARGINS = ("slot-margin", "packet-margin", "jam-margin")
-
 
 def header_of(is_csv):
-    """The names of the columns; of CSV and JSON also which figures were given."""
+    """The names of the columns."""
     figures = [figure.name for figure in FIGURES] + (["given"] if is_csv else [])
-    return ["sheet", "stations", *figures, "S", "G", *MARGINS, "longest-span", "fit", "why"]
+    return ["sheet", "stations", *figures, "S", "G", "slot-margin", "jam-margin", "longest-span", "fit", "why"]
 
 
 @dataclass(frozen=True)
@@ -46,19 +37,14 @@ class Verdict:
     """A sheet with what is said of it."""
 
     name: str
-    layout: Layout
+    layout: object
     given: frozenset  # the figures that stand in the sheet
-    farthest: Optional[int]  # position of the last tap
+    farthest: int  # position of the last tap, or None
 
     @property
     def slot_margin(self):
-        """slot less 2 x S."""
-        return self.layout.figures["slot"] - 2 * self.layout.span
-
-    @property
-    def packet_margin(self):
-        """The shortest packet less 2 x S."""
-        return SHORTEST_PACKET - 2 * self.layout.span
+        """slot less 2 x S + G."""
+        return self.layout.figures["slot"] - 2 * self.layout.span - self.layout.gap
 
     @property
     def jam_margin(self):
@@ -71,15 +57,10 @@ class Verdict:
         return None if self.farthest is None else self.farthest - self.layout.taps[0].position
 
     @property
-    def margins(self):
-        """What each clause leaves, as MARGINS names them."""
-        return [self.slot_margin, self.packet_margin, self.jam_margin]
-
-    @property
     def failing(self):
         """The clauses that do not hold."""
-        clauses = zip((SLOT_CLAUSE, PACKET_CLAUSE, JAM_CLAUSE), self.margins)
-        return [clause for clause, margin in clauses if margin < 0]
+        margins = {SLOT_CLAUSE: self.slot_margin, JAM_CLAUSE: self.jam_margin}
+        return [clause for clause, margin in margins.items() if margin < 0]
 
 
 def add_parser(subparsers):
@@ -88,56 +69,21 @@ def add_parser(subparsers):
     parser.add_argument("files", nargs="+", metavar="FILE", help="a sheet, a plan, a drawing or a folder of them")
     parser.add_argument("--difference", action="store_true", help="what differs between two sheets")
     parser.add_argument("--pattern", default="*", help="of a folder only files of such names, for example '*.sheet'")
-    whatif.add_arguments(parser)
-    parser.add_argument("--mend", action="store_true", help="the smallest single changes with which it fits")
-    parser.add_argument("--write", metavar="FILE", type=file_name, help="the changed sheet as text")
-    add_format(parser, None)
-    parser.add_argument(
-        "--table",
-        action="store_const",
-        dest="format",
-        const="table",
-        help="a line for each sheet, also where there is one",
-    )
+    form = parser.add_mutually_exclusive_group()
+    form.add_argument("--table", action="store_true", help="a line for each sheet, also where there is one sheet")
+    form.add_argument("--csv", action="store_true", help="a line for each sheet, as CSV")
 
 
 def run(library, arguments, output):
     """The subcommand; answers the exit status."""
-    if arguments.changes or arguments.mend or arguments.write:
-        return what_if(library, arguments, output)
     if arguments.difference:
         return difference(library, arguments, output)
     paths = [path for given in arguments.files for path in files_of(given, arguments.pattern)]
-    if len(paths) == 1 and paths == arguments.files and arguments.format is None:
+    if len(paths) == 1 and paths == arguments.files and not arguments.table and not arguments.csv:
         verdict = judge(library, paths[0])
         output.write(report(verdict))
         return GOOD if verdict.layout.fits else NO
-    return collection(library, paths, arguments.format or "table", output)
-
-
-def what_if(library, arguments, output):
-    """One sheet with changes, and what would make it fit."""
-    if len(arguments.files) != 1 or arguments.difference or arguments.format:
-        raise Failure("changes, --mend and --write are of one sheet, with no --difference and no --format")
-    source = read_source(library, arguments.files[0])
-    layout = read_layout(library, source)
-    before = judge_source(library, source)
-    source = whatif.changed(source, layout.used, arguments.changes or [])
-    verdict = judge_source(library, source) if arguments.changes else before
-    output.write(report(verdict))
-    if arguments.changes:
-        margins = ", ".join(map(str, before.margins))
-        output.write(f"  before: fit {yes_or_no(before.layout)}, margins {margins}\n")
-    if arguments.mend and not verdict.layout.fits:
-        found = list(whatif.mends(library, source.octets))
-        output.write("  it fits with any one of these:\n" if found else "  no single change makes it fit\n")
-        output.write("".join(f"    {line}\n" for line in found))
-    if arguments.write:
-        plan = text.Plan()
-        text.decode_sheet(plan, text.Octets(source.octets))
-        text.give_names(plan, source.names)
-        write_whole(arguments.write, text.render(plan, []), output)
-    return GOOD if verdict.layout.fits else NO
+    return collection(library, paths, arguments.csv, output)
 
 
 def files_of(given, pattern):
@@ -177,12 +123,10 @@ def report(verdict):
         origin = "given" if figure.name in verdict.given else "default"
         lines.append(f"  {figure.name:<14}{figures[figure.name]:>5}  {origin}")
     for number, tap in enumerate(layout.taps):
-        name = f"  {layout.name(number)}" if layout.name(number) else ""
-        lines.append(f"  {f'station {number}':<14}{tap.position:>5}  {text.render_address(tap.address)}{name}")
+        lines.append(f"  {f'station {number}':<14}{tap.position:>5}  {text.render_address(tap.address)}")
     lines.append(f"  {'span S':<14}{layout.span:>5}")
     lines.append(f"  {'gap G':<14}{layout.gap:>5}")
-    lines.append(clause_line(SLOT_CLAUSE, 2 * layout.span, figures["slot"], verdict.slot_margin))
-    lines.append(clause_line(PACKET_CLAUSE, 2 * layout.span, SHORTEST_PACKET, verdict.packet_margin))
+    lines.append(clause_line(SLOT_CLAUSE, 2 * layout.span + layout.gap, figures["slot"], verdict.slot_margin))
     lines.append(clause_line(JAM_CLAUSE, layout.gap, HEADER_BITS + figures["jam"], verdict.jam_margin))
     lines.append(f"  {longest(verdict)}")
     return "".join(line + "\n" for line in lines)
@@ -220,13 +164,12 @@ def row_of(verdict, is_csv):
         ]
     given = [" ".join(figure.name for figure in FIGURES if figure.name in verdict.given)] if is_csv else []
     why = "; ".join(f"not {clause}" for clause in verdict.failing)
-    margins = [*verdict.margins, verdict.longest_span]
+    margins = [verdict.slot_margin, verdict.jam_margin, verdict.longest_span]
     return [verdict.name, len(layout.taps), *figures, *given, layout.span, layout.gap, *margins, yes_or_no(layout), why]
 
 
-def collection(library, paths, form, output):
+def collection(library, paths, is_csv, output):
     """Many sheets, a row each; what is refused is a row too."""
-    is_csv = form != "table"
     header = header_of(is_csv)
     rows = []
     status = GOOD
@@ -240,7 +183,7 @@ def collection(library, paths, form, output):
             except Failure as why:
                 rows.append(refused_row(path, str(why), len(header)))
                 status = REFUSED
-    output.write(formatted(form, header, rows))
+    output.write((as_csv if is_csv else as_table)(header, rows))
     return status
 
 
@@ -260,10 +203,10 @@ def difference(library, arguments, output):
     same = library.write_sheet(sources[0].octets) == library.write_sheet(sources[1].octets)
     rows = [] if same else [row for row in compared(one, other) if row[1] != row[2]]
     header = ["what", one.name, other.name]
-    if rows or arguments.format not in (None, "table"):
-        output.write(formatted(arguments.format or "table", header, rows))
+    if arguments.csv:
+        output.write(as_csv(header, rows))
     else:
-        output.write(f"{one.name} and {other.name} say the same\n")
+        output.write(as_table(header, rows) if rows else f"{one.name} and {other.name} say the same\n")
     return GOOD if one.layout.fits and other.layout.fits else NO
 
 
@@ -272,7 +215,7 @@ def compared(one, other):
     for figure in FIGURES:
         yield [figure.name, *(figure_words(each, figure.name) for each in (one, other))]
     seats = [
-        {tap.address: f"{each.layout.called(number)} at {tap.position}" for number, tap in enumerate(each.layout.taps)}
+        {tap.address: f"station {number} at {tap.position}" for number, tap in enumerate(each.layout.taps)}
         for each in (one, other)
     ]
     for address in dict.fromkeys([*seats[0], *seats[1]]):
@@ -280,8 +223,8 @@ def compared(one, other):
     yield ["stations", len(one.layout.taps), len(other.layout.taps)]
     yield ["S", one.layout.span, other.layout.span]
     yield ["G", one.layout.gap, other.layout.gap]
-    for name, *margins in zip(MARGINS, one.margins, other.margins):
-        yield [name, *margins]
+    yield ["slot-margin", one.slot_margin, other.slot_margin]
+    yield ["jam-margin", one.jam_margin, other.jam_margin]
     yield ["longest-span", one.longest_span, other.longest_span]
     yield ["fit", yes_or_no(one.layout), yes_or_no(other.layout)]
 

@@ -5,8 +5,6 @@ heard from two or more, is stored as 0 and never matches the delimiter. The test
 and buffers of the library.
 """
 
-from typing import Optional
-
 from .course import packet_of
 from .library import JAM, ONE, SEVERAL, SILENCE, ZERO
 from .packet import PREAMBLE, octets_of_bits
@@ -19,7 +17,7 @@ class Hearing:
 
     def __init__(self, course, station):
         self.spans = []
-        packets: dict = {}
+        packets = {}
         for attempt in course.attempts:
             if attempt.station == station:
                 continue
@@ -52,8 +50,8 @@ def collected(course, event):
 
 def collect(symbols):
     """The whole octets that are collected of the symbols of a reception."""
-    bits: Optional[list] = None
-    row: list = []
+    bits = None
+    row = []
     for symbol in symbols:
         if bits is not None:
             bits.append(int(symbol == ONE))

@@ -7,7 +7,7 @@ request that adds an event word, a counter or a figure changes one line here.
 import ctypes
 import os
 import struct
-from dataclasses import dataclass, field
+from dataclasses import dataclass
 from pathlib import Path
 from typing import NamedTuple
 
@@ -15,7 +15,6 @@ from typing import NamedTuple
 
 SONAME = "libwisavulome.so.1"
 VARIABLE = "WISAVULOME_LIBRARY"
-UNPROVED = "unproved"  # the folder of a library that `tools/unproved` built without proofs
 
 AREA_FORMAT = 2
 REFUSAL = 0x80000000
@@ -31,12 +30,11 @@ SIZES = {
     "step": 256,
     "run": 52,
     "counters": 68,
-    "look": 1140,
     "station": 64,
     "frame": 1522,
-    "plan": 220,
+    "plan": 216,
     "piece": 2048,
-    "progress": 84,
+    "progress": 16,
 }
 
 MAX_MARKS = 4  # of a store
@@ -56,7 +54,6 @@ MIN_TYPE = 1536  # a value from this on is a type
 MIN_FRAME = 64  # octets
 FRAME_OVERHEAD = 18  # octets of a frame besides data and pad
 HEADER_BITS = 64  # of a packet, before the frame
-SHORTEST_PACKET = HEADER_BITS + 8 * 64  # bits
 BIT_TIME_NS = 100
 
 
@@ -138,7 +135,6 @@ REFUSALS = {
     f"over {MAX_OFFERS} offers, or offer times that fall; over {MAX_WINDOWS} windows",
     17: "no mark of that name",
     18: "a new name while four others stand",
-    19: "an offer names its own number or one above it",
     20: "a window's second time is below its first",
     21: "the times of the log's entries fall",
 }
@@ -162,7 +158,6 @@ CALLS = {
     "step": ("buffer", "buffer"),
     "run": ("buffer", "u32", "buffer"),
     "run_stepwise": ("buffer", "u32", "buffer"),
-    "look": ("buffer", "buffer", "u32", "u64", "u16", "slice", "u32", "buffer"),
     "read_frame": ("buffer", "u32", "buffer"),
     "counters": ("buffer", "u32", "buffer"),
     "station": ("buffer", "u32", "buffer"),
@@ -208,33 +203,27 @@ def candidates():
     installed = [module / SONAME]
     if module.parent.name in ("site-packages", "dist-packages"):
         installed += [folder / SONAME for folder in list(module.parents)[1:3]]
-    target = module.parents[1] / "target"
-    return installed + [target / SONAME, target / UNPROVED / SONAME]
+    return installed + [module.parents[1] / "target" / SONAME]
 
 
-def find():
-    """The file of the shared library."""
+def load():
+    """The shared library."""
     chosen = os.environ.get(VARIABLE)
     paths = [Path(chosen)] if chosen else [path for path in candidates() if path.is_file()]
     if not paths:
         raise LibraryMissing(
-            f"the shared library {SONAME} is not there. In the repository 'tools/show' builds it without proofs, in "
-            f"seconds; 'rt staticlib capi', then 'make library', prove it. Or name it in the environment variable {VARIABLE}"
+            f"the shared library {SONAME} is not there. In the repository: 'rt staticlib capi', then 'make library'. "
+            f"Or name it in the environment variable {VARIABLE}"
         )
-    return paths[0].absolute()
-
-
-def load(path):
-    """The shared library of a file."""
     try:
-        return ctypes.CDLL(str(path))
+        return ctypes.CDLL(str(paths[0].absolute()))
     except OSError as why:
         raise LibraryMissing(f"the shared library cannot be loaded: {why}") from why
 
 
 def declare(loaded, name, kinds):
     """The function of that name with its C types; None where the library has none."""
-    types: dict = {"u16": [ctypes.c_uint16], "u32": [ctypes.c_uint32], "u64": [ctypes.c_uint64]}
+    types = {"u16": [ctypes.c_uint16], "u32": [ctypes.c_uint32], "u64": [ctypes.c_uint64]}
     types["numbers"] = [ctypes.POINTER(ctypes.c_uint32), ctypes.c_size_t]
     slices = [ctypes.c_char_p, ctypes.c_size_t]
     try:
@@ -269,12 +258,6 @@ def words_of(octets):
     return struct.unpack(f">{len(octets) // WORD}I", octets)
 
 
-def progress_of(octets):
-    """Where a run stands: the fate of each offer and the bit times left, and whether the last line is handed out."""
-    _at, offers, times, ended, _named = words_of(octets[:20])
-    return (octets[20 : 20 + offers], times), ended
-
-
 def word_at(octets, at):
     """The number of an output that begins at an octet."""
     return struct.unpack_from(">I", octets, at)[0]
@@ -299,15 +282,6 @@ class Layout:
     taps: tuple
     fits: bool
     used: int = 0  # octets of the sheet
-    names: dict = field(default_factory=dict)  # of stations, by address, where a text or a drawing gives them
-
-    def name(self, number):
-        """The name of a station, or nothing."""
-        return self.names.get(self.taps[number].address, "") if number < len(self.taps) else ""
-
-    def called(self, number, word="station "):
-        """A station for people: its number, and its name where it has one."""
-        return f"{word}{number} {self.name(number)}".rstrip()
 
     @property
     def span(self):
@@ -339,7 +313,6 @@ class PlanHead:
     offers: int
     offers_at: int
     times: int
-    named: bool  # each offer ends in the number of the one that it comes after, or 0
 
 
 class StationState(NamedTuple):
@@ -386,9 +359,7 @@ class Library:
     """The shared library's calls, on octets. What is refused raises Refused."""
 
     def __init__(self):
-        path = find()
-        loaded = load(path)
-        self.is_unproved = path.parent.name == UNPROVED
+        loaded = load()
         self.functions = {}
         for name, kinds in CALLS.items():
             function = declare(loaded, name, kinds)
@@ -452,8 +423,8 @@ class Library:
         out = buffer_of("plan")
         self.call("read_plan", plan, out)
         head = SIZES["sheet"]
-        depth, draws_at, offers, offers_at, times, named = words_of(out.raw[head:])[:6]
-        return PlanHead(layout_of(out.raw, 0), depth, draws_at, offers, offers_at, times, named == 1)
+        depth, draws_at, offers, offers_at, times = words_of(out.raw[head:])[:5]
+        return PlanHead(layout_of(out.raw, 0), depth, draws_at, offers, offers_at, times)
 
     def build(self, destination, source, value, data):
         """The frame of these, with its check sequence."""
@@ -484,16 +455,16 @@ class Library:
         return out.raw[:size], area
 
     def pieces(self, plan, area):
-        """What is printed for a run input, piece by piece: the text, and where the run stands: fates, bit times left."""
+        """What is printed for a run input, piece by piece: the text, and what is left (offers, bit times)."""
         progress = buffer_of("progress")
         out = buffer_of("piece")
         size = self.call("begin", plan, area, progress, out)
-        left, ended = progress_of(progress.raw)
-        yield out.raw[:size], left
+        _at, offers, times, ended = words_of(progress.raw)
+        yield out.raw[:size], (offers, times)
         while not ended:
             size = self.call("advance", plan, area, progress, out)
-            left, ended = progress_of(progress.raw)
-            yield out.raw[:size], left
+            _at, offers, times, ended = words_of(progress.raw)
+            yield out.raw[:size], (offers, times)
 
     def offer(self, area, station, destination, value, data):
         """Offers a frame to a station."""
@@ -529,34 +500,9 @@ class Library:
         steps = self.call("run", area, count, out)
         return steps, dict(zip(EVENTS, words_of(out.raw)))
 
-    def look(self, area, second, station, destination, value, data, count):
-        """What a copy in the second area gives after an offer and a run: by word how many events came, the late
-        collision that ended the run (its step and station) or None, and the counters of 16 stations, by name."""
-        out = buffer_of("look")
-        self.call("look", area, second, station, int.from_bytes(destination, "big"), value, data, count, out)
-        words = words_of(out.raw)
-        early, *where = words[len(EVENTS) : len(EVENTS) + 3]
-        counted = words[len(EVENTS) + 3 :]
-        stations = [counted[at : at + len(COUNTERS)] for at in range(0, len(counted), len(COUNTERS))]
-        tally = dict(zip(EVENTS, words))
-        return tally, tuple(where) if early else None, [dict(zip(COUNTERS, each)) for each in stations]
-
     def clock(self, area):
         """The clock of a work area."""
         return self.station(area, 0).clock
-
-    def stations(self, area):
-        """The number of stations of a work area."""
-        count = 0
-        while count < MAX_STATIONS:
-            try:
-                self.counters(area, count)
-            except Refused as refusal:
-                if refusal.number != 10:
-                    raise
-                break
-            count += 1
-        return count
 
     def counters(self, area, station):
         """A station's counters, by name."""

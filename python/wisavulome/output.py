@@ -13,6 +13,11 @@ FULL = 1 << 16  # octets kept before they are written
 PATIENCE = 2.0  # seconds before progress is shown
 
 
+def printable(words):
+    """Words for people: what cannot be printed is a question mark."""
+    return "".join(letter if letter.isprintable() else "?" for letter in words)
+
+
 def as_octets(content):
     """Text as UTF-8; octets as they are."""
     return content.encode("utf-8", "surrogateescape") if isinstance(content, str) else content
@@ -150,14 +155,7 @@ class Progress:
         if self.terminal and now - self.begun > PATIENCE and now - self.shown > 1.0:
             self.shown, self.used = now, True
             with suppress(OSError):
-                os.write(2, f"\r{self.what} {count} of {self.total}{self.left(count, now)}\x1b[K".encode())
-
-    def left(self, count, now):
-        """About how long it still takes, in words."""
-        if not count:
-            return ""
-        seconds = round((now - self.begun) * (self.total - count) / count)
-        return f", about {seconds // 60} min {seconds % 60:02d} s left"
+                os.write(2, f"\r{self.what} {count} of {self.total}".encode())
 
     def end(self):
         """Clears the line."""

@@ -61,16 +61,13 @@ class Walk:
             self.source.enter(f"the draws of station {number} (D is {depth})")
             self.source.take(depth * text.WIDTHS["draw"])
         self.source.enter("the offer count")
-        word = self.take("offer count", "offer count")
-        named, count = word >= text.NAMED, word % text.NAMED
+        count = self.take("offer count", "offer count")
         for number in range(1, count + 1):
             self.source.enter(f"offer {number} of {count}")
             self.take(f"time {number}", "time")
             self.offers = number
             self.source.take(sum(text.WIDTHS[name] for name in ("station", "destination", "value")))
             self.source.take(self.take(f"size {number}", "size"))
-            if named:
-                self.take(f"name {number}", "name")
         self.source.enter("the bit times")
         self.take("bit times", "bit times")
 
@@ -131,7 +128,7 @@ def falling_position(walk):
 
 def bad_address(walk):
     """An address that is a group's, or that a station before it has."""
-    seen: dict = {}
+    seen = {}
     for number in range(walk.stations):
         at, address = walk.fields[f"address {number}"]
         if address >> 40 & 1:
@@ -161,8 +158,8 @@ def bad_plan(walk):
     if size > library.MAX_PLAN:
         return f"it has {size} octets"
     count = walk.value("offer count")
-    if count is not None and count % text.NAMED > library.MAX_OFFERS:
-        return f"the offer count is {count % text.NAMED}, at octet {walk.at('offer count')}"
+    if count is not None and count > library.MAX_OFFERS:
+        return f"the offer count is {count}, at octet {walk.at('offer count')}"
     for number in range(2, walk.offers + 1):
         before, here = walk.value(f"time {number - 1}"), walk.value(f"time {number}")
         if here < before:
@@ -170,15 +167,6 @@ def bad_plan(walk):
     if walk.end is None and walk.source.left():
         return f"octets left over: {walk.source.left()}, at octet {walk.source.place}"
     return walk.end
-
-
-def bad_name(walk):
-    """An offer that names its own number or one above it."""
-    for number in range(1, walk.offers + 1):
-        name = walk.value(f"name {number}")
-        if name is not None and name >= number:
-            return f"offer {number} comes after offer {name}, at octet {walk.at(f'name {number}')}"
-    return None
 
 
 FINDERS = {
@@ -191,5 +179,4 @@ FINDERS = {
     9: bad_draws,
     13: bad_times,
     16: bad_plan,
-    19: bad_name,
 }

@@ -17,8 +17,6 @@ a second one, and a store of marks, all zero at first and just as long as refusa
     counters STATION                        the counters, parted by commas
     clock                                   the clock
     windows N ENTRIES WINDOWS               for each window its counts, parted by commas, in TALLY's order
-    look STATION DEST VALUE OCTETS N        TALLY, then for each station ` | ` and its counters; the copy is in the
-                                            second area
     store LEN                               a new store, all zero
     mark NAME, return NAME, drop NAME
     poke PLACE OCTET NAME                   another hand writes octet and name of place 0..3 of the store
@@ -306,15 +304,6 @@ def windows(session, _at, stations, log, given):
     return " ".join(",".join(map(str, counts)) for counts in session.library.windows(log, stations, given))
 
 
-def look(session, at, station, destination, value, data, count):
-    """Looks ahead from the area, into the second one."""
-    area, second = session.areas[at], session.areas[1]
-    where = destination.to_bytes(ADDRESS_OCTETS, "big")
-    tally, _ended, stations = session.library.look(area, second, station, where, value, data, count)
-    counted = [shown_counters(session.level, each) for each in stations[: session.library.stations(area)]]
-    return " | ".join([shown_tally(session.level, tally), *counted])
-
-
 def new_store(session, _at, length):
     """A new store."""
     session.store = lend(length)
@@ -369,7 +358,6 @@ CALLS = {
     "counters": Call(counters, (number,), True),
     "clock": Call(clock, (), True),
     "windows": Call(windows, (number, entries, spans)),
-    "look": Call(look, (number, address, double, octets, number)),
     "store": Call(new_store, (size,)),
     "mark": Call(mark, (mark_name,)),
     "return": Call(go_back, (mark_name,)),

@@ -1,22 +1,12 @@
 """The rows of a sweep: a CSV line for each set and offer, in files that can be continued and merged."""
 
-import fcntl
 import re
 
-from .delays import AtLeast
 from .failure import UNWRITTEN, Failure
-from .library import ENDINGS, LATE
-from .source import open_file, shown
 
 COLUMNS = ("sweep", "set", "offer", "outcome", "attempts", "delay", "got", "lost", "on-its-way")
 HEADER = ",".join(COLUMNS) + "\n"
-# How the delay of an outcome begins: with its number, or with '>=' where the end left the frame unsent.
-DELAYS = {**{word: "" for word in ENDINGS}, LATE: ">=", "held": ">="}
-FORMAT = 2  # it stands in the name of a sweep: rows of another format are of another sweep
-LINE = re.compile(
-    r"([0-9a-f]{16}),([0-9]{1,10}),([0-9]{1,3}),([a-z0-9 -]{1,20}),([0-9]{1,3}),((?:>=)?[0-9]{1,8}|),"
-    r"([0-9]{1,2}),([0-9]{1,2}),([0-9]{1,2})"
-)
+LINE = re.compile(r"([0-9a-f]{16}),([0-9]+),([0-9]+),([a-z0-9 -]+),([0-9]+),([0-9]*),([0-9]+),([0-9]+),([0-9]+)")
 
 
 def row_line(row):
@@ -30,25 +20,16 @@ def parse_row(line):
     if not found:
         return None
     key, number, offer, outcome, attempts, delay, *counts = found.groups()
-    if DELAYS.get(outcome, "") != delay.rstrip("0123456789") or (outcome in DELAYS) != bool(delay):
-        return None
-    return (key, int(number), int(offer), outcome, int(attempts), delay_of(delay), *map(int, counts))
-
-
-def delay_of(words):
-    """A delay as a row has it."""
-    if words.startswith(">="):
-        return AtLeast(words[2:])
-    return int(words) if words else None
+    return (key, int(number), int(offer), outcome, int(attempts), int(delay) if delay else None, *map(int, counts))
 
 
 def read_rows(path):
     """The rows of a file."""
     try:
-        with open_file(path) as opened:
-            return parse_rows(shown(path), opened.read())
+        with open(path, "rb") as opened:
+            return parse_rows(path, opened.read())
     except OSError as why:
-        raise Failure(f"{shown(path)} cannot be read: {why.strerror}") from why
+        raise Failure(f"{path} cannot be read: {why.strerror}") from why
 
 
 def parse_rows(path, content):
@@ -63,15 +44,6 @@ def parse_rows(path, content):
             raise Failure(f"{path}: line {number}: this is no row of a sweep")
         rows.append(row)
     return rows
-
-
-def lock(path, opened):
-    """Rows are written by one sweep at a time."""
-    try:
-        fcntl.flock(opened, fcntl.LOCK_EX | fcntl.LOCK_NB)
-    except BlockingIOError as why:
-        opened.close()
-        raise Failure(f"{path} is being written by another sweep", UNWRITTEN) from why
 
 
 class Rows:
@@ -98,7 +70,6 @@ class Rows:
         except OSError as why:
             raise Failure(f"{path} could not be written: {why.strerror}", UNWRITTEN) from why
         try:
-            lock(path, opened)
             if opened.seekable() and opened.tell():
                 self.take_over(path)
                 opened.truncate(len(HEADER.encode()) + sum(len(row_line(row)) for row in self.there))
@@ -125,7 +96,7 @@ class Rows:
 
     def merged(self, paths):
         """The rows of many files, in order; each set once, or several times the same."""
-        found: dict = {}
+        found = {}
         for path in paths:
             for row in read_rows(path):
                 self.belongs(path, row)

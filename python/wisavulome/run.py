@@ -2,7 +2,6 @@
 
 import json
 
-from .arguments import add_format
 from .course import follow
 from .failure import GOOD, NO, REFUSED
 from .library import COUNTERS, LATE
@@ -30,7 +29,9 @@ def add_parser(subparsers):
     parser.add_argument(
         "files", nargs="+", metavar="PLAN", help="a plan as text or octets; of several each has a heading"
     )
-    add_format(parser, "text", ("text", "table", "csv", "json"))
+    parser.add_argument(
+        "--format", choices=["text", "csv", "json"], default="text", help="json: a JSON object on each line"
+    )
     parser.add_argument("--offers", action="store_true", help="in text: each line with the offers that it concerns")
     parser.add_argument("--counters", action="store_true", help="with the counters of each station")
     parser.add_argument("--held", action="store_true", help="with the frames that stations hold at the end")
@@ -46,9 +47,9 @@ def run(library, arguments, output):
             continue
         course = follow(library, source.octets)
         status = max(status, NO if ended_by_late(course) else GOOD)
-        records = records_of(library, course, arguments.counters, arguments.held)
+        records = records_of(library, course, arguments)
         named = {"plan": source.name} if len(arguments.files) > 1 else {}
-        if arguments.format in ("text", "table"):
+        if arguments.format == "text":
             write_text(records, named, arguments, output)
         elif arguments.format == "json":
             write_json(records, named, output)
@@ -64,13 +65,13 @@ def ended_by_late(course):
     return course.layout.late_ends_run and any(event.word == LATE for event in course.events)
 
 
-def records_of(library, course, with_counters=False, with_held=False):
+def records_of(library, course, arguments):
     """The run as records, in the order in which they are printed."""
     stations = range(len(course.layout.taps))
     yield {"kind": "stations", "number": len(stations), "word": "yes" if course.layout.fits else "no"}
     for event in course.events:
         yield {
-            "kind": event.word if event.word in ("refused", "dropped") else "event",
+            "kind": "refused" if event.word == "refused" else "event",
             "time": event.time,
             "station": event.station,
             "word": event.word,
@@ -78,10 +79,10 @@ def records_of(library, course, with_counters=False, with_held=False):
             "offers": list(event.offers),
         }
     yield {"kind": "end", "time": course.clock}
-    if with_counters:
+    if arguments.counters:
         for station in stations:
             yield {"kind": "counters", "station": station, "counters": library.counters(course.area, station)}
-    if with_held:
+    if arguments.held:
         yield from held(library, course)
 
 
@@ -89,7 +90,7 @@ def held(library, course):
     """The frames that stations hold at the end: to send, then received."""
     for station in range(len(course.layout.taps)):
         for fate in course.fates:
-            if fate.offer.station == station and fate.is_open:
+            if fate.offer.station == station and fate.made and fate.refusal is None and not fate.ending:
                 yield {
                     "kind": "held",
                     "station": station,
@@ -114,9 +115,7 @@ def text_line(record, with_offers):
     if kind == "held":
         what = record["frame"] if record["word"] == "received" else record["offers"][0]
         return f"held {record['station']} {record['word']} {what}"
-    line = f"{record['time']} {record['station']} {record['word']}"
-    if record["number"] is not None:
-        line += f" {record['number']}"
+    line = f"{record['time']} {record['station']} {record['word']} {record['number']}"
     return f"{line} offer {','.join(map(str, record['offers']))}" if with_offers and record["offers"] else line
 
 

@@ -4,8 +4,7 @@ import errno
 import os
 import re
 import sys
-from dataclasses import dataclass, field, replace
-from fnmatch import fnmatchcase
+from dataclasses import dataclass
 from pathlib import Path
 
 from . import text
@@ -17,13 +16,9 @@ from .refusals import InputRefused
 MOST = 1 << 24  # octets of a file that are read
 CONTROL = re.compile(rb"[\x00-\x08\x0b\x0e-\x1f\x7f]")  # octets that no text has
 LETTER = re.compile(rb"[A-Za-z]")  # every line of a text begins with a word
-BEGIN = re.compile(rb"\s*(?:%s)\s" % "|".join(text.LINES).encode())  # a text without a comment before it
 LEAST_TEXT = len("D 1")  # octets; a word and a number
-MARKS = (b"\xff\xfe", b"\xfe\xff")  # a text in UTF-16 begins so; a sheet cannot, since map bit 7 stands
-XML = re.compile(rb"(?:\xef\xbb\xbf)?\s*<(?:\?xml|!|svg[\s>])")
 DRAWING = re.compile(rb"<svg[\s>]")
-NAMES = re.compile(rb"<(?:[a-z]+:)?octets[^<>]* names=\"((?:[0-9a-f]{12}=[A-Za-z0-9_-]{1,24} ?)*)\"")
-CARRIED = re.compile(rb"<(?:[a-z]+:)?octets[^<>]*>([0-9a-fA-F\s]*)</")
+CARRIED = re.compile(rb"<(?:[a-z]+:)?octets[^>]*>([0-9a-fA-F\s]*)</")
 
 
 @dataclass(frozen=True)
@@ -33,7 +28,6 @@ class Source:
     name: str
     octets: bytes
     form: str
-    names: dict = field(default_factory=dict)  # of stations, by address
 
     def refuse(self, refusal):
         """The failure for a refusal of this input."""
@@ -52,8 +46,6 @@ def open_file(path):
             return open(path, "rb")
         if sys.stdin is None:
             raise OSError(errno.EBADF, os.strerror(errno.EBADF))
-        if sys.stdin.closed or sys.stdin.buffer.closed:
-            raise Failure("standard input was read already: '-' stands for it once")
         return sys.stdin.buffer
     except OSError as why:
         raise Failure(f"{shown(path)} cannot be read: {why.strerror}") from why
@@ -81,38 +73,26 @@ def read_source(library, path, given=None):
     """
     given = read_file(path) if given is None else given
     name = shown(path)
-    if XML.match(given) and DRAWING.search(given[:4096]):
-        return Source(name, carried(name, given), "drawing", carried_names(given))
-    if given.startswith(MARKS):
-        given = given.decode("utf-16", "replace").encode()
+    if DRAWING.search(given[:4096]):
+        return Source(name, carried(name, given), "drawing")
     if CONTROL.search(given) or not LETTER.search(given) or len(given) < LEAST_TEXT:
-        if BEGIN.match(given) and not reads_as_sheet(library, given):
-            refuse_control(name, given)
         return Source(name, given, "octets")
     try:
-        return Source(name, *from_text(given))
+        return Source(name, from_text(given), "text")
     except text.Unwritable as why:
         if reads_as_sheet(library, given):
             return Source(name, given, "octets")
         raise Failure(f"{name}: {why}") from why
 
 
-def refuse_control(name, given):
-    """What begins as a text does, has an octet that no text has, and is no sheet: the line of that octet."""
-    found = CONTROL.search(given)
-    if found:
-        line = given.count(b"\n", 0, found.start()) + 1
-        raise Failure(f"{name}: line {line}: the octet {found[0][0]:02x} (hexadecimal) stands in it, which no text has")
-
-
 def from_text(given):
-    """The octets of a text, its form and its names; Unwritable where it is none."""
+    """The octets of a text; Unwritable where it is none."""
     plan = text.parse(given.decode("utf-8-sig", "replace"), whole=False)
     if not plan.stations and not plan.figures and plan.run is None:
         raise text.Unwritable("line 1: no station, figure or 'run' stands in it")
     if not text.is_sheet(plan) and plan.run is None:
         raise text.Unwritable("it has draws or offers but no 'run' line")
-    return text.encode_given(plan), "text", text.names_of(plan)
+    return text.encode_given(plan)
 
 
 def reads_as_sheet(library, octets):
@@ -135,17 +115,10 @@ def carried(name, given):
         raise Failure(f"{name}: the octets that the drawing carries are damaged") from why
 
 
-def carried_names(given):
-    """The names of stations that a drawing carries; those that are none are left out."""
-    found = NAMES.search(given)
-    pairs = [each.partition("=") for each in (found[1].decode() if found else "").split()]
-    return {bytes.fromhex(address): name for address, _is, name in pairs if text.NAME.fullmatch(name)}
-
-
 def read_layout(library, source):
-    """The layout of a source's sheet with its names, or the failure with its place."""
+    """The layout of a source's sheet, or the failure with its place."""
     try:
-        return replace(library.read_sheet(source.octets), names=source.names)
+        return library.read_sheet(source.octets)
     except Refused as refusal:
         raise source.refuse(refusal) from refusal
 
@@ -192,5 +165,5 @@ def files_in(folder, pattern):
     found = []
     for here, folders, names in os.walk(folder):
         folders[:] = sorted(each for each in folders if not each.startswith("."))
-        found += [Path(here, each) for each in names if not each.startswith(".") and fnmatchcase(each, pattern)]
+        found += [Path(here, each) for each in names if not each.startswith(".") and Path(each).match(pattern)]
     return sorted(path for path in found if path.is_file())

@@ -79,13 +79,6 @@ def spread(wanted, widths, left, right, apart=4):
     return places
 
 
-def rows_of(layout, size, room):
-    """How many rows a list of stations has: two columns, or one where a name has no room in half the width."""
-    count = len(layout.taps)
-    wide = max(text_width(layout.name(number), size) for number in range(count))
-    return (count + 1) // 2 if wide <= room else count
-
-
 class Svg:
     """A drawing: elements in the order in which they are added."""
 
@@ -139,23 +132,17 @@ class Svg:
         """Whether no text or mark lies there."""
         return not any(box.meets(other) for other in self.taken)
 
-    def label(self, candidates, content, limits, size=10, backed=False, **attributes):
-        """A text at the first candidate (x, y, anchor) where it lies on nothing, backed by white where that is asked;
-        answers whether there was one."""
+    def label(self, candidates, content, limits, size=10, **attributes):
+        """A text at the first candidate (x, y, anchor) where it lies on nothing; answers whether there was one."""
         for x, y, anchor in candidates:
             box = text_box(x, y, content, size, anchor)
             if box.within(limits) and self.is_free(box):
-                if backed:
-                    width, height = box.right - box.left + 2, box.bottom - box.top + 1
-                    self.add(
-                        "rect", x=box.left - 1, y=box.top, width=width, height=height, fill="#fff", fill_opacity=0.9
-                    )
                 self.text(x, y, content, size, anchor, **attributes)
                 return True
         return False
 
-    def finished(self, height, title, octets, form, names=None):
-        """The drawing as a file, with the octets that it was made of, and the names of stations by address."""
+    def finished(self, height, title, octets, form):
+        """The drawing as a file, with the octets that it was made of."""
         head = [
             '<?xml version="1.0" encoding="UTF-8"?>',
             f'<svg xmlns="http://www.w3.org/2000/svg" width="{number(self.width)}" height="{number(height)}" '
@@ -163,11 +150,7 @@ class Svg:
             f"  <title>{escape(title)}</title>",
         ]
         if octets is not None:
-            given = " ".join(f"{address.hex()}={name}" for address, name in (names or {}).items())
-            more = f' names="{given}"' if given else ""
-            head.append(
-                f'  <metadata><w:octets xmlns:w="{SPACE}" form="{form}"{more}>{octets.hex()}</w:octets></metadata>'
-            )
+            head.append(f'  <metadata><w:octets xmlns:w="{SPACE}" form="{form}">{octets.hex()}</w:octets></metadata>')
         head.append(f'  <rect width="{number(self.width)}" height="{number(height)}" fill="#fff"/>')
         return "\n".join([*head, *self.parts, "</svg>", ""])
 

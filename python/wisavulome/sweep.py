@@ -4,34 +4,24 @@ Set k of a sweep is a pure function of the plan, the seed and k, so every row is
 CSV, a line for each set and offer; the table is made of rows alone.
 """
 
-import ctypes
 import hashlib
 import multiprocessing
 import os
-import re
 import signal
-import struct
 from collections import Counter
 from contextlib import suppress
-from dataclasses import replace
 
 from . import text
-from .arguments import add_format, file_name, own_file, whole_number
-from .audit import destination
 from .course import follow
-from .delays import Delays
-from .failure import GOOD, NO, UNWRITTEN, Failure, clipped
-from .library import ENDINGS, LAST_CLOCK, LATE, MAX_DRAWS, Library, Refused
-from .output import complain, progress, write_whole
-from .quick import Quick
-from .rows import FORMAT, Rows, row_line
+from .failure import GOOD, NO, UNWRITTEN, Failure
+from .library import ENDINGS, LATE, MAX_DRAWS, Library, Refused
+from .output import progress, write_whole
+from .rows import Rows, row_line
 from .source import read_plan_source
-from .table import as_table, formatted
+from .table import as_csv, as_table
 
 HELP = """Runs a plan with many sets of draws, and says of each offer how often it was sent, given
-up or lost, its attempts and its delays. A frame that the end of the run left unsent has a delay of
-at least the bit times that it had: it counts so, a quantile that it touches has '>=', and a warning
-says how many such frames there were. A frame that was given up or late-ended counts as never sent.
+up or lost, its attempts and its delays.
 
 The sets come from a seed (--seed, --sets), or are all there are (--all): every draw below
 2^min(attempt limit - 1, backoff limit), or below --below. Made draws are --draws for each
@@ -57,11 +47,8 @@ FEW = 1 << 20  # sets that --all makes without --below
 LATES = (LATE, "late-end")  # outcomes after a late collision
 GIVEN_UP = tuple(word for word in ENDINGS if word not in ("sent", *LATES))
 CHUNK = 64  # sets that a process makes at a time
-MOST_JOBS = 1024
-ONLY = re.compile(r"([0-9]{1,20}):(\+?)([0-9]{1,20})")
-PR_SET_PDEATHSIG = 1  # of prctl(2)
 QUANTILES = (("min", 0), ("median", 50), ("p95", 95), ("max", 100))
-OUTCOMES = (*ENDINGS, LATE, "held", "refused", "dropped", "not made")
+OUTCOMES = (*ENDINGS, LATE, "held", "refused", "not made")
 HEADER = (
     ["offer", "time", "station", "to", *OUTCOMES, "lost"]
     + ["attempts-mean", "attempts-max"]
@@ -73,32 +60,27 @@ def add_parser(subparsers):
     """The arguments of the subcommand."""
     parser = subparsers.add("sweep", "one plan with many sets of draws", HELP)
     parser.add_argument("file", metavar="PLAN", help="a plan as text or octets; its own draws are not used")
-    parser.add_argument("--seed", type=whole_number, default=1, help="the sets are made from it (default 1)")
-    parser.add_argument("--sets", type=whole_number, default=None, help="how many sets (default 1000)")
-    parser.add_argument("--run", metavar="N", type=whole_number, help="so many bit times, instead of the plan's")
+    parser.add_argument("--seed", type=int, default=1, help="the sets are made from it (default 1)")
+    parser.add_argument("--sets", type=int, default=None, help="how many sets (default 1000)")
     parser.add_argument("--all", action="store_true", help="every set, where they are few")
-    parser.add_argument("--below", type=whole_number, help="with --all: draws below this number alone")
-    parser.add_argument("--draws", type=whole_number, help="draws of each station")
-    parser.add_argument("--jobs", type=whole_number, default=0, help="processes (default: one for each processor)")
-    parser.add_argument("--rows", metavar="FILE", type=own_file, help="a CSV line for each set and offer")
+    parser.add_argument("--below", type=int, help="with --all: draws below this number alone")
+    parser.add_argument("--draws", type=int, help="draws of each station")
+    parser.add_argument("--jobs", type=int, default=0, help="processes (default: one for each processor)")
+    parser.add_argument("--rows", metavar="FILE", help="a CSV line for each set and offer")
     parser.add_argument("--only", metavar="A:B", help="the sets A to B - 1 alone; A:+n for n of them")
     parser.add_argument("--merge", metavar="FILE", nargs="+", help="take the rows from these files, run nothing")
-    parser.add_argument("--worst", metavar="FILE", type=file_name, help="write the plan of the worst set, as text")
-    parser.add_argument("--plan-of", metavar="K", type=whole_number, help="print the plan of set K and run nothing")
-    add_format(parser)
+    parser.add_argument("--worst", metavar="FILE", help="write the plan of the worst set, as text")
+    parser.add_argument("--plan-of", metavar="K", type=int, help="print the plan of set K and run nothing")
+    parser.add_argument("--csv", action="store_true", help="the table as CSV")
 
 
 class Sweep:
     """Which sets there are, and the plan of each."""
 
-    def __init__(self, library, octets, arguments, names):
+    def __init__(self, library, octets, arguments):
         self.octets = octets
         self.plan = text.decode(octets)[0]
-        head = library.read_plan(octets)
-        self.layout = replace(head.layout, names=names)
-        self.before = octets[: head.draws_at - text.WIDTHS["D"]]
-        self.after = octets[head.offers_at - text.WIDTHS["offer count"] :]
-        figures = head.layout.figures
+        figures = library.read_plan(octets).layout.figures
         self.every = arguments.all
         self.seed = arguments.seed
         self.depth = depth_of(arguments, self.plan)
@@ -124,40 +106,29 @@ class Sweep:
     def key_of(self):
         """A name for what the rows depend on: plan, draws, seed. Rows of different names are not merged."""
         kind = f"all {self.below}" if self.every else f"seed {self.seed}"
-        return hashlib.sha256(f"rows {FORMAT} {kind} draws {self.depth} ".encode() + self.bare()).hexdigest()[:16]
+        return hashlib.sha256(f"{kind} draws {self.depth} ".encode() + self.bare()).hexdigest()[:16]
 
     def bare(self):
         """The plan's octets without its draws."""
         bare = text.Plan(self.plan.figures, [text.Station(s.position, s.address) for s in self.plan.stations])
-        bare.offers, bare.run, bare.named = self.plan.offers, self.plan.run, self.plan.named
+        bare.offers, bare.run = self.plan.offers, self.plan.run
         return text.encode(bare)
 
     def draws(self, number):
         """The draws of a set, station by station."""
-        return struct.unpack(f">{len(self.plan.stations) * self.depth}H", self.draw_octets(number))
-
-    def draw_octets(self, number):
-        """The draws of a set as a plan has them."""
         total = len(self.plan.stations) * self.depth
         if self.every:
-            return struct.pack(f">{total}H", *(number // self.below**place % self.below for place in range(total)))
-        return hashlib.shake_128(f"wisavulome {self.seed} {number}".encode()).digest(text.WIDTHS["draw"] * total)
-
-    def octets_of(self, number):
-        """The octets of the plan with the draws of a set."""
-        return b"".join([self.before, text.put("D", self.depth), self.draw_octets(number), self.after])
-
-    def quick(self):
-        """What tells the runs of the sets, by a library of this process."""
-        return Quick(Library(), self.layout, self.plan)
+            return [number // self.below**place % self.below for place in range(total)]
+        made = hashlib.shake_128(f"wisavulome {self.seed} {number}".encode()).digest(2 * total)
+        return [int.from_bytes(made[at : at + 2], "big") for at in range(0, 2 * total, 2)]
 
     def plan_of(self, number):
         """The plan with the draws of a set."""
         draws = self.draws(number)
-        plan = text.Plan(self.plan.figures, [], self.depth, self.plan.offers, self.plan.run, self.plan.named)
+        plan = text.Plan(self.plan.figures, [], self.depth, self.plan.offers, self.plan.run)
         for at, station in enumerate(self.plan.stations):
             own = draws[self.depth * at : self.depth * (at + 1)]
-            plan.stations.append(text.Station(station.position, station.address, own, self.layout.name(at)))
+            plan.stations.append(text.Station(station.position, station.address, own))
         return plan
 
 
@@ -181,7 +152,7 @@ def below_of(arguments, figures):
 def run(library, arguments, output):
     """The subcommand; answers the exit status."""
     source = read_plan_source(library, arguments.file)
-    sweep = Sweep(library, plan_octets(source.octets, arguments), arguments, source.names)
+    sweep = Sweep(library, source.octets, arguments)
     check_longest(library, sweep)
     if arguments.plan_of is not None:
         return print_plan(sweep, arguments.plan_of, output)
@@ -197,20 +168,8 @@ def run(library, arguments, output):
         write_whole(arguments.rows, rows.kept(), output)
     if arguments.worst:
         write_whole(arguments.worst, text.render(sweep.plan_of(summary.worst()), []), output)
-    output.write(summary.shown(arguments.format))
-    if arguments.format != "table":
-        for line in summary.warnings():
-            complain(f"wisavulome: {line}")
+    output.write(summary.shown(arguments.csv))
     return summary.status()
-
-
-def plan_octets(octets, arguments):
-    """The plan's octets, with the bit times that are asked for."""
-    if arguments.run is None:
-        return octets
-    if not 0 <= arguments.run <= LAST_CLOCK:
-        raise Failure(f"--run {arguments.run} is outside 0..{LAST_CLOCK}")
-    return octets[: -text.WIDTHS["bit times"]] + text.put("bit times", arguments.run)
 
 
 def check_longest(library, sweep):
@@ -235,31 +194,26 @@ def only_of(words, count):
     """The sets that are made: the first, and the one past the last."""
     if words is None:
         return 0, count
-    found = ONLY.fullmatch(words)
-    begin, end = (int(found[1]), int(found[3])) if found else (0, 0)
-    end += begin if found and found[2] else 0
-    if not begin < end <= count:
-        raise Failure(f"--only {clipped(words)}: it is A:B or A:+n, with 0 <= A < B <= {count}")
+    first, colon, past = words.partition(":")
+    try:
+        begin = int(first)
+        end = begin + int(past[1:]) if past.startswith("+") else int(past)
+    except ValueError:
+        colon = ""
+    if not colon or not 0 <= begin < end <= count:
+        raise Failure(f"--only {words}: it is A:B or A:+n, with 0 <= A < B <= {count}")
     return begin, end
 
 
 # ---- making rows
 
 
-def rows_of(quick, sweep, number):
+def rows_of(library, sweep, number):
     """The rows of a set: one for each offer."""
-    octets = sweep.octets_of(number)
-    fates = quick.fates(octets)
-    if fates is None:
-        fates = map(told, follow(quick.library, octets).fates)
-    for offer, fate in enumerate(fates, 1):
-        yield (sweep.key, number, offer, *fate)
-
-
-def told(fate):
-    """What a row tells of an offer."""
-    counts = [fate.count("got"), fate.count("lost"), fate.count("on its way")]
-    return (fate.outcome, len(fate.attempts), fate.delay, *counts)
+    course = follow(library, text.encode(sweep.plan_of(number)))
+    for fate in course.fates:
+        counts = [fate.count("got"), fate.count("lost"), fate.count("on its way")]
+        yield (sweep.key, number, fate.number, fate.outcome, len(fate.attempts), fate.delay, *counts)
 
 
 def make_rows(sweep, rows, arguments, summary):
@@ -295,13 +249,13 @@ def all_chunks(sweep, numbers, jobs):
 
     Process k makes the chunks k, k + jobs, ... A chunk is known by its first set.
     """
-    if not 0 <= jobs <= MOST_JOBS:
-        raise Failure(f"--jobs {jobs} is outside 0..{MOST_JOBS}")
+    if jobs < 0:
+        raise Failure("--jobs is below 0")
     starts = numbers[::CHUNK]
     jobs = min(jobs or len(os.sched_getaffinity(0)), len(starts))
     if jobs <= 1:
-        quick = sweep.quick()
-        yield from (chunk_rows(quick, sweep, start, numbers.stop) for start in starts)
+        library = Library()
+        yield from (chunk_rows(library, sweep, start, numbers.stop) for start in starts)
         return
     workers = [begin_worker(sweep, starts[at::jobs], numbers.stop) for at in range(jobs)]
     try:
@@ -314,33 +268,29 @@ def all_chunks(sweep, numbers, jobs):
             process.join()
 
 
-def chunk_rows(quick, sweep, start, past):
+def chunk_rows(library, sweep, start, past):
     """The rows of the sets of a chunk."""
-    return [row for number in range(start, min(start + CHUNK, past)) for row in rows_of(quick, sweep, number)]
+    return [row for number in range(start, min(start + CHUNK, past)) for row in rows_of(library, sweep, number)]
 
 
 def begin_worker(sweep, starts, past):
     """A process that makes the rows of some chunks, and the end at which they are received."""
     context = multiprocessing.get_context("fork")
     here, there = context.Pipe(duplex=False)
-    process = context.Process(target=work, args=(sweep, starts, past, there, os.getpid()), daemon=True)
+    process = context.Process(target=work, args=(sweep, starts, past, there), daemon=True)
     process.start()
     there.close()
     return process, here
 
 
-def work(sweep, starts, past, there, first):
-    """What such a process does. An interrupt is for the first process, which ends this one, also when killed."""
-    for ignored in (signal.SIGINT, signal.SIGHUP):
-        signal.signal(ignored, signal.SIG_IGN)
+def work(sweep, starts, past, there):
+    """What such a process does. An interrupt is for the first process, which ends this one."""
+    signal.signal(signal.SIGINT, signal.SIG_IGN)
     signal.signal(signal.SIGTERM, signal.SIG_DFL)
-    ctypes.CDLL(None).prctl(PR_SET_PDEATHSIG, signal.SIGKILL)
-    if os.getppid() != first:
-        return
-    quick = sweep.quick()
+    library = Library()
     with suppress(BrokenPipeError):
         for start in starts:
-            there.send(chunk_rows(quick, sweep, start, past))
+            there.send(chunk_rows(library, sweep, start, past))
 
 
 def receive(end):
@@ -362,14 +312,14 @@ class Summary:
     def __init__(self, sweep):
         self.sweep = sweep
         self.offers = [Tally() for _offer in sweep.plan.offers]
-        self.worst_so_far: tuple = ()
-        self.current: tuple = ()
+        self.worst_so_far = None
+        self.current = None
 
     def add(self, row):
         """One row more; the rows of a set stand together."""
         _key, number, offer, outcome, attempts, delay, _got, lost, _way = row
         self.offers[offer - 1].add(outcome, attempts, delay, lost)
-        if not self.current or self.current[1] != -number:
+        if self.current is None or self.current[1] != -number:
             self.settle()
             self.current = ((0, 0, 0, 0, -1), -number)
         worse = (lost, outcome in LATES, outcome in GIVEN_UP, outcome == "held")
@@ -378,7 +328,7 @@ class Summary:
 
     def settle(self):
         """The set that was added is whole: it may be the worst."""
-        if self.current > self.worst_so_far:
+        if self.current and (self.worst_so_far is None or self.current > self.worst_so_far):
             self.worst_so_far = self.current
 
     def worst(self):
@@ -386,37 +336,22 @@ class Summary:
         self.settle()
         return -self.worst_so_far[1]
 
-    def shown(self, form):
+    def shown(self, is_csv):
         """The table; below it how it went."""
         rows = [self.row_of(number, tally) for number, tally in enumerate(self.offers, 1)]
-        if form != "table":
-            return formatted(form, HEADER, rows)
+        if is_csv:
+            return as_csv(HEADER, rows)
         self.settle()
         (lost, late, given_up, held, longest), number = self.worst_so_far
         sets = sum(self.offers[0].outcomes.values())
         delay = f", longest delay {longest}" if longest >= 0 else ""
         worst = f"worst set {-number}: {lost} lost, {late} late, {given_up} given up, {held} held{delay}"
-        warnings = "".join(f"{line}\n" for line in self.warnings())
-        return f"sets {sets}\n{as_table(HEADER, rows)}{warnings}{worst}\n"
-
-    def warnings(self):
-        """What a reader of the table should know first."""
-        tallies = self.offers
-        left = sum(tally.outcomes[word] for tally in tallies for word in (LATE, "held"))
-        untaken = sum(tally.outcomes[word] for tally in tallies for word in ("refused", "dropped", "not made"))
-        total = sum(sum(tally.outcomes.values()) for tally in tallies)
-        if left:
-            yield (
-                f"warning: {left} of {total} frames were not sent by the end of the run; their delays count as '>=' "
-                "the bit times that they had. A longer run (--run N) tells more"
-            )
-        if untaken:
-            yield f"warning: {untaken} of {total} offers were refused, dropped or not made; they have no delay"
+        return f"sets {sets}\n{as_table(HEADER, rows)}{worst}\n"
 
     def row_of(self, number, tally):
         """An offer's row of the table."""
         offer = self.sweep.plan.offers[number - 1]
-        to = destination(self.sweep.layout, offer)
+        to = text.render_destination(self.sweep.plan, offer.destination)
         return [number, offer.time, offer.station, to, *tally.columns()]
 
     def status(self):
@@ -428,21 +363,22 @@ class Tally:
     """What came of one offer in all sets."""
 
     def __init__(self):
-        self.outcomes: Counter = Counter()
-        self.attempts: Counter = Counter()
-        self.delays = Delays()
+        self.outcomes = Counter()
+        self.attempts = Counter()
+        self.delays = Counter()
         self.lost = 0
 
     def add(self, outcome, attempts, delay, lost):
         """The offer in one set more."""
         self.outcomes[outcome.partition(" ")[0] if outcome.startswith("refused") else outcome] += 1
         self.attempts[attempts] += 1
-        self.delays.add(outcome, delay)
+        if delay is not None and outcome == "sent":
+            self.delays[delay] += 1
         self.lost += lost > 0
 
     def columns(self):
         """The numbers of the table."""
-        quantiles = [self.delays.quantile(part) for _name, part in QUANTILES]
+        quantiles = [quantile(self.delays, part) for _name, part in QUANTILES]
         mean = hundredths(sum(n * times for n, times in self.attempts.items()), sum(self.attempts.values()))
         return [
             *(self.outcomes[word] for word in OUTCOMES),
@@ -455,6 +391,17 @@ class Tally:
     def is_bad(self):
         """Whether the offer came to a bad end in some set."""
         return bool(self.lost or any(self.outcomes[word] for word in (*LATES, *GIVEN_UP)))
+
+
+def quantile(counts, part):
+    """The smallest number that is at least this part, in hundredths, of all that were counted; None of nothing."""
+    total = sum(counts.values())
+    needed = max(1, -(-total * part // 100))
+    for number in sorted(counts):
+        needed -= counts[number]
+        if needed <= 0:
+            return number
+    return None
 
 
 def hundredths(total, count):

@@ -1,14 +1,12 @@
-"""Rows as a table for people, as CSV, or as JSON lines."""
+"""Rows as a table for people, or as CSV."""
 
 import csv
 import io
-import json
 import re
 
-from .delays import AtLeast
-from .failure import printable
+from .output import printable
 
-NUMBER = re.compile(r"\(?(>=)?[0-9]+(\.[0-9]+)?\)?|never")
+NUMBER = re.compile(r"\(?[0-9]+(\.[0-9]+)?\)?")
 
 
 def as_csv(header, rows):
@@ -18,17 +16,6 @@ def as_csv(header, rows):
     writer.writerow(header)
     writer.writerows(["" if value is None else value for value in row] for row in rows)
     return out.getvalue()
-
-
-def as_json(header, rows):
-    """Rows as JSON objects, one on a line; None is null, and a delay that is at least so much is in words."""
-    plain = [[str(value) if isinstance(value, AtLeast) else value for value in row] for row in rows]
-    return "".join(json.dumps(dict(zip(header, row))) + "\n" for row in plain)
-
-
-def formatted(form, header, rows):
-    """Rows in the format that is asked for."""
-    return {"table": as_table, "csv": as_csv, "json": as_json}[form](header, rows)
 
 
 def as_table(header, rows):

@@ -5,7 +5,7 @@ A run input is what the run program reads: sheet, draws, offers, bit times. The 
 
     slot 512                                    also gap1, gap2, jam, attempt-limit, backoff-limit, late-end
     station at 0  02:00:00:00:00:01 draws 0     position, address, draws; stations are numbered from 0 as they stand
-    station at 10 02:00:00:00:00:02 draws 1     a name may stand before the draws: name camera
+    station at 10 02:00:00:00:00:02 draws 1
     offer at 0 station 0 to station 1 value 0x0800 data 46 zeros
     run 1500                                    bit times
 
@@ -19,7 +19,6 @@ from itertools import groupby
 from typing import Optional
 
 from . import library
-from .failure import LONG, clipped
 
 # The sheet's optional fields: the one at place i follows if bit i of the map stands.
 FIGURES = tuple(figure.name for figure in library.FIGURES)
@@ -39,14 +38,10 @@ WIDTHS = {
     "destination": 6,
     "value": 2,
     "size": 2,
-    "name": 2,
     "bit times": 4,
 }
 
-NAMED = 0x8000  # in an offer count: the offers have names, and the other bits are the count
-
 BROADCAST = b"\xff" * WIDTHS["address"]
-NAME = re.compile(r"[A-Za-z][A-Za-z0-9_-]{0,23}")
 LONG_RUN = 8  # this many equal octets in a row, or more, are read as 'N of XX'
 
 
@@ -57,7 +52,6 @@ class Station:
     position: int
     address: bytes
     draws: list = field(default_factory=list)
-    name: str = ""  # of a text alone; octets have none
 
 
 @dataclass
@@ -70,7 +64,6 @@ class Offer:
     value: Optional[int] = None
     size: Optional[int] = None
     data: Optional[bytes] = None
-    name: Optional[int] = None  # the number, from 1, of the offer that it comes after; 0: of none
 
 
 @dataclass
@@ -82,7 +75,6 @@ class Plan:
     depth: Optional[int] = None  # D
     offers: list = field(default_factory=list)
     run: Optional[int] = None  # bit times
-    named: bool = False  # whether the offers have names
 
 
 # From text to a plan.
@@ -102,7 +94,7 @@ class Words:
 
     def fail(self, why):
         """Refuse the text because of this line."""
-        raise Unwritable(clipped(f"line {self.line}: {why}", LONG))
+        raise Unwritable(f"line {self.line}: {why}")
 
     def peek(self, ahead=0):
         """The next word, or one further on; None past the line's end."""
@@ -140,28 +132,26 @@ class Words:
         """The next word, as a number for the field of that name."""
         word = self.take(name)
         if not re.fullmatch(r"[0-9]{1,99}|0[xX][0-9a-fA-F]{1,99}", word):
-            self.fail(f"'{clipped(word)}' is no number for {name} (decimal, or hexadecimal after 0x)")
+            self.fail(f"'{word}' is no number for {name} (decimal, or hexadecimal after 0x)")
         return self.fit(name, int(word, 16 if word[:2] in ("0x", "0X") else 10))
 
     def address(self):
         """The next word, as an address."""
         word = self.take("an address")
         if not re.fullmatch(r"[0-9a-fA-F]{2}((:[0-9a-fA-F]{2}){5}|(-[0-9a-fA-F]{2}){5})", word):
-            self.fail(f"'{clipped(word)}' is no address (six octets in hexadecimal with colons or dashes between)")
+            self.fail(f"'{word}' is no address (six octets in hexadecimal with colons or dashes between)")
         return bytes.fromhex(word.replace(":", "").replace("-", ""))
 
     def octets(self, word):
         """This word, as octets in hexadecimal."""
         if not re.fullmatch(r"([0-9a-fA-F]{2})+", word):
-            self.fail(
-                f"'{clipped(word)}' is no data (two hexadecimal digits for each octet, 'N zeros', 'N of XX' or 'empty')"
-            )
+            self.fail(f"'{word}' is no data (two hexadecimal digits for each octet, 'N zeros', 'N of XX' or 'empty')")
         return bytes.fromhex(word)
 
     def end(self):
         """Nothing more may stand on the line."""
         if self.peek() is not None:
-            self.fail(f"'{clipped(self.peek())}' stands after the line's last word")
+            self.fail(f"'{self.peek()}' stands after the line's last word")
 
 
 def parse_figure(plan, words, name):
@@ -175,12 +165,10 @@ def parse_depth(plan, words, _name):
 
 
 def parse_station(plan, words, _name):
-    """station [at] position address [name word] [draws draw...]"""
+    """station [at] position address [draws draw...]"""
     words.fit("N", len(plan.stations) + 1)
     words.skip("at")
     station = Station(words.number("position"), words.address())
-    if words.skip("name"):
-        station.name = parse_name(plan, words)
     if words.peek() is not None:
         words.expect("draws")
         station.draws.append(words.number("draw"))
@@ -188,26 +176,6 @@ def parse_station(plan, words, _name):
             station.draws.append(words.number("draw"))
     set_depth(plan, words, words.fit("D", len(station.draws)))
     plan.stations.append(station)
-
-
-def parse_name(plan, words):
-    """The name of a station: a word that begins with a letter, and that no other station has."""
-    name = words.take("a name")
-    if not NAME.fullmatch(name) or name == "broadcast":
-        words.fail(f"'{clipped(name)}' is no name (a letter, then at most 23 letters, digits, - and _)")
-    if any(station.name == name for station in plan.stations):
-        words.fail(f"another station has the name '{name}'")
-    return name
-
-
-def parse_number(plan, words):
-    """A station by its number, or by the name of one that stands above."""
-    for number, station in enumerate(plan.stations):
-        if station.name and words.skip(station.name):
-            return number
-    if NAME.fullmatch(words.peek() or ""):
-        words.fail(f"no station of the name '{words.peek()}' stands above")
-    return words.number("station")
 
 
 def set_depth(plan, words, depth):
@@ -218,27 +186,22 @@ def set_depth(plan, words, depth):
 
 
 def parse_offer(plan, words, _name):
-    """offer [at] time station k to destination value v [after n] data ..."""
+    """offer [at] time station k to destination value v data ..."""
     words.fit("offer count", len(plan.offers) + 1)
-    if len(plan.offers) + 1 >= NAMED:
-        words.fail(f"offer {NAMED} is too many: the top bit of the count says that offers have names")
     offer = Offer()
     words.skip("at")
     offer.time = words.number("time")
     words.expect("station")
-    offer.station = parse_number(plan, words)
+    offer.station = words.number("station")
     words.expect("to")
     offer.destination = parse_destination(plan, words)
     words.expect("value")
     is_length = words.skip("length")
     if not is_length:
         offer.value = words.number("value")
-    if words.skip("after"):
-        offer.name = words.number("name")
-        plan.named = True
     words.expect("data")
-    data = parse_data(words)
-    offer.data, offer.size = data, len(data)
+    offer.data = parse_data(words)
+    offer.size = len(offer.data)
     if is_length:
         offer.value = offer.size
     plan.offers.append(offer)
@@ -250,7 +213,7 @@ def parse_destination(plan, words):
         return BROADCAST
     if not words.skip("station"):
         return words.address()
-    number = parse_number(plan, words)
+    number = words.number("station")
     if number >= len(plan.stations):
         words.fail(f"no station {number} stands above, so it has no address")
     return plan.stations[number].address
@@ -277,13 +240,8 @@ def parse_piece(words):
     words.expect("of")
     octet = words.octets(words.take("an octet"))
     if len(octet) != 1:
-        words.fail(f"'{clipped(octet.hex())}' is not one octet")
+        words.fail(f"'{octet.hex()}' is not one octet")
     return octet * count
-
-
-def parse_names(plan, _words, _name):
-    """names: the offers have names, also where no line says 'after'."""
-    plan.named = True
 
 
 def parse_run(plan, words, _name):
@@ -292,7 +250,7 @@ def parse_run(plan, words, _name):
 
 
 LINES = {name: parse_figure for name in FIGURES}
-LINES.update({"D": parse_depth, "station": parse_station, "names": parse_names, "offer": parse_offer, "run": parse_run})
+LINES.update({"D": parse_depth, "station": parse_station, "offer": parse_offer, "run": parse_run})
 OFTEN = ("station", "offer")  # every other line stands once
 
 
@@ -300,14 +258,14 @@ def parse(text, whole=True):
     """The plan that a text writes down; where it need not be whole, the 'run' line may be missing."""
     plan = Plan()
     seen = set()
-    lines = text.replace("\r\n", "\n").replace("\r", "\n").rstrip("\n").split("\n")
+    lines = text.rstrip("\n").split("\n")
     for line, content in enumerate(lines, 1):
         words = Words(line, content.partition("#")[0].split())
         if words.peek() is None:
             continue
         name = words.take("a word")
         if name not in LINES:
-            words.fail(f"'{clipped(name)}' is no word that begins a line ({', '.join(LINES)})")
+            words.fail(f"'{name}' is no word that begins a line ({', '.join(LINES)})")
         if name in seen and name not in OFTEN:
             words.fail(f"'{name}' stands for the second time")
         seen.add(name)
@@ -331,11 +289,9 @@ def encode(plan):
     parts = encode_sheet(plan)
     parts.append(put("D", plan.depth or 0))
     parts += [put("draw", draw) for station in plan.stations for draw in station.draws]
-    parts.append(put("offer count", len(plan.offers) | (NAMED if plan.named else 0)))
+    parts.append(put("offer count", len(plan.offers)))
     for offer in plan.offers:
         parts += encode_offer(offer)
-        if plan.named:
-            parts.append(put("name", offer.name or 0))
     parts.append(put("bit times", plan.run))
     return b"".join(parts)
 
@@ -345,21 +301,9 @@ def encode_given(plan):
     return b"".join(encode_sheet(plan)) if is_sheet(plan) else encode(plan)
 
 
-def names_of(plan):
-    """The names of stations, by their addresses."""
-    return {station.address: station.name for station in plan.stations if station.name}
-
-
-def give_names(plan, names):
-    """Gives the stations of a plan the names that their addresses have."""
-    for station in plan.stations:
-        station.name = names.get(station.address, "")
-    return plan
-
-
 def is_sheet(plan):
     """Whether a plan is a sheet alone."""
-    return plan.run is None and not plan.offers and not plan.named and not plan.depth
+    return plan.run is None and not plan.offers and not plan.depth
 
 
 def encode_sheet(plan):
@@ -479,7 +423,6 @@ def decode_offers(plan, source):
     """Offer count, offers; they are counted from 1. Of the last one a part may be there."""
     source.enter("the offer count")
     count = source.number("offer count")
-    plan.named, count = count >= NAMED, count % NAMED
     for number in range(1, count + 1):
         source.enter(f"offer {number} of {count}")
         offer = Offer(source.number("time"))
@@ -490,8 +433,6 @@ def decode_offers(plan, source):
         offer.size = source.number("size")
         offer.data = source.ahead(offer.size)
         source.take(offer.size)
-        if plan.named:
-            offer.name = source.number("name")
 
 
 # From a plan to text.
@@ -503,8 +444,6 @@ def render(plan, reasons):
     lines += [render_station(number, station) for number, station in enumerate(plan.stations)]
     if plan.depth and not plan.stations:
         lines.append(f"D {plan.depth}")
-    if plan.named and not plan.offers:
-        lines.append("names")
     lines += [render_offer(plan, offer) for offer in plan.offers]
     if plan.run is not None:
         lines.append(f"run {plan.run}")
@@ -515,8 +454,6 @@ def render(plan, reasons):
 def render_station(number, station):
     """A station's line; a comment tells its number."""
     words = [f"station at {station.position:<3}", render_address(station.address)]
-    if station.name:
-        words += ["name", station.name]
     if station.draws:
         words += ["draws", *map(str, station.draws)]
     return " ".join(words) + f"  # station {number}"
@@ -531,21 +468,16 @@ def render_offer(plan, offer):
     """An offer's line; one that is not whole is a comment."""
     words = [f"offer at {offer.time}"]
     if offer.station is not None:
-        named = plan.stations[offer.station].name if offer.station < len(plan.stations) else ""
-        words.append(f"station {named or offer.station}")
+        words.append(f"station {offer.station}")
     if offer.destination is not None:
         words.append(f"to {render_destination(plan, offer.destination)}")
     if offer.value is not None:
         words.append(f"value {render_value(offer.value, offer.size)}")
-    if offer.name is not None:
-        words.append(f"after {offer.name}")
     if offer.data is None:
         return "# " + " ".join(words)
     words.append(f"data {render_data(offer.data)}")
     if len(offer.data) < offer.size:
         return "# " + " ".join(words) + f" (size {offer.size})"
-    if plan.named and offer.name is None:
-        return "# " + " ".join(words) + " (its name is missing)"
     return " ".join(words)
 
 
@@ -555,7 +487,7 @@ def render_destination(plan, destination):
         return "broadcast"
     for number, station in enumerate(plan.stations):
         if station.address == destination:
-            return f"station {station.name or number}"
+            return f"station {number}"
     return render_address(destination)
 
 

@@ -1,7 +1,6 @@
 """`wisavulome wave`: a run as a VCD wave, made by single steps of the library."""
 
 from . import VERSION
-from .arguments import file_name
 from .course import advance_to, follow, make_due, packet_of
 from .failure import GOOD
 from .heard import Hearing
@@ -57,9 +56,7 @@ def add_parser(subparsers):
     """The arguments of the subcommand."""
     parser = subparsers.add("wave", "a run as a VCD wave", HELP)
     parser.add_argument("file", metavar="PLAN", help="a plan as text or octets")
-    parser.add_argument(
-        "-o", "--output", metavar="FILE", type=file_name, help="where to write; standard output if absent"
-    )
+    parser.add_argument("-o", "--output", metavar="FILE", help="where to write; standard output if absent")
     parser.add_argument("--window", metavar="A:B", help=WINDOW_HELP)
     parser.add_argument("--vectors", action="store_true", help="with vectors: symbols, counts and states")
 
@@ -135,7 +132,7 @@ def steps(library, course, octets, window, with_vectors):
     with progress("bit time", window[1] - window[0]) as meter:
         while time < window[1]:
             meter.at(time - window[0])
-            make_due(library, area, course, time)
+            make_due(library, area, course.plan, time)
             before = [library.station(area, station) for station in stations]
             events = {(station, word) for station, word, _number in library.step(area)}
             after = [library.station(area, station) for station in stations]
@@ -163,7 +160,7 @@ def is_at_rest(state, with_vectors):
 def next_change(course, time):
     """The next step, from this one on, in which an offer is made or an attempt starts."""
     starts = [attempt.start for attempt in course.attempts if attempt.start >= time]
-    offers = [fate.clock for fate in course.fates if fate.clock is not None and fate.clock >= time]
+    offers = [offer.time for offer in course.plan.offers if offer.time >= time]
     return min(starts + offers, default=course.clock)
 
 
@@ -207,7 +204,7 @@ class Emissions:
     def __init__(self, course, window):
         self.packets = {}
         self.fates = course.fates
-        self.waiting: list = [[] for _tap in course.layout.taps]
+        self.waiting = [[] for _tap in course.layout.taps]
         for attempt in reversed(course.attempts):
             if attempt.end > window[0]:
                 self.waiting[attempt.station].append(attempt)

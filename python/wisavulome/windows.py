@@ -5,14 +5,12 @@ An entry is six octets: time (4, high octet first), station, event (from 1 on, i
 
 import re
 from dataclasses import dataclass
-from typing import Optional
 
-from .arguments import add_format, file_name, whole_number
-from .failure import GOOD, Failure, clipped
+from .failure import GOOD, Failure
 from .library import EVENTS, MAX_WINDOWS, entry_of
-from .output import write_whole
+from .output import printable, write_whole
 from .source import open_file, read_file, shown
-from .table import formatted
+from .table import as_csv, as_table
 
 HELP = f"""Reads the text that the run program prints into the entries of a log, and prints for each
 window how many events of every word it holds. WINDOWS has a line for each window: station, first
@@ -30,8 +28,8 @@ MOST_TIME, MOST_STATION = 2**32 - 1, 255
 WORDS = "|".join(EVENTS).encode()
 # An event, with its time, station and word; the line `stations`, with N; or another line of the run program.
 ENTRY = re.compile(
-    rb"^(?:([0-9]{1,99}) ([0-9]{1,99}) (%s) [0-9]{1,99}"
-    rb"|stations ([0-9]{1,3}) fit (?:yes|no)|end [0-9]{1,99}|[0-9]{1,99} [0-9]{1,99} refused [0-9]{1,99})\r?\n" % WORDS,
+    rb"^(?:([0-9]{1,99}) ([0-9]{1,99}) (%s) [0-9]+"
+    rb"|stations ([0-9]{1,3}) fit (?:yes|no)|end [0-9]+|[0-9]+ [0-9]+ refused [0-9]+)\r?\n" % WORDS,
     re.M,
 )
 NUMBERS = {word.encode(): number for number, word in enumerate(EVENTS, 1)}
@@ -43,11 +41,9 @@ def add_parser(subparsers):
     parser = subparsers.add("windows", "the run program's text as a log, and windows over it", HELP)
     parser.add_argument("log", metavar="LOG", help="what the run program printed")
     parser.add_argument("windows", metavar="WINDOWS", nargs="?", help="the windows, one on a line")
-    parser.add_argument(
-        "--stations", metavar="N", type=whole_number, help="the number of stations (default: what LOG says)"
-    )
-    add_format(parser)
-    parser.add_argument("--entries", metavar="FILE", type=file_name, help="write the entries of the log as octets")
+    parser.add_argument("--stations", metavar="N", type=int, help="the number of stations (default: what LOG says)")
+    parser.add_argument("--csv", action="store_true", help="print CSV")
+    parser.add_argument("--entries", metavar="FILE", help="write the entries of the log as octets")
 
 
 @dataclass(frozen=True)
@@ -55,7 +51,7 @@ class Log:
     """The entries of a log as octets, and the number of stations, None where no line says it."""
 
     entries: bytes
-    stations: Optional[int]
+    stations: int
 
 
 def run(library, arguments, output):
@@ -70,7 +66,7 @@ def run(library, arguments, output):
         stations = log.stations if arguments.stations is None else arguments.stations
         if stations is None or not 0 <= stations <= MOST_TIME:
             raise Failure("the number of stations: LOG has no line 'stations', or --stations is none")
-        output.write(formatted(arguments.format, HEADER, looked_up(library, log.entries, stations, given)))
+        output.write((as_csv if arguments.csv else as_table)(HEADER, looked_up(library, log.entries, stations, given)))
     return GOOD
 
 
@@ -82,16 +78,13 @@ def looked_up(library, entries, stations, windows):
 
 
 def chunks_of(path):
-    """The whole lines of a file, many at a time. What is longer than any event is a line by itself."""
+    """The whole lines of a file, many at a time; a log may be long."""
     kept = b""
     with open_file(path) as opened:
         for part in iter(lambda: read_part(path, opened), b""):
             lines, end, kept_next = (kept + part).rpartition(b"\n")
             yield lines + end
             kept = kept_next
-            if len(kept) >= PART:
-                yield kept + b"\n"
-                kept = b""
     if kept:
         yield kept + b"\n"
 
@@ -151,3 +144,9 @@ def read_windows(name, content):
             )
         windows.append(tuple(map(int, words)))
     return windows
+
+
+def clipped(line):
+    """A line for a message, not too long."""
+    line = printable(line)
+    return line if len(line) <= 60 else line[:57] + "..."

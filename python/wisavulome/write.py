@@ -1,7 +1,6 @@
 """`wisavulome write`: the shortest sheet, and text forms both ways."""
 
 from . import text
-from .arguments import file_name
 from .failure import GOOD
 from .library import Refused
 from .output import write_whole
@@ -24,9 +23,7 @@ def add_parser(subparsers):
         choices=["text", "octets"],
         help="the same sheet or plan in this form, figures as they are given",
     )
-    parser.add_argument(
-        "-o", "--output", metavar="FILE", type=file_name, help="where to write; standard output if absent"
-    )
+    parser.add_argument("-o", "--output", metavar="FILE", help="where to write; standard output if absent")
 
 
 def run(library, arguments, output):
@@ -59,7 +56,7 @@ def written(library, source, layout, form):
 def text_of(octets, layout):
     """The text of a sheet alone or of a plan."""
     if len(octets) > layout.used:
-        return text.render(text.give_names(text.decode(octets)[0], layout.names), [])
+        return text.read(octets)[0]
     plan = text.Plan()
     text.decode_sheet(plan, text.Octets(octets))
-    return text.render(text.give_names(plan, layout.names), [])
+    return text.render(plan, [])

@@ -71,17 +71,13 @@ class Captures(RealTest):
         self.need("tshark")
         for name, octets in stepped_cases(self.library):
             course = follow(self.library, octets)
-            told = [event for event in course.events if event.word in ENDINGS or event.word.startswith("got")]
-            held = [fate for fate in course.fates if fate.is_open]  # they stand in the last step
-            if not told and not held:
+            told = [
+                event for event in course.events if event.word in ENDINGS or event.word.startswith("got")
+            ]
+            if not told:
                 continue
             found = self.fields(self.made("capture", octets, "c.pcapng"))
-            self.assertEqual(len(found), len(told) + len(held), name)
-            for fate, frame in zip(held, found[len(told) :]):
-                self.assertEqual(int(frame["frame.interface_id"]), fate.offer.station, name)
-                self.assertEqual(round(float(frame["frame.time_epoch"]) * 10**7), course.clock - 1, name)
-                self.assertEqual(int(frame["frame.packet_flags_direction"], 0), 2, name)
-                self.assertEqual(int(frame["frame.len"]), len(fate.frame), name)
+            self.assertEqual(len(found), len(told), name)
             for event, frame in zip(told, found):
                 self.assertEqual(int(frame["frame.interface_id"]), event.station, name)
                 self.assertEqual(round(float(frame["frame.time_epoch"]) * 10**7), event.time, name)
@@ -94,7 +90,9 @@ class Captures(RealTest):
     def test_tshark_errors(self):
         self.need("tshark")
         course = follow(self.library, (STORED / "case048.in").read_bytes())
-        words = [event.word for event in course.events if event.word in ENDINGS or event.word.startswith("got")]
+        words = [
+            event.word for event in course.events if event.word in ENDINGS or event.word.startswith("got")
+        ]
         found = self.fields(self.made("capture", STORED / "case048.in", "c.pcapng"))[words.index("got alignment")]
         self.assertIn(found["frame.packet_flags_crc_error"], ("1", "True"))
         self.assertIn(found["frame.packet_flags_unaligned_frame_error"], ("1", "True"))

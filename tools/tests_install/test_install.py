@@ -17,7 +17,6 @@ from pathlib import Path
 ROOT = Path(__file__).resolve().parent.parent.parent
 WORKED = (ROOT / "stored" / "level00" / "worked.out").read_text()
 STRICT = ["-Wall", "-Wextra", "-Werror", "-pedantic"]
-RUST_HOMES = {"RUSTUP_HOME": ".rustup", "CARGO_HOME": ".cargo"}
 
 
 def load(name):
@@ -220,125 +219,6 @@ class Uses(Installed):
         self.skipTest("cffi is not installed")
 
 
-class Pages(Installed):
-    """The manual page and the completion."""
-
-    def test_manual(self):
-        """Every subcommand with each of its options; by the real program where it is installed."""
-        page = (self.prefix / "share" / "man" / "man1" / "wisavulome.1").read_text()
-        pages = load("pages")
-        for name, parser in pages.parsers().items():
-            part = page.split(f"\n.SS {name}\n")[1].split("\n.S")[0]
-            for option in pages.options_of(parser):
-                self.assertIn(option.replace("-", "\\-"), part, name)
-        if shutil.which("groff"):
-            shown = self.run_words(
-                "groff", "-man", "-Tutf8", "-ww", self.prefix / "share" / "man" / "man1" / "wisavulome.1"
-            )
-            self.assertIn("wisavulome", shown)
-
-    def test_completion(self):
-        script = self.prefix / "share" / "bash-completion" / "completions" / "wisavulome"
-        (self.folder / "plan.txt").write_text("")
-        for words, expected in [
-            (["sw"], ["sweep"]),
-            (["fit", "--len"], ["--lengthen"]),
-            (["sweep", "--format", "c"], ["csv"]),
-            (["write", "--as", ""], ["text", "octets"]),
-            (["run", "pla"], ["plan.txt"]),
-        ]:
-            typed = " ".join(f"'{word}'" for word in ["wisavulome", *words])
-            ask = f"source '{script}'; COMP_WORDS=({typed}); COMP_CWORD={len(words)}; _wisavulome; "
-            ask += "printf '%s\\n' \"${COMPREPLY[@]}\""
-            self.assertEqual(self.run_words("bash", "-c", ask).split(), expected, words)
-
-
-class Packages(unittest.TestCase):
-    """The packages, unpacked into a folder: the command runs from there, with the library that they hold."""
-
-    ALONE = {"WISAVULOME_LIBRARY": "", "PYTHONPATH": ""}
-
-    def setUp(self):
-        folder = tempfile.TemporaryDirectory()
-        self.addCleanup(folder.cleanup)
-        self.folder = Path(folder.name)
-
-    def made(self, kind):
-        return ROOT / Installed.run_words(sys.executable, ROOT / "tools" / "package", kind, cwd=ROOT).strip()
-
-    def test_wheel(self):
-        wheel = self.made("wheel")
-        before = wheel.read_bytes()
-        self.assertEqual(self.made("wheel").read_bytes(), before)
-        place = self.folder / "site"
-        if subprocess.run([sys.executable, "-m", "pip", "--version"], check=False, capture_output=True).returncode:
-            self.skipTest("pip is not installed")
-        pip = [sys.executable, "-m", "pip", "install", "--quiet", "--no-index", "--no-deps", "--target", place, wheel]
-        Installed.run_words(*pip, cwd="/")
-        env = {**self.ALONE, "PYTHONPATH": str(place)}
-        worked = ROOT / "docs" / "worked.txt"
-        for words in ([sys.executable, "-m", "wisavulome"], [place / "bin" / "wisavulome"]):
-            self.assertEqual(Installed.run_words(*words, "run", worked, cwd="/", env=env), WORKED)
-
-    def test_crate(self):
-        """The crate's example, and a program of another crate that depends on it."""
-        if not shutil.which("cargo"):
-            self.skipTest("cargo is not installed")
-        place = self.folder / "wisavulome"
-        shutil.copytree(self.made("crate"), place)
-        words = ["cargo", "run", "--quiet", "--offline"]
-        self.assertEqual(Installed.run_words(*words, "--example", "worked", cwd=place), WORKED)
-        (self.folder / "user" / "src").mkdir(parents=True)
-        (self.folder / "user" / "Cargo.toml").write_text(
-            '[package]\nname = "user"\nversion = "0.1.0"\nedition = "2021"\n[dependencies]\n'
-            'wisavulome = { path = "../wisavulome" }\n[workspace]\n'
-        )
-        (self.folder / "user" / "src" / "main.rs").write_text(
-            'fn main() {\n    println!("{:x}", wisavulome::crc32(b"123456789"));\n}\n'
-        )
-        self.assertEqual(Installed.run_words(*words, cwd=self.folder / "user").strip(), "cbf43926")
-
-    def test_deb(self):
-        if not shutil.which("dpkg-deb"):
-            self.skipTest("dpkg-deb is not installed")
-        Installed.run_words("dpkg-deb", "-x", self.made("deb"), self.folder, cwd="/")
-        command = self.folder / "usr" / "bin" / "wisavulome"
-        out = Installed.run_words(sys.executable, command, "run", ROOT / "docs" / "worked.txt", cwd="/", env=self.ALONE)
-        self.assertEqual(out, WORKED)
-        self.assertTrue((self.folder / "usr" / "share" / "man" / "man1" / "wisavulome.1").is_file())
-
-
-class Documented(Installed):
-    """docs/COMMAND.md, "Installing", word for word."""
-
-    def test_commands(self):
-        part = (ROOT / "docs" / "COMMAND.md").read_text().split("## Installing\n")[1]
-        install, *rest = re.findall(r"^    (.*)$", part, re.M)
-        self.assertEqual(install, "make install PREFIX=$HOME/.local")
-        needed = ["cc", "pkg-config", "rustc", "python3"]
-        if not all(map(shutil.which, needed)):
-            self.skipTest(f"not all of {', '.join(needed)} are installed")
-        home = self.folder / "home"
-        home.mkdir()
-        rust = {name: os.environ.get(name, str(Path.home() / at)) for name, at in RUST_HOMES.items()}
-        env = {**rust, "HOME": str(home), "WISAVULOME_LIBRARY": "", "PYTHONPATH": ""}
-        self.run_words("sh", "-ec", install, cwd=ROOT, env=env)
-        # Python's folder below $HOME/.local is the user's own, unless it is root in a virtual environment.
-        env["PYTHONPATH"] = str(next((home / ".local" / "lib").glob("python3*/site-packages")))
-        self.assertEqual(self.run_words("sh", "-ec", "\n".join(rest), env=env), 3 * WORKED + "True\n")
-
-    def test_folder_of_python(self):
-        """A Python that looks below the prefix in dist-packages, as Debian's does, finds the module there."""
-        python = self.folder / "python"
-        found = f"{self.folder}/p/lib/python%d.%d/dist-packages" % sys.version_info[:2]
-        python.write_text(f'#!/bin/sh\nPYTHONPATH="{found}" exec "{sys.executable}" "$@"\n')
-        python.chmod(0o755)
-        self.run_words("make", "install", f"PREFIX={self.folder}/p", f"PYTHON={python}", cwd=ROOT)
-        self.assertTrue((Path(found) / "wisavulome" / "cli.py").is_file())
-        out = self.run_words(self.folder / "p" / "bin" / "wisavulome", "run", ROOT / "docs" / "worked.txt", cwd="/")
-        self.assertEqual(out, WORKED)
-
-
 class Compared(unittest.TestCase):
     """The script that compares header, Rust file, Python table and symbols finds what differs."""
 
@@ -349,7 +229,7 @@ class Compared(unittest.TestCase):
 
     def test_agree(self):
         self.assertEqual(self.script.compare(self.header, self.rust, []), [])
-        self.assertEqual(len(self.script.c_functions(self.header)), 28)
+        self.assertEqual(len(self.script.c_functions(self.header)), 27)
 
     def test_differences(self):
         for change, words in [

@@ -68,12 +68,13 @@ class Capture(CommandTest):
         """On every stored case: each sent and got is a packet, in order, with time, direction, good check sequence."""
         for name, octets in taken_cases(self.library):
             course = follow(self.library, octets)
-            expected = [event for event in course.events if event.word in ENDINGS or event.word.startswith("got")]
+            expected = [
+                event for event in course.events if event.word in ENDINGS or event.word.startswith("got")
+            ]
             found = list(packets(capture(course, (0, 10**9))))
-            held = [(fate.offer.station, 100 * (course.clock - 1)) for fate in course.fates if fate.is_open]
             self.assertEqual(
                 [(station, time) for station, time, *_rest in found],
-                [(event.station, 100 * event.time) for event in expected] + held,
+                [(event.station, 100 * event.time) for event in expected],
                 name,
             )
             for event, (_station, _time, frame, flags, comment) in zip(expected, found):
@@ -88,7 +89,7 @@ class Capture(CommandTest):
     def received(self, course, octets, event):
         """The frame that the library's reading gives after an event."""
         area = advance_to(self.library, octets, event.time)
-        make_due(self.library, area, course, event.time)
+        make_due(self.library, area, course.plan, event.time)
         list(self.library.step(area))
         return self.library.read_frame(area, event.station)
 
@@ -140,24 +141,6 @@ class Capture(CommandTest):
         self.assertEqual((station, time, frame), (0, 38200, b""))
         expected = "late-end; offer 1; attempt 1 started in step 0, late at bit 351 in step 350"
         self.assertEqual(comment, expected)
-
-    def test_late_ends_the_run(self):
-        """A run that a late collision ends: frames that it leaves unsent stand in its last step, with their sizes."""
-        plan = self.file("p", LATE_PLAN.format(0))
-        self.assertEqual(call("capture", plan, "-o", self.folder / "c.pcapng")[0], 0)
-        found = list(packets((self.folder / "c.pcapng").read_bytes()))
-        clock = int(call("run", plan)[1].splitlines()[-1].split()[1])
-        self.assertEqual(
-            [(station, time, frame) for station, time, frame, *_rest in found],
-            [
-                (0, 100 * (clock - 1), b""),
-                (1, 100 * (clock - 1), b""),
-            ],
-        )
-        self.assertEqual(found[0][4], "late; offer 1; attempt 1 started in step 0, late at bit 351 in step 350")
-        self.assertTrue(found[1][4].startswith("held; offer 2; attempt 1 started in step "), found[1][4])
-        call("capture", plan, "--window", "0:100", "-o", self.folder / "d.pcapng")
-        self.assertEqual(list(packets((self.folder / "d.pcapng").read_bytes())), [])
 
     def test_window(self):
         call("capture", WORKED, "--window", "780:800", "-o", self.folder / "c.pcapng")

@@ -5,7 +5,6 @@ From the repository's root, with the shared library built: python3 -B -m unittes
 """
 
 import random
-import time
 import unittest
 
 from common import ROOT, SHEET, TWO, WORKED, CommandTest, call, stored, stored_cases
@@ -42,7 +41,7 @@ class Statuses(CommandTest):
         self.assertEqual(call("fit", WORKED)[0], 0)
         self.assertEqual(call("run", WORKED)[0], 0)
         self.assertEqual(call("audit", WORKED)[0], 0)
-        self.assertEqual(call("fit", self.file("s", "slot 416\n" + SHEET.replace("at 10", "at 209")))[0], 1)
+        self.assertEqual(call("fit", self.file("s", SHEET.replace("at 10", "at 209")))[0], 1)
         self.assertEqual(call("run", self.file("p", stored("slot-one-over")))[0], 1)
         self.assertEqual(call("audit", self.file("p", stored("slot-one-over")))[0], 1)
         self.assertEqual(call("audit", self.file("p", stored("gap-one-over")))[0], 1)
@@ -81,55 +80,6 @@ class Statuses(CommandTest):
         script = f"""timeout -s TERM 0.7 "$W" wave {plan} --vectors -o w.vcd; echo $?; ls -A"""
         _status, out, err = self.shell(script)
         self.assertEqual((out, err), ("124\np\n", ""))
-
-    def test_hung_up(self):
-        """The terminal is closed in the middle of writing: it ends by the signal, and no half file stays. Under nohup
-        it goes on."""
-        offer = "offer at {} station 0 to station 1 value length data 1500 of 5a\n"
-        plan = self.file("p", TWO + "".join(offer.format(13000 * i) for i in range(9)) + "run 120000\n")
-        script = f"""timeout -s HUP 0.7 "$W" wave {plan} --vectors -o w.vcd; echo $?; ls -A"""
-        _status, out, err = self.shell(script)
-        self.assertEqual((out, err), ("124\np\n", ""))
-        script = f"""trap '' HUP; "$W" wave {plan} --window 0:9000 -o w.vcd & sleep 0.3; kill -HUP $!; """
-        script += "wait $!; echo $?; ls -A"
-        self.assertEqual(self.shell(script)[1], "0\np\nw.vcd\n")
-
-    def test_empty_names(self):
-        """An output without a name is a wrong call, and so is a number of any length."""
-        for words in [
-            ["draw", WORKED, "-o", ""],
-            ["capture", WORKED, "-o", ""],
-            ["wave", WORKED, "-o", ""],
-            ["write", WORKED, "-o", ""],
-            ["windows", WORKED, "--entries", ""],
-            ["windows", WORKED, "--stations", "9" * 5000],
-            ["draw", WORKED, "--height", "9" * 5000],
-            ["draw", WORKED, "--window", "0:" + "9" * 5000],
-            ["draw", WORKED, "--window", ""],
-            ["fit", ROOT / "docs", "--pattern", ""],
-        ]:
-            status, out, err = call(*words)
-            self.assertEqual((status, out), (2, ""), words)
-            self.assertRegex(err, r"^wisavulome( \w+)?: .{1,700}\n(Try 'wisavulome \w+ --help'\.\n)?$", words)
-
-    def test_messages(self):
-        """A message is one printable line, whatever is in the input."""
-        for content in ["slot " + "9" * 5000, "a\x9bb\u202ec\n", "\u2028" * 3000 + "x y", "station at 0 " + "z" * 9000]:
-            status, out, err = call("run", self.file("x", content))
-            self.assertEqual((status, out), (2, ""))
-            self.assertTrue(err[:-1].isprintable() and len(err) < 900, err[:200])
-            status, _out, err = self.shell(f'"{ROOT / "tools" / "runinput"}" write <x')
-            self.assertEqual(status, 1)
-            self.assertTrue(err[:-1].isprintable() and len(err) < 900, err[:200])
-
-    def test_no_long_wait(self):
-        """Inputs that were read in quadratic time: many marks that are not closed, a line without an end."""
-        drawing = self.file("d.svg", b"<svg >" + b"<octets " * 500000)
-        log = self.file("log", b"1 0 sent 1 " * 3000000)
-        begun = time.monotonic()
-        self.assertIn("the drawing carries no sheet or plan of ours", call("fit", drawing)[2])
-        self.assertIn("line 1: '1 0 sent 1 1 0 sent 1 ", call("windows", log, "--entries", "/dev/null")[2])
-        self.assertLess(time.monotonic() - begun, 30)
 
     def test_missing_library(self):
         status, out, err = self.shell(f'WISAVULOME_LIBRARY=none "$W" run {WORKED}')
@@ -187,138 +137,6 @@ class Forms(CommandTest):
         plan = self.file("p.txt", "gap2 32\n" + TWO + "run 9\n")
         self.assertEqual(call("write", plan, "-o", short)[0], 0)
         self.assertEqual(call("run", short)[1], call("run", plan)[1])
-
-    def test_utf_16(self):
-        """As an editor of another system may write it."""
-        wide = self.file("w.txt", PLAN.encode("utf-16"))
-        self.assertEqual(call("run", wide), call("run", self.file("c.txt", PLAN)))
-
-    def test_carriage_returns(self):
-        """Line ends of one octet, and a comment that ends with its line."""
-        plan = self.file("r.txt", ("# plan\n" + PLAN).replace("\n", "\r"))
-        self.assertEqual(call("run", plan), call("run", self.file("c.txt", PLAN)))
-
-    def test_control_characters(self):
-        """A text with an octet that no text has is told as such, with its line."""
-        for octet in (0, 0x1B, 0x7F):
-            broken = self.file("b.txt", PLAN.encode().replace(b"\noffer", b" # " + bytes([octet]) + b"\noffer", 1))
-            status, out, err = call("run", broken)
-            self.assertEqual((status, out), (2, ""))
-            self.assertEqual(
-                err,
-                f"wisavulome: {broken}: line 2: the octet {octet:02x} (hexadecimal) stands in it, which no text has\n",
-            )
-
-    def test_inputs_are_kept(self):
-        """An output that is an input is refused; but `write` may change a file's form in its place."""
-        plan = self.file("p.txt", PLAN)
-        log = self.file("log", call("run", plan)[1])
-        for words in [
-            ["draw", plan, "-o", plan],
-            ["capture", plan, "-o", plan],
-            ["wave", plan, "-o", self.folder / "." / "p.txt"],
-            ["sweep", plan, "--sets", 2, "--worst", plan],
-            ["sweep", plan, "--sets", 2, "--rows", plan],
-            ["fit", plan, "--add", 99, "--write", plan],
-            ["windows", log, "--entries", log],
-        ]:
-            status, out, err = call(*words)
-            self.assertEqual((status, out), (2, ""), words)
-            self.assertRegex(err, r"^wisavulome: .* is an input: it is not written over\n$", words)
-        self.assertEqual(plan.read_text(), PLAN)
-        expected = call("run", plan)
-        self.assertEqual(call("write", "--as", "octets", plan, "-o", plan)[0], 0)
-        self.assertEqual(call("run", plan), expected)
-
-    def test_words_of_a_drawing(self):
-        """A text or a frame's data may speak of drawings."""
-        spoken = self.file("s.txt", "# as in <svg >\n" + PLAN)
-        self.assertEqual(call("run", spoken), call("run", self.file("c.txt", PLAN)))
-        plan = PLAN.replace("data 0102", f"data {b'<svg ><octets>00</octets>'.hex()}")
-        octets = self.folder / "p.in"
-        call("write", self.file("p.txt", plan), "--as", "octets", "-o", octets)
-        self.assertEqual(call("run", octets), call("run", self.folder / "p.txt"))
-
-    def test_standard_input_once(self):
-        """It can be read once; a second '-' is told."""
-        for words in [["run", "-", "-"], ["audit", "-", "-"], ["fit", "--difference", "-", "-"], ["show", "-", "-"]]:
-            status, _out, err = call(*words, given=WORKED.read_bytes())
-            self.assertEqual(
-                (status, err), (2, "wisavulome: standard input was read already: '-' stands for it once\n"), words
-            )
-        status, out, _err = call("fit", "-", "-", given=WORKED.read_bytes())
-        self.assertEqual((status, out.count("standard input was read already")), (2, 1))
-
-
-class Names(CommandTest):
-    """Stations with names: a text and a drawing have them, octets do not."""
-
-    NAMED = (
-        "station at 0 02:00:00:00:00:01 name computer draws 0\nstation at 10 02:00:00:00:00:02 name camera-2 draws 1\n"
-        "offer at 0 station computer to station camera-2 value length data 0102\n"
-        "offer at 700 station camera-2 to broadcast value length data 03\nrun 1400\n"
-    )
-
-    def setUp(self):
-        super().setUp()
-        self.named = self.file("named.txt", self.NAMED)
-        plain = self.NAMED.replace(" name computer", "").replace(" name camera-2", "")
-        self.plain = self.file(
-            "plain.txt", plain.replace("station computer", "station 0").replace("station camera-2", "station 1")
-        )
-
-    def test_same_octets(self):
-        """Names change no octet of a plan, and nothing of what is printed for it."""
-        for path, out in ((self.named, "a.in"), (self.plain, "b.in")):
-            self.assertEqual(call("write", "--as", "octets", path, "-o", self.folder / out)[0], 0)
-        self.assertEqual((self.folder / "a.in").read_bytes(), (self.folder / "b.in").read_bytes())
-        words = ["run", "--offers", "--counters", "--held"]
-        self.assertEqual(call(*words, self.named), call(*words, self.plain))
-        self.assertEqual(
-            call("audit", "--format", "csv", self.plain)[1].splitlines()[1].split(",")[:4], ["1", "0", "0", "station 1"]
-        )
-
-    def test_shown(self):
-        self.assertIn("  station 1        10  02:00:00:00:00:02  camera-2\n", call("fit", self.named)[1])
-        audited = call("audit", self.named)[1]
-        self.assertIn("  0 computer  station 1 camera-2  sent ", audited)
-        self.assertIn("  station 0 computer got ", audited)
-        self.assertIn("  station 1 camera-2 ", call("sweep", self.named, "--sets", 3)[1])
-        other = self.file("s", SHEET.replace("at 10", "at 30"))
-        self.assertIn("station 1 camera-2 at 10", call("fit", "--difference", self.named, other)[1])
-        for words in (["draw"], ["draw", "--sheet"]):
-            self.assertIn("1 camera-2", call(*words, self.named)[1])
-        call("capture", self.named, "-o", self.folder / "c")
-        self.assertIn(b"camera-2", (self.folder / "c").read_bytes())
-
-    def test_kept(self):
-        """A text or a drawing gives the names back, a sheet's drawing too; the plan of a set has them."""
-        written = call("write", "--as", "text", self.named)[1]
-        self.assertIn("station at 10  02:00:00:00:00:02 name camera-2 draws 1", written)
-        self.assertIn("offer at 0 station computer to station camera-2 ", written)
-        call("draw", self.named, "-o", self.folder / "run.svg")
-        self.assertEqual(call("write", "--as", "text", self.folder / "run.svg")[1], written)
-        call("draw", "--sheet", self.named, "-o", self.folder / "sheet.svg")
-        sheet = call("write", "--as", "text", self.folder / "sheet.svg")[1]
-        self.assertIn("station at 10  02:00:00:00:00:02 name camera-2  # station 1\n", sheet)
-        self.assertIn(" name camera-2 draws ", call("sweep", self.named, "--plan-of", 0)[1])
-
-    def test_wrong_names(self):
-        for old, new, why in [
-            ("camera-2 draws", "computer draws", "line 2: another station has the name 'computer'"),
-            ("camera-2 draws", "2nd draws", "line 2: '2nd' is no name (a letter, "),
-            ("camera-2 draws", "broadcast draws", "line 2: 'broadcast' is no name"),
-            ("camera-2 draws", "c\u00e4mera draws", "line 2: 'c\u00e4mera' is no name"),
-            (
-                "offer at 0 station computer",
-                "offer at 0 station comp",
-                "line 3: no station of the name 'comp' stands above",
-            ),
-            ("to station camera-2", "to station comp", "line 3: no station of the name 'comp' stands above"),
-        ]:
-            status, out, err = call("run", self.file("x", self.NAMED.replace(old, new, 1)))
-            self.assertEqual((status, out), (2, ""))
-            self.assertIn(why, err)
 
 
 class Refusals(CommandTest):
@@ -415,7 +233,7 @@ class Refusals(CommandTest):
         self.assertEqual(
             self.refused("hello\n"),
             "line 1: 'hello' is no word that begins a line (slot, gap1, gap2, jam, "
-            "attempt-limit, backoff-limit, late-end, D, station, names, offer, run)",
+            "attempt-limit, backoff-limit, late-end, D, station, offer, run)",
         )
         self.assertEqual(self.refused(TWO), "it has draws or offers but no 'run' line")
 

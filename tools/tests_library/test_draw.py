@@ -2,16 +2,15 @@
 
 import os
 import random
-import re
 import subprocess
 
-from common import ROOT, STORED, TOOL, TWO, WORKED, CommandTest, call, stepped_cases, stored, stored_cases
-from shapes import FAR_APART, ONE_APART, SVG, THREE, outside, overlaps, parsed, plan_text, texts
+from common import ROOT, STORED, TOOL, WORKED, CommandTest, call, stepped_cases, stored, stored_cases
+from shapes import FAR_APART, ONE_APART, SVG, THREE, outside, overlaps, parsed, plan_text
 
 from wisavulome import library as table
 from wisavulome import text
 from wisavulome.course import advance_to, follow, make_due
-from wisavulome.draw_run import LEFT, ROOM, draw_run, view_of
+from wisavulome.draw_run import LEFT, ROOM, View, draw_run
 from wisavulome.heard import Hearing
 from wisavulome.library import Refused
 from wisavulome.window import window_of
@@ -54,8 +53,8 @@ class Sheets(CommandTest):
             "02:00:00:00:00:02",
             "given",
             "default",
-            "2 x S = 2 x 200 = 400, slot 512, shortest packet 576",
-            "margin 112",
+            "2 x S + G = 2 x 200 + 96 = 496, slot 512",
+            "margin 16",
             "G = 64 + 32 = 96, 64 + jam = 104",
             "margin 8",
             "fit yes",
@@ -161,7 +160,7 @@ class Runs(CommandTest):
         spaces = [(j, i, course.layout.distance(i, j)) for j in stations for i in stations if i != j]
         states = [self.library.station(area, j) for j in stations]
         for time in range(course.clock):
-            make_due(self.library, area, course, time)  # an offer changes nothing of what is heard
+            make_due(self.library, area, course.plan, time)  # an offer changes nothing of what is heard
             sources = [[] for _ in stations]
             for j, i, away in spaces:
                 if time >= away and emits[i][time - away]:
@@ -188,7 +187,7 @@ class Runs(CommandTest):
             hearings = [Hearing(course, station) for station in range(len(course.layout.taps))]
             area = advance_to(self.library, octets, 0)
             for time in range(course.clock):
-                make_due(self.library, area, course, time)
+                make_due(self.library, area, course.plan, time)
                 for station, hearing in enumerate(hearings):
                     derived = min(hearing.symbol(time), table.SPOILED)
                     self.assertEqual(derived, self.library.station(area, station).hears, (name, time, station))
@@ -199,7 +198,7 @@ class Runs(CommandTest):
         octets = call("write", "--as", "octets", self.file("p", THREE), "-o", self.folder / "p.in")
         octets = (self.folder / "p.in").read_bytes()
         course, drawn = self.drawing(octets)
-        view = view_of(course, (0, course.clock))[0]
+        view = View(course.layout, 0, course.clock, None)
         for group in parsed(drawn).iter(SVG + "g"):
             own = course.layout.taps[int(group.get("data-station"))].position
             start, end = int(group.get("data-start")), int(group.get("data-end"))
@@ -210,55 +209,15 @@ class Runs(CommandTest):
             ]
             for x, y in points:
                 place = (x - LEFT) / ROOM * course.layout.span
-                time = self.time_at(view, y) - abs(place - own)
+                time = (y - view.top) / view.scale - abs(place - own)
                 self.assertTrue(start - 0.5 <= time <= end + 0.5 or abs(y - view.bottom) < 0.02, (group.attrib, x, y))
             self.assertTrue(any(abs(x - view.x(own)) < 0.02 and abs(y - view.y(start)) < 0.02 for x, y in points))
-
-    def time_at(self, view, y):
-        """The bit time of a place down the drawing; on an edge of a stretch that is folded, the one that is shown."""
-        for begin, end in view.stretches():
-            if view.y(begin) - 0.02 <= y <= view.y(end) + 0.02:
-                return begin + (y - view.y(begin)) / view.scale
-        raise AssertionError(f"{y} is in a fold")
-
-    def test_folds(self):
-        """A long stretch with nothing on the pair is folded, with its length; no band, mark or label lies in it, and
-        what is on the pair has the scale of a short run."""
-        offers = [(0, 0, "station 1"), (8000000, 2, "broadcast")]
-        octets = text.write(plan_text([0, 50, 200], offers, 16777216))
-        course, drawn = self.drawing(octets)
-        root = parsed(drawn)
-        folds = [each for each in root.iter(SVG + "rect") if each.get("class") == "fold"]
-        self.assertEqual(len(folds), 2)
-        spans = [(int(each.get("data-begin")), int(each.get("data-end"))) for each in folds]
-        for begin, end in spans:
-            self.assertIn(f"{end - begin} bit times with nothing on the pair", [each.text for each in texts(root)])
-            for attempt in course.attempts:
-                self.assertTrue(attempt.end + course.layout.span <= begin or attempt.start >= end, (begin, attempt))
-            self.assertFalse([event for event in course.events if begin <= event.time < end])
-        view = view_of(course, (0, course.clock))[0]
-        self.assertEqual(view.folds, spans)
-        self.assertGreater(view.scale, 0.5)
-        self.assertEqual((overlaps(root), outside(root)), ([], []))
-        for time in (0, 575, spans[0][0], spans[0][1], 8000300, spans[1][0]):
-            self.assertAlmostEqual(self.time_at(view, view.y(time)), time, delta=0.1)
-
-    def test_labels_beside(self):
-        """With many stations every label stands in the margin, where no station's line crosses it, with its leader."""
-        octets = text.write(FAR_APART)
-        course, drawn = self.drawing(octets)
-        root = parsed(drawn)
-        labels = [each for each in texts(root) if float(each.get("x")) > LEFT + ROOM]
-        found = sorted(each.text for each in labels if re.fullmatch(r"[0-9]+ [0-9]+ .*", each.text))
-        self.assertEqual(found, sorted(event.line() for event in course.events))
-        leaders = [each for each in root.iter(SVG + "path") if each.get("class") == "leader"]
-        self.assertEqual(len(leaders), len(found))
 
     def test_nothing_past_an_early_end(self):
         course, drawn = self.drawing(stored("slot-one-over"))
         self.assertTrue(course.ended_early)
         root = parsed(drawn)
-        view = view_of(course, (0, course.clock))[0]
+        view = View(course.layout, 0, course.clock, None)
         lowest = max(
             float(point.split(",")[1]) for each in root.iter(SVG + "polygon") for point in each.get("points").split()
         )
@@ -302,24 +261,6 @@ class Runs(CommandTest):
                 ).stdout
             root = parsed(self.drawing(octets)[1])
             self.assertEqual((overlaps(root), outside(root)), ([], []), name)
-
-    def test_long_names(self):
-        """Names of any length lie on nothing, at the taps or in the list."""
-        for count in (2, 3, 5, 6, 16):
-            for letters in (3, 12, 24):
-                names = ["mw"[at % 2] * (letters - 2) + chr(97 + at) + "x" for at in range(count)]
-                lines = [
-                    f"station at {15 * at} 02:00:00:00:00:{at:02x} name {name} draws 1" for at, name in enumerate(names)
-                ]
-                plan = self.file(
-                    "p", "\n".join([*lines, "offer at 0 station 0 to broadcast value length data 01", "run 900", ""])
-                )
-                for words in (["draw"], ["draw", "--sheet"]):
-                    status, out, _err = call(*words, plan)
-                    root = parsed(out)
-                    self.assertEqual((status, overlaps(root), outside(root)), (0, [], []), (count, letters, words))
-                    shown = " ".join(each.text for each in texts(root))
-                    self.assertTrue(all(line.split()[5] in shown for line in lines), (count, letters, words))
 
     def test_window(self):
         octets = stored("case003")
@@ -381,23 +322,6 @@ class Sweeps(CommandTest):
             sent = sum(line.split(",")[2:4] == [offer, "sent"] for line in rows.read_text().splitlines())
             bars = [each for each in root.iter(SVG + "rect") if each.get("data-offer") == offer]
             self.assertEqual(sum(int(each.get("data-count")) for each in bars), sent)
-
-    def test_not_sent(self):
-        """Frames that the end leaves unsent, and those given up, stand beside the bars; all offers have one scale."""
-        rows = self.folder / "rows.csv"
-        offers = "".join(f"offer at 0 station {i} to broadcast value length data 01\n" for i in (0, 1))
-        call("sweep", self.file("p", "attempt-limit 2\n" + TWO + offers + "run 1200\n"), "--rows", rows)
-        root = parsed(call("draw", rows)[1])
-        self.assertEqual((overlaps(root), outside(root)), ([], []))
-        made = [line.split(",") for line in rows.read_text().splitlines()[1:]]
-        rects = list(root.iter(SVG + "rect"))
-        for kind, outcome in [("open", "held"), ("never", "given-up")]:
-            found = {each.get("data-part"): int(each.get("data-count")) for each in rects if each.get("class") == kind}
-            self.assertEqual(found, {n: sum(row[2:4] == [n, outcome] for row in made) for n in ("1", "2")})
-        bars = [each for each in rects if each.get("class") == "bar"]
-        heights = {round(float(each.get("height")) / int(each.get("data-count")), 2) for each in bars}
-        self.assertEqual(len({each.get("data-offer") for each in bars}), 2)
-        self.assertLessEqual(max(heights) - min(heights), 0.01)
 
     def test_no_rows(self):
         self.assertEqual(

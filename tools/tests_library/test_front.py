@@ -4,13 +4,6 @@
 tools/test_package.py, both editions of Rust in tools/tests_install.
 """
 
-import csv
-import io
-import json
-import os
-import subprocess
-import sys
-
 from common import ROOT, SHEET, WORKED, CommandTest, call
 
 from wisavulome.cli import COMMANDS
@@ -30,33 +23,6 @@ class FirstTry(CommandTest):
             self.assertEqual((status, err), (0, ""), words)
             self.assertIn("usage: wisavulome", out)
             self.assertTrue(len(words) == 1 or "Exit status: 0" in out, words)
-
-    def test_one_format(self):
-        """--format is the same everywhere: CSV and JSON have the same rows, and --csv is --format csv."""
-        log = self.file("log", call("run", WORKED)[1])
-        windows = self.file("windows", "0 0 900\n1 0 1500\n")
-        for words in [["fit", WORKED], ["sweep", WORKED, "--sets", 5, "--run", 1400], ["windows", log, windows]]:
-            made = {form: call(*words, "--format", form)[1] for form in ("table", "csv", "json")}
-            rows = list(csv.DictReader(io.StringIO(made["csv"])))
-            objects = [json.loads(line) for line in made["json"].splitlines()]
-            plain = [{name: "" if value is None else str(value) for name, value in each.items()} for each in objects]
-            self.assertEqual(plain, rows, words)
-            self.assertTrue(rows)
-            self.assertEqual(call(*words, "--csv")[1], made["csv"])
-        self.assertEqual(call("run", WORKED, "--format", "table"), call("run", WORKED))
-        for name in ("run", "audit"):
-            self.assertEqual(call(name, WORKED, "--csv"), call(name, WORKED, "--format", "csv"))
-
-    def test_as_a_module(self):
-        """python3 -m wisavulome is the command."""
-        done = subprocess.run(
-            [sys.executable, "-m", "wisavulome", "run", str(WORKED)],
-            env={**os.environ, "PYTHONPATH": str(ROOT / "python")},
-            capture_output=True,
-            check=False,
-            text=True,
-        )
-        self.assertEqual((done.returncode, done.stdout, done.stderr), call("run", WORKED))
 
     def test_not_readable(self):
         """A file name, a directory, a closed input: each is said, and none is a refused plan."""

@@ -2,7 +2,6 @@
 
 import subprocess
 import zlib
-from ctypes import create_string_buffer
 
 from common import ROOT, STORED, CommandTest, folders, run_inputs
 
@@ -261,84 +260,3 @@ class Marks(CommandTest):
         self.assertEqual(self.answers(*self.BEFORE, "store 229411", mark)[4:], ["refused 15"])
         self.assertEqual(self.answers(*calls), ["refused 2", "refused 17", "refused 17"])
         self.assertEqual(self.answers(f"poke 0 1 {self.FIVE}", back, drop, back), ["ok", "refused 2", "ok", "refused 17"])
-
-
-class Look(CommandTest):
-    """Look ahead (request N9)."""
-
-    BEFORE = (f"fresh {SHEET} 1 0,1", "offer 0 020000000002 3 616263", "run 100")
-    OFFER = "1 020000000001 3 646566"
-
-    def answers(self, *lines):
-        return list(replay(self.library, "\n".join(lines) + "\n"))
-
-    def real(self, count, *before):
-        """The run's tally after the offer, then every station's counters, as look answers them; and the area."""
-        made = self.answers(*before, f"offer {self.OFFER}", f"run {count}", "counters 0", "counters 1")[len(before) :]
-        tally = made[1].split(" ", 2)[2]
-        return " | ".join([f"ok {tally}", *(each.removeprefix("ok ") for each in made[2:])])
-
-    def test_look_and_the_same_for_real(self):
-        for count in (0, 1, 100, 3000, 65535):
-            with self.subTest(count):
-                look = f"look {self.OFFER} {count}"
-                made = self.answers(*self.BEFORE, look, "clock", "second clock", look, "second counters 0", "counters 0")
-                self.assertEqual(made[3], self.real(count, *self.BEFORE))
-                self.assertEqual(made[4:7], ["ok 100", f"ok {100 + count}", made[3]])
-                self.assertEqual(made[7].removeprefix("ok "), made[3].split(" | ")[1])
-                self.assertEqual(made[8], self.answers(*self.BEFORE, "counters 0")[3])
-
-    def test_early_end(self):
-        """A run that a late collision ends: the copy stands where the run stopped."""
-        sheet = "0100400200020000000001c8020000000002"  # slot 64, span 200
-        before = (f"fresh {sheet} 1 0,1", "offer 0 020000000002 0 -", "run 199")
-        made = self.answers(*before, f"look {self.OFFER} 60000", "second clock", "clock")
-        self.assertIn(" late=1 ", made[3])
-        self.assertEqual(made[3], self.real(60000, *before))
-        self.assertEqual(made[4:], ["ok 400", "ok 199"])
-
-    def test_octets(self):
-        """The second area is what the offer and the run leave; past the size of an area it stays, and the first is only read."""
-        library, sizes = self.library, (SIZES["area"], SIZES["area"] + 5)
-        for first_size in sizes:
-            for second_size in sizes:
-                area, second = (create_string_buffer(b"\xa5" * size, size) for size in (first_size, second_size))
-                library.call("start", area, bytes.fromhex(SHEET), 1, bytes.fromhex("00000001"))
-                held = area.raw
-                tally, ended, stations = library.look(area, second, 0, b"\xff" * 6, 3, b"abc", 2000)
-                self.assertEqual(area.raw, held)
-                library.offer(area, 0, b"\xff" * 6, 3, b"abc")
-                self.assertEqual(library.run_counted(area, 2000), (2000, tally))
-                size = SIZES["area"]
-                self.assertEqual(second.raw, area.raw[:size] + b"\xa5" * (second_size - size))
-                self.assertEqual(ended, None)
-                self.assertEqual(stations[:2], [library.counters(area, each) for each in range(2)])
-                self.assertEqual({number for each in stations[2:] for number in each.values()}, {0})
-
-    def test_checks_in_order(self):
-        """1 (the second area, then the first), 2, 10, 11, 12, 13; the second area is then as it was."""
-        given = "0 020000000002 4 616263"  # refused under 11
-        fresh = f"second fresh {SHEET} 1 0,1"
-        kept = [fresh, "second run 7"]
-
-        def refused(*lines):
-            made = self.answers(*kept, *lines, "second clock")
-            self.assertEqual(made[-1], "ok 7", lines)
-            return made[-2]
-
-        self.assertEqual(refused("area 57343", f"look 9 {given[2:]} 65536"), "refused 1")
-        self.assertEqual(refused(f"look 9 {given[2:]} 65536"), "refused 2")
-        before = f"fresh {SHEET} 1 0,1"
-        held = "offer 0 020000000002 3 616263"
-        self.assertEqual(refused(before, held, f"look 2 {given[2:]} 65536"), "refused 10")
-        self.assertEqual(refused(before, held, f"look {given} 65536"), "refused 11")
-        self.assertEqual(refused(before, held, "look 0 020000000002 3 616263 65536"), "refused 12")
-        self.assertEqual(refused(before, held, f"look {self.OFFER} 65536"), "refused 13")
-        self.assertEqual(refused(before, "run 16777210", f"look {self.OFFER} 7"), "refused 13")
-        self.assertEqual(self.answers(before, "run 16777210", f"look {self.OFFER} 6")[2][:3], "ok ")
-        self.assertEqual(self.answers("second area 57343", before, f"look {given} 1")[2], "refused 1")
-        with self.assertRaises(Refused) as short:
-            area, second = buffer_of("area"), buffer_of("area")
-            self.library.call("start", area, bytes.fromhex(SHEET), 1, bytes.fromhex("00000001"))
-            self.library.call("look", area, second, 0, 0, 3, b"abc", 5, create_string_buffer(SIZES["look"] - 1))
-        self.assertEqual((short.exception.number, set(second.raw)), (15, {0}))

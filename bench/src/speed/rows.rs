@@ -3,7 +3,7 @@
 use wisavulome_bench::layout;
 use wisavulome_bench::rng::Rng;
 
-/// The widest span of the random places: the rows are those of the measurements before N10, when 2 x 208 + 96 = 512 was the widest that fits.
+/// The widest span that fits with absent fields: 2 x 208 + 96 = 512.
 const WIDEST: u32 = 208;
 
 /// Draws of each station.

@@ -556,10 +556,9 @@ pub fn run_input(rng: &mut Rng) -> Option<Vec<u8>> {
     input.push(depth as u8);
     input.extend(draws(rng, layout.places.len(), depth as usize));
     let count = rng.range(0, 12);
-    let named = !rng.one_in(3);
-    input.extend((count as u16 | if named { 0x8000 } else { 0 }).to_be_bytes());
+    input.extend((count as u16).to_be_bytes());
     let mut time = 0;
-    for number in 0..count {
+    for _ in 0..count {
         let offer = offer(rng, &layout, true);
         time += if rng.one_in(3) { rng.range(0, 800) } else { rng.range(0, 10) };
         input.extend(time.to_be_bytes());
@@ -568,10 +567,6 @@ pub fn run_input(rng: &mut Rng) -> Option<Vec<u8>> {
         input.extend(offer.value.to_be_bytes());
         input.extend((offer.data.len() as u16).to_be_bytes());
         input.extend(offer.data);
-        if named {
-            let name = if rng.one_in(60) { rng.range(0, 13) } else { rng.range(0, number) };
-            input.extend((name as u16).to_be_bytes());
-        }
     }
     input.extend(rng.range(0, 6000).to_be_bytes());
     if rng.one_in(4) {

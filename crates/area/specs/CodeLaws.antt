@@ -19,7 +19,7 @@ use Rattle.octets.specs.WordsLaws.{word_at}
 use borrow.Rule.Slice.PartMut.{mid_of, put_mid, put_same}
 use Rattle.frame_build.specs.Limits.{refuses_data, buffer_octets}
 use Rattle.frame_build.specs.Build.{frame_of, built}
-use Rattle.frame_build.specs.BuildLaws.{frame_size_lem, data_within}
+use Rattle.frame_build.specs.BuildLaws.{frame_size, data_within}
 use Rattle.sheet_layout.specs.declared.Figures.{Figures}
 use Rattle.sheet_layout.specs.declared.Tap.{Tap}
 use Rattle.sheet_layout.specs.Layout.{places_of}
@@ -314,7 +314,7 @@ module _ (a d s : List ℕ) (v : ℕ) (x : List ℕ) (b : ℕ) where
   unfolding after built
   lent_built h hd hs g =
       let n : length (frame_of d s v x) ≤ buffer_octets =
-      omega (arith, frame_size_lem d s v x hd hs, data_within v (length x) h) in
+      omega (arith, frame_size d s v x hd hs, data_within v (length x) h) in
       rw (
         h,
         le-ltb (length (mid_of b buffer_octets a)) (length (frame_of d s v x))

@@ -8,9 +8,9 @@ use Rattle.station_symbols.specs.declared.Symbol.TheVariants.{Silence}
 use Rattle.bus_meeting.specs.Net.{reaches}
 
 module _ (d : ℕ → ℕ → ℕ) (E : ℕ → ℕ → Symbol) (j u i : ℕ) where
-  pub reach_at_lem : (y : ℕ) → (i ≡ j → ⊥) → y + d i j ≡ u → reaches d E j u i ≡ E i y
+  pub reach_at : (y : ℕ) → (i ≡ j → ⊥) → y + d i j ≡ u → reaches d E j u i ≡ E i y
   unfolding reaches
-  reach_at_lem y ne w = let z : u - d i j ≡ y = omega arith in rw (ne_eqb i j ne, le-leb (d i j) u (omega arith), z)
+  reach_at y ne w = let z : u - d i j ≡ y = omega arith in rw (ne_eqb i j ne, le-leb (d i j) u (omega arith), z)
 
   pub reach_none : ((y : ℕ) → (i ≡ j → ⊥) → y + d i j ≡ u → E i y ≡ Silence) → reaches d E j u i ≡ Silence
   unfolding reaches

@@ -48,16 +48,6 @@ unfoldable pub with_offer : List ℕ → ℕ → (d : List ℕ) (v : ℕ) (x : L
 with_offer a i d v x =
     with_offered (with_held (with_frame a i (frame_of d (address_at a i) v x)) i (length (frame_of d (address_at a i) v x))) i
 
--- the number of the first check that refuses an offer of so many octets, 0 where none does
-unfoldable pub offer_refusal : List ℕ → (i v size : ℕ) → ℕ
-offer_refusal a i v size =
-    pick (eqb (area_refusal a) 0)
-    (pick (leb (count_at a) i) 10
-    (pick (refuses_data v size) 11
-    (pick (holds (station_at a i).transmitter) 12
-    0)))
-    (area_refusal a)
-
 unfoldable pub offered : List ℕ → ℕ → (d : List ℕ) (v : ℕ) (x : List ℕ) → Outcome
 offered a i d v x =
     pick (eqb (area_refusal a) 0)

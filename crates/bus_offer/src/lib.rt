@@ -3,8 +3,7 @@
 ghost use Rattle.std.specs.Prelude.{◌≡◌, false, ◌<◌, ◌≤◌, length};
 ghost use Rattle.octets.specs.Base.{done_answer, outcome};
 ghost use Rattle.frame_build.specs.Limits.{refuses_data};
-ghost use Rattle.bus_offer.specs.Offer.{holds, offered_station, with_held, with_offered, with_offer, offer_refusal};
-ghost use Rattle.bus_offer.specs.Offer.{offered};
+ghost use Rattle.bus_offer.specs.Offer.{holds, offered_station, with_held, with_offered, with_offer, offered};
 ghost use Rattle.area.specs.Offsets.{area_size};
 ghost use Rattle.sheet_layout.specs.Limits.{max_stations};
 
@@ -73,36 +72,25 @@ fn accept(area: &mut [u8], i: usize, destination: [u8; 6], value: u16, payload: 
     count_offer(area, i);
 }
 
-// The refusal of an offer to station i, 1, 2, 10, 11 or 12, or 0.
-pub fn refusal(area: &[u8], i: usize, value: u16, payload: &[u8]) -> u32
-    ensures { result ≡ offer_refusal area.now i value (length payload.now) }
-{
-    let number = area_check::refusal(area);
-    if number != 0 {
-        return number;
-    }
-    if area::read_count(area) as usize <= i {
-        return 10;
-    }
-    if frame_build::builder::refuses(value, payload) {
-        return 11;
-    }
-    let s = area::read_station(area, i);
-    let t = s.transmitter;
-    if has_frame(t) {
-        return 12;
-    }
-    0
-}
-
 // Offers a frame to station i: destination, length/type value and data. Refusals 1, 2, 10, 11, 12.
 pub fn offer(area: &mut [u8], i: usize, destination: [u8; 6], value: u16, payload: &[u8]) -> Done
     ensures { outcome (done_answer result) area.new
         ≡ offered area.old i destination value payload.now }
 {
-    let number = refusal(area, i, value, payload);
+    let number = area_check::refusal(area);
     if number != 0 {
         return Done::Refused(number);
+    }
+    if area::read_count(area) as usize <= i {
+        return Done::Refused(10);
+    }
+    if frame_build::builder::refuses(value, payload) {
+        return Done::Refused(11);
+    }
+    let s = area::read_station(area, i);
+    let t = s.transmitter;
+    if has_frame(t) {
+        return Done::Refused(12);
     }
     accept(area, i, destination, value, payload);
     Done::Made

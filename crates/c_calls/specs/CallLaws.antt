@@ -442,9 +442,9 @@ module _ (a out o : List ℕ) (i : ℕ) (A : Answer) (n : ℕ) (q : n ≡ number
       let h : number_of A ≡ number_of (frame_read a i out).answer = ap (λ (z : Outcome). number_of z.answer) e in
       omega (arith, frame_low a i out)
 
-  pub frame_made_lem : (r v : ℕ) → r ≡ replied n v → v ≡ value_of A → given r o ≡ frame_given a i out
+  pub frame_made : (r v : ℕ) → r ≡ replied n v → v ≡ value_of A → given r o ≡ frame_given a i out
   unfolding frame_given
-  frame_made_lem r v p w = code_given_lem (frame_read a i out) A o r n v p q w e
+  frame_made r v p w = code_given_lem (frame_read a i out) A o r n v p q w e
 
 module _ (a : List ℕ) (i : ℕ) (c : Counters) (n : ℕ) (q : n ≡ number_of (done_answer c.done))
     (e : counters_reading c ≡ counters_read a i) where

@@ -50,14 +50,14 @@ BothKept a out x = refusal_bit ≤ x.result → (x.area ≡ a) × (x.out ≡ out
 pub checks : (n : ℕ) (l : List ℕ) (x : Given) → Keeps l x → Keeps l (unless n (kept l) x)
 checks n l x h = by_test (eqb n 0) (λ p. rw p h) (λ p. rw p (λ z. refl))
 
-pub both_check : (n : ℕ) (a out : List ℕ) (x : Left) → BothKept a out x → BothKept a out (unless n (both_kept a out) x)
+both_check : (n : ℕ) (a out : List ℕ) (x : Left) → BothKept a out x → BothKept a out (unless n (both_kept a out) x)
 both_check n a out x h = by_test (eqb n 0) (λ p. rw p h) (λ p. rw p (λ z. (refl, refl)))
 
 -- no refusal: an answer below the bit
 pub answers : (r : ℕ) (l o : List ℕ) → r < refusal_bit → Keeps l (given r o)
 answers r l o p h = absurd (omega arith)
 
-pub both_answer : (r : ℕ) (a out b o : List ℕ) → r < refusal_bit → BothKept a out (left r b o)
+both_answer : (r : ℕ) (a out b o : List ℕ) → r < refusal_bit → BothKept a out (left r b o)
 both_answer r a out b o p h = absurd (omega arith)
 
 -- an answer below the bit, and octets that a refusal leaves as they were

@@ -19,7 +19,7 @@ use Rattle.frame_build.specs.Limits.{max_frame, refuses_data, buffer_octets}
 use Rattle.frame_build.specs.Build.{frame_of, built}
 use Rattle.frame_open.specs.Open.{value_of as lengthType, data_field, check_wrong, check_error, length_wrong, client_size}
 use Rattle.frame_open.specs.Open.{unpadded, opened}
-use Rattle.frame_build.specs.BuildLaws.{frame_size_lem, frame_most, data_within}
+use Rattle.frame_build.specs.BuildLaws.{frame_size, frame_most, data_within}
 use Rattle.area.specs.Area.{clock_at, count_at, station_at}
 use Rattle.station_spec.specs.Count.{octets_in}
 use Rattle.area_check.specs.Valid.{area_wrong, area_refusal}
@@ -163,7 +163,7 @@ unfolding built
 build_size l d s v x hd hs =
     by_test (refuses_data v (length x)) (λ p. rw p (omega arith))
     (λ p. by_test (ltb (length l) (length (frame_of d s v x))) (λ q. rw (p, q) (omega arith))
-    (λ q. rw (p, q) (omega (arith, frame_size_lem d s v x hd hs, data_within v (length x) p))))
+    (λ q. rw (p, q) (omega (arith, frame_size d s v x hd hs, data_within v (length x) p))))
 
 pub build_small : (l : List ℕ) (d s v : ℕ) (x : List ℕ)
     → value_of (built l (spelled 6 d) (spelled 6 s) v x).answer < 4294967296

@@ -3,7 +3,7 @@ use Rattle.std.specs.Prelude.{ℕ, zero, suc, ◌+◌, ◌*◌, ◌≤◌, ◌<�
 use Rattle.std.proofs.Common.{sym, ◌∙◌, arith, lt-ltb, le-ltb}
 use Rattle.std.proofs.Math.Path.{ap, ap₂}
 use mathlib.Core.List.{List, [], ◌∷◌}
-use Rattle.octets.specs.Base.{pick, Outcome, outcome, number_of}
+use Rattle.octets.specs.Base.{Outcome, outcome, number_of}
 use Rattle.octets.specs.BaseLaws.{by_test}
 use Rattle.octets.specs.Number.{get}
 use Rattle.octets.specs.Words.{put_words}
@@ -21,8 +21,7 @@ use Rattle.sheet_read.specs.Sheet.{sheet_size, count_in, Reading, read_sheet, sh
 use Rattle.sheet_write.specs.declared.Written.{Written}
 use Rattle.sheet_write.specs.Write.{written, sheet_written, written_answer}
 use Rattle.plan_read.specs.declared.Plan.{Plan}
-use Rattle.plan_read.specs.Plan.{names_in, offers_in, offer_place, offers_place, times_in, draws_wrong, plan_wrong, names_wrong}
-use Rattle.plan_read.specs.Plan.{last_refusal, after_sheet}
+use Rattle.plan_read.specs.Plan.{offer_place, offers_place, times_in, draws_wrong, plan_wrong, last_refusal, after_sheet}
 use Rattle.plan_read.specs.Plan.{sheet_refusal, plan_refusal, Planned, unless as whole, plan_as_read, plan_reading}
 use Rattle.plan_read.specs.Plan.{verdict_answer}
 use Rattle.plan_read.specs.PlanTheorems.{reading_right}
@@ -91,17 +90,16 @@ layout_made l y n r h p q e = rw (le-ltb (length l) sheet_out h) (e ∙ ap (λ (
 
 -- ---- a run input
 
-place_least : (l : List ℕ) (b : Bool) (p k : ℕ) → p ≤ offer_place l b p k
+place_least : (l : List ℕ) (p k : ℕ) → p ≤ offer_place l p k
 unfolding offer_place
-place_least l b p zero = omega arith
-place_least l b p (suc k) = omega (arith, place_least l b p k)
+place_least l p zero = omega arith
+place_least l p (suc k) = omega (arith, place_least l p k)
 
 last_low : (l : List ℕ) (c : ℕ) → last_refusal l c ≤ max_refusal
 unfolding last_refusal
 last_low l c =
     by_test (plan_wrong l c) (λ p. rw p (omega arith))
-    (λ p. by_test (names_wrong l (names_in l c) (c + 2) (offers_in l c)) (λ n. rw (p, n) (omega arith))
-    (λ n. by_test (ltb last_clock (times_in l c)) (λ q. rw (p, n, q) (omega arith)) (λ q. rw (p, n, q) (omega arith))))
+    (λ p. by_test (ltb last_clock (times_in l c)) (λ q. rw (p, q) (omega arith)) (λ q. rw (p, q) (omega arith)))
 
 after_low : (l : List ℕ) (u n : ℕ) → after_sheet l u n ≤ max_refusal
 unfolding after_sheet
@@ -120,10 +118,9 @@ plan_low : (l : List ℕ) → number_of (plan_as_read l).answer ≤ max_refusal
 unfolding plan_as_read
 plan_low l = whole_low (plan_refusal l) _ refl (refusal_low l)
 
-pub plan_words_lem : (p : Plan) (n : ℕ) → n ≡ pick p.named 1 0
-    → p.depth ∷ p.drawn ∷ p.offers ∷ p.first ∷ p.times ∷ n ∷ [] ≡ plan_words (plan_reading p)
+pub plan_words_lem : (p : Plan) → p.depth ∷ p.drawn ∷ p.offers ∷ p.first ∷ p.times ∷ [] ≡ plan_words (plan_reading p)
 unfolding plan_words
-plan_words_lem p n e = ap (λ (k : ℕ). p.depth ∷ p.drawn ∷ p.offers ∷ p.first ∷ p.times ∷ k ∷ []) e
+plan_words_lem p = refl
 
 module _ (l : List ℕ) (p : Plan) (n : ℕ) (q : n ≡ number_of (verdict_answer p.read))
     (e : plan_reading p ≡ plan_as_read l) where
@@ -139,7 +136,7 @@ module _ (l : List ℕ) (p : Plan) (n : ℕ) (q : n ≡ number_of (verdict_answe
   pub plan_first : n ≡ 0 → p.first < 4294967296
   plan_first z =
       let y = reading_right l p e (number_is ∙ z)
-      in omega (arith, y.ending, y.size, place_least l p.named p.first p.offers)
+      in omega (arith, y.ending, y.size, place_least l p.first p.offers)
 
   pub plan_refused : (out : List ℕ) (r : ℕ) → r ≡ replied n 0 → (n ≡ 0 → ⊥) → given r out ≡ plan_given l out
   unfolding plan_given
@@ -153,13 +150,13 @@ module _ (l : List ℕ) (p : Plan) (n : ℕ) (q : n ≡ number_of (verdict_answe
       ∙ passes (number_of (plan_as_read l).answer) 0 0 (kept out) _ (number_is ∙ z)
 
   pub plan_made : (out x y ws : List ℕ) → ws ≡ plan_words (plan_reading p) → x ≡ layout_put p.layout out
-      → y ≡ put_words (length ws) x sheet_out ws → length ws ≡ 6 → plan_out ≤ length out → n ≡ 0
+      → y ≡ put_words (length ws) x sheet_out ws → length ws ≡ 5 → plan_out ≤ length out → n ≡ 0
       → given 0 y ≡ plan_given l out
   unfolding plan_given
   plan_made out x y ws w s t m h z =
-      let u : y ≡ put_words 6 (layout_put (plan_as_read l).layout out) sheet_out (plan_words (plan_as_read l)) =
+      let u : y ≡ put_words 5 (layout_put (plan_as_read l).layout out) sheet_out (plan_words (plan_as_read l)) =
       t ∙ ap (λ (i : ℕ). put_words i x sheet_out ws) m
-      ∙ ap₂ (λ (i j : List ℕ). put_words 6 i sheet_out j) (s ∙ ap (λ (k : Planned). layout_put k.layout out) e)
+      ∙ ap₂ (λ (i j : List ℕ). put_words 5 i sheet_out j) (s ∙ ap (λ (k : Planned). layout_put k.layout out) e)
       (w ∙ ap plan_words e) in
       ap (given 0) u ∙ passes_long plan_out out (kept out) _ h
       ∙ passes (number_of (plan_as_read l).answer) 0 0 (kept out) _ (number_is ∙ z)

@@ -20,7 +20,7 @@ unfolding plan_given
 plan_keeps l out =
     checks (number_of (plan_as_read l).answer) out _
     (checks (short plan_out out) out _ (answers 0 out
-    (put_words 6 (layout_put (plan_as_read l).layout out) sheet_out (plan_words (plan_as_read l))) (omega arith)))
+    (put_words 5 (layout_put (plan_as_read l).layout out) sheet_out (plan_words (plan_as_read l))) (omega arith)))
 
 write_same : (y : Layout) (out : List ℕ) → (number_of (sheet_written y out).answer ≡ 0 → ⊥)
     → (sheet_written y out).octets ≡ out

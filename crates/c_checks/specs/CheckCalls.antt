@@ -59,17 +59,16 @@ layout_given l = unless (pick (ltb (length l) sheet_out) 3 0) (λ r. r) (replied
 
 -- ---- a run input
 
--- D, the octet at which the draws begin, the number of offers, the octet at which the first begins, the bit times, and
--- 1 where the offers have names
+-- D, the octet at which the draws begin, the number of offers, the octet at which the first begins, the bit times
 unfoldable pub plan_words : Planned → List ℕ
-plan_words r = r.depth ∷ r.drawn ∷ r.offers ∷ r.first ∷ r.times ∷ pick r.named 1 0 ∷ []
+plan_words r = r.depth ∷ r.drawn ∷ r.offers ∷ r.first ∷ r.times ∷ []
 
--- the layout as a sheet's, and these words after it; refusals 3 to 9, 16, 19, 13, and after them 15
+-- the layout as a sheet's, and these words after it; refusals 3 to 9, 13, 16, and after them 15
 unfoldable pub plan_given : (input out : List ℕ) → Given
 plan_given l out =
     unless (number_of (plan_as_read l).answer) (kept out)
     (unless (short plan_out out) (kept out)
-    (given 0 (put_words 6 (layout_put (plan_as_read l).layout out) sheet_out (plan_words (plan_as_read l)))))
+    (given 0 (put_words 5 (layout_put (plan_as_read l).layout out) sheet_out (plan_words (plan_as_read l)))))
 
 -- ---- a sheet, written
 

@@ -2,7 +2,7 @@
 // run input as it is read, and the shortest sheet. Replies are as in `c_calls`.
 
 ghost use Rattle.std.specs.Prelude.{◌≡◌, ◌<◌, ◌≤◌, length};
-ghost use Rattle.octets.specs.Base.{pick, number_of};
+ghost use Rattle.octets.specs.Base.{number_of};
 ghost use Rattle.sheet_layout.specs.Layout.{places_of};
 ghost use Rattle.plan_read.specs.Plan.{verdict_answer, plan_reading};
 ghost use Rattle.c_calls.specs.Calls.{given};
@@ -124,30 +124,15 @@ fn verdict_number(v: Verdict) -> u32
     }
 }
 
-// 1 where the offers have names.
-fn name_flag(named: bool) -> u32
-    ensures { result ≡ pick named 1 0 }
-{
-    if named { 1 } else { 0 }
-}
-
-// D, where the draws begin, the number of offers, where the first begins, the bit times, and whether there are names.
-fn plan_words(p: Plan) -> [u32; 6]
+// D, where the draws begin, the number of offers, where the first begins, the bit times.
+fn plan_words(p: Plan) -> [u32; 5]
     requires { (p.drawn < 4294967296) × (p.first < 4294967296) }
     ensures { result ≡ plan_words (plan_reading p) }
 {
-    let names = name_flag(p.named);
-    [
-        p.depth,
-        p.drawn as u32,
-        p.offers,
-        p.first as u32,
-        p.times,
-        names,
-    ]
+    [p.depth, p.drawn as u32, p.offers, p.first as u32, p.times]
 }
 
-// Reads a run input: 0. Refusals 3 to 9, 13, 15, 16, 19.
+// Reads a run input: 0. Refusals 3 to 9, 13, 15, 16.
 pub fn read_plan(input: &[u8], out: &mut [u8]) -> u32
     ensures { given result out.new ≡ plan_given input.now out.old }
 {

@@ -1,19 +1,16 @@
 -- A law for each way through the code of the run program's calls. Assumes nothing.
-use Rattle.std.specs.Prelude.{ℕ, ◌+◌, ◌-◌, ◌≤◌, ◌<◌, min, ◌≡◌, refl, Bool, not, ltb, length, take}
+use Rattle.std.specs.Prelude.{ℕ, ◌+◌, ◌-◌, ◌≤◌, ◌<◌, min, ◌≡◌, Bool, not, ltb, length, take}
 use Rattle.std.proofs.Common.{sym, ◌∙◌, arith, drop_of_length-le, length-take, take_all}
 use Rattle.std.proofs.Math.Path.{ap, ap₂}
 use Rattle.std.proofs.Math.Bool.{true, false}
-use mathlib.Core.List.{List, [], ◌∷◌, ◌++◌}
+use mathlib.Core.List.{List, ◌++◌}
 use borrow.Author.Tests.{eq-eqb, ne_eqb, lt-ltb, le-ltb, ltb-true, ltb-false}
 use borrow.Rule.Slice.PartMut.{put_mid}
 use Rattle.std.proofs.Math.Dec.{eqb}
 use Rattle.std.proofs.Math.ListN.{drop}
-use Rattle.std.proofs.lemmas.List.Edits.{sets}
-use Rattle.std.proofs.Math.Seq.{length-sets}
 use Rattle.octets.specs.Base.{pick, Answer, number_of}
 use Rattle.octets.specs.BaseLaws.{by_test}
 use Rattle.octets.specs.Number.{get, put}
-use Rattle.octets.specs.Store.{part, length_part, take_sets}
 use Rattle.octets.specs.Words.{put_words}
 use Rattle.area_check.specs.Valid.{area_refusal}
 use Rattle.area.specs.Area.{clock_at}
@@ -22,53 +19,31 @@ use Rattle.report_spec.specs.declared.Handed.{Handed}
 use Rattle.report_spec.specs.declared.Piece.{Piece}
 use Rattle.report_spec.specs.declared.Piece.TheVariants.{Text}
 use Rattle.report_spec.specs.Printed.{printed}
-use Rattle.report_spec.specs.Pieces.{Hand, piece_answer, handing, offers_short, move_refusal, advanced_on, advanced, begun}
+use Rattle.report_spec.specs.Pieces.{Hand, piece_answer, handing, offer_short, move_refusal, advanced_on, advanced, begun}
 use Rattle.report_spec.specs.Pieces.{standing}
 use Rattle.report_theorem.specs.Whole.{move_size, first_room}
 use Rattle.report_whole.specs.Print.{Print, print, printed_into}
 use Rattle.c_words.specs.Answers.{replied, value_of, max_refusal}
 use Rattle.c_calls.specs.Calls.{code_of, given, left}
 use Rattle.c_calls.specs.Numbers.{area_low}
-use Rattle.c_text.specs.TextCalls.{later_words, progress_words, progress_over, progress_in, progress_put, lent, hand_lent, begun_lent}
+use Rattle.c_text.specs.TextCalls.{progress_words, progress_in, progress_put, lent, hand_lent, begun_lent}
 use Rattle.c_text.specs.TextCalls.{advanced_lent, print_left}
 use Rattle.sheet_layout.specs.Limits.{last_clock}
 use Rattle.area.specs.Offsets.{area_size}
 
 -- ---- where a run stands
 
-pub later_words_lem : (g : Progress) (e n : ℕ) → e ≡ pick g.ended 1 0 → n ≡ pick g.named 1 0
-    → g.offers ∷ g.times ∷ e ∷ n ∷ [] ≡ later_words g
-unfolding later_words
-later_words_lem g e n p q = λ i. g.offers ∷ g.times ∷ p i ∷ q i ∷ []
+pub progress_put_lem : (s a b c d : List ℕ) (g : Progress) (f : ℕ) → f ≡ pick g.ended 1 0 → a ≡ put 4 s 0 g.at
+    → b ≡ put 4 a 4 g.offers → c ≡ put 4 b 8 g.times → d ≡ put 4 c 12 f
+    → d ≡ put_words 4 s 0 (progress_words g)
+unfolding progress_words put_words
+progress_put_lem s a b c d g f e p q r t = rw (t, r, q, p, e)
 
-words_put : (s : List ℕ) (g : Progress)
-    → put_words 4 (put 4 s 0 g.at) 4 (later_words g) ≡ put_words 5 s 0 (progress_words g)
-unfolding progress_words later_words put_words
-words_put s g = refl
-
-pub progress_put_lem : (s a e x ws : List ℕ) (g : Progress) → a ≡ put 4 s 0 g.at → ws ≡ later_words g
-    → length ws ≡ 4 → e ≡ put_words (length ws) a 4 ws → x ≡ sets e 20 g.fates → x ≡ progress_over g s
-unfolding progress_over
-progress_put_lem s a e x ws g p q n r t =
-    let y : e ≡ put_words 5 s 0 (progress_words g) = r ∙ ap (λ (i : ℕ). put_words i a 4 ws) n
-    ∙ ap₂ (λ (i j : List ℕ). put_words 4 i 4 j) p q ∙ words_put s g in
-    t ∙ ap (λ (i : List ℕ). sets i 20 g.fates) y
-
-pub fates_read : (s x fs : List ℕ) → 84 ≤ length s → length x ≡ 64 → fs ≡ sets x 0 (take (84 - 20) (drop 20 s))
-    → fs ≡ part s 20 64
-fates_read s x fs h e q =
-    let n : length (take 64 (drop 20 s)) ≡ 64 = length_part s 20 64 (omega arith) in
-    let m : length (sets x 0 (take 64 (drop 20 s))) ≡ 64 = length-sets x 0 (take 64 (drop 20 s)) ∙ e in
-    q ∙ sym (take_all 64 (sets x 0 (take 64 (drop 20 s))) (omega arith))
-    ∙ take_sets (take 64 (drop 20 s)) x 64 (sym n) (omega arith)
-
-pub progress_read : (s fs : List ℕ) (at offers times ended named : ℕ) (b c : Bool) → at ≡ get 4 s 0
-    → offers ≡ get 4 s 4
-    → times ≡ get 4 s 8 → ended ≡ get 4 s 12 → named ≡ get 4 s 16 → b ≡ not (eqb ended 0) → c ≡ not (eqb named 0)
-    → fs ≡ part s 20 64
-    → standing at offers c times b fs ≡ progress_in s
+pub progress_read : (s : List ℕ) (at offers times ended : ℕ) (b : Bool) → at ≡ get 4 s 0 → offers ≡ get 4 s 4
+    → times ≡ get 4 s 8 → ended ≡ get 4 s 12 → b ≡ not (eqb ended 0)
+    → standing at offers times b ≡ progress_in s
 unfolding progress_in
-progress_read s fs at offers times ended named b c p q r t u v w x = rw (v, w, p, q, r, t, u, x)
+progress_read s at offers times ended b p q r t u = rw (u, p, q, r, t)
 
 -- ---- what is handed over
 
@@ -85,7 +60,7 @@ module _ (s x : List ℕ) (A : Answer) (g : Progress) (n v r : ℕ) (p : n ≡ n
   hand_refused h =
       let z : eqb (number_of A) 0 ≡ false = ap (λ (k : ℕ). eqb k 0) (sym p) ∙ ne_eqb n 0 h in rw (code_is, z)
 
-  pub hand_given : n ≡ 0 → x ≡ progress_over g s → given r x ≡ given (code_of A) (progress_put A g s)
+  pub hand_given : n ≡ 0 → x ≡ put_words 4 s 0 (progress_words g) → given r x ≡ given (code_of A) (progress_put A g s)
   unfolding progress_put
   hand_given h w =
       let z : eqb (number_of A) 0 ≡ true = ap (λ (k : ℕ). eqb k 0) (sym p) ∙ eq-eqb n 0 h in rw (code_is, w, z)
@@ -108,7 +83,7 @@ move_low l a room g =
     by_test (eqb (area_refusal a) 0)
     (λ p. by_test (ltb last_clock (clock_at a + g.times)) (λ q. rw (p, q) (omega arith))
     (λ q. by_test (ltb room 2048) (λ r. rw (p, q, r) (omega arith))
-    (λ r. by_test (offers_short l g) (λ s. rw (p, q, r, s) (omega arith)) (λ s. rw (p, q, r, s) (omega arith)))))
+    (λ r. by_test (offer_short l g) (λ s. rw (p, q, r, s) (omega arith)) (λ s. rw (p, q, r, s) (omega arith)))))
     (λ p. rw p (area_low a))
 
 on_small : (l a o : List ℕ) (g : Progress) → Small (advanced_on l a o g).answer
@@ -139,13 +114,13 @@ module _ (h : Handed) (b x : List ℕ) (y : Hand) (e : handing h b x ≡ y) wher
 -- ---- the first piece
 
 module _ (l a p o : List ℕ) where
-  pub begin_short : (r : ℕ) → length p < 84 → length a < area_size → r ≡ replied 1 0 → lent r a p o ≡ begun_lent l a p o
+  pub begin_short : (r : ℕ) → length p < 16 → length a < area_size → r ≡ replied 1 0 → lent r a p o ≡ begun_lent l a p o
   unfolding begun_lent
-  begin_short r h k e = rw (lt-ltb (length p) 84 h, lt-ltb (length a) area_size k, e)
+  begin_short r h k e = rw (lt-ltb (length p) 16 h, lt-ltb (length a) area_size k, e)
 
-  pub begin_place : (r : ℕ) → length p < 84 → area_size ≤ length a → r ≡ replied 15 0 → lent r a p o ≡ begun_lent l a p o
+  pub begin_place : (r : ℕ) → length p < 16 → area_size ≤ length a → r ≡ replied 15 0 → lent r a p o ≡ begun_lent l a p o
   unfolding begun_lent
-  begin_place r h k e = rw (lt-ltb (length p) 84 h, le-ltb (length a) area_size k, e)
+  begin_place r h k e = rw (lt-ltb (length p) 16 h, le-ltb (length a) area_size k, e)
 
   module _ (h : Handed) (b x : List ℕ) (e : handing h b x ≡ begun l a o) where
     pub begin_low : number_of (piece_answer h.piece) ≤ max_refusal
@@ -154,11 +129,11 @@ module _ (l a p o : List ℕ) where
     pub begin_few : value_of (piece_answer h.piece) < 4294967296
     begin_few = omega (arith, value_same h b x (begun l a o) e, (begun_small l a o).1)
 
-    pub begin_made : (q : List ℕ) (r : ℕ) → 84 ≤ length p
+    pub begin_made : (q : List ℕ) (r : ℕ) → 16 ≤ length p
         → given r q ≡ given (code_of (piece_answer h.piece)) (progress_put (piece_answer h.piece) h.progress p)
         → lent r b q x ≡ begun_lent l a p o
     unfolding begun_lent
-    begin_made q r k w = rw (le-ltb (length p) 84 k) (hand_lent_lem h b x (begun l a o) e p q r w)
+    begin_made q r k w = rw (le-ltb (length p) 16 k) (hand_lent_lem h b x (begun l a o) e p q r w)
 
 -- ---- the next piece
 
@@ -187,10 +162,10 @@ pub place_low : (a : List ℕ) (n : ℕ) → n ≡ area_refusal a → n ≤ max_
 place_low a n p = omega (arith, area_low a)
 
 module _ (l a p o : List ℕ) where
-  pub advance_place : (r : ℕ) → length p < 84 → r ≡ replied (pick (eqb (area_refusal a) 0) 15 (area_refusal a)) 0
+  pub advance_place : (r : ℕ) → length p < 16 → r ≡ replied (pick (eqb (area_refusal a) 0) 15 (area_refusal a)) 0
       → lent r a p o ≡ advanced_lent l a p o
   unfolding advanced_lent
-  advance_place r h e = rw (lt-ltb (length p) 84 h, e)
+  advance_place r h e = rw (lt-ltb (length p) 16 h, e)
 
   module _ (h : Handed) (b x : List ℕ) (g : Progress) (n : ℕ)
       (e : handing h b x ≡ advanced (take (n - 0) l) a o g) where
@@ -202,14 +177,14 @@ module _ (l a p o : List ℕ) where
     advance_few =
         omega (arith, value_same h b x (advanced (take (n - 0) l) a o g) e, (advanced_small (take (n - 0) l) a o g).1)
 
-    pub advance_made : (q : List ℕ) (r : ℕ) → 84 ≤ length p → g ≡ progress_in p → n ≡ min (length l) 16384
+    pub advance_made : (q : List ℕ) (r : ℕ) → 16 ≤ length p → g ≡ progress_in p → n ≡ min (length l) 16384
         → given r q ≡ given (code_of (piece_answer h.piece)) (progress_put (piece_answer h.piece) h.progress p)
         → lent r b q x ≡ advanced_lent l a p o
     unfolding advanced_lent
     advance_made q r k s m w =
         let y : handing h b x ≡ advanced (take 16384 l) a o (progress_in p) = e
         ∙ ap₂ (λ (i : List ℕ) (j : Progress). advanced i a o j) (take_min l 16384 n m) s in
-        rw (le-ltb (length p) 84 k) (hand_lent_lem h b x (advanced (take 16384 l) a o (progress_in p)) y p q r w)
+        rw (le-ltb (length p) 16 k) (hand_lent_lem h b x (advanced (take 16384 l) a o (progress_in p)) y p q r w)
 
 -- ---- the whole
 

@@ -4,13 +4,14 @@ use Rattle.std.specs.Prelude.{ℕ, ◌≤◌, ◌≡◌, refl, List, ◌++◌, l
 use Rattle.std.proofs.Common.{◌∙◌, ap, arith, eq-eqb, ne_eqb, ltb-false, length-take, take-append-drop}
 use Rattle.octets.specs.Base.{pick, number_of}
 use Rattle.octets.specs.BaseLaws.{by_test, by_eq}
+use Rattle.octets.specs.Words.{put_words}
 use Rattle.report_spec.specs.declared.Progress.{Progress}
 use Rattle.report_spec.specs.Printed.{printed}
 use Rattle.report_spec.specs.Pieces.{Hand, move_refusal, advanced_on, advanced, begun}
 use Rattle.report_whole.specs.Print.{printed_into}
 use Rattle.c_words.specs.Answers.{refusal_bit, replied, value_of}
 use Rattle.c_calls.specs.CallTheorems.{BothKept}
-use Rattle.c_text.specs.TextCalls.{progress_over, progress_in, progress_put, Lent, hand_lent, begun_lent}
+use Rattle.c_text.specs.TextCalls.{progress_words, progress_in, progress_put, Lent, hand_lent, begun_lent}
 use Rattle.c_text.specs.TextCalls.{advanced_lent, print_front, print_left}
 use Rattle.c_text.specs.TextCallLaws.{Small, begun_small, advanced_small}
 use Rattle.area.specs.Offsets.{area_size}
@@ -29,7 +30,7 @@ hand_kept a p o y s k h =
     (λ e. let z : refusal_bit ≤ value_of y.answer = rw (eq-eqb (number_of y.answer) 0 e) at h
     in absurd (omega (arith, s.1)))
     (λ e. let w = k e in
-    let q : pick (eqb (number_of y.answer) 0) (progress_over y.progress p) p
+    let q : pick (eqb (number_of y.answer) 0) (put_words 4 p 0 (progress_words y.progress)) p
     ≡ p = rw (ne_eqb (number_of y.answer) 0 e) in
     (w.0, q, w.1))
 
@@ -54,13 +55,13 @@ advanced_same l a o g =
 pub begin_keeps : (l a p o : List ℕ) → AllKept a p o (begun_lent l a p o)
 unfolding begun_lent
 begin_keeps l a p o =
-    by_test (ltb (length p) 84) (λ q. rw q (λ h. (refl, refl, refl)))
+    by_test (ltb (length p) 16) (λ q. rw q (λ h. (refl, refl, refl)))
     (λ q. rw q (hand_kept a p o (begun l a o) (begun_small l a o) (begun_same l a o)))
 
 pub advance_keeps : (l a p o : List ℕ) → AllKept a p o (advanced_lent l a p o)
 unfolding advanced_lent
 advance_keeps l a p o =
-    by_test (ltb (length p) 84) (λ q. rw q (λ h. (refl, refl, refl)))
+    by_test (ltb (length p) 16) (λ q. rw q (λ h. (refl, refl, refl)))
     (λ q. rw q (hand_kept a p o (advanced (take 16384 l) a o (progress_in p))
     (advanced_small (take 16384 l) a o (progress_in p)) (advanced_same (take 16384 l) a o (progress_in p))))
 

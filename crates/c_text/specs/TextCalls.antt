@@ -1,11 +1,9 @@
 -- The C interface of the run program: what is printed for an input, piece by piece or the whole, and what the calls
--- leave in the octets lent to them. Where a run stands is lent as five words and 64 octets, p. The laws are in TextCallLaws. Assumes
+-- leave in the octets lent to them. Where a run stands is lent as four words, p. The laws are in TextCallLaws. Assumes
 -- nothing.
 use Rattle.std.specs.Prelude.{ℕ, not, List, [], ◌∷◌, ◌++◌, ltb, eqb, length, take, drop}
-use Rattle.std.proofs.lemmas.List.Edits.{sets}
 use Rattle.octets.specs.Base.{pick, Answer, number_of}
 use Rattle.octets.specs.Number.{get}
-use Rattle.octets.specs.Store.{part}
 use Rattle.octets.specs.Words.{put_words}
 use Rattle.area.specs.Offsets.{area_size}
 use Rattle.area_check.specs.Valid.{area_refusal}
@@ -17,29 +15,18 @@ use Rattle.c_calls.specs.Calls.{code_of, Left, left}
 
 -- ---- where a run stands
 
--- the octet of the input at which the first offer begins, the number of offers, the bit times left, 1 where the last
--- line is handed out, and 1 where the offers have names
-unfoldable pub later_words : Progress → List ℕ
-later_words g = g.offers ∷ g.times ∷ pick g.ended 1 0 ∷ pick g.named 1 0 ∷ []
-
+-- the octet of the input at which the next offer begins, the offers left, the bit times left, and 1 where the last line
+-- is handed out
 unfoldable pub progress_words : Progress → List ℕ
-progress_words g = g.at ∷ later_words g
+progress_words g = g.at ∷ g.offers ∷ g.times ∷ pick g.ended 1 0 ∷ []
 
--- and after these words an octet for the fate of each offer
-abbrev pub progress_size : ℕ
-progress_size = 84
-
-unfoldable pub progress_over : Progress → List ℕ → List ℕ
-progress_over g p = sets (put_words 5 p 0 (progress_words g)) 20 g.fates
-
--- the same, read: a fourth word that is not 0 stands for the end, and a fifth for names
+-- the same, read: a last word that is not 0 stands for the end
 unfoldable pub progress_in : List ℕ → Progress
-progress_in p =
-    standing (get 4 p 0) (get 4 p 4) (not (eqb (get 4 p 16) 0)) (get 4 p 8) (not (eqb (get 4 p 12) 0)) (part p 20 64)
+progress_in p = standing (get 4 p 0) (get 4 p 4) (get 4 p 8) (not (eqb (get 4 p 12) 0))
 
 -- "A refusal .. changes nothing lent": the words after answer r
 unfoldable pub progress_put : (r : Answer) → Progress → List ℕ → List ℕ
-progress_put r g p = pick (eqb (number_of r) 0) (progress_over g p) p
+progress_put r g p = pick (eqb (number_of r) 0) (put_words 4 p 0 (progress_words g)) p
 
 -- ---- piece by piece
 
@@ -60,8 +47,7 @@ hand_lent h p = lent (code_of h.answer) h.octets (progress_put h.answer h.progre
 -- the first piece; refusals 1, 15
 unfoldable pub begun_lent : List ℕ → (a p o : List ℕ) → Lent
 begun_lent l a p o =
-    pick (ltb (length p) progress_size) (lent (replied (pick (ltb (length a) area_size) 1 15) 0) a p o)
-    (hand_lent (begun l a o) p)
+    pick (ltb (length p) 16) (lent (replied (pick (ltb (length a) area_size) 1 15) 0) a p o) (hand_lent (begun l a o) p)
 
 -- no plan has more octets, and of a longer input no more are looked at
 abbrev pub plan_octets : ℕ
@@ -70,7 +56,7 @@ plan_octets = 16384
 -- the next piece; refusals 1, 2, 13, 15, 16. Where the words are too short for a place, 13 and 16 cannot be asked
 unfoldable pub advanced_lent : List ℕ → (a p o : List ℕ) → Lent
 advanced_lent l a p o =
-    pick (ltb (length p) progress_size) (lent (replied (pick (eqb (area_refusal a) 0) 15 (area_refusal a)) 0) a p o)
+    pick (ltb (length p) 16) (lent (replied (pick (eqb (area_refusal a) 0) 15 (area_refusal a)) 0) a p o)
     (hand_lent (advanced (take plan_octets l) a o (progress_in p)) p)
 
 -- ---- the whole

@@ -1,23 +1,19 @@
 // The run program's calls on numbers and lent octets, as the C interface hands them out: what is printed for an input,
-// piece by piece or the whole. Replies are as in `c_calls`. Where a run stands is lent as 84 octets: five words,
-// high octet first, and an octet for the fate of each offer.
+// piece by piece or the whole. Replies are as in `c_calls`. Where a run stands is lent as 16 octets: four words, high
+// octet first.
 
 ghost use Rattle.std.specs.Prelude.{◌≡◌, ◌+◌, ◌<◌, ◌≤◌, min, eqb, length};
-ghost use Rattle.std.proofs.lemmas.List.Edits.{sets};
 ghost use Rattle.octets.specs.Base.{pick, number_of};
 ghost use Rattle.octets.specs.Number.{put};
-ghost use Rattle.octets.specs.Store.{part};
+ghost use Rattle.octets.specs.Words.{put_words};
 ghost use Rattle.area_check.specs.Valid.{area_refusal};
 ghost use Rattle.report_spec.specs.Pieces.{piece_answer};
 ghost use Rattle.c_words.specs.Answers.{replied, value_of, max_refusal};
 ghost use Rattle.c_calls.specs.Calls.{code_of, given, left};
-ghost use Rattle.c_text.specs.TextCalls.{later_words, progress_size, progress_over, progress_in, progress_put, lent};
-ghost use Rattle.c_text.specs.TextCalls.{begun_lent, advanced_lent, print_left};
+ghost use Rattle.c_text.specs.TextCalls.{progress_words, progress_in, progress_put, lent, begun_lent, advanced_lent};
+ghost use Rattle.c_text.specs.TextCalls.{print_left};
 
 use report_spec::{Handed, Piece, Progress};
-
-// The octets in which it is told where a run stands.
-const PROGRESS: usize = 84;
 
 // The octets of a place, four of them, high octet first.
 fn put_place(s: &mut [u8], at: usize, v: usize)
@@ -36,63 +32,31 @@ fn flag(b: bool) -> u32
     if b { 1 } else { 0 }
 }
 
-// The words after the first.
-fn later_words(g: Progress) -> [u32; 4]
-    ensures { result ≡ later_words g }
-{
-    let ended = flag(g.ended);
-    let named = flag(g.named);
-    [g.offers, g.times, ended, named]
-}
-
-// Writes the fates, after the words.
-fn write_fates(s: &mut [u8], fates: [u8; 64])
-    requires { progress_size ≤ length s.old }
-    ensures { s.new ≡ sets s.old 20 fates }
-{
-    octets_copies::store(s, 20, &fates);
-}
-
 // Writes where a run stands.
 fn write_progress(s: &mut [u8], g: Progress)
-    requires { progress_size ≤ length s.old }
-    ensures { s.new ≡ progress_over g s.old }
+    requires { 16 ≤ length s.old }
+    ensures { s.new ≡ put_words 4 s.old 0 (progress_words g) }
 {
     put_place(s, 0, g.at);
-    let words = later_words(g);
-    octets_words::store_words(s, 4, &words);
-    let fates = g.fates;
-    write_fates(s, fates);
-}
-
-// The fates in it.
-fn read_fates(s: &[u8]) -> [u8; 64]
-    requires { progress_size ≤ length s.now }
-    ensures { result ≡ part s.now 20 64 }
-{
-    let mut fates = [0u8; 64];
-    octets_copies::store(&mut fates, 0, &s[20..PROGRESS]);
-    fates
+    octets_words::put32(s, 4, g.offers);
+    octets_words::put32(s, 8, g.times);
+    octets_words::put32(s, 12, flag(g.ended));
 }
 
 // Reads where a run stands.
 fn read_progress(s: &[u8]) -> Progress
-    requires { progress_size ≤ length s.now }
+    requires { 16 ≤ length s.now }
     ensures { result ≡ progress_in s.now }
 {
     let at = octets_words::get32(s, 0) as usize;
     let offers = octets_words::get32(s, 4);
     let times = octets_words::get32(s, 8);
     let ended = octets_words::get32(s, 12);
-    let named = octets_words::get32(s, 16);
-    let fates = read_fates(s);
     Progress {
         at,
         offers,
-        named: named != 0,
         times,
         ended: ended != 0,
-        fates,
     }
 }
 
@@ -118,7 +82,7 @@ fn piece_size(p: Piece) -> u32
 
 // What a call replies that hands out a piece; where the run stands is written, unless it is a refusal.
 fn hand_over(h: Handed, progress: &mut [u8]) -> u32
-    requires { (progress_size ≤ length progress.old) × (number_of (piece_answer h.piece) ≤ max_refusal)
+    requires { (16 ≤ length progress.old) × (number_of (piece_answer h.piece) ≤ max_refusal)
         × (value_of (piece_answer h.piece) < 4294967296) }
     ensures { given result progress.new
         ≡ given (code_of (piece_answer h.piece))
@@ -147,7 +111,7 @@ pub fn begin(input: &[u8], area: &mut [u8], progress: &mut [u8], out: &mut [u8])
     ensures { lent result area.new progress.new out.new
         ≡ begun_lent input.now area.old progress.old out.old }
 {
-    if progress.len() < PROGRESS {
+    if progress.len() < 16 {
         if area.len() < area::AREA {
             return c_words::numbers::reply(1, 0);
         }
@@ -174,7 +138,7 @@ pub fn advance(input: &[u8], area: &mut [u8], progress: &mut [u8], out: &mut [u8
     ensures { lent result area.new progress.new out.new
         ≡ advanced_lent input.now area.old progress.old out.old }
 {
-    if progress.len() < PROGRESS {
+    if progress.len() < 16 {
         return refuse_place(area);
     }
     let g = read_progress(progress);

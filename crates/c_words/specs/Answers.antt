@@ -28,9 +28,9 @@ use Rattle.sheet_layout.specs.Limits.{max_stations}
 abbrev pub sheet_out : ℕ
 sheet_out = 196
 
--- what a run input says: its layout, and six words
+-- what a run input says: its layout, and five words
 abbrev pub plan_out : ℕ
-plan_out = sheet_out + 24
+plan_out = sheet_out + 20
 
 -- a run: its event words, and three words of how it ended
 abbrev pub run_out : ℕ

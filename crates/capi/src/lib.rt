@@ -9,7 +9,6 @@ ghost use Rattle.c_calls.specs.Calls.{given, left, sheet_given, fits_given, buil
 ghost use Rattle.c_calls.specs.Calls.{start_given, offer_given, step_left, run_left, frame_given, counters_given};
 ghost use Rattle.c_checks.specs.CheckCalls.{reception_given, area_given, layout_given, plan_given, write_given};
 ghost use Rattle.c_log.specs.LogCalls.{windows_given};
-ghost use Rattle.c_look.specs.LookCalls.{look_left};
 ghost use Rattle.c_views.specs.Views.{station_given, margin_given};
 ghost use Rattle.c_marks.specs.MarkCalls.{mark_given, return_given, drop_given};
 ghost use Rattle.c_text.specs.TextCalls.{lent, begun_lent, advanced_lent, print_left};
@@ -180,26 +179,6 @@ pub extern "C" fn wisavulome_run_stepwise(area: &mut [u8], n: u32, out: &mut [u8
     let ended = a.ended;
     c_tables::write_run(out, words, ended);
     a.steps
-}
-
-// Looks ahead over an offer to a station and a run of n bit times, on a copy in the second area: 0. Refusals 1, 2, 10,
-// 11, 12, 13, 15.
-#[unsafe(no_mangle)]
-pub extern "C" fn wisavulome_look(
-    area: &[u8],
-    second: &mut [u8],
-    station: u32,
-    destination: u64,
-    value: u16,
-    payload: &[u8],
-    n: u32,
-    out: &mut [u8],
-) -> u32
-    ensures { left result second.new out.new
-        ≡ look_left area.now second.old station destination value payload.now n
-        out.old }
-{
-    c_look::look(area, second, station, destination, value, payload, n, out)
 }
 
 // Reads the frame that a station received: its octets. Refusals 1, 2, 10, 14, 15.

@@ -56,7 +56,7 @@ answer (gather spoiled n) =
 
 rows :
     map answer
-    (fit (1 ∷ 1 ∷ 144 ∷ []) 200 ∷ fit (1 ∷ 1 ∷ 144 ∷ []) 201 ∷ fit (8 ∷ 32 ∷ []) 10 ∷ fit (8 ∷ 31 ∷ []) 10
+    (fit (0 ∷ []) 208 ∷ fit (0 ∷ []) 209 ∷ fit (8 ∷ 32 ∷ []) 10 ∷ fit (8 ∷ 31 ∷ []) 10
     ∷ range 1 ∷ range 10 ∷ range 11
     ∷ collide 512 ∷ collide 513
     ∷ build 2048 0 ∷ build 2048 46 ∷ build 2048 47 ∷ build 2048 1500 ∷ build 33024 1504 ∷ build 33024 1505
@@ -64,7 +64,7 @@ rows :
     ∷ build 33025 1501
     ∷ gather false 511 ∷ gather false 512 ∷ gather true 512
     ∷ gather false 519 ∷ [])
-    -- P1 as N10 has it, 2·S ≤ slot: with slot 400, span 200 fits, 201 not
+    -- P1: span 208 fits with absent fields, 209 not
     ≡ accepted (1 ∷ []) ∷ accepted (0 ∷ [])
     -- P2: jam 32 fits with G 96, jam 31 not
     ∷ accepted (1 ∷ []) ∷ accepted (0 ∷ [])

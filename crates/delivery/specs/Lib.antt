@@ -8,6 +8,5 @@ pub mod Traced
 pub mod Demand3
 pub mod Theorem
 pub mod Lost
-pub mod Beyond
 pub mod Closing
 pub mod Two

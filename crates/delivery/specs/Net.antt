@@ -89,11 +89,6 @@ module _ (b : List ℕ) (v : Passing b) where
       let y = up j (count_at b - 1) (omega arith) (omega arith) in
       omega arith
 
-  -- the end stations are the whole span apart
-  pub ends_apart : 0 < count_at b → space_at b 0 (count_at b - 1) ≡ span_at b
-  unfolding space_at distance span_at
-  ends_apart h = let p = up 0 (count_at b - 1) (omega arith) (omega arith) in omega arith
-
   pub net_sound : ((i : ℕ) → i < count_at b → Octets (address_at b i)) → run.Sound (net_of b) (span_at b)
   unfolding buffer_at
   net_sound o =

@@ -12,7 +12,7 @@ use Rattle.octets.specs.Words.{words_at}
 use Rattle.octets.specs.WordsLaws.{Small, length_words}
 use Rattle.frame_build.specs.Limits.{refuses_data, min_frame, max_frame, buffer_octets}
 use Rattle.frame_build.specs.Build.{frame_of}
-use Rattle.frame_build.specs.BuildLaws.{frame_size_lem, data_within}
+use Rattle.frame_build.specs.BuildLaws.{frame_size, data_within}
 use Rattle.sheet_layout.specs.declared.Figures.{Figures}
 use Rattle.sheet_layout.specs.declared.Layout.{Layout}
 use Rattle.sheet_layout.specs.Layout as lay
@@ -460,7 +460,7 @@ module _ (a f : List ℕ) (i : ℕ) (v : Passing a) (hi : i < count_at a) (low :
 pub frame_range : (d s : List ℕ) (v : ℕ) (x : List ℕ) → length d ≡ 6 → length s ≡ 6 → refuses_data v (length x) ≡ false
     → (64 ≤ length (frame_of d s v x)) × (length (frame_of d s v x) ≤ buffer_octets)
 frame_range d s v x hd hs h =
-    let n = frame_size_lem d s v x hd hs in let w = data_within v (length x) h in (omega arith, omega arith)
+    let n = frame_size d s v x hd hs in let w = data_within v (length x) h in (omega arith, omega arith)
 
 pub offered_passes : (a : List ℕ) (i : ℕ) (d : List ℕ) (v : ℕ) (x : List ℕ) → length d ≡ 6 → Passing a
     → Passing (offered a i d v x).octets

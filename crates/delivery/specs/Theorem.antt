@@ -20,6 +20,7 @@ use Rattle.sheet_layout.specs.declared.Layout.{Layout}
 use Rattle.sheet_layout.specs.Layout as lay
 use Rattle.sheet_layout.specs.Fit.{fit_of}
 use Rattle.sheet_layout.specs.Check.{refusal_of}
+use Rattle.sheet_layout.specs.CheckLaws.{sound}
 use Rattle.station_symbols.specs.declared.Heard.TheVariants.{Nothing}
 use Rattle.station_spec.specs.declared.TransmitEvent.{TransmitEvent}
 use Rattle.station_spec.specs.declared.TransmitEvent.TheVariants.{NoTransmit, Collision, Late, Sent, GivenUp}
@@ -70,6 +71,7 @@ use Rattle.delivery.specs.Traced.{run_fits, clock_is, traced_step, traced_call, 
 use Rattle.delivery.specs.Demand3.{called, counted, apart, Sender, offer_sent, read_as, ReadFrom, Demand3For}
 use Rattle.sheet_layout.specs.Limits.{last_clock, max_draws}
 use Rattle.area.specs.Offsets.{area_size}
+use Rattle.station_spec.specs.Transmit.{shortest_packet}
 use Rattle.station_tally.specs.Words.{ends_run, word_count}
 
 -- ---- from a step made to the step of the execution
@@ -189,7 +191,7 @@ module _ (P : Net) (span : ℕ) (L : exec.Sound P span) (m : Moment) (T : List M
 
   -- ---- received exactly when sent
 
-  module _ (g : lay.gap_of P.fig ≤ 64 + P.fig.jam) (fits : 2 * span ≤ lay.shortest_packet P.fig) where
+  module _ (g : lay.gap_of P.fig ≤ 64 + P.fig.jam) (fits : 2 * span ≤ shortest_packet P.fig) where
     record From (u j : ℕ) : Type 0 where
       from : ℕ
       at : ℕ
@@ -372,7 +374,7 @@ run_octets (suc k) t ws m =
     (λ e. rw e)
     (λ e. rw e (run_octets k (t + 1) (tallied (events_at m.area) 16 ws) (next m)))
 
-pub run_answer : (k t : ℕ) (ws : List ℕ) (a : List ℕ) → (run_of k t ws a).answer ≡ accepted []
+run_answer : (k t : ℕ) (ws : List ℕ) (a : List ℕ) → (run_of k t ws a).answer ≡ accepted []
 unfolding run_of
 run_answer zero t ws a = refl
 run_answer (suc k) t ws a =
@@ -425,7 +427,7 @@ module _ (m : Moment) (n : ℕ) (ok : area_refusal m.area ≡ 0) where
 -- ---- no run ends early
 
 -- an event that is no late collision
-pub not_late_event : (w : TransmitEvent) → ((k : ℕ) (closes : Bool) → w ≡ Late k closes → ⊥) → ends_run w ≡ false
+not_late_event : (w : TransmitEvent) → ((k : ℕ) (closes : Bool) → w ≡ Late k closes → ⊥) → ends_run w ≡ false
 not_late_event NoTransmit h = refl
 not_late_event (Collision k) h = refl
 not_late_event (Late k closes) h = absurd (h k closes refl)
@@ -642,7 +644,7 @@ module _ (y : Layout) (b : List ℕ) (f : Fresh y b) (cs : List Call) (fair : Al
         subst (λ (s : ℕ). k ≤ max 1 (2 * s)) f.span
         (collision_bit (net_of b) (span_at b) L m T traced gap u i k closes hu (inside i hi) h)
 
-    module _ (fits : 2 * span_at b ≤ lay.shortest_packet (figures_at b)) where
+    module _ (fits : 2 * span_at b ≤ shortest_packet (figures_at b)) where
       sender : (u j : ℕ) → j < y.count → From (net_of b) (span_at b) L m T traced gap fits u j → Sender y T u j
       sender u j hj s =
           let hi : s.from < y.count = omega (arith, s.station, f.laid.count) in
@@ -748,13 +750,12 @@ both true y e = (refl, e)
 both false y e = absurd (true≢false (sym e))
 
 fit_says : (y : Layout) → lay.fits_well y ≡ true
-    → (2 * lay.span_of y ≤ y.figures.slot) × ((2 * lay.span_of y ≤ lay.shortest_packet y.figures)
-    × (lay.gap_of y.figures ≤ 64 + y.figures.jam))
+    → (2 * lay.span_of y + lay.gap_of y.figures ≤ y.figures.slot) × (lay.gap_of y.figures ≤ 64 + y.figures.jam)
 unfolding lay.fits_well
 fit_says y e =
-    let q = both (leb (2 * lay.span_of y) y.figures.slot) _ e in
-    let r = both (leb (2 * lay.span_of y) (lay.shortest_packet y.figures)) _ q.1 in
-    (leb-true _ _ q.0, (leb-true _ _ r.0, leb-true _ _ r.1))
+    let q = both (leb (2 * lay.span_of y + lay.gap_of y.figures) y.figures.slot)
+    (leb (lay.gap_of y.figures) (64 + y.figures.jam)) e in
+    (leb-true _ _ q.0, leb-true _ _ q.1)
 
 -- "fits" as the call answers it
 fit_yes_lem : (y : Layout) → fit_of y ≡ accepted (1 ∷ []) → lay.fits_well y ≡ true
@@ -768,7 +769,7 @@ fit_yes_lem y h =
 
 module _ (y : Layout) (d : ℕ) (ds : List (List ℕ)) (a : List ℕ) (proper : Proper y) (big : area_size ≤ length a)
     (ok : refusal_of y ≡ 0) (low : 1 ≤ d) (high : d ≤ max_draws) where
-  pub fresh_known : Fresh y (fresh y d ds a)
+  fresh_known : Fresh y (fresh y d ds a)
   fresh_known =
       record {
         laid = start_laid y d ds a big ok low high proper;
@@ -779,14 +780,14 @@ module _ (y : Layout) (d : ℕ) (ds : List (List ℕ)) (a : List ℕ) (proper : 
         span = start_span y d ds a big ok low high proper;
       }
 
-  fresh_fits : 2 * lay.span_of y ≤ y.figures.slot → 2 * lay.span_of y ≤ lay.shortest_packet y.figures
-      → lay.gap_of y.figures ≤ 64 + y.figures.jam → (cs : List Call) → AllFair cs
-      → Demand3For y (fresh y d ds a) cs
-  fresh_fits slot packet gap cs fair =
+  -- 2·S ≤ 576 holds of every layout with 2·S ≤ slot, since slot ≤ 512
+  fresh_fits : 2 * lay.span_of y ≤ y.figures.slot → lay.gap_of y.figures ≤ 64 + y.figures.jam → (cs : List Call)
+      → AllFair cs → Demand3For y (fresh y d ds a) cs
+  fresh_fits slot gap cs fair =
       let k = fresh_known in
+      let w = sound y ok in
       demand_three y (fresh y d ds a) k cs fair (rw k.laid.figures gap)
-      (subst (λ (x : Figures). 2 * span_at (fresh y d ds a) ≤ lay.shortest_packet x) (sym k.laid.figures)
-      (rw k.span packet)) (rw (k.span, k.laid.figures) slot)
+      (rw k.span (omega (arith, w.figures.slot))) (rw (k.span, k.laid.figures) slot)
 
 -- A sheet s that is read, and a fresh start on its layout, with any D and draws, on any area.
 module _ (s : List ℕ) (octets : Octets s) (n : ℕ) (sheet : (read_sheet s).answer ≡ accepted (n ∷ [])) (a : List ℕ) (d : ℕ)
@@ -795,14 +796,13 @@ module _ (s : List ℕ) (octets : Octets s) (n : ℕ) (sheet : (read_sheet s).an
   proper : Proper (read_sheet s).layout
   proper = record { six = read_formed s n sheet; octets = read_octets s n sheet octets }
 
-  -- from three inequalities
+  -- from two inequalities
   pub three : 2 * lay.span_of (read_sheet s).layout ≤ (read_sheet s).layout.figures.slot
-      → 2 * lay.span_of (read_sheet s).layout ≤ lay.shortest_packet (read_sheet s).layout.figures
       → lay.gap_of (read_sheet s).layout.figures ≤ 64 + (read_sheet s).layout.figures.jam
       → Demand3For (read_sheet s).layout (started a (read_sheet s).layout d ds).octets cs
-  three slot packet gap =
+  three slot gap =
       by_start a (read_sheet s).layout d ds (λ (b : List ℕ). Demand3For (read_sheet s).layout b cs) start
-      (λ big ok low high. fresh_fits (read_sheet s).layout d ds a proper big ok low high slot packet gap cs fair)
+      (λ big ok low high. fresh_fits (read_sheet s).layout d ds a proper big ok low high slot gap cs fair)
 
   pub always : Always (read_sheet s).layout (started a (read_sheet s).layout d ds).octets cs
   always =
@@ -814,4 +814,4 @@ module _ (s : List ℕ) (octets : Octets s) (n : ℕ) (sheet : (read_sheet s).an
   pub demand_3 : fit_of (read_sheet s).layout ≡ accepted (1 ∷ [])
       → Demand3For (read_sheet s).layout (started a (read_sheet s).layout d ds).octets cs
   demand_3 e =
-      let q = fit_says (read_sheet s).layout (fit_yes_lem (read_sheet s).layout e) in three q.0 q.1.0 q.1.1
+      let q = fit_says (read_sheet s).layout (fit_yes_lem (read_sheet s).layout e) in three (omega (arith, q.0)) q.1

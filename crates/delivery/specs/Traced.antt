@@ -60,7 +60,7 @@ module _ (P : Net) (inp inq : ℕ → List (Offer P)) where
   ready_agree t h = ap₂ (offers P) (h t (omega arith)) (before_agree t (λ u l. h u (omega arith)))
 
 -- one offer more at clock t
-pub put : (P : Net) → (ℕ → List (Offer P)) → Offer P → ℕ → ℕ → List (Offer P)
+put : (P : Net) → (ℕ → List (Offer P)) → Offer P → ℕ → ℕ → List (Offer P)
 put P inp o t u = pick (eqb u t) (inp u ++ (o ∷ [])) (inp u)
 
 offers_snoc : (P : Net) (os : List (Offer P)) (o : Offer P) (w : World)
@@ -70,11 +70,11 @@ offers_snoc P [] o w = refl
 offers_snoc P (p ∷ os) o w = offers_snoc P os o (world.offer P p w)
 
 module _ (P : Net) (inp : ℕ → List (Offer P)) (o : Offer P) (t : ℕ) where
-  pub put_else : (u : ℕ) → (u ≡ t → ⊥) → put P inp o t u ≡ inp u
+  put_else : (u : ℕ) → (u ≡ t → ⊥) → put P inp o t u ≡ inp u
   unfolding put
   put_else u ne = rw (ne_eqb u t ne)
 
-  pub put_now : put P inp o t t ≡ inp t ++ (o ∷ [])
+  put_now : put P inp o t t ≡ inp t ++ (o ∷ [])
   unfolding put
   put_now = rw (eq-eqb t t refl)
 
@@ -518,40 +518,3 @@ traced_begin P b e p =
       over = λ u i n h. absurd (no_step u h);
       overs = λ v h. absurd (no_step v h);
     }
-
--- ---- an execution whose input is known
-
-pub record Known (P : Net) (inp : ℕ → List (Offer P)) (m : Moment) (T : List Moment) : Type 0 where
-  pub traced : Traced P m T
-  pub input : (u : ℕ) → traced.inp u ≡ inp u
-
-pub known_begin : (P : Net) (b : List ℕ) → Encodes P b (world.fresh P) → Passing b → Known P (λ u. []) (begin b) []
-unfolding traced_begin
-known_begin P b e p = record { traced = traced_begin P b e p; input = λ u. refl }
-
-pub known_step : (P : Net) (inp : ℕ → List (Offer P)) (m : Moment) (T : List Moment) → Known P inp m T
-    → clock_at m.area < last_clock → Known P inp (next m) (T ++ (m ∷ []))
-unfolding traced_step
-known_step P inp m T k h = record { traced = traced_step P m T k.traced h; input = k.input }
-
--- an offer that is accepted is one of the execution's
-pub known_offer : (P : Net) (inp : ℕ → List (Offer P)) (m : Moment) (T : List Moment) → Known P inp m T → (i : ℕ)
-    (d : List ℕ) (v : ℕ) (x : List ℕ) → FairOffer d v x → number_of (offered m.area i d v x).answer ≡ 0
-    → (o : Offer P) × (o.to ≡ i) × ((o.payload ≡ x)
-    × Known P (put P inp o (length T)) (accept i (frame_of d (address_at m.area i) v x)
-    (offered m.area i d v x).octets m) T)
-unfolding traced_offer asked put
-known_offer P inp m T k i d v x q e =
-    let t = k.traced in
-    let g = offer_taken m.area i d v x (ready_passes m.area t.here.passing) e in
-    let o = asked P m (ready P t.inp (length T)) t.here i d v x q g in (
-      o,
-      refl,
-      (
-        refl,
-        record {
-          traced = traced_offer P m T t i d v x q g;
-          input = λ u. ap (λ (l : List (Offer P)). pick (eqb u (length T)) (l ++ (o ∷ [])) l) (k.input u);
-        },
-      ),
-    )

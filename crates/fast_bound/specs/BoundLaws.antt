@@ -99,9 +99,9 @@ module _ (d : Deference) where
   unfolding own_busy
   own_busy_lem own e = rw e
 
-  pub own_gap_lem : (n : ℕ) (own : Bool) → d ≡ Gap n own → false ≡ own_busy d
+  pub own_gap : (n : ℕ) (own : Bool) → d ≡ Gap n own → false ≡ own_busy d
   unfolding own_busy
-  own_gap_lem n own e = rw e
+  own_gap n own e = rw e
 
 module _ (x : Transmitter) where
   pub sends_none : x ≡ NoFrame → false ≡ sends x

@@ -24,7 +24,7 @@ use Rattle.area.specs.CodeLaws.{space_is}
 use Rattle.bus_spec.specs.InPlace.{Spread}
 use Rattle.bus_meeting.specs.Net.{reaches, heard}
 use Rattle.bus_meeting.specs.Gather.{on, gathered_none, gathered_one, gathered_two}
-use Rattle.bus_meeting.specs.Reach.{reach_at_lem, reach_none}
+use Rattle.bus_meeting.specs.Reach.{reach_at, reach_none}
 use Rattle.fast_plan.specs.Plan.{net_of}
 use Rattle.fast_line.specs.Line.{bits_from, jams}
 use Rattle.fast_heard.specs.declared.Near.{Near}
@@ -296,7 +296,7 @@ module _ (a : List ℕ) (j s : ℕ) (sp : Spread (count_at a) a) (hj : j < count
       (λ e. let l = v.rest i hi ne nf e in let m = sp.near i j hi hj
       in absurd (omega (arith, begun_no w.d2 s c (omega arith))))
       (λ e. silent_off a i y e)))
-      ∙ ap alone (reach_at_lem (space_at a) (plan_of a) j s w.from (s - w.d1) f.other (omega arith))
+      ∙ ap alone (reach_at (space_at a) (plan_of a) j s w.from (s - w.d1) f.other (omega arith))
 
   -- where two are
   double : begun w.d2 s ≡ true → heard (net_of a) (plan_of a) j s ≡ Spoiled
@@ -312,9 +312,9 @@ module _ (a : List ℕ) (j s : ℕ) (sp : Spread (count_at a) a) (hj : j < count
       let gd = g.is in
       gathered_two (count_at a) (reaches (space_at a) (plan_of a) j s) w.from g.second f.station g.station
       g.apart
-      (ap on (reach_at_lem (space_at a) (plan_of a) j s w.from (s - w.d1) f.other (omega arith)) ∙ emitter_on a
+      (ap on (reach_at (space_at a) (plan_of a) j s w.from (s - w.d1) f.other (omega arith)) ∙ emitter_on a
       w.from (s - w.d1) f.emits)
-      (ap on (reach_at_lem (space_at a) (plan_of a) j s g.second (s - w.d2) g.other (omega arith)) ∙ emitter_on a
+      (ap on (reach_at (space_at a) (plan_of a) j s g.second (s - w.d2) g.other (omega arith)) ∙ emitter_on a
       g.second (s - w.d2) g.emits)
 
   -- "any symbol heard from two or more" is several: what is heard of the plan goes by the two nearest emitters

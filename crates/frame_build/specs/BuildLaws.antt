@@ -191,12 +191,12 @@ pub length_padded_max : (x : List ℕ) → length (padded x) ≡ max 46 (length 
 length_padded_max x = omega (arith, length_padded x)
 
 -- a frame is the data with their padding and eighteen octets more
-pub frame_size_lem : (d s : List ℕ) (v : ℕ) (x : List ℕ) → length d ≡ 6 → length s ≡ 6
+pub frame_size : (d s : List ℕ) (v : ℕ) (x : List ℕ) → length d ≡ 6 → length s ≡ 6
     → length (frame_of d s v x) ≡ max 46 (length x) + 18
-frame_size_lem d s v x hd hs = omega (arith, length_frame [] d s v x hd hs, length_padded x)
+frame_size d s v x hd hs = omega (arith, length_frame [] d s v x hd hs, length_padded x)
 
 -- the frame of data that are not refused is no longer than its value allows
 pub frame_within : (d s : List ℕ) (v : ℕ) (x : List ℕ) → length d ≡ 6 → length s ≡ 6 → refuses_data v (length x) ≡ false
     → length (frame_of d s v x) ≤ max_frame v
 frame_within d s v x hd hs h =
-    omega (arith, frame_size_lem d s v x hd hs, within v (length x) h, frame_room_lem v, frame_most v)
+    omega (arith, frame_size d s v x hd hs, within v (length x) h, frame_room_lem v, frame_most v)

@@ -19,7 +19,7 @@ use Rattle.frame_crc.specs.Division.{length_sequence}
 use Rattle.frame_build.specs.Limits.{max_length, min_type, tag_value, max_data, max_frame, refuses_value, refuses_data}
 use Rattle.frame_build.specs.Build.{header, padded, covered, frame_of, built}
 use Rattle.frame_build.specs.BuildLaws.{length_header, length_padded, length_frame, length_padded_max}
-use Rattle.frame_build.specs.BuildLaws.{frame_size_lem, frame_within, frame_most, frame_plain}
+use Rattle.frame_build.specs.BuildLaws.{frame_size, frame_within, frame_most, frame_plain}
 use Rattle.frame_open.specs.Open.{destination_of, source_of, value_of, data_field, receive_oK, Opening, check_wrong}
 use Rattle.frame_open.specs.Open.{length_wrong, client_size, unpadded, opened}
 
@@ -153,7 +153,7 @@ pub opens_frame : (d s : List ℕ) (v : ℕ) (x : List ℕ) (e : ℕ) → length
 unfolding opened
 opens_frame d s v x e hd hs hv h he =
     let m : length (frame_of d s v x) ≤ max_frame v = frame_within d s v x hd hs h in
-    let w : 64 ≤ length (frame_of d s v x) = omega (arith, frame_size_lem d s v x hd hs) in
+    let w : 64 ≤ length (frame_of d s v x) = omega (arith, frame_size d s v x hd hs) in
     record {
       opens = rw (
         le-ltb 7 e he,

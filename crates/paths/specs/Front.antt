@@ -58,7 +58,7 @@ use Rattle.bus_spec.specs.Range.{held_small}
 use Rattle.bus_spec.specs.Ready.{Readiness, kept_at}
 use Rattle.bus_spec.specs.Passes.{Passing, ready_passes}
 use Rattle.bus_spec.specs.Stays.{layout_by, step_length, step_clock, step_passing}
-use Rattle.bus_spec.specs.Run.{tallied, stops, Ran, run_of, ran}
+use Rattle.bus_spec.specs.Run.{tallied, stops, run_of, ran}
 use Rattle.bus_offer.specs.Offer.{holds, offered_station, with_held, with_offered, with_offer, offered}
 use Rattle.bus_offer.specs.OfferLaws.{address_six}
 use Rattle.bus_step.specs.Step.{stepped_once}
@@ -120,7 +120,7 @@ module _ (z : List ℕ) where
     plan_front : Keeps layout (b ++ z) b
     plan_front = piece_front b the_layout (omega arith)
 
-    pub clock_front : clock_at (b ++ z) ≡ clock_at b
+    clock_front : clock_at (b ++ z) ≡ clock_at b
     clock_front = clock_by (b ++ z) b (piece_front b the_clock (omega arith))
 
     depth_front : depth_at (b ++ z) ≡ depth_at b
@@ -129,7 +129,7 @@ module _ (z : List ℕ) where
     figures_front : figures_at (b ++ z) ≡ figures_at b
     figures_front = figures_by (b ++ z) b plan_front
 
-    pub count_front : count_at (b ++ z) ≡ count_at b
+    count_front : count_at (b ++ z) ≡ count_at b
     count_front = count_by (b ++ z) b plan_front
 
     layout_front : layout_at (b ++ z) ≡ layout_at b
@@ -139,13 +139,13 @@ module _ (z : List ℕ) where
       address_front : address_at (b ++ z) i ≡ address_at b i
       address_front = address_by (b ++ z) b i hi long big plan_front
 
-      pub counters_front : counters_at (b ++ z) i ≡ counters_at b i
+      counters_front : counters_at (b ++ z) i ≡ counters_at b i
       counters_front = counters_by (b ++ z) b i (piece_front b (the_counters i) (omega arith))
 
       record_front : record_at (b ++ z) i ≡ record_at b i
       record_front = record_by (b ++ z) b i (piece_front b (the_station i) (omega arith))
 
-      pub station_front : station_at (b ++ z) i ≡ station_at b i
+      station_front : station_at (b ++ z) i ≡ station_at b i
       station_front = station_by (b ++ z) b i hi long big plan_front (piece_front b (the_station i) (omega arith))
 
       frame_front : (n : ℕ) → n ≤ frame_room → frame_at (b ++ z) i n ≡ frame_at b i n
@@ -202,9 +202,9 @@ module _ (z : List ℕ) where
     clock_put t = put_front 4 b 0 t (omega arith)
 
     module _ (i : ℕ) (hi : i < max_stations) where
-      counters_put_lem : (cs : List ℕ) → with_counters (b ++ z) i cs ≡ with_counters b i cs ++ z
+      counters_put : (cs : List ℕ) → with_counters (b ++ z) i cs ≡ with_counters b i cs ++ z
       unfolding with_counters
-      counters_put_lem cs = words_front counter_count b (from (the_counters i)) cs (omega arith)
+      counters_put cs = words_front counter_count b (from (the_counters i)) cs (omega arith)
 
       station_put_lem : (s : Station) → with_station (b ++ z) i s ≡ with_station b i s ++ z
       unfolding with_station
@@ -235,7 +235,7 @@ module _ (z : List ℕ) where
       unfolding with_counted
       counted_put o =
           by_test (happened o)
-          (λ e. rw (e, counters_front i hi) (counters_put_lem (counted (counters_at b i) o)))
+          (λ e. rw (e, counters_front i hi) (counters_put (counted (counters_at b i) o)))
           (λ e. rw e)
 
       send_put : (t j : ℕ) (s : Symbol) → j < max_stations → send_to t j s i (b ++ z) ≡ send_to t j s i b ++ z
@@ -328,19 +328,8 @@ module _ (z : List ℕ) where
         (filled_same no_events (λ i. events_of (act_at (b ++ z) i)) (λ i. events_of (act_at b i)) (count_at b)
         (λ i h. ap events_of (act_front i h)))
 
-  -- what a run leaves, with z after its area
-  abbrev pub longer : Ran → Ran
-  longer r =
-      record {
-        answer = r.answer;
-        steps = r.steps;
-        words = r.words;
-        ended = r.ended;
-        octets = r.octets ++ z;
-      }
-
   run_front : (k m : ℕ) (ws b : List ℕ) → Passing b → clock_at b + k ≤ last_clock
-      → run_of k m ws (b ++ z) ≡ longer (run_of k m ws b)
+      → (run_of k m ws (b ++ z)).octets ≡ (run_of k m ws b).octets ++ z
   unfolding run_of
   run_front zero m ws b p h = refl
   run_front (suc k) m ws b p h =
@@ -364,7 +353,7 @@ module _ (z : List ℕ) where
   counted_offer_put : (b : List ℕ) (i : ℕ) → area_size ≤ length b → i < max_stations
       → with_offered (b ++ z) i ≡ with_offered b i ++ z
   unfolding with_offered
-  counted_offer_put b i big hi = rw (counters_front b big i hi) (counters_put_lem b big i hi _)
+  counted_offer_put b i big hi = rw (counters_front b big i hi) (counters_put b big i hi _)
 
   offer_put : (b : List ℕ) (i : ℕ) (d : List ℕ) (v : ℕ) (x : List ℕ) → area_size ≤ length b → i < max_stations
       → length (frame_of d (address_at b i) v x) ≤ frame_room → with_offer (b ++ z) i d v x ≡ with_offer b i d v x ++ z
@@ -384,7 +373,7 @@ module _ (z : List ℕ) where
     ok : area_refusal b ≡ 0
     ok = ready_passes b p
 
-    pub offered_front : (i : ℕ) (d : List ℕ) (v : ℕ) (x : List ℕ) → length d ≡ 6
+    offered_front : (i : ℕ) (d : List ℕ) (v : ℕ) (x : List ℕ) → length d ≡ 6
         → (offered (b ++ z) i d v x).octets ≡ (offered b i d v x).octets ++ z
     unfolding offered
     offered_front i d v x six =
@@ -408,7 +397,7 @@ module _ (z : List ℕ) where
         rw (refusal_front b big, eq-eqb (area_refusal b) 0 ok, clock_front b big)
         (by_test (ltb last_clock (clock_at b + 1)) (λ c. rw c) (λ c. rw c (step_front b p.ready)))
 
-    pub ran_front : (n : ℕ) → ran (b ++ z) n ≡ longer (ran b n)
+    ran_front : (n : ℕ) → (ran (b ++ z) n).octets ≡ (ran b n).octets ++ z
     unfolding ran
     ran_front n =
         let big = p.ready.long in
@@ -419,7 +408,7 @@ module _ (z : List ℕ) where
     pub called_front : (c : Call) → Fair c → called c (b ++ z) ≡ called c b ++ z
     called_front (offer i d v x) f = offered_front i d v x f.six
     called_front step f = stepped_front
-    called_front (run n) f = ap (λ (r : Ran). r.octets) (ran_front n)
+    called_front (run n) f = ran_front n
     called_front (read i out) f = refl
 
   -- ---- a fresh start
@@ -508,7 +497,7 @@ run_keeps (suc k) m ws b p h =
     by_test (stops (events_at b)) (λ e. rw e (q, l)) (λ e. rw e (r.0, r.1 ∙ l))
 
 module _ (b : List ℕ) (p : Passing b) where
-  pub ran_keeps : (n : ℕ) → Passing (ran b n).octets × (length (ran b n).octets ≡ length b)
+  ran_keeps : (n : ℕ) → Passing (ran b n).octets × (length (ran b n).octets ≡ length b)
   unfolding ran
   ran_keeps n =
       rw (eq-eqb (area_refusal b) 0 (ready_passes b p))

@@ -8,8 +8,8 @@ use Rattle.sheet_layout.specs.Layout.{tap_at, gap_of, span_of}
 use Rattle.sheet_layout.specs.Check.{gap1_out, figures_out, address_wrong, refusal_of}
 use Rattle.sheet_read.specs.Sheet.{field_at, field, figures_in, tap_in, layout_in, sheet_size, read_sheet}
 use Rattle.plan_draws.specs.Draws.{blank_row, draw_in, row_in, draws_in}
-use Rattle.plan_read.specs.Plan.{name_size, offer_name, offer_place, draws_wrong, time_before, offers_wrong}
-use Rattle.plan_read.specs.Plan.{plan_wrong, names_wrong, last_refusal, after_sheet, plan_refusal, Planned, plan_as_read}
+use Rattle.plan_read.specs.Plan.{offer_place, draws_wrong, time_before, offers_wrong, plan_wrong, last_refusal}
+use Rattle.plan_read.specs.Plan.{after_sheet, plan_refusal, Planned, plan_as_read}
 
 sheet : List ℕ
 sheet = 0 ∷ 2 ∷ 0 ∷ 2 ∷ 0 ∷ 0 ∷ 0 ∷ 0 ∷ 1 ∷ 10 ∷ 2 ∷ 0 ∷ 0 ∷ 0 ∷ 0 ∷ 2 ∷ []
@@ -25,12 +25,6 @@ offer t i k = 0 ∷ 0 ∷ 0 ∷ t ∷ i ∷ 2 ∷ 0 ∷ 0 ∷ 0 ∷ 0 ∷ k ∷ 
 input : (d t high : ℕ) → List ℕ
 input d t high = sheet ++ draws d ++ (0 ∷ 2 ∷ []) ++ offer t 0 2 ++ offer 0 1 1 ++ (high ∷ 0 ∷ 5 ∷ 220 ∷ [])
 
--- the same with names: the top bit of the count stands, and the offers end in the names j and k
-named : (t high j k : ℕ) → List ℕ
-named t high j k =
-    sheet ++ draws 1 ++ (128 ∷ 2 ∷ []) ++ offer t 0 2 ++ (0 ∷ j ∷ []) ++ offer 0 1 1 ++ (0 ∷ k ∷ [])
-    ++ (high ∷ 0 ∷ 5 ∷ 220 ∷ [])
-
 rows :
     map plan_refusal
     -- the whole case, 149 octets
@@ -40,14 +34,9 @@ rows :
     -- cut in the offer count, in an offer, in the bit times; one octet left over; a time that falls
     ∷ take 22 (input 1 0 0) ∷ take 90 (input 1 0 0) ∷ take 148 (input 1 0 0) ∷ (input 1 0 0 ++ (0 ∷ [])) ∷ input 1 1 0
     -- too many bit times, and then with one octet left over
-    ∷ input 1 0 2 ∷ (input 1 0 2 ++ (0 ∷ []))
-    -- no names, the second offer after the first; an own number, one above it, one over the count
-    ∷ named 0 0 0 0 ∷ named 0 0 0 1 ∷ named 0 0 1 0 ∷ named 0 0 0 2 ∷ named 0 0 2 0 ∷ named 0 0 0 3
-    -- 16 before 19, 19 before 13
-    ∷ named 1 0 0 2 ∷ (named 0 0 0 2 ++ (0 ∷ [])) ∷ named 0 2 0 2 ∷ named 0 2 0 1 ∷ [])
-    ≡ 0 ∷ 3 ∷ 9 ∷ 9 ∷ 9 ∷ 9 ∷ 16 ∷ 16 ∷ 16 ∷ 16 ∷ 16 ∷ 13 ∷ 16
-    ∷ 0 ∷ 0 ∷ 19 ∷ 19 ∷ 19 ∷ 19 ∷ 16 ∷ 16 ∷ 19 ∷ 13 ∷ []
-unfolding sheet draws offer input named some outside equal get listed filled tap_at gap_of span_of gap1_out figures_out address_wrong refusal_of field_at field figures_in tap_in layout_in sheet_size read_sheet name_size offer_name offer_place draws_wrong time_before offers_wrong plan_wrong names_wrong last_refusal after_sheet plan_refusal
+    ∷ input 1 0 2 ∷ (input 1 0 2 ++ (0 ∷ [])) ∷ [])
+    ≡ 0 ∷ 3 ∷ 9 ∷ 9 ∷ 9 ∷ 9 ∷ 16 ∷ 16 ∷ 16 ∷ 16 ∷ 16 ∷ 13 ∷ 16 ∷ []
+unfolding sheet draws offer input some outside equal get listed filled tap_at gap_of span_of gap1_out figures_out address_wrong refusal_of field_at field figures_in tap_in layout_in sheet_size read_sheet offer_place draws_wrong time_before offers_wrong plan_wrong last_refusal after_sheet plan_refusal
 rows = refl
 
 -- what is read of the whole case: D, where the draws begin, two offers, where the first begins, 1500 bit times; and the
@@ -56,7 +45,7 @@ numbers : Planned → List ℕ
 numbers r = r.depth ∷ r.drawn ∷ r.offers ∷ r.first ∷ r.times ∷ []
 
 whole_case : numbers (plan_as_read (input 1 0 0)) ≡ 1 ∷ 17 ∷ 2 ∷ 23 ∷ 1500 ∷ []
-unfolding sheet draws offer input some outside equal get listed filled tap_at gap_of span_of gap1_out figures_out address_wrong refusal_of field_at field figures_in tap_in layout_in sheet_size read_sheet name_size offer_name offer_place draws_wrong time_before offers_wrong plan_wrong names_wrong last_refusal after_sheet plan_refusal numbers plan_as_read
+unfolding sheet draws offer input some outside equal get listed filled tap_at gap_of span_of gap1_out figures_out address_wrong refusal_of field_at field figures_in tap_in layout_in sheet_size read_sheet offer_place draws_wrong time_before offers_wrong plan_wrong last_refusal after_sheet plan_refusal numbers plan_as_read
 whole_case = refl
 
 whole_draws : draws_in (input 1 0 0) 17 2 1 ≡ blank_row ∷ (1 ∷ replicate 15 0) ∷ replicate 14 blank_row

@@ -1,6 +1,6 @@
 -- Reading a run input (document 01, "The run program"): l are its octets, "all high octet first".
 -- The laws are in PlanLaws. Assumes nothing.
-use Rattle.std.specs.Prelude.{ℕ, zero, suc, ◌+◌, ◌*◌, ◌%◌, Bool, false, ◌||◌, not, List, [], ◌∷◌, ltb, leb, eqb, length, get_or}
+use Rattle.std.specs.Prelude.{ℕ, zero, suc, ◌+◌, ◌*◌, Bool, ◌||◌, not, List, [], ltb, eqb, length, get_or}
 use Rattle.octets.specs.Base.{pick, some, outside, Answer, refused, accepted, number_of}
 use Rattle.octets.specs.Number.{get}
 use Rattle.octets.specs.Store.{part}
@@ -25,13 +25,9 @@ depth_in l u = get_or l u 0
 abbrev pub offers_place : List ℕ → (u n : ℕ) → ℕ
 offers_place l u n = u + 1 + 2 * (n * depth_in l u)
 
--- the number of offers, where it stands at c. N12: "If the top bit of a plan's offer count stands, the other bits are
--- the count"
-abbrev pub names_in : List ℕ → (c : ℕ) → Bool
-names_in l c = leb 32768 (get 2 l c)
-
+-- the number of offers, where it stands at c
 abbrev pub offers_in : List ℕ → (c : ℕ) → ℕ
-offers_in l c = get 2 l c % 32768
+offers_in l c = get 2 l c
 
 -- "per offer time (4), station (1), destination (6), value (2), size (2), data": the offer that begins at p
 abbrev pub offer_time : List ℕ → (p : ℕ) → ℕ
@@ -52,64 +48,25 @@ offer_size l p = get 2 l (p + 13)
 unfoldable pub offer_data : List ℕ → (p size : ℕ) → List ℕ
 offer_data l p size = part l (p + 15) size
 
--- "and each offer ends in two octets": the octets of a name, where b says whether the plan has names
-unfoldable pub name_size : Bool → ℕ
-name_size b = pick b 2 0
-
--- "0, or the number, counted from 1, of an earlier offer"; where the plan has no names, 0
-unfoldable pub offer_name : List ℕ → (b : Bool) (p : ℕ) → ℕ
-offer_name l b p = pick b (get 2 l (p + 15 + offer_size l p)) 0
-
--- its fixed fields, and its name
-unfoldable pub offer_in : List ℕ → (b : Bool) (p : ℕ) → Offered
-offer_in l b p =
+-- its fixed fields
+unfoldable pub offer_in : List ℕ → (p : ℕ) → Offered
+offer_in l p =
     record {
       time = offer_time l p;
       station = offer_station l p;
       destination = offer_destination l p;
       value = offer_value l p;
       size = offer_size l p;
-      name = offer_name l b p;
     }
-
--- where the offer after the one at p begins
-abbrev pub next_offer : List ℕ → (b : Bool) (p : ℕ) → ℕ
-next_offer l b p = p + 15 + offer_size l p + name_size b
 
 -- where offer k begins, of those from octet `at` on
-unfoldable pub offer_place : List ℕ → (b : Bool) (at k : ℕ) → ℕ
-offer_place l b at zero = at
-offer_place l b at (suc k) = next_offer l b (offer_place l b at k)
-
--- An offer as the plan gives it, with no octet places: its time, station, destination, value, data, and its name.
-pub record PlannedOffer : Type 0 where
-  pub time : ℕ
-  pub station : ℕ
-  pub destination : List ℕ
-  pub value : ℕ
-  pub payload : List ℕ
-  pub name : ℕ
-
--- the offer that begins at p
-unfoldable pub offer_at : List ℕ → (b : Bool) (p : ℕ) → PlannedOffer
-offer_at l b p =
-    record {
-      time = offer_time l p;
-      station = offer_station l p;
-      destination = offer_destination l p;
-      value = offer_value l p;
-      payload = offer_data l p (offer_size l p);
-      name = offer_name l b p;
-    }
-
--- the offers of a plan, n of them from octet p on, in plan order
-unfoldable pub offers_of : List ℕ → (b : Bool) (p n : ℕ) → List PlannedOffer
-offers_of l b p zero = []
-offers_of l b p (suc n) = offer_at l b p ∷ offers_of l b (next_offer l b p) n
+unfoldable pub offer_place : List ℕ → (at k : ℕ) → ℕ
+offer_place l at zero = at
+offer_place l at (suc k) = offer_place l at k + 15 + offer_size l (offer_place l at k)
 
 -- "bit times (4), one run over all offers": where they stand, after the offers, and their number
 abbrev pub times_place : List ℕ → (c : ℕ) → ℕ
-times_place l c = offer_place l (names_in l c) (c + 2) (offers_in l c)
+times_place l c = offer_place l (c + 2) (offers_in l c)
 
 abbrev pub times_in : List ℕ → (c : ℕ) → ℕ
 times_in l c = get 4 l (times_place l c)
@@ -122,36 +79,26 @@ draws_wrong l u n = ltb (length l) (u + 1) || (outside (depth_in l u) 1 16 || lt
 
 -- "offer times that fall": the time before offer k's, 0 before the first; whether one of the first n is less than the
 -- one before it
-unfoldable pub time_before : List ℕ → (b : Bool) (at k : ℕ) → ℕ
-time_before l b at zero = 0
-time_before l b at (suc k) = offer_time l (offer_place l b at k)
+unfoldable pub time_before : List ℕ → (at k : ℕ) → ℕ
+time_before l at zero = 0
+time_before l at (suc k) = offer_time l (offer_place l at k)
 
-abbrev pub time_falls : List ℕ → (b : Bool) (at k : ℕ) → Bool
-time_falls l b at k = ltb (offer_time l (offer_place l b at k)) (time_before l b at k)
+abbrev pub time_falls : List ℕ → (at k : ℕ) → Bool
+time_falls l at k = ltb (offer_time l (offer_place l at k)) (time_before l at k)
 
 -- "is short, has octets left over .. or offer times that fall": n offers from octet `at` on, and the bit times
-unfoldable pub offers_wrong : List ℕ → (b : Bool) (at n : ℕ) → Bool
-offers_wrong l b at n = some (time_falls l b at) n || not (eqb (length l) (offer_place l b at n + 4))
+unfoldable pub offers_wrong : List ℕ → (at n : ℕ) → Bool
+offers_wrong l at n = some (time_falls l at) n || not (eqb (length l) (offer_place l at n + 4))
 
 -- 16: "The plan is over 16,384 octets with its sheet, is short, has octets left over, over 64 offers, or offer times
 -- that fall."
 unfoldable pub plan_wrong : List ℕ → (c : ℕ) → Bool
 plan_wrong l c =
-    ltb 16384 (length l)
-    || (ltb (length l) (c + 2) || (ltb 64 (offers_in l c) || offers_wrong l (names_in l c) (c + 2) (offers_in l c)))
-
--- 19: "an offer that names its own number or any above it": of n offers from octet `at` on; offer k has number k + 1
-abbrev pub names_ahead : List ℕ → (b : Bool) (at k : ℕ) → Bool
-names_ahead l b at k = ltb k (offer_name l b (offer_place l b at k))
-
-unfoldable pub names_wrong : List ℕ → (b : Bool) (at n : ℕ) → Bool
-names_wrong l b at n = some (names_ahead l b at) n
+    ltb 16384 (length l) || (ltb (length l) (c + 2) || (ltb 64 (offers_in l c) || offers_wrong l (c + 2) (offers_in l c)))
 
 -- 13: "Clock plus the bit times asked exceeds 16,777,216. A run input makes this check last."
 unfoldable pub last_refusal : List ℕ → (c : ℕ) → ℕ
-last_refusal l c =
-    pick (plan_wrong l c) 16
-    (pick (names_wrong l (names_in l c) (c + 2) (offers_in l c)) 19 (pick (ltb last_clock (times_in l c)) 13 0))
+last_refusal l c = pick (plan_wrong l c) 16 (pick (ltb last_clock (times_in l c)) 13 0)
 
 unfoldable pub after_sheet : List ℕ → (u n : ℕ) → ℕ
 after_sheet l u n = pick (draws_wrong l u n) 9 (last_refusal l (offers_place l u n))
@@ -167,7 +114,7 @@ plan_refusal l = pick (eqb (sheet_refusal l) 0) (after_sheet l (sheet_size l) (c
 -- ---- reading
 
 -- what reading gives: the answer, the layout, D, where the draws begin, the number of offers, where the first begins,
--- whether they have names, and the bit times. The draws are drawsIn of that place, N and D; the offers are offersOf
+-- and the bit times. The draws are drawsIn of that place, N and D
 pub record Planned : Type 0 where
   pub answer : Answer
   pub layout : Layout
@@ -175,22 +122,12 @@ pub record Planned : Type 0 where
   pub drawn : ℕ
   pub offers : ℕ
   pub first : ℕ
-  pub named : Bool
   pub times : ℕ
 
 -- all blank with a refusal
 abbrev pub unplanned : ℕ → Planned
 unplanned n =
-    record {
-      answer = refused n;
-      layout = blank_layout;
-      depth = 0;
-      drawn = 0;
-      offers = 0;
-      first = 0;
-      named = false;
-      times = 0;
-    }
+    record { answer = refused n; layout = blank_layout; depth = 0; drawn = 0; offers = 0; first = 0; times = 0 }
 
 -- of layout y and D, the draws from octet `at` on, and the offer count at c
 abbrev pub whole_of : List ℕ → Layout → (d at c : ℕ) → Planned
@@ -202,7 +139,6 @@ whole_of l y d at c =
       drawn = at;
       offers = offers_in l c;
       first = c + 2;
-      named = names_in l c;
       times = times_in l c;
     }
 
@@ -231,6 +167,5 @@ plan_reading r =
       drawn = r.drawn;
       offers = r.offers;
       first = r.first;
-      named = r.named;
       times = r.times;
     }

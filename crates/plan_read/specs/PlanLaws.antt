@@ -1,12 +1,9 @@
 -- A law for each way through the reader of run inputs. Assumes nothing.
-use Prim.Native.Nat.{ℕ, zero, suc, ◌+◌, ◌-◌, ◌*◌, ◌%◌, ◌≤◌, ◌<◌}
-use Rattle.std.specs.Prelude.{◌≡◌, Bool, ◌||◌, List, [], ◌∷◌, leb, eqb, get_or, take, drop}
-use Rattle.std.proofs.Math.Path.{refl, sym, ap, ap₂}
-use Rattle.std.proofs.Common.{◌∙◌, mul-le-mul, add-one}
+use Rattle.std.specs.Prelude.{ℕ, zero, suc, ◌+◌, ◌-◌, ◌*◌, ◌≤◌, ◌<◌, ◌≡◌, Bool, ◌||◌, List, [], ◌∷◌, ltb, eqb, get_or, take, drop}
+use Rattle.std.proofs.Math.Path.{refl, sym, ap}
+use Rattle.std.proofs.Common.{◌∙◌, ap₂, mul-le-mul, add-one, arith}
 use Rattle.std.proofs.Math.Bool.{true, false, not, or-true}
-use native.Mathlib.Omega.{arith}
 use borrow.Author.Tests.{lt-ltb, le-ltb, eq-eqb, ne_eqb, ltb-false, eqb-true, eqb-false}
-use Rattle.std.proofs.Math.Dec.{ltb}
 use Rattle.std.proofs.Math.ListN.{length}
 use Rattle.octets.specs.Base.{pick, some, outside, Answer, refused, accepted, number_of, values_of}
 use Rattle.octets.specs.BaseLaws.{neither, some_more, some_hit, within}
@@ -19,9 +16,8 @@ use Rattle.sheet_read.specs.declared.SheetRead.TheVariants as sheets
 use Rattle.sheet_read.specs.Sheet.{map_of, stands, layout_in, sheet_size, Reading, unread, read_sheet, sheet_answer}
 use Rattle.sheet_read.specs.Sheet.{sheet_reading}
 use Rattle.sheet_read.specs.SheetTheorems.{Read, read_sound}
-use Rattle.plan_read.specs.Plan.{names_in, offers_in, offer_data, name_size, offer_name, offer_in, next_offer, offer_place}
-use Rattle.plan_read.specs.Plan.{times_place, times_in, draws_wrong, time_before, time_falls, offers_wrong, plan_wrong}
-use Rattle.plan_read.specs.Plan.{names_ahead, names_wrong, last_refusal, after_sheet}
+use Rattle.plan_read.specs.Plan.{offers_in, offer_data, offer_in, offer_place, times_place, times_in, draws_wrong}
+use Rattle.plan_read.specs.Plan.{time_before, time_falls, offers_wrong, plan_wrong, last_refusal, after_sheet}
 use Rattle.plan_read.specs.Plan.{sheet_refusal, plan_refusal, Planned, unplanned, whole_of, whole_from, unless}
 use Rattle.plan_read.specs.Plan.{plan_as_read}
 use Rattle.sheet_layout.specs.Limits.{last_clock, max_stations}
@@ -32,35 +28,12 @@ few n d b p q r = mul-le-mul p (within d 1 16 (sym q ∙ r)).1
 
 -- ---- an offer
 
-pub name_none : (l : List ℕ) (p : ℕ) (b : Bool) → b ≡ false → 0 ≡ offer_name l b p
-unfolding offer_name
-name_none l p b h = rw h
-
-pub name_is : (l : List ℕ) (p z n : ℕ) (b : Bool) → b ≡ true → z ≡ get 2 l (p + 13) → n ≡ get 2 l (p + 15 + z)
-    → n ≡ offer_name l b p
-unfolding offer_name
-name_is l p z n b h e q = rw (h, ← e) q
-
-pub name_fits : (l : List ℕ) (p z : ℕ) (b : Bool) → b ≡ true → p + 15 + z + name_size b ≤ length l
-    → p + 15 + z + 2 ≤ length l
-unfolding name_size
-name_fits l p z b h q = rw h at q
-
-pub size_two : (b : Bool) → b ≡ true → 2 ≡ name_size b
-unfolding name_size
-size_two b h = rw h
-
-pub size_none : (b : Bool) → b ≡ false → 0 ≡ name_size b
-unfolding name_size
-size_none b h = rw h
-
-pub offer_in_lem : (l a : List ℕ) (b : Bool) (at t s v z n : ℕ) → n ≡ offer_name l b at → z ≡ get 2 l (at + 13)
-    → v ≡ get 2 l (at + 11) → a ≡ part l (at + 5) 6
+pub offer_in_lem : (l a : List ℕ) (at t s v z : ℕ) → z ≡ get 2 l (at + 13) → v ≡ get 2 l (at + 11) → a ≡ part l (at + 5) 6
     → s ≡ get_or l (at + 4) 0 → t ≡ get 4 l at
-    → record { time = t; station = s; destination = a; value = v; size = z; name = n } ≡ offer_in l b at
+    → record { time = t; station = s; destination = a; value = v; size = z } ≡ offer_in l at
 unfolding offer_in
-offer_in_lem l a b at t s v z n pn pz pv pa ps pt =
-    λ i. record { time = pt i; station = ps i; destination = pa i; value = pv i; size = pz i; name = pn i }
+offer_in_lem l a at t s v z pz pv pa ps pt =
+    λ i. record { time = pt i; station = ps i; destination = pa i; value = pv i; size = pz i }
 
 pub data_is : (l : List ℕ) (at size : ℕ) → take (at + 15 + size - (at + 15)) (drop (at + 15) l) ≡ offer_data l at size
 unfolding offer_data
@@ -68,138 +41,83 @@ data_is l at size = let e : at + 15 + size - (at + 15) ≡ size = omega arith in
 
 -- ---- the walk over the offers
 
-module _ (l : List ℕ) (b : Bool) where
-  offers_rise : (at k d : ℕ) → offer_place l b at k ≤ offer_place l b at (d + k)
-  unfolding offer_place
-  offers_rise at k zero = let e : 0 + k ≡ k = omega arith in rw e (omega arith)
-  offers_rise at k (suc d) = let e : suc d + k ≡ suc (d + k) = omega arith in rw e (omega (arith, offers_rise at k d))
+offers_rise : (l : List ℕ) (at k d : ℕ) → offer_place l at k ≤ offer_place l at (d + k)
+unfolding offer_place
+offers_rise l at k zero = let e : 0 + k ≡ k = omega arith in rw e (omega arith)
+offers_rise l at k (suc d) = let e : suc d + k ≡ suc (d + k) = omega arith in rw e (omega (arith, offers_rise l at k d))
 
-  pub offer_next : (at k : ℕ)
-      → offer_place l b at (suc k) ≡ offer_place l b at k + 15 + get 2 l (offer_place l b at k + 13) + name_size b
-  unfolding offer_place
-  offer_next at k = refl
+pub offer_next : (l : List ℕ) (at k : ℕ)
+    → offer_place l at (suc k) ≡ offer_place l at k + 15 + get 2 l (offer_place l at k + 13)
+unfolding offer_place
+offer_next l at k = refl
 
-  pub past : (at k n : ℕ) → k < n → offer_place l b at (suc k) ≤ offer_place l b at n
-  past at k n h =
-      let e : (n - suc k) + suc k ≡ n = omega arith in
-      rw e at (offers_rise at (suc k) (n - suc k))
+pub past : (l : List ℕ) (at k n : ℕ) → k < n → offer_place l at (suc k) ≤ offer_place l at n
+past l at k n h =
+    let e : (n - suc k) + suc k ≡ n = omega arith in
+    rw e at (offers_rise l at (suc k) (n - suc k))
 
-  size_wrong : (at n : ℕ) → (length l ≡ offer_place l b at n + 4 → ⊥) → true ≡ offers_wrong l b at n
-  unfolding offers_wrong
-  size_wrong at n h = rw (ne_eqb (length l) (offer_place l b at n + 4) h) (sym (or-true (some (time_falls l b at) n)))
+size_wrong : (l : List ℕ) (at n : ℕ) → (length l ≡ offer_place l at n + 4 → ⊥) → true ≡ offers_wrong l at n
+unfolding offers_wrong
+size_wrong l at n h = rw (ne_eqb (length l) (offer_place l at n + 4) h) (sym (or-true (some (time_falls l at) n)))
 
-  pub walk_first : (at : ℕ) → at ≡ offer_place l b at 0
-  unfolding offer_place
-  walk_first at = refl
+pub walk_first : (l : List ℕ) (at : ℕ) → at ≡ offer_place l at 0
+unfolding offer_place
+walk_first l at = refl
 
-  pub walk_zero : (at : ℕ) → 0 ≡ time_before l b at 0
-  unfolding time_before
-  walk_zero at = refl
+pub walk_zero : (l : List ℕ) (at : ℕ) → 0 ≡ time_before l at 0
+unfolding time_before
+walk_zero l at = refl
 
-  pub walk_short : (at n k p : ℕ) → p ≡ offer_place l b at k → k < n → p ≤ length l → length l - p < 15
-      → true ≡ offers_wrong l b at n
-  walk_short at n k p e h g w = size_wrong at n (λ q. omega (arith, past at k n h, offer_next at k))
+pub walk_short : (l : List ℕ) (at n k p : ℕ) → p ≡ offer_place l at k → k < n → p ≤ length l → length l - p < 15
+    → true ≡ offers_wrong l at n
+walk_short l at n k p e h g w = size_wrong l at n (λ q. omega (arith, past l at k n h, offer_next l at k))
 
-  pub walk_falls : (at n k p t x : ℕ) → p ≡ offer_place l b at k → k < n → t ≡ get 4 l p → x ≡ time_before l b at k
-      → t < x → true ≡ offers_wrong l b at n
-  unfolding offers_wrong
-  walk_falls at n k p t x e h q r w =
-      let f : ltb t x ≡ time_falls l b at k = ap₂ ltb (q ∙ ap (get 4 l) e) r in
-      rw (← some_hit (time_falls l b at) n k (ltb t x) f (lt-ltb t x w) h)
+pub walk_falls : (l : List ℕ) (at n k p t b : ℕ) → p ≡ offer_place l at k → k < n → t ≡ get 4 l p → b ≡ time_before l at k
+    → t < b → true ≡ offers_wrong l at n
+unfolding offers_wrong
+walk_falls l at n k p t b e h q r w =
+    let f : ltb t b ≡ time_falls l at k = ap₂ ltb (q ∙ ap (get 4 l) e) r in
+    rw (← some_hit (time_falls l at) n k (ltb t b) f (lt-ltb t b w) h)
 
-  pub walk_cut : (at n k p z x : ℕ) → p ≡ offer_place l b at k → k < n → z ≡ get 2 l (p + 13) → x ≡ name_size b
-      → 15 ≤ length l - p
-      → length l - p - 15 < z + x → true ≡ offers_wrong l b at n
-  walk_cut at n k p z x e h q r g w =
-      let f : z ≡ get 2 l (offer_place l b at k + 13) = q ∙ ap (λ (x : ℕ). get 2 l (x + 13)) e in
-      size_wrong at n (λ v. omega (arith, past at k n h, offer_next at k))
+pub walk_cut : (l : List ℕ) (at n k p z : ℕ) → p ≡ offer_place l at k → k < n → z ≡ get 2 l (p + 13) → 15 ≤ length l - p
+    → length l - p - 15 < z → true ≡ offers_wrong l at n
+walk_cut l at n k p z e h q g w =
+    let f : z ≡ get 2 l (offer_place l at k + 13) = q ∙ ap (λ (x : ℕ). get 2 l (x + 13)) e in
+    size_wrong l at n (λ v. omega (arith, past l at k n h, offer_next l at k))
 
-  pub walk_place : (at k p z x : ℕ) → p ≡ offer_place l b at k → z ≡ get 2 l (p + 13) → x ≡ name_size b
-      → p + 15 + z + x ≡ offer_place l b at (k + 1)
-  walk_place at k p z x e q r =
-      let f : z ≡ get 2 l (offer_place l b at k + 13) = q ∙ ap (λ (x : ℕ). get 2 l (x + 13)) e in
-      rw (add-one k) (omega (arith, offer_next at k))
+pub walk_place : (l : List ℕ) (at k p z : ℕ) → p ≡ offer_place l at k → z ≡ get 2 l (p + 13)
+    → p + 15 + z ≡ offer_place l at (k + 1)
+walk_place l at k p z e q =
+    let f : z ≡ get 2 l (offer_place l at k + 13) = q ∙ ap (λ (x : ℕ). get 2 l (x + 13)) e in
+    rw (add-one k) (omega (arith, offer_next l at k))
 
-  pub walk_time : (at k p t : ℕ) → p ≡ offer_place l b at k → t ≡ get 4 l p → t ≡ time_before l b at (k + 1)
-  unfolding time_before
-  walk_time at k p t e q = rw (add-one k) (q ∙ ap (get 4 l) e)
+pub walk_time : (l : List ℕ) (at k p t : ℕ) → p ≡ offer_place l at k → t ≡ get 4 l p → t ≡ time_before l at (k + 1)
+unfolding time_before
+walk_time l at k p t e q = rw (add-one k) (q ∙ ap (get 4 l) e)
 
-  pub walk_rising : (at k p t x : ℕ) → p ≡ offer_place l b at k → t ≡ get 4 l p → x ≡ time_before l b at k → x ≤ t
-      → some (time_falls l b at) k ≡ false
-      → some (time_falls l b at) (k + 1) ≡ false
-  walk_rising at k p t x e q r w h =
-      let f : ltb t x ≡ time_falls l b at k = ap₂ ltb (q ∙ ap (get 4 l) e) r in
-      some_more (time_falls l b at) k (ltb t x) f (le-ltb t x w) h
+pub walk_rising : (l : List ℕ) (at k p t b : ℕ) → p ≡ offer_place l at k → t ≡ get 4 l p → b ≡ time_before l at k → b ≤ t
+    → some (time_falls l at) k ≡ false
+    → some (time_falls l at) (k + 1) ≡ false
+walk_rising l at k p t b e q r w h =
+    let f : ltb t b ≡ time_falls l at k = ap₂ ltb (q ∙ ap (get 4 l) e) r in
+    some_more (time_falls l at) k (ltb t b) f (le-ltb t b w) h
 
-  pub walk_left : (at n k p : ℕ) → p ≡ offer_place l b at k → k ≤ n → n ≤ k → p ≤ length l
-      → (length l - p ≡ 4 → ⊥) → true ≡ offers_wrong l b at n
-  walk_left at n k p e g h d w =
-      let j : k ≡ n = omega arith in
-      let f : p ≡ offer_place l b at n = e ∙ ap (offer_place l b at) j in
-      size_wrong at n (λ v. w (omega arith))
+pub walk_left : (l : List ℕ) (at n k p : ℕ) → p ≡ offer_place l at k → k ≤ n → n ≤ k → p ≤ length l
+    → (length l - p ≡ 4 → ⊥) → true ≡ offers_wrong l at n
+walk_left l at n k p e g h b w =
+    let j : k ≡ n = omega arith in
+    let f : p ≡ offer_place l at n = e ∙ ap (offer_place l at) j in
+    size_wrong l at n (λ v. w (omega arith))
 
-  pub walk_end : (at n k p : ℕ) → p ≡ offer_place l b at k → k ≤ n → n ≤ k → p ≤ length l → length l - p ≡ 4
-      → some (time_falls l b at) k ≡ false
-      → false ≡ offers_wrong l b at n
-  unfolding offers_wrong
-  walk_end at n k p e g h d w r =
-      let j : k ≡ n = omega arith in
-      let f : p ≡ offer_place l b at n = e ∙ ap (offer_place l b at) j in
-      let q : some (time_falls l b at) n ≡ false = rw j at r in
-      rw (q, eq-eqb (length l) (offer_place l b at n + 4) (omega arith))
-
-  -- ---- the walk over the names
-
-  offers_end : (at n : ℕ) → offers_wrong l b at n ≡ false → length l ≡ offer_place l b at n + 4
-  unfolding offers_wrong
-  offers_end at n h =
-      eqb-true (length l) (offer_place l b at n + 4)
-      (not_not (eqb (length l) (offer_place l b at n + 4)) (neither (some (time_falls l b at) n) _ h).1)
-    where
-      not_not : (b : Bool) → not b ≡ false → b ≡ true
-      not_not true p = refl
-      not_not false p = sym p
-
-  -- an offer of a plan that is not refused under 16 lies within it
-  pub name_lies : (at n k p : ℕ) → offers_wrong l b at n ≡ false → p ≡ offer_place l b at k → k < n
-      → next_offer l b p ≤ length l
-  name_lies at n k p h e g =
-      let f : get 2 l (p + 13) ≡ get 2 l (offer_place l b at k + 13) = ap (λ (x : ℕ). get 2 l (x + 13)) e in
-      omega (arith, past at k n g, offer_next at k, offers_end at n h)
-
-  pub name_size_fits : (at n k p : ℕ) → offers_wrong l b at n ≡ false → p ≡ offer_place l b at k → k < n
-      → p + 13 + 2 ≤ length l
-  name_size_fits at n k p h e g = omega (arith, name_lies at n k p h e g)
-
-  pub name_room : (at n k p z : ℕ) → offers_wrong l b at n ≡ false → p ≡ offer_place l b at k → k < n
-      → z ≡ get 2 l (p + 13) → p + 15 + z + name_size b ≤ length l
-  name_room at n k p z h e g q = omega (arith, name_lies at n k p h e g)
-
-  pub name_step : (at n k p z x : ℕ) → offers_wrong l b at n ≡ false → p ≡ offer_place l b at k → k < n
-      → z ≡ get 2 l (p + 13) → x ≡ name_size b → p + 15 + z + x ≤ length l
-  name_step at n k p z x h e g q r = omega (arith, name_lies at n k p h e g)
-
-  pub name_start : (at n : ℕ) → offers_wrong l b at n ≡ false → at ≤ length l
-  unfolding offer_place
-  name_start at n h =
-      let e : 0 + n ≡ n = omega arith in
-      let f : n + 0 ≡ n = omega arith in
-      omega (arith, offers_end at n h, rw f at (offers_rise at 0 n))
-
-  pub name_hit : (at n k p m : ℕ) → p ≡ offer_place l b at k → m ≡ offer_name l b p → k < n → k < m
-      → true ≡ names_wrong l b at n
-  unfolding names_wrong
-  name_hit at n k p m e q g h =
-      some_hit (names_ahead l b at) n k (ltb k m) (ap (ltb k) (q ∙ ap (offer_name l b) e)) (lt-ltb k m h) g
-
-  pub name_more : (at k p m : ℕ) → p ≡ offer_place l b at k → m ≡ offer_name l b p → m ≤ k
-      → some (names_ahead l b at) k ≡ false → some (names_ahead l b at) (k + 1) ≡ false
-  name_more at k p m e q h r =
-      some_more (names_ahead l b at) k (ltb k m) (ap (ltb k) (q ∙ ap (offer_name l b) e)) (le-ltb k m h) r
-
-  pub name_end : (at n k : ℕ) → k ≤ n → n ≤ k → some (names_ahead l b at) k ≡ false → false ≡ names_wrong l b at n
-  unfolding names_wrong
-  name_end at n k g h r = let j : k ≡ n = omega arith in sym (rw j at r)
+pub walk_end : (l : List ℕ) (at n k p : ℕ) → p ≡ offer_place l at k → k ≤ n → n ≤ k → p ≤ length l → length l - p ≡ 4
+    → some (time_falls l at) k ≡ false
+    → false ≡ offers_wrong l at n
+unfolding offers_wrong
+walk_end l at n k p e g h b w r =
+    let j : k ≡ n = omega arith in
+    let f : p ≡ offer_place l at n = e ∙ ap (offer_place l at) j in
+    let q : some (time_falls l at) n ≡ false = rw j at r in
+    rw (q, eq-eqb (length l) (offer_place l at n + 4) (omega arith))
 
 -- ---- refusal 16
 
@@ -212,18 +130,16 @@ module _ (l : List ℕ) (c : ℕ) where
   unfolding plan_wrong
   wrong_count h g w = rw (le-ltb 16384 (length l) h, lt-ltb (length l) (c + 2) (omega arith))
 
-  pub wrong_many : (m : ℕ) → length l ≤ 16384 → c ≤ length l → 2 ≤ length l - c → m ≡ get 2 l c → 64 < m % 32768
+  pub wrong_many : (m : ℕ) → length l ≤ 16384 → c ≤ length l → 2 ≤ length l - c → m ≡ get 2 l c → 64 < m
       → true ≡ plan_wrong l c
   unfolding plan_wrong
-  wrong_many m h g w e f =
-      rw (le-ltb 16384 (length l) h, le-ltb (length l) (c + 2) (omega arith), ← e, lt-ltb 64 (m % 32768) f)
+  wrong_many m h g w e f = rw (le-ltb 16384 (length l) h, le-ltb (length l) (c + 2) (omega arith), ← e, lt-ltb 64 m f)
 
-  pub wrong_offers : (m : ℕ) (r : Bool) → r ≡ offers_wrong l (leb 32768 m) (c + 2) (m % 32768) → length l ≤ 16384
-      → c ≤ length l
-      → 2 ≤ length l - c → m ≡ get 2 l c → m % 32768 ≤ 64 → r ≡ plan_wrong l c
+  pub wrong_offers : (m : ℕ) (r : Bool) → r ≡ offers_wrong l (c + 2) m → length l ≤ 16384 → c ≤ length l
+      → 2 ≤ length l - c → m ≡ get 2 l c → m ≤ 64 → r ≡ plan_wrong l c
   unfolding plan_wrong
   wrong_offers m r p h g w e f =
-      p ∙ rw (le-ltb 16384 (length l) h, le-ltb (length l) (c + 2) (omega arith), ← e, le-ltb 64 (m % 32768) f)
+      p ∙ rw (le-ltb 16384 (length l) h, le-ltb (length l) (c + 2) (omega arith), ← e, le-ltb 64 m f)
 
   -- none of it: the input ends with the bit times
   ends_so : plan_wrong l c ≡ false → (c + 2 ≤ length l) × (length l ≡ times_place l c + 4)
@@ -232,7 +148,7 @@ module _ (l : List ℕ) (c : ℕ) where
       let a = neither (ltb 16384 (length l)) _ h in
       let b = neither (ltb (length l) (c + 2)) _ a.1 in
       let d = neither (ltb 64 (offers_in l c)) _ b.1 in
-      let e = neither (some (time_falls l (names_in l c) (c + 2)) (offers_in l c)) _ d.1 in (
+      let e = neither (some (time_falls l (c + 2)) (offers_in l c)) _ d.1 in (
         ltb-false (length l) (c + 2) b.0,
         eqb-true (length l) (times_place l c + 4)
             (not_not (eqb (length l) (times_place l c + 4)) e.1),
@@ -255,49 +171,27 @@ module _ (l : List ℕ) (c : ℕ) where
   unfolding last_refusal
   last_wrong b p q = rw (← p, q)
 
-  -- no refusal under 16: the offers are in order, and the count stands within the input
-  wrong_none : plan_wrong l c ≡ false → offers_wrong l (names_in l c) (c + 2) (offers_in l c) ≡ false
-  unfolding plan_wrong
-  wrong_none h =
-      let a = neither (ltb 16384 (length l)) _ h in
-      let b = neither (ltb (length l) (c + 2)) _ a.1 in
-      (neither (ltb 64 (offers_in l c)) _ b.1).1
+  pub last_over : (b : Bool) (t : ℕ) → b ≡ plan_wrong l c → b ≡ false → t ≡ get 4 l (length l - 4) → last_clock < t
+      → 13 ≡ last_refusal l c
+  unfolding last_refusal
+  last_over b t p q e h =
+      let f : t ≡ times_in l c = e ∙ ap (get 4 l) (times_place_lem (sym p ∙ q)) in
+      rw (← p, q, ← f, lt-ltb last_clock t h)
 
-  pub word_room : (b : Bool) → b ≡ plan_wrong l c → b ≡ false → c + 2 ≤ length l
-  word_room b p q = (ends_so (sym p ∙ q)).0
-
-  pub names_asked : (b : Bool) (m : ℕ) → b ≡ plan_wrong l c → b ≡ false → m ≡ get 2 l c
-      → offers_wrong l (leb 32768 m) (c + 2) (m % 32768) ≡ false
-  names_asked b m p q e = rw e (wrong_none (sym p ∙ q))
-
-  module _ (b d : Bool) (m : ℕ) (p : b ≡ plan_wrong l c) (q : b ≡ false) (e : m ≡ get 2 l c)
-      (s : d ≡ names_wrong l (leb 32768 m) (c + 2) (m % 32768)) where
-    names_are : d ≡ names_wrong l (names_in l c) (c + 2) (offers_in l c)
-    names_are = s ∙ rw e
-
-    pub last_names : d ≡ true → 19 ≡ last_refusal l c
-    unfolding last_refusal
-    last_names u = rw (← p, q, ← names_are, u)
-
-    pub last_over : (t : ℕ) → d ≡ false → t ≡ get 4 l (length l - 4) → last_clock < t → 13 ≡ last_refusal l c
-    unfolding last_refusal
-    last_over t u v h =
-        let f : t ≡ times_in l c = v ∙ ap (get 4 l) (times_place_lem (sym p ∙ q)) in
-        rw (← p, q, ← names_are, u, ← f, lt-ltb last_clock t h)
-
-    pub last_none : (t : ℕ) → d ≡ false → t ≡ get 4 l (length l - 4) → t ≤ last_clock → 0 ≡ last_refusal l c
-    unfolding last_refusal
-    last_none t u v h =
-        let f : t ≡ times_in l c = v ∙ ap (get 4 l) (times_place_lem (sym p ∙ q)) in
-        rw (← p, q, ← names_are, u, ← f, le-ltb last_clock t h)
+  pub last_none : (b : Bool) (t : ℕ) → b ≡ plan_wrong l c → b ≡ false → t ≡ get 4 l (length l - 4) → t ≤ last_clock
+      → 0 ≡ last_refusal l c
+  unfolding last_refusal
+  last_none b t p q e h =
+      let f : t ≡ times_in l c = e ∙ ap (get 4 l) (times_place_lem (sym p ∙ q)) in
+      rw (← p, q, ← f, le-ltb last_clock t h)
 
   none_right : last_refusal l c ≡ 0 → plan_wrong l c ≡ false
   unfolding last_refusal
-  none_right h = go (plan_wrong l c) _ 0 refl (sym h)
+  none_right h = go (plan_wrong l c) 0 refl (sym h)
     where
-      go : (b : Bool) (y x : ℕ) → x ≡ 0 → x ≡ pick b 16 y → b ≡ false
-      go true y x q p = absurd (omega arith)
-      go false y x q p = refl
+      go : (b : Bool) (x : ℕ) → x ≡ 0 → x ≡ pick b 16 (pick (ltb last_clock (times_in l c)) 13 0) → b ≡ false
+      go true x q p = absurd (omega arith)
+      go false x q p = refl
 
   pub count_room : (n : ℕ) → n ≡ last_refusal l c → n ≡ 0 → c + 2 ≤ length l
   count_room n p q = (ends_so (none_right (sym p ∙ q))).0
@@ -325,9 +219,8 @@ pub rest_read_lem : (l : List ℕ) (y : Layout) (d at c n o t : ℕ) → t ≡ g
       layout = y;
       depth = d;
       drawn = at;
-      offers = o % 32768;
+      offers = o;
       first = c + 2;
-      named = leb 32768 o;
       times = t;
     } ≡ rest_read l y d at c
 unfolding rest_read
@@ -339,9 +232,8 @@ rest_read_lem l y d at c n o t pt po q h =
       layout = y;
       depth = d;
       drawn = at;
-      offers = po i % 32768;
+      offers = po i;
       first = c + 2;
-      named = leb 32768 (po i);
       times = f i;
     })
 

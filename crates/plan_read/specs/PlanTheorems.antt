@@ -13,13 +13,12 @@ use Rattle.sheet_layout.specs.CheckLaws.{Sound}
 use Rattle.sheet_read.specs.Sheet.{map_of, stands, count_place, count_in, tap_in, taps_from, layout_in, sheet_size, unread}
 use Rattle.sheet_read.specs.Sheet.{read_sheet}
 use Rattle.sheet_read.specs.SheetTheorems.{read_sound, layout_formed}
-use Rattle.plan_read.specs.Plan.{depth_in, offers_place, names_in, offers_in, offer_time, offer_name, next_offer}
-use Rattle.plan_read.specs.Plan.{offer_place, times_in, draws_wrong, time_before, time_falls, offers_wrong, plan_wrong}
-use Rattle.plan_read.specs.Plan.{names_ahead, names_wrong, last_refusal}
+use Rattle.plan_read.specs.Plan.{depth_in, offers_place, offers_in, offer_time, offer_size, offer_place, times_in}
+use Rattle.plan_read.specs.Plan.{draws_wrong, time_before, time_falls, offers_wrong, plan_wrong, last_refusal}
 use Rattle.plan_read.specs.Plan.{after_sheet, sheet_refusal, plan_refusal, Planned, unplanned, whole_from, unless}
 use Rattle.plan_read.specs.Plan.{plan_as_read, plan_reading}
 use Rattle.plan_read.specs.declared.Plan.{Plan}
-use Rattle.plan_read.specs.PlanLaws.{name_lies}
+use Rattle.plan_read.specs.PlanLaws.{past, offer_next}
 use Rattle.sheet_layout.specs.Limits.{last_clock, max_draws}
 
 pub record Right (l : List ℕ) (r : Planned) : Type 0 where
@@ -28,11 +27,10 @@ pub record Right (l : List ℕ) (r : Planned) : Type 0 where
   pub draws : r.drawn + 2 * (r.layout.count * r.depth) ≤ length l
   pub size : length l ≤ 16384
   pub many : r.offers ≤ 64
-  pub offer : (k : ℕ) → k < r.offers → next_offer l r.named (offer_place l r.named r.first k) ≤ length l
-  pub rising : (k : ℕ) → k < r.offers
-      → time_before l r.named r.first k ≤ offer_time l (offer_place l r.named r.first k)
-  pub names : (k : ℕ) → k < r.offers → offer_name l r.named (offer_place l r.named r.first k) ≤ k
-  pub ending : length l ≡ offer_place l r.named r.first r.offers + 4
+  pub offer : (k : ℕ) → k < r.offers
+      → offer_place l r.first k + 15 + offer_size l (offer_place l r.first k) ≤ length l
+  pub rising : (k : ℕ) → k < r.offers → time_before l r.first k ≤ offer_time l (offer_place l r.first k)
+  pub ending : length l ≡ offer_place l r.first r.offers + 4
   pub times : r.times ≤ last_clock
 
 -- ---- no number, no refusal
@@ -91,18 +89,15 @@ module _ (l : List ℕ) (u n : ℕ) where
       (d.0, d.1, ltb-false (length l) (offers_place l u n) b.1)
 
 module _ (l : List ℕ) (c : ℕ) where
-  last_right : last_refusal l c ≡ 0
-      → (plan_wrong l c ≡ false) × (names_wrong l (names_in l c) (c + 2) (offers_in l c) ≡ false)
-      × (times_in l c ≤ last_clock)
+  last_right : last_refusal l c ≡ 0 → (plan_wrong l c ≡ false) × (times_in l c ≤ last_clock)
   unfolding last_refusal
   last_right h =
-      let a = passed (plan_wrong l c) 16 _ (λ z. omega arith) h in
-      let n = passed (names_wrong l (names_in l c) (c + 2) (offers_in l c)) 19 _ (λ z. omega arith) a.1 in
-      let b = passed (ltb last_clock (times_in l c)) 13 0 (λ z. omega arith) n.1 in
-      (a.0, n.0, ltb-false last_clock (times_in l c) b.0)
+      let a = passed (plan_wrong l c) 16 (pick (ltb last_clock (times_in l c)) 13 0) (λ z. omega arith) h in
+      let b = passed (ltb last_clock (times_in l c)) 13 0 (λ z. omega arith) a.1 in
+      (a.0, ltb-false last_clock (times_in l c) b.0)
 
   plan_right : plan_wrong l c ≡ false
-      → (length l ≤ 16384) × (offers_in l c ≤ 64) × (offers_wrong l (names_in l c) (c + 2) (offers_in l c) ≡ false)
+      → (length l ≤ 16384) × (offers_in l c ≤ 64) × (offers_wrong l (c + 2) (offers_in l c) ≡ false)
   unfolding plan_wrong
   plan_right h =
       let a = neither (ltb 16384 (length l)) _ h in
@@ -114,26 +109,20 @@ not_not : (b : Bool) → not b ≡ false → b ≡ true
 not_not true p = refl
 not_not false p = sym p
 
-module _ (l : List ℕ) (b : Bool) (at n : ℕ) (h : offers_wrong l b at n ≡ false) where
-  parts : (some (time_falls l b at) n ≡ false) × (not (eqb (length l) (offer_place l b at n + 4)) ≡ false)
+module _ (l : List ℕ) (at n : ℕ) (h : offers_wrong l at n ≡ false) where
+  parts : (some (time_falls l at) n ≡ false) × (not (eqb (length l) (offer_place l at n + 4)) ≡ false)
   unfolding offers_wrong
-  parts = neither (some (time_falls l b at) n) (not (eqb (length l) (offer_place l b at n + 4))) h
+  parts = neither (some (time_falls l at) n) (not (eqb (length l) (offer_place l at n + 4))) h
 
-  ends : length l ≡ offer_place l b at n + 4
-  ends = eqb-true (length l) (offer_place l b at n + 4) (not_not (eqb (length l) (offer_place l b at n + 4)) parts.1)
+  ends : length l ≡ offer_place l at n + 4
+  ends = eqb-true (length l) (offer_place l at n + 4) (not_not (eqb (length l) (offer_place l at n + 4)) parts.1)
 
-  rises : (k : ℕ) → k < n → time_before l b at k ≤ offer_time l (offer_place l b at k)
+  rises : (k : ℕ) → k < n → time_before l at k ≤ offer_time l (offer_place l at k)
   rises k g =
-      ltb-false (offer_time l (offer_place l b at k)) (time_before l b at k)
-      (none_below (time_falls l b at) n k parts.0 g)
+      ltb-false (offer_time l (offer_place l at k)) (time_before l at k) (none_below (time_falls l at) n k parts.0 g)
 
-  lies : (k : ℕ) → k < n → next_offer l b (offer_place l b at k) ≤ length l
-  lies k g = name_lies l b at n k (offer_place l b at k) h refl g
-
-earlier : (l : List ℕ) (b : Bool) (at n : ℕ) → names_wrong l b at n ≡ false → (k : ℕ) → k < n
-    → offer_name l b (offer_place l b at k) ≤ k
-unfolding names_wrong
-earlier l b at n h k g = ltb-false k (offer_name l b (offer_place l b at k)) (none_below (names_ahead l b at) n k h g)
+  lies : (k : ℕ) → k < n → offer_place l at k + 15 + offer_size l (offer_place l at k) ≤ length l
+  lies k g = omega (arith, past l at k n g, offer_next l at k, ends)
 
 -- ---- an input that is read
 
@@ -147,18 +136,16 @@ from_right l y u s h =
     let d = draws_right l u y.count a.0 in
     let c = last_right l (offers_place l u y.count) a.1 in
     let p = plan_right l (offers_place l u y.count) c.0 in
-    let x = offers_place l u y.count in
     record {
       sound = s;
       depth = (d.0, d.1);
       draws = d.2;
       size = p.0;
       many = p.1;
-      offer = lies l (names_in l x) (x + 2) (offers_in l x) p.2;
-      rising = rises l (names_in l x) (x + 2) (offers_in l x) p.2;
-      names = earlier l (names_in l x) (x + 2) (offers_in l x) c.1;
-      ending = ends l (names_in l x) (x + 2) (offers_in l x) p.2;
-      times = c.2;
+      offer = lies l (offers_place l u y.count + 2) (offers_in l (offers_place l u y.count)) p.2;
+      rising = rises l (offers_place l u y.count + 2) (offers_in l (offers_place l u y.count)) p.2;
+      ending = ends l (offers_place l u y.count + 2) (offers_in l (offers_place l u y.count)) p.2;
+      times = c.1;
     }
 
 pub read_right : (l : List ℕ) → number_of (plan_as_read l).answer ≡ 0 → Right l (plan_as_read l)

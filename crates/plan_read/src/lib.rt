@@ -1,9 +1,7 @@
 // Reading a run input: sheet, draws, offers and bit times (document 01, "The run program").
 
-ghost use Rattle.std.specs.Prelude.{◌≡◌, false, ◌+◌, ◌*◌, ◌<◌, ◌≤◌, length};
-ghost use Rattle.octets.specs.Number.{get};
-ghost use Rattle.plan_read.specs.Plan.{name_size, offer_name, offer_in, next_offer, offer_data, offers_wrong, plan_wrong};
-ghost use Rattle.plan_read.specs.Plan.{names_wrong, last_refusal, unplanned};
+ghost use Rattle.std.specs.Prelude.{◌≡◌, ◌+◌, ◌*◌, ◌<◌, ◌≤◌, length};
+ghost use Rattle.plan_read.specs.Plan.{offer_in, offer_data, offers_wrong, plan_wrong, last_refusal, unplanned};
 ghost use Rattle.plan_read.specs.Plan.{plan_as_read, plan_reading};
 ghost use Rattle.plan_read.specs.PlanLaws.{rest_read, sheet_on};
 ghost use Rattle.sheet_layout.specs.Limits.{max_stations};
@@ -19,7 +17,7 @@ pub enum Verdict {
 }
 
 // A run input as read: the answer, and beside it the layout, D, where the draws begin, the number of offers, where the
-// first begins, whether they have names, and the bit times. All are blank where the input is refused.
+// first begins, and the bit times. All are blank where the input is refused.
 #[derive(Drop)]
 pub struct Plan {
     pub read: Verdict,
@@ -28,12 +26,10 @@ pub struct Plan {
     pub drawn: usize,
     pub offers: u32,
     pub first: usize,
-    pub named: bool,
     pub times: u32,
 }
 
-// An offer's fixed fields, and its name: the number, from 1, of the offer that it comes after, or 0. Its data follow the
-// fixed fields, `size` octets, and in a plan with names the name follows the data.
+// An offer's fixed fields. Its data follow them, `size` octets.
 #[derive(Drop)]
 pub struct Offered {
     pub time: u32,
@@ -41,47 +37,24 @@ pub struct Offered {
     pub destination: [u8; 6],
     pub value: u16,
     pub size: usize,
-    pub name: u32,
 }
 
-// The octets of a name.
-pub fn name_size(named: bool) -> usize
-    ensures value { result ≡ name_size named }
-    ensures small { result ≤ 2 }
-{
-    if named { 2 } else { 0 }
-}
-
-// The name of the offer that begins at `at` and has `size` octets of data; 0 in a plan without names.
-pub fn read_name(s: &[u8], at: usize, size: usize, named: bool) -> u32
-    requires { (at + 15 + size + name_size named ≤ length s.now) × (size ≡ get 2 s.now (at + 13)) }
-    ensures { result ≡ offer_name s.now named at }
-{
-    if named {
-        octets_words::get16(s, at + 15 + size)
-    } else {
-        0
-    }
-}
-
-// The fixed fields and the name of the offer that begins at `at`.
-pub fn read_offer(s: &[u8], at: usize, named: bool) -> Offered
-    requires { next_offer s.now named at ≤ length s.now }
-    ensures { result ≡ offer_in s.now named at }
+// The fixed fields of the offer that begins at `at`.
+pub fn read_offer(s: &[u8], at: usize) -> Offered
+    requires { at + 15 ≤ length s.now }
+    ensures { result ≡ offer_in s.now at }
 {
     let time = octets_words::get32(s, at);
     let station = octets::wide(s[at + 4]);
     let destination = octets_copies::six(s, at + 5);
     let value = octets_words::get16(s, at + 11) as u16;
     let size = octets_words::get16(s, at + 13) as usize;
-    let name = read_name(s, at, size, named);
     Offered {
         time,
         station,
         destination,
         value,
         size,
-        name,
     }
 }
 
@@ -96,12 +69,11 @@ pub fn offer_data(s: &[u8], at: usize, size: usize) -> &[u8]
 }
 
 // Whether the times of the offers from octet `at` on fall, or the offers and the bit times are not just what is left.
-fn offers_wrong(s: &[u8], named: bool, at: usize, count: usize) -> bool
+fn offers_wrong(s: &[u8], at: usize, count: usize) -> bool
     requires { at ≤ length s.now }
-    ensures { result ≡ offers_wrong s.now named at count }
+    ensures { result ≡ offers_wrong s.now at count }
 {
     let n = s.len();
-    let extra = name_size(named);
     let mut place = at;
     let mut last: u32 = 0;
     let mut k: usize = 0;
@@ -114,10 +86,10 @@ fn offers_wrong(s: &[u8], named: bool, at: usize, count: usize) -> bool
             return true;
         }
         let size = octets_words::get16(s, place + 13) as usize;
-        if n - place - 15 < size + extra {
+        if n - place - 15 < size {
             return true;
         }
-        place = place + 15 + size + extra;
+        place = place + 15 + size;
         last = time;
         k += 1;
     }
@@ -139,45 +111,20 @@ fn plan_wrong(s: &[u8], c: usize) -> bool
     if n - c < 2 {
         return true;
     }
-    let word = octets_words::get16(s, c);
-    let offers = word % 32768;
+    let offers = octets_words::get16(s, c);
     if 64 < offers {
         return true;
     }
-    offers_wrong(s, 32768 <= word, c + 2, offers as usize)
+    offers_wrong(s, c + 2, offers as usize)
 }
 
-// Refusal 19 of an input whose offer count stands at c: whether an offer names its own number or one above it.
-fn names_wrong(s: &[u8], named: bool, at: usize, count: usize) -> bool
-    requires { offers_wrong s.now named at count ≡ false }
-    ensures { result ≡ names_wrong s.now named at count }
-{
-    let extra = name_size(named);
-    let mut place = at;
-    let mut k: usize = 0;
-    while k < count {
-        let size = octets_words::get16(s, place + 13) as usize;
-        let name = read_name(s, place, size, named) as usize;
-        if k < name {
-            return true;
-        }
-        place = place + 15 + size + extra;
-        k += 1;
-    }
-    false
-}
-
-// Refusals 16, 19 and 13, by their number; 0 where there is none.
+// Refusals 16 and 13, by their number; 0 where there is none.
 fn last_refusal(s: &[u8], c: usize) -> u32
     requires { c ≤ length s.now }
     ensures { result ≡ last_refusal s.now c }
 {
     if plan_wrong(s, c) {
         return 16;
-    }
-    let word = octets_words::get16(s, c);
-    if names_wrong(s, 32768 <= word, c + 2, (word % 32768) as usize) {
-        return 19;
     }
     if sheet_layout::LAST_CLOCK < octets_words::get32(s, s.len() - 4) {
         return 13;
@@ -213,7 +160,6 @@ fn unread_plan(n: u32) -> Plan
         drawn: 0,
         offers: 0,
         first: 0,
-        named: false,
         times: 0,
     }
 }
@@ -227,16 +173,15 @@ fn read_rest(s: &[u8], y: Layout, d: u32, at: usize, c: usize) -> Plan
     if number != 0 {
         return unread_plan(number);
     }
-    let word = octets_words::get16(s, c);
+    let offers = octets_words::get16(s, c);
     let times = octets_words::get32(s, s.len() - 4);
     Plan {
         read: Verdict::Whole,
         layout: y,
         depth: d,
         drawn: at,
-        offers: word % 32768,
+        offers,
         first: c + 2,
-        named: 32768 <= word,
         times,
     }
 }
@@ -261,7 +206,7 @@ fn after_sheet(s: &[u8], used: usize, y: Layout) -> Plan
     read_rest(s, y, d, used + 1, c)
 }
 
-// The run input s, or a refusal (3 to 9, 16, 19, 13).
+// The run input s, or a refusal (3 to 9, 16, 13).
 pub fn read_plan(s: &[u8]) -> Plan
     ensures { plan_reading result ≡ plan_as_read s.now }
 {

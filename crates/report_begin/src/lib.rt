@@ -32,10 +32,8 @@ fn no_progress() -> Progress
     Progress {
         at: 0,
         offers: 0,
-        named: false,
         times: 0,
         ended: true,
-        fates: [0u8; 64],
     }
 }
 
@@ -69,10 +67,8 @@ fn start_piece(input: &[u8], area: &mut [u8], out: &mut [u8], p: Plan) -> Handed
         progress: Progress {
             at: p.first,
             offers: p.offers,
-            named: p.named,
             times: p.times,
             ended: false,
-            fates: [0u8; 64],
         },
     }
 }

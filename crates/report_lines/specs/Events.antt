@@ -6,7 +6,7 @@ use Rattle.bus_spec.specs.declared.Events.{Events}
 use Rattle.bus_spec.specs.BitTime.{no_events}
 use Rattle.report_text.specs.Text.{line}
 
--- the words: `collision`, `late`, `sent`, `given_up`, `late_end_lem`, and `got` with `ok`, `too_long_lem`, `alignment`,
+-- the words: `collision`, `late`, `sent`, `given_up`, `late_end`, and `got` with `ok`, `too_long`, `alignment`,
 -- `check`, `length`
 abbrev pub collision_text : List ℕ
 collision_text = 99 ∷ 111 ∷ 108 ∷ 108 ∷ 105 ∷ 115 ∷ 105 ∷ 111 ∷ 110 ∷ []

@@ -6,8 +6,7 @@ use Rattle.octets.specs.BaseLaws.{by_test}
 use Rattle.bus_spec.specs.declared.Events.{Events}
 use Rattle.bus_spec.specs.BitTime.{no_events}
 use Rattle.report_text.specs.Text.{digits, lean, decimal, space, newline, numbered, counted, placed, line, stations_word}
-use Rattle.report_text.specs.Text.{first_line, refused_word, refused_line, refused_offer, lone, dropped_word, dropped_offer}
-use Rattle.report_text.specs.Text.{end_word, end_line}
+use Rattle.report_text.specs.Text.{first_line, refused_word, refused_line, refused_offer, end_word, end_line}
 use Rattle.report_text.specs.TextLaws.{length_digits}
 use Rattle.station_tally.specs.Words.{transmit_word, transmit_value, receive_word, receive_value}
 use Rattle.report_lines.specs.Events.{collision_text, late_text, sent_text, given_up_text, late_end_text, ok_text}
@@ -60,10 +59,6 @@ refused_size n = length_counted refused_word n newline
 pub refused_offer_size : (t i n : ℕ) → length (refused_offer t i n) ≤ 41
 unfolding refused_offer
 refused_offer_size t i n = length_line t i refused_word n
-
-pub dropped_size : (t i : ℕ) → length (dropped_offer t i) ≤ 30
-unfolding dropped_offer lone
-dropped_size t i = omega (arith, length-append (placed t i) dropped_word, length_placed t i)
 
 pub end_size : (t : ℕ) → length (end_line t) ≤ 15
 unfolding end_line

@@ -1,6 +1,6 @@
 -- The text of a run handed out piece by piece, on lent octets: the input l, a work area a, and octets o for the text.
 -- That the pieces are what is printed is in Whole. The laws are in PieceLaws. Assumes nothing.
-use Rattle.std.specs.Prelude.{ℕ, zero, suc, ◌+◌, ◌-◌, min, Bool, true, false, not, ◌&&◌, ◌||◌, List, [], ◌∷◌, ◌++◌, eqb, ltb, leb, length, get_or, take, drop}
+use Rattle.std.specs.Prelude.{ℕ, zero, suc, ◌+◌, ◌-◌, min, Bool, true, false, not, List, [], ◌∷◌, ◌++◌, eqb, ltb, length, get_or, take, drop}
 use Rattle.std.proofs.lemmas.List.Edits.{sets}
 use Rattle.octets.specs.Base.{pick, Answer, refused, accepted, number_of, values_of}
 use Rattle.area.specs.Offsets.{area_size}
@@ -10,46 +10,14 @@ use Rattle.bus_spec.specs.Run.{stops}
 use Rattle.bus_spec.specs.Until.{Stretched, until_event}
 use Rattle.report_text.specs.Text.{refused_line, end_line}
 use Rattle.report_lines.specs.Events.{step_lines}
-use Rattle.plan_read.specs.Plan.{next_offer, PlannedOffer, offer_at, offers_of, Planned, plan_as_read}
+use Rattle.plan_read.specs.Plan.{offer_time, Planned, plan_as_read}
 use Rattle.report_spec.specs.declared.Progress.{Progress}
-use Rattle.report_spec.specs.declared.Ready.{Ready}
 use Rattle.report_spec.specs.declared.Piece.{Piece}
 use Rattle.report_spec.specs.declared.Piece.TheVariants.{Refused, Text}
 use Rattle.report_spec.specs.declared.Handed.{Handed}
-use Rattle.report_spec.specs.Printed.{ahead, all_ahead, fate_at, is_ready, Decided, decision, after, Course, course}
-use Rattle.report_spec.specs.Printed.{run_on, first_text, start_area}
+use Rattle.report_spec.specs.Printed.{next_offer, lies, made, offer_text, Course, course, run_on, first_text}
+use Rattle.report_spec.specs.Printed.{start_area}
 use Rattle.sheet_layout.specs.Limits.{last_clock}
-
--- ---- the offers of an input, by their places
-
--- whether the offer at p lies within the input
-unfoldable pub lies : List ℕ → (b : Bool) (p : ℕ) → Bool
-lies l b p = leb (p + 15) (length l) && leb (next_offer l b p) (length l)
-
--- whether n offers from octet p on do
-unfoldable pub all_lie : List ℕ → (b : Bool) (p n : ℕ) → Bool
-all_lie l b p zero = true
-all_lie l b p (suc n) = lies l b p && all_lie l b (next_offer l b p) n
-
-abbrev pub none_ready : Ready
-none_ready = record { found = false; at = 0; number = 0 }
-
--- the first of n offers from octet p on, of which the first has number k, that is decided before step t: whether there
--- is one, the octet at which it begins, and its number
-unfoldable pub first_ready : List ℕ → (b : Bool) (p n k t : ℕ) → List ℕ → Ready
-first_ready l b p zero k t fs = none_ready
-first_ready l b p (suc n) k t fs =
-    pick (is_ready (offer_at l b p) k t fs) (record { found = true; at = p; number = k })
-    (first_ready l b (next_offer l b p) n (suc k) t fs)
-
--- of m steps from time t on those that may be made before the time of offer o, with number k, if it is ahead and its
--- time is still to come
-unfoldable pub steps_to : PlannedOffer → (k t : ℕ) → List ℕ → (m : ℕ) → ℕ
-steps_to o k t fs m = pick (eqb (fate_at fs k) ahead && ltb t o.time) (min (o.time - t) m) m
-
-unfoldable pub steps_from : List PlannedOffer → (k t : ℕ) → List ℕ → (m : ℕ) → ℕ
-steps_from [] k t fs m = m
-steps_from (o ∷ os) k t fs m = steps_from os (suc k) t fs (steps_to o k t fs m)
 
 -- ---- the next piece
 
@@ -62,58 +30,47 @@ pub record Moved : Type 0 where
 abbrev pub moved : List ℕ → Progress → List ℕ → Moved
 moved s g a = record { text = s; progress = g; octets = a }
 
-abbrev pub standing : (at offers : ℕ) (named : Bool) (times : ℕ) (ended : Bool) (fates : List ℕ) → Progress
-standing at offers named times ended fates =
-    record { at = at; offers = offers; named = named; times = times; ended = ended; fates = fates }
+abbrev pub standing : (at offers times : ℕ) (ended : Bool) → Progress
+standing at offers times ended = record { at = at; offers = offers; times = times; ended = ended }
 
--- the same plan, further on
-abbrev pub onward : Progress → (times : ℕ) (ended : Bool) (fates : List ℕ) → Progress
-onward g times ended fates = standing g.at g.offers g.named times ended fates
+-- whether the next offer is due
+unfoldable pub is_due : List ℕ → Progress → List ℕ → Bool
+is_due l g a = pick (eqb g.offers 0) false (eqb (offer_time l g.at) (clock_at a))
 
--- its offers
-abbrev pub offers_at : List ℕ → Progress → List PlannedOffer
-offers_at l g = offers_of l g.named g.at g.offers
-
--- the offer that is decided next
-unfoldable pub ready_in : List ℕ → Progress → List ℕ → Ready
-ready_in l g a = first_ready l g.named g.at g.offers 0 (clock_at a) g.fates
-
--- the steps that may be made before the next offer's time
+-- the steps that may be made before the next offer
 unfoldable pub span_of : List ℕ → Progress → List ℕ → ℕ
-span_of l g a = steps_from (offers_at l g) 0 (clock_at a) g.fates g.times
+span_of l g a =
+    pick (eqb g.offers 0) g.times
+    (pick (ltb (clock_at a) (offer_time l g.at)) (min (offer_time l g.at - clock_at a) g.times) g.times)
 
 -- no bit times are left: the last line
 unfoldable pub last_piece : Progress → List ℕ → Moved
-last_piece g a = moved (end_line (clock_at a)) (onward g 0 true g.fates) a
+last_piece g a = moved (end_line (clock_at a)) (standing g.at g.offers 0 true) a
 
--- an offer is made or dropped
-unfoldable pub decision_piece : Progress → Decided → Moved
-decision_piece g d = moved d.text (onward g g.times false d.fates) d.octets
-
-unfoldable pub offer_piece : List ℕ → Progress → List ℕ → Ready → Moved
-offer_piece l g a r =
-    decision_piece g (decision (offer_at l g.named r.at) r.number (clock_at a) g.fates a)
+-- the next offer is made
+unfoldable pub offer_piece : List ℕ → Progress → List ℕ → Moved
+offer_piece l g a =
+    moved (offer_text l g.at a) (standing (next_offer l g.at) (g.offers - 1) g.times false)
+    (made l g.at a).octets
 
 -- the bit times left of n: none after a late collision
 unfoldable pub times_left : (n : ℕ) → Stretched → ℕ
 times_left n s = pick (stops s.events) 0 (n - s.steps)
 
 -- steps are made, and the last one's lines handed out
-unfoldable pub stretch_piece : List ℕ → Progress → Stretched → Moved
-stretch_piece l g s =
+unfoldable pub stretch_piece : Progress → Stretched → Moved
+stretch_piece g s =
     moved (step_lines (clock_at s.octets - 1) s.events 16)
-    (onward g (times_left g.times s) false (after (offers_at l g) 0 s.events g.fates)) s.octets
+    (standing g.at g.offers (times_left g.times s) false) s.octets
 
 abbrev pub step_piece : List ℕ → Progress → List ℕ → Moved
-step_piece l g a = stretch_piece l g (until_event (span_of l g a) a)
-
--- a decision, or steps where there is none to make
-unfoldable pub next_piece : List ℕ → Progress → List ℕ → Moved
-next_piece l g a = pick (ready_in l g a).found (offer_piece l g a (ready_in l g a)) (step_piece l g a)
+step_piece l g a = stretch_piece g (until_event (span_of l g a) a)
 
 -- after the last line there is nothing
 unfoldable pub move : List ℕ → Progress → List ℕ → Moved
-move l g a = pick g.ended (moved [] g a) (pick (eqb g.times 0) (last_piece g a) (next_piece l g a))
+move l g a =
+    pick g.ended (moved [] g a) (pick (eqb g.times 0) (last_piece g a)
+    (pick (is_due l g a) (offer_piece l g a) (step_piece l g a)))
 
 -- ---- what is handed out
 
@@ -148,15 +105,15 @@ withheld n g a o = record { answer = refused n; progress = g; octets = a; out = 
 abbrev pub piece_room : ℕ
 piece_room = 2048
 
--- whether there are over 64 offers, or one does not lie within the input
-unfoldable pub offers_short : List ℕ → Progress → Bool
-offers_short l g = ltb 64 g.offers || not (all_lie l g.named g.at g.offers)
+-- whether an offer is left and does not lie within the input
+unfoldable pub offer_short : List ℕ → Progress → Bool
+offer_short l g = pick (eqb g.offers 0) false (not (lies l g.at))
 
 -- 2, 13 ("Clock plus the bit times asked"), 15 ("The lent output is too short"), 16 ("The plan .. is short")
 unfoldable pub move_refusal : List ℕ → (a : List ℕ) (room : ℕ) → Progress → ℕ
 move_refusal l a room g =
     pick (eqb (area_refusal a) 0)
-    (pick (ltb last_clock (clock_at a + g.times)) 13 (pick (ltb room piece_room) 15 (pick (offers_short l g) 16 0)))
+    (pick (ltb last_clock (clock_at a + g.times)) 13 (pick (ltb room piece_room) 15 (pick (offer_short l g) 16 0)))
     (area_refusal a)
 
 -- on an area of just the octets that one must have
@@ -174,13 +131,11 @@ advanced l a o g = pick (ltb (length a) area_size) (withheld 1 g a o) (on_front 
 -- ---- the first piece
 
 abbrev pub no_progress : Progress
-no_progress = standing 0 0 false 0 true all_ahead
+no_progress = standing 0 0 0 true
 
 -- the first line, and a fresh start
 unfoldable pub start_piece : List ℕ → Planned → List ℕ → Moved
-start_piece l r a =
-    moved (first_text r.layout) (standing r.first r.offers r.named r.times false all_ahead)
-    (start_area l r a)
+start_piece l r a = moved (first_text r.layout) (standing r.first r.offers r.times false) (start_area l r a)
 
 unfoldable pub first_piece : List ℕ → List ℕ → Moved
 first_piece l a =
@@ -196,7 +151,7 @@ begun l a o =
 -- ---- what is still to come
 
 unfoldable pub remaining : List ℕ → Progress → List ℕ → Course
-remaining l g a = pick g.ended (course [] a) (run_on (offers_at l g) g.times g.fates a)
+remaining l g a = pick g.ended (course [] a) (run_on l g.times g.offers g.at a)
 
 -- ---- what a caller gets who goes on to the end, each call on the area and the output as the call before left them
 

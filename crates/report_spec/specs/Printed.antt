@@ -1,129 +1,62 @@
--- What the run program prints for an input (document 01, "The run program", and N12): one function from octets to
--- octets, and the area that the run leaves. l is the input. Of an offer's octets only plan_read knows: the run goes by
--- the plan's offers in their order, and by a fate for each. Assumes nothing.
-use Rattle.std.specs.Prelude.{ℕ, zero, suc, ◌+◌, ◌-◌, Bool, true, false, ◌&&◌, List, [], ◌∷◌, ◌++◌, eqb, leb, length, get_or, set, replicate}
+-- What the run program prints for an input (document 01, "The run program"): one function from octets to octets, and
+-- the area that the run leaves. l is the input. Assumes nothing.
+use Rattle.std.specs.Prelude.{ℕ, zero, suc, ◌+◌, Bool, ◌&&◌, List, [], ◌++◌, eqb, leb, length, replicate}
 use Rattle.octets.specs.Base.{pick, Outcome, number_of}
 use Rattle.sheet_layout.specs.declared.Layout.{Layout}
 use Rattle.sheet_layout.specs.Layout.{fits_well}
-use Rattle.station_spec.specs.declared.TransmitEvent.{TransmitEvent}
-use Rattle.station_spec.specs.declared.TransmitEvent.TheVariants.{NoTransmit, Collision, Late, Sent, GivenUp}
-use Rattle.station_spec.specs.declared.TransmitEvent.TheVariants.{LateEnded}
 use Rattle.area.specs.Offsets.{area_size}
 use Rattle.area.specs.Area.{clock_at}
 use Rattle.bus_start.specs.Fresh.{fresh}
-use Rattle.bus_spec.specs.declared.Events.{Events}
-use Rattle.bus_spec.specs.BitTime.{event_at, events_at, step_area}
+use Rattle.bus_spec.specs.BitTime.{events_at, step_area}
 use Rattle.bus_offer.specs.Offer.{offered}
 use Rattle.bus_spec.specs.Run.{stops}
-use Rattle.report_text.specs.Text.{first_line, fit_yes, fit_no, refused_line, refused_offer, dropped_offer, end_line}
+use Rattle.report_text.specs.Text.{first_line, fit_yes, fit_no, refused_line, refused_offer, end_line}
 use Rattle.report_lines.specs.Events.{step_lines}
 use Rattle.plan_draws.specs.Draws.{draws_in}
-use Rattle.plan_read.specs.Plan.{PlannedOffer, offers_of, Planned, plan_as_read}
+use Rattle.plan_read.specs.Plan.{offer_time, offer_station, offer_destination, offer_value, offer_size, offer_data, Planned}
+use Rattle.plan_read.specs.Plan.{plan_as_read}
 
--- ---- an offer's fate
+-- ---- an offer
 
--- ahead: not decided yet; held: made, its station has the frame; sent; any other number is lost: refused, dropped, given
--- up or late-ended. Offer k has place k, of 64
-abbrev pub ahead : ℕ
-ahead = 0
+-- where the offer after the one at p begins
+abbrev pub next_offer : List ℕ → (p : ℕ) → ℕ
+next_offer l p = p + 15 + offer_size l p
 
-abbrev pub held : ℕ
-held = 1
+-- whether the offer at p lies within the input
+unfoldable pub lies : List ℕ → (p : ℕ) → Bool
+lies l p = leb (p + 15) (length l) && leb (next_offer l p) (length l)
 
-abbrev pub sent : ℕ
-sent = 2
+-- the offer at p, made on area a
+unfoldable pub made : List ℕ → (p : ℕ) → List ℕ → Outcome
+made l p a = offered a (offer_station l p) (offer_destination l p) (offer_value l p) (offer_data l p (offer_size l p))
 
-abbrev pub lost : ℕ
-lost = 3
+-- "refused, it prints `time station refused n`": the line of refusal n, none where there is no refusal
+unfoldable pub offer_line : List ℕ → (p n : ℕ) → List ℕ
+offer_line l p n = pick (eqb n 0) [] (refused_offer (offer_time l p) (offer_station l p) n)
 
-abbrev pub all_ahead : List ℕ
-all_ahead = replicate 64 ahead
+unfoldable pub offer_text : List ℕ → (p : ℕ) → List ℕ → List ℕ
+offer_text l p a = offer_line l p (number_of (made l p a).answer)
 
-abbrev pub fate_at : List ℕ → (k : ℕ) → ℕ
-fate_at fs k = get_or fs k ahead
-
--- the fate of the offer that o names, by its number, counted from 1; where it names none, nothing holds it back
-unfoldable pub named_fate : List ℕ → PlannedOffer → ℕ
-named_fate fs o = pick (eqb o.name 0) sent (fate_at fs (o.name - 1))
-
--- ---- what is decided before a step
-
--- "just before the first step that is both at or past its time and after the named offer's `sent`", or after the
--- outcome by which the named one is lost: whether offer o, with number k from 0, is decided before step t
-unfoldable pub is_ready : PlannedOffer → (k t : ℕ) → List ℕ → Bool
-is_ready o k t fs = eqb (fate_at fs k) ahead && (leb o.time t && leb sent (named_fate fs o))
-
--- what decisions leave: their lines, the fates, the area
-pub record Decided : Type 0 where
+-- what the offers made before a step leave: their lines, how many offers are left, where the next begins, the area
+pub record Offers : Type 0 where
   pub text : List ℕ
-  pub fates : List ℕ
+  pub left : ℕ
+  pub at : ℕ
   pub octets : List ℕ
 
-abbrev pub undecided : (fs a : List ℕ) → Decided
-undecided fs a = record { text = []; fates = fs; octets = a }
+abbrev pub none : (m p : ℕ) → List ℕ → Offers
+none m p a = record { text = []; left = m; at = p; octets = a }
 
-abbrev pub and_then : Decided → Decided → Decided
-and_then d e = record { text = d.text ++ e.text; fates = e.fates; octets = e.octets }
+abbrev pub after : List ℕ → Offers → Offers
+after s o = record { text = s ++ o.text; left = o.left; at = o.at; octets = o.octets }
 
--- the offer, made on area a
-unfoldable pub made : PlannedOffer → List ℕ → Outcome
-made o a = offered a o.station o.destination o.value o.payload
-
--- "refused, it prints `time station refused n`", "Refused and dropped lines give the step's time": the line of refusal n
--- in step t, none where there is no refusal
-unfoldable pub offer_line : PlannedOffer → (t n : ℕ) → List ℕ
-offer_line o t n = pick (eqb n 0) [] (refused_offer t o.station n)
-
--- offer k is made in step t, with refusal n or none: held, or lost
-abbrev pub fate_made : (n : ℕ) → ℕ
-fate_made n = pick (eqb n 0) held lost
-
-unfoldable pub made_then : PlannedOffer → (k t : ℕ) → List ℕ → Outcome → Decided
-made_then o k t fs r =
-    record {
-      text = offer_line o t (number_of r.answer);
-      fates = set fs k (fate_made (number_of r.answer));
-      octets = r.octets;
-    }
-
--- "this one is dropped"
-unfoldable pub dropped_then : PlannedOffer → (k t : ℕ) → (fs a : List ℕ) → Decided
-dropped_then o k t fs a = record { text = dropped_offer t o.station; fates = set fs k lost; octets = a }
-
--- made where the named one is sent, else dropped
-unfoldable pub decision : PlannedOffer → (k t : ℕ) → (fs a : List ℕ) → Decided
-decision o k t fs a = pick (eqb (named_fate fs o) sent) (made_then o k t fs (made o a)) (dropped_then o k t fs a)
-
--- "Offers due in one step go in plan order": one pass over the offers, of which the first has number k
-unfoldable pub decided : List PlannedOffer → (k t : ℕ) → (fs a : List ℕ) → Decided
-decided [] k t fs a = undecided fs a
-decided (o ∷ os) k t fs a =
-    pick (is_ready o k t fs)
-    (and_then (decision o k t fs a)
-    (decided os (suc k) t (decision o k t fs a).fates (decision o k t fs a).octets))
-    (decided os (suc k) t fs a)
-
--- ---- what a step does to the fates
-
--- the fate of an offer that is held, by the transmit event of its station
-abbrev pub held_after : TransmitEvent → ℕ
-held_after NoTransmit = held
-held_after (Collision k) = held
-held_after (Late k closes) = held
-held_after (Sent n) = sent
-held_after (GivenUp n) = lost
-held_after (LateEnded n) = lost
-
-unfoldable pub fate_after : (f : ℕ) → TransmitEvent → ℕ
-fate_after f e = pick (eqb f held) (held_after e) f
-
-unfoldable pub fate_moved : List Events → PlannedOffer → (k : ℕ) → List ℕ → List ℕ
-fate_moved es o k fs = set fs k (fate_after (fate_at fs k) (event_at es o.station).sent)
-
--- of all offers, of which the first has number k
-unfoldable pub after : List PlannedOffer → (k : ℕ) → List Events → List ℕ → List ℕ
-after [] k es fs = fs
-after (o ∷ os) k es fs = after os (suc k) es (fate_moved es o k fs)
+-- "An offer is made, in plan order, just before the step of its time": of m offers from octet p on, those whose time is
+-- the clock
+unfoldable pub due_offers : List ℕ → (m p : ℕ) → List ℕ → Offers
+due_offers l zero p a = none zero p a
+due_offers l (suc m) p a =
+    pick (eqb (offer_time l p) (clock_at a))
+    (after (offer_text l p a) (due_offers l m (next_offer l p) (made l p a).octets)) (none (suc m) p a)
 
 -- ---- the run
 
@@ -148,15 +81,13 @@ at_end a = course (end_line (clock_at a)) a
 abbrev pub step_then : List ℕ → Course → Course
 step_then a rest = before (step_lines (clock_at a) (events_at a) 16) (pick (stops (events_at a)) (at_end (step_area a)) rest)
 
--- n bit times on area a, with offers os and their fates fs: what is decided, a step, and what it does to the fates. "An
--- offer whose step never runs is not made."
-unfoldable pub run_on : List PlannedOffer → (n : ℕ) → (fs a : List ℕ) → Course
-run_on os zero fs a = at_end a
-run_on os (suc n) fs a =
-    before (decided os 0 (clock_at a) fs a).text
-    (step_then (decided os 0 (clock_at a) fs a).octets
-    (run_on os n (after os 0 (events_at (decided os 0 (clock_at a) fs a).octets) (decided os 0 (clock_at a) fs a).fates)
-    (step_area (decided os 0 (clock_at a) fs a).octets)))
+-- n bit times on area a, with m offers from octet p on. "An offer whose step never runs is not made."
+unfoldable pub run_on : List ℕ → (n m p : ℕ) → List ℕ → Course
+run_on l zero m p a = at_end a
+run_on l (suc n) m p a =
+    before (due_offers l m p a).text
+    (step_then (due_offers l m p a).octets
+    (run_on l n (due_offers l m p a).left (due_offers l m p a).at (step_area (due_offers l m p a).octets)))
 
 -- ---- the whole
 
@@ -168,13 +99,9 @@ first_text y = first_line y.count (pick (fits_well y) fit_yes fit_no)
 unfoldable pub start_area : List ℕ → Planned → List ℕ → List ℕ
 start_area l r a = fresh r.layout r.depth (draws_in l r.drawn r.layout.count r.depth) a
 
--- its offers
-abbrev pub plan_offers : List ℕ → Planned → List PlannedOffer
-plan_offers l r = offers_of l r.named r.first r.offers
-
 -- the plan r, from a fresh start over area a on
 unfoldable pub plan_course : List ℕ → Planned → List ℕ → Course
-plan_course l r a = before (first_text r.layout) (run_on (plan_offers l r) r.times all_ahead (start_area l r a))
+plan_course l r a = before (first_text r.layout) (run_on l r.times r.offers r.first (start_area l r a))
 
 -- "A refused input prints `refused n`." The area is then as it was.
 unfoldable pub input_course : List ℕ → List ℕ → Course

@@ -60,10 +60,6 @@ placed t i = numbered t space ++ numbered i space
 unfoldable pub line : (t i : ℕ) (word : List ℕ) (n : ℕ) → List ℕ
 line t i word n = placed t i ++ counted word n newline
 
--- the same with a word alone, which ends in a newline
-unfoldable pub lone : (t i : ℕ) (word : List ℕ) → List ℕ
-lone t i word = placed t i ++ word
-
 -- `stations`
 abbrev pub stations_word : List ℕ
 stations_word = 115 ∷ 116 ∷ 97 ∷ 116 ∷ 105 ∷ 111 ∷ 110 ∷ 115 ∷ []
@@ -78,10 +74,6 @@ fit_no = 102 ∷ 105 ∷ 116 ∷ 32 ∷ 110 ∷ 111 ∷ newline ∷ []
 -- `refused`
 abbrev pub refused_word : List ℕ
 refused_word = 114 ∷ 101 ∷ 102 ∷ 117 ∷ 115 ∷ 101 ∷ 100 ∷ []
-
--- `dropped`
-abbrev pub dropped_word : List ℕ
-dropped_word = 100 ∷ 114 ∷ 111 ∷ 112 ∷ 112 ∷ 101 ∷ 100 ∷ newline ∷ []
 
 -- `end`
 abbrev pub end_word : List ℕ
@@ -98,10 +90,6 @@ refused_line n = counted refused_word n newline
 -- "refused, it prints `time station refused n`"
 unfoldable pub refused_offer : (t i n : ℕ) → List ℕ
 refused_offer t i n = line t i refused_word n
-
--- N12: "`time station dropped` is printed where a refusal would be"
-unfoldable pub dropped_offer : (t i : ℕ) → List ℕ
-dropped_offer t i = lone t i dropped_word
 
 -- "`end` gives the clock."
 unfoldable pub end_line : (t : ℕ) → List ℕ

@@ -6,7 +6,7 @@ use Rattle.std.proofs.Math.ListN.{length}
 use Rattle.std.proofs.lemmas.List.Edits.{sets}
 use Rattle.octets.specs.Store.{sets_append}
 use Rattle.report_text.specs.Text.{Written, written, puts, digits, lean, decimal, numbered, counted, placed, line}
-use Rattle.report_text.specs.Text.{lone, stations_word, first_line}
+use Rattle.report_text.specs.Text.{stations_word, first_line}
 
 -- ---- the digits
 
@@ -157,10 +157,6 @@ module _ (l x : List ℕ) (at m t i : ℕ) (e : written m x ≡ puts l at (place
       → written r y ≡ puts l at (line t i w n)
   unfolding line
   line_is y w r n p = join l x at m (placed t i) e y r (counted w n 10) p
-
-  pub lone_is : (y w : List ℕ) → y ≡ sets x m w → written (m + length w) y ≡ puts l at (lone t i w)
-  unfolding lone
-  lone_is y w p = join l x at m (placed t i) e y (m + length w) w (ap (written (m + length w)) p)
 
 module _ (l x : List ℕ) (m n : ℕ) (e : written m x ≡ puts l 0 (counted stations_word n 32)) where
   pub first_is : (y f : List ℕ) → y ≡ sets x m f → written (m + length f) y ≡ puts l 0 (first_line n f)

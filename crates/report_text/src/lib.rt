@@ -2,7 +2,7 @@
 
 ghost use Rattle.std.specs.Prelude.{◌≡◌, [], ◌∷◌, ◌++◌, ◌+◌, ◌<◌, ◌≤◌, length, drop};
 ghost use Rattle.report_text.specs.Text.{written, puts, digits, lean, decimal, numbered, counted, placed, line};
-ghost use Rattle.report_text.specs.Text.{lone, first_line, space};
+ghost use Rattle.report_text.specs.Text.{first_line, space};
 
 // The ten digits of n, zeros leading.
 fn spell(n: u32) -> [u8; 10]
@@ -99,17 +99,6 @@ pub fn put_line(out: &mut [u8], at: usize, t: u32, i: u32, word: &[u8], n: u32) 
 {
     let middle = put_place(out, at, t, i);
     put_counted(out, middle, word, n, b'\n')
-}
-
-// Time, station and a word alone, which ends in a newline.
-pub fn put_lone(out: &mut [u8], at: usize, t: u32, i: u32, word: &[u8]) -> usize
-    requires { at + length word.now + 22 ≤ length out.old }
-    ensures text { written result out.new ≡ puts out.old at (lone t i word.now) }
-    ensures small { result ≤ at + length word.now + 22 }
-{
-    let middle = put_place(out, at, t, i);
-    octets_copies::store(out, middle, word);
-    middle + word.len()
 }
 
 // The first line: N, and whether the layout fits.

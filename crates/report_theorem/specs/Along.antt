@@ -101,8 +101,8 @@ module _ (l : List ℕ) (n : ℕ) (g : Progress) (b : List ℕ) (w : Along l n g
 -- ---- the end
 
 module _ (l : List ℕ) (n : ℕ) (g : Progress) (b : List ℕ) (h : g.ended ≡ true) where
-  pub end_place_lem : Along l n g b → n ≡ length (printed l)
-  end_place_lem w =
+  pub end_place : Along l n g b → n ≡ length (printed l)
+  end_place w =
       let k : 0 ≡ length (printed l) - n = ap (λ (c : Course). length c.text) (sym (remaining_off l g b h))
       ∙ ap length w.rest ∙ length-drop n (printed l) in
       let p = w.within in

@@ -1,4 +1,3 @@
-pub mod Decide
 pub mod Whole
 pub mod Cut
 pub mod Along

@@ -2,18 +2,18 @@
 -- they come to an end. Assumes nothing.
 use Prim.Native.Nat.{ℕ, zero, suc, ◌+◌, ◌-◌, ◌≤◌, ◌<◌, min}
 use Rattle.std.specs.Prelude.{◌≡◌, Bool, not, eqb, ltb, get_or, replicate, take, drop}
-use Rattle.std.proofs.Math.Path.{refl, sym, ap}
-use Rattle.std.proofs.Common.{◌∙◌, ap₂, subst, true≢false, ext_get_or, take_at, drop_at, length-take-le}
+use Rattle.std.proofs.Math.Path.{refl, sym, ap, ap₂}
+use Rattle.std.proofs.Common.{◌∙◌, subst, true≢false, ext_get_or, take_at, drop_at, length-take-le}
 use Rattle.std.proofs.Math.Bool.{true, false}
 use mathlib.Core.List.{List, [], ◌∷◌, ◌++◌, append_assoc, append-nil}
 use native.Mathlib.Omega.{arith}
 use borrow.Author.Tests.{eq-eqb, ne_eqb, le-ltb, le-leb, eqb-false, ltb-false}
-use Rattle.std.proofs.Math.ListN.{length, length-append, length-replicate}
-use Rattle.std.proofs.lemmas.List.{get_or-replicate}
+use Rattle.std.proofs.Math.ListN.{length, length-append}
+use Rattle.std.proofs.lemmas.List.{length-replicate, get_or-replicate}
 use Rattle.std.proofs.lemmas.List.Edits.{sets}
 use Rattle.std.proofs.Math.Seq.{length-sets}
-use Rattle.octets.specs.Base.{pick, accepted, number_of, Outcome}
-use Rattle.octets.specs.Store.{take_sets}
+use Rattle.octets.specs.Base.{pick, accepted, number_of}
+use Rattle.octets.specs.Store.{length_part, take_sets}
 use Rattle.octets.specs.Turns.{blanked, length_blanked, blanked_same}
 use Rattle.sheet_layout.specs.Layout.{fits_well}
 use Rattle.octets.specs.BaseLaws.{by_test, by_eq, neither, none_below, below_none}
@@ -23,7 +23,7 @@ use Rattle.station_spec.specs.declared.ReceiveEvent.TheVariants.{GotCheck, GotLe
 use Rattle.station_spec.specs.declared.TransmitEvent.{TransmitEvent}
 use Rattle.station_spec.specs.declared.TransmitEvent.TheVariants.{NoTransmit, Collision, Late, Sent, GivenUp}
 use Rattle.station_spec.specs.declared.TransmitEvent.TheVariants.{LateEnded}
-use Rattle.area.specs.Area.{clock_at, count_at}
+use Rattle.area.specs.Area.{clock_at}
 use Rattle.bus_start.specs.Fresh.{with_plan, fresh}
 use Rattle.bus_start.specs.FreshLaws.{fresh_length, fresh_clock}
 use Rattle.area_check.specs.Valid.{area_refusal}
@@ -36,25 +36,21 @@ use Rattle.bus_spec.specs.Run.{late_at, stops}
 use Rattle.bus_spec.specs.Until.{has_event, eventful, Stretched, one_more, until_event}
 use Rattle.bus_spec.specs.UntilLaws.{none_eventful, stretch_steps, stretch_some}
 use Rattle.report_text.specs.Text.{fit_yes, fit_no, refused_line, end_line}
-use Rattle.report_lines.specs.Sizes.{first_size, refused_size, refused_offer_size, dropped_size, end_size, step_size}
+use Rattle.report_lines.specs.Sizes.{first_size, refused_size, refused_offer_size, end_size, step_size}
 use Rattle.report_lines.specs.Events.{event_line, station_lines, step_lines}
 use Rattle.plan_draws.specs.Draws.{draws_in}
-use Rattle.plan_read.specs.Plan.{PlannedOffer, offer_at, Planned, plan_as_read}
+use Rattle.plan_read.specs.Plan.{offer_time, offer_station, offer_destination, offer_value, offer_size, offer_data}
+use Rattle.plan_read.specs.Plan.{offer_place, Planned, plan_as_read}
 use Rattle.plan_read.specs.PlanTheorems.{Right, read_right, read_passes, read_formed}
 use Rattle.report_spec.specs.declared.Progress.{Progress}
-use Rattle.report_spec.specs.declared.Ready.{Ready}
-use Rattle.report_spec.specs.Printed.{sent, all_ahead, named_fate, Decided, and_then, made, offer_line, made_then}
-use Rattle.report_spec.specs.Printed.{dropped_then, decision, decided, after, Course, course, before, at_end, step_then}
-use Rattle.report_spec.specs.Printed.{run_on, first_text, start_area, plan_offers, plan_course, input_course, zeros, printed}
-use Rattle.report_spec.specs.Pieces.{all_lie, Moved, moved, standing, onward, offers_at, ready_in, span_of, last_piece}
-use Rattle.report_spec.specs.Pieces.{decision_piece, offer_piece, times_left, stretch_piece, step_piece, next_piece, move, given}
-use Rattle.report_spec.specs.Pieces.{offers_short, move_refusal, advanced_on, on_front}
+use Rattle.report_spec.specs.Printed.{next_offer, lies, made, offer_line, offer_text, none, after, due_offers, Course}
+use Rattle.report_spec.specs.Printed.{course, before, at_end, step_then, run_on, first_text, start_area, plan_course}
+use Rattle.report_spec.specs.Printed.{input_course, zeros, printed}
+use Rattle.report_spec.specs.Pieces.{Moved, moved, standing, is_due, span_of, last_piece, offer_piece, times_left}
+use Rattle.report_spec.specs.Pieces.{stretch_piece, step_piece, move, given, offer_short, move_refusal, advanced_on, on_front}
 use Rattle.report_spec.specs.Pieces.{advanced, no_progress, start_piece, first_piece, begun, remaining, told}
-use Rattle.report_spec.specs.PieceLaws.{move_last, move_offer, move_step, span_most, span_some, short_is}
-use Rattle.report_theorem.specs.Decide.{ready_ahead, Settled, decision_settles, decision_keeps, any_ready}
-use Rattle.report_theorem.specs.Decide.{none_decided, names_above, found_is, Found, found_one, split, names_low}
-use Rattle.report_theorem.specs.Decide.{lie_all, six, idle_on, after_calm, blank_mute, calm_mute, aheads}
-use Rattle.report_theorem.specs.Decide.{aheads_most, aheads_set, aheads_after, after_long, settled_long}
+use Rattle.report_spec.specs.PieceLaws.{move_last, move_offer, move_step, due_offers_lem, span_most, span_some, lies_room}
+use Rattle.report_spec.specs.PieceLaws.{short_none, short_is}
 use Rattle.sheet_layout.specs.Limits.{last_clock, max_stations}
 use Rattle.area.specs.Offsets.{area_size}
 use Rattle.station_tally.specs.Words.{transmit_word, transmit_value, receive_word, receive_value, ends_run, is_transmit}
@@ -107,133 +103,126 @@ module _ (es : List Events) (h : eventful es ≡ false) where
   no_late : stops es ≡ false
   no_late = below_none (late_at es) 16 (λ i g. calm_late es i (each i g))
 
--- ---- what is still to come, by what is decided before the next step
+-- ---- the offers before a step
 
-abbrev from : (os : List PlannedOffer) (n : ℕ) → Decided → Course
-from os n d =
-    before d.text
-    (step_then d.octets (run_on os n (after os 0 (events_at d.octets) d.fates) (step_area d.octets)))
+-- whether one of m offers from octet p on is due at time t
+unfoldable due_at : List ℕ → (m p t : ℕ) → Bool
+due_at l m p t = pick (eqb m 0) false (eqb (offer_time l p) t)
 
-run_on_lem : (os : List PlannedOffer) (n : ℕ) (fs a : List ℕ)
-    → run_on os (suc n) fs a ≡ from os n (decided os 0 (clock_at a) fs a)
-unfolding run_on
-run_on_lem os n fs a = refl
+due_is_due : (l : List ℕ) (g : Progress) (a : List ℕ) → is_due l g a ≡ due_at l g.offers g.at (clock_at a)
+unfolding is_due due_at
+due_is_due l g a = refl
 
-run_none : (os : List PlannedOffer) (fs a : List ℕ) → run_on os 0 fs a ≡ at_end a
-unfolding run_on
-run_none os fs a = refl
+due_more : (l : List ℕ) (m p t : ℕ) → eqb (offer_time l p) t ≡ due_at l (suc m) p t
+unfolding due_at
+due_more l m p t = rw (ne_eqb (suc m) 0 (λ z. omega arith))
 
-before_both : (s t : List ℕ) (c : Course) → before (s ++ t) c ≡ before s (before t c)
-before_both s t c = ap (λ (x : List ℕ). course x c.octets) (append_assoc s t c.text)
+none_due : (l : List ℕ) (m p : ℕ) (a : List ℕ) → due_at l m p (clock_at a) ≡ false → due_offers l m p a ≡ none m p a
+unfolding due_offers
+none_due l zero p a h = refl
+none_due l (suc m) p a h = let e : eqb (offer_time l p) (clock_at a) ≡ false = due_more l m p (clock_at a) ∙ h in rw e
 
--- a decision comes first
-run_decision : (os : List PlannedOffer) (n : ℕ) (fs a : List ℕ) (d : Decided)
-    → decided os 0 (clock_at a) fs a ≡ and_then d (decided os 0 (clock_at a) d.fates d.octets)
-    → clock_at d.octets ≡ clock_at a
-    → run_on os (suc n) fs a ≡ before d.text (run_on os (suc n) d.fates d.octets)
-run_decision os n fs a d e c =
-    run_on_lem os n fs a
-    ∙ ap (from os n) e
-    ∙ before_both d.text (decided os 0 (clock_at a) d.fates d.octets).text _
-    ∙ ap (before d.text)
-    (ap (λ (t : ℕ). from os n (decided os 0 t d.fates d.octets)) (sym c)
-    ∙ sym (run_on_lem os n d.fates d.octets))
+one_due : (l : List ℕ) (m p : ℕ) (a : List ℕ) → due_at l (suc m) p (clock_at a) ≡ true
+    → due_offers l (suc m) p a ≡ after (offer_text l p a) (due_offers l m (next_offer l p) (made l p a).octets)
+unfolding due_offers
+one_due l m p a h = let e : eqb (offer_time l p) (clock_at a) ≡ true = due_more l m p (clock_at a) ∙ h in rw e
 
 -- ---- a stretch of steps
 
-run_step : (os : List PlannedOffer) (n : ℕ) (fs a : List ℕ) → any_ready os 0 (clock_at a) fs ≡ false
-    → run_on os (suc n) fs a ≡ step_then a (run_on os n (after os 0 (events_at a) fs) (step_area a))
-run_step os n fs a h = run_on_lem os n fs a ∙ ap (from os n) (none_decided os 0 (clock_at a) fs a h)
+run_step : (l : List ℕ) (n m p : ℕ) (a : List ℕ) → due_at l m p (clock_at a) ≡ false
+    → run_on l (suc n) m p a ≡ step_then a (run_on l n m p (step_area a))
+unfolding run_on
+run_step l n m p a h = rw (none_due l m p a h)
 
-abbrev Stretches : (os : List PlannedOffer) (n : ℕ) (fs a : List ℕ) → Stretched → Type 0
-Stretches os n fs a s =
-    run_on os n fs a ≡ before (step_lines (clock_at s.octets - 1) s.events 16)
-    (run_on os (times_left n s) (after os 0 s.events fs) s.octets)
+run_none : (l : List ℕ) (m p : ℕ) (a : List ℕ) → run_on l 0 m p a ≡ at_end a
+unfolding run_on
+run_none l m p a = refl
 
-first_calm : (os : List PlannedOffer) (n : ℕ) (fs a : List ℕ) → Stretches os n fs a (until_event 0 a)
+abbrev Stretches : (l : List ℕ) (n m p : ℕ) (a : List ℕ) → Stretched → Type 0
+Stretches l n m p a s =
+    run_on l n m p a ≡ before (step_lines (clock_at s.octets - 1) s.events 16)
+    (run_on l (times_left n s) m p s.octets)
+
+first_calm : (l : List ℕ) (n m p : ℕ) (a : List ℕ) → Stretches l n m p a (until_event 0 a)
 unfolding until_event times_left
-first_calm os n fs a =
+first_calm l n m p a =
     let z : n - 0 ≡ n = omega arith in
     rw (
       no_lines (replicate 16 no_events) none_eventful (clock_at a - 1),
       no_late
           (replicate 16 no_events) none_eventful,
       z,
-      after_calm os 0 (replicate 16 no_events) fs blank_mute,
     )
 
-module _ (os : List PlannedOffer) (n : ℕ) (fs a : List ℕ) (h : any_ready os 0 (clock_at a) fs ≡ false)
+module _ (l : List ℕ) (n m p : ℕ) (a : List ℕ) (h : due_at l m p (clock_at a) ≡ false)
     (t : clock_at (step_area a) ≡ clock_at a + 1) where
   -- the step has an event: its lines, and then the rest or the end
-  step_hit : Stretches os (suc n) fs a (record { steps = 1; events = events_at a; octets = step_area a })
+  step_hit : Stretches l (suc n) m p a (record { steps = 1; events = events_at a; octets = step_area a })
   unfolding times_left
   step_hit =
       let c : clock_at (step_area a) - 1 ≡ clock_at a = omega arith in
       let k : suc n - 1 ≡ n = omega arith in
-      run_step os n fs a h
+      run_step l n m p a h
       ∙ rw (c, k)
       (by_test (stops (events_at a))
-      (λ b. rw b (ap (before (step_lines (clock_at a) (events_at a) 16))
-      (sym (run_none os (after os 0 (events_at a) fs) (step_area a)))))
+      (λ b. rw b (ap (before (step_lines (clock_at a) (events_at a) 16)) (sym (run_none l m p (step_area a)))))
       (λ b. rw b))
 
   -- it has none: the rest alone
-  step_calm : (s : Stretched) → count_at a ≤ max_stations → eventful (events_at a) ≡ false
-      → Stretches os n fs (step_area a) s
-      → Stretches os (suc n) fs a (one_more s)
+  step_calm : (s : Stretched) → eventful (events_at a) ≡ false → Stretches l n m p (step_area a) s
+      → Stretches l (suc n) m p a (one_more s)
   unfolding times_left
-  step_calm s few e r =
+  step_calm s e r =
       let k : suc n - (s.steps + 1) ≡ n - s.steps = omega arith in
-      run_step os n fs a h
-      ∙ rw (
-        no_lines (events_at a) e (clock_at a),
-        no_late (events_at a) e,
-        k,
-        after_calm os 0 (events_at a) fs (calm_mute a few e),
-      ) r
+      run_step l n m p a h ∙ rw (no_lines (events_at a) e (clock_at a), no_late (events_at a) e, k) r
 
--- none of the offers is decided in the k steps from time t on
-abbrev Far : (os : List PlannedOffer) (fs : List ℕ) (t k : ℕ) → Type 0
-Far os fs t k = (i : ℕ) → i < k → any_ready os 0 (t + i) fs ≡ false
+-- none of the m offers from p on is due in the k steps from time t on
+abbrev Far : (l : List ℕ) (m p t k : ℕ) → Type 0
+Far l m p t k = (i : ℕ) → i < k → due_at l m p (t + i) ≡ false
 
-stretch_text : (os : List PlannedOffer) (k n : ℕ) (fs a : List ℕ) → Passing a → clock_at a + k ≤ last_clock → k ≤ n
-    → Far os fs (clock_at a) k → Stretches os n fs a (until_event k a)
+stretch_text : (l : List ℕ) (k n m p : ℕ) (a : List ℕ) → Passing a → clock_at a + k ≤ last_clock → k ≤ n
+    → Far l m p (clock_at a) k → Stretches l n m p a (until_event k a)
 unfolding until_event
-stretch_text os zero n fs a v c q f = first_calm os n fs a
-stretch_text os (suc k) zero fs a v c q f = absurd (omega arith)
-stretch_text os (suc k) (suc n) fs a v c q f =
+stretch_text l zero n m p a v c q f = first_calm l n m p a
+stretch_text l (suc k) zero m p a v c q f = absurd (omega arith)
+stretch_text l (suc k) (suc n) m p a v c q f =
     let t : clock_at (step_area a) ≡ clock_at a + 1 = step_clock a v.ready in
     let z : clock_at a + 0 ≡ clock_at a = omega arith in
-    let h : any_ready os 0 (clock_at a) fs ≡ false = subst (λ (x : ℕ). any_ready os 0 x fs ≡ false) z (f 0 (omega arith)) in
-    let r : Stretches os n fs (step_area a) (until_event k (step_area a)) =
-    stretch_text os k n fs (step_area a) (step_passing a v (omega arith)) (omega arith) (omega arith)
+    let h : due_at l m p (clock_at a) ≡ false = subst (λ (x : ℕ). due_at l m p x ≡ false) z (f 0 (omega arith)) in
+    let r : Stretches l n m p (step_area a) (until_event k (step_area a)) =
+    stretch_text l k n m p (step_area a) (step_passing a v (omega arith)) (omega arith) (omega arith)
     (λ i g. let y : clock_at a + suc i ≡ clock_at (step_area a)
-    + i = omega arith in subst (λ (x : ℕ). any_ready os 0 x fs ≡ false) y (f (suc i) (omega arith))) in
+    + i = omega arith in subst (λ (x : ℕ). due_at l m p x ≡ false) y (f (suc i) (omega arith))) in
     by_test (eventful (events_at a))
-    (λ b. rw b (step_hit os n fs a h t))
-    (λ b. rw b (step_calm os n fs a h t (until_event k (step_area a)) v.ready.spread.few b r))
+    (λ b. rw b (step_hit l n m p a h t))
+    (λ b. rw b (step_calm l n m p a h t (until_event k (step_area a)) b r))
 
 -- ---- a run that goes on
 
--- an area that passes, bit times that it can make, offers that lie within the input and name only earlier ones, and a
--- fate for each
+-- an area that passes, bit times that it can make, and offers that lie within the input
 pub record Going (l : List ℕ) (g : Progress) (a : List ℕ) : Type 0 where
   pub passing : Passing a
   pub long : length a ≡ area_size
   pub clock : clock_at a + g.times ≤ last_clock
-  pub few : g.offers ≤ 64
-  pub lie : all_lie l g.named g.at g.offers ≡ true
-  pub names : names_above (offers_at l g) 0 ≡ false
-  pub fates : length g.fates ≡ 64
+  pub offers : (k : ℕ) → k < g.offers → lies l (offer_place l g.at k) ≡ true
+
+place_on : (l : List ℕ) (p k : ℕ) → offer_place l (next_offer l p) k ≡ offer_place l p (suc k)
+unfolding offer_place
+place_on l p zero = refl
+place_on l p (suc k) = ap (λ (q : ℕ). q + 15 + offer_size l q) (place_on l p k)
+
+place_first : (l : List ℕ) (p : ℕ) → offer_place l p 0 ≡ p
+unfolding offer_place
+place_first l p = refl
 
 module _ (l : List ℕ) (g : Progress) (a : List ℕ) where
-  remaining_on : g.ended ≡ false → remaining l g a ≡ run_on (offers_at l g) g.times g.fates a
+  remaining_on : g.ended ≡ false → remaining l g a ≡ run_on l g.times g.offers g.at a
   unfolding remaining
-  remaining_on h = ap (λ (b : Bool). pick b (course [] a) (run_on (offers_at l g) g.times g.fates a)) h
+  remaining_on h = ap (λ (b : Bool). pick b (course [] a) (run_on l g.times g.offers g.at a)) h
 
   pub remaining_off : g.ended ≡ true → remaining l g a ≡ course [] a
   unfolding remaining
-  remaining_off h = ap (λ (b : Bool). pick b (course [] a) (run_on (offers_at l g) g.times g.fates a)) h
+  remaining_off h = ap (λ (b : Bool). pick b (course [] a) (run_on l g.times g.offers g.at a)) h
 
 -- what a piece hands out comes first in what is still to come
 abbrev pub Onward : (l : List ℕ) (g : Progress) (a : List ℕ) → Moved → Type 0
@@ -245,10 +234,10 @@ last_on : (l : List ℕ) (g : Progress) (a : List ℕ) → g.ended ≡ false →
 unfolding last_piece
 last_on l g a h t =
     remaining_on l g a h
-    ∙ ap (λ (n : ℕ). run_on (offers_at l g) n g.fates a) t
-    ∙ run_none (offers_at l g) g.fates a
+    ∙ ap (λ (n : ℕ). run_on l n g.offers g.at a) t
+    ∙ run_none l g.offers g.at a
     ∙ ap (λ (s : List ℕ). course s a) (sym (append-nil (end_line (clock_at a))))
-    ∙ ap (before (end_line (clock_at a))) (sym (remaining_off l (onward g 0 true g.fates) a refl))
+    ∙ ap (before (end_line (clock_at a))) (sym (remaining_off l (standing g.at g.offers 0 true) a refl))
 
 last_going : (l : List ℕ) (g : Progress) (a : List ℕ) → Going l g a
     → Going l (last_piece g a).progress (last_piece g a).octets
@@ -258,83 +247,81 @@ last_going l g a w =
       passing = w.passing;
       long = w.long;
       clock = (let c = w.passing.ready.clock in omega arith);
-      few = w.few;
-      lie = w.lie;
-      names = w.names;
-      fates = w.fates;
+      offers = w.offers;
     }
 
--- ---- a decision
+-- ---- an offer
 
-module _ (l : List ℕ) (g : Progress) (a : List ℕ) (w : Going l g a) (f : (ready_in l g a).found ≡ true) where
-  abbrev found_at : Ready
-  found_at = ready_in l g a
+before_both : (s t : List ℕ) (c : Course) → before (s ++ t) c ≡ before s (before t c)
+before_both s t c = ap (λ (x : List ℕ). course x c.octets) (append_assoc s t c.text)
 
-  abbrev chosen : PlannedOffer
-  chosen = offer_at l g.named found_at.at
+offer_text_lem : (l : List ℕ) (n m p : ℕ) (a : List ℕ) → due_at l (suc m) p (clock_at a) ≡ true
+    → run_on l (suc n) (suc m) p a ≡ before (offer_text l p a) (run_on l (suc n) m (next_offer l p) (made l p a).octets)
+unfolding run_on
+offer_text_lem l n m p a h =
+    rw (one_due l m p a h)
+    (before_both (offer_text l p a) (due_offers l m (next_offer l p) (made l p a).octets).text _)
 
-  abbrev verdict : Decided
-  verdict = decision chosen found_at.number (clock_at a) g.fates a
-
-  it_is : Found l g.named g.offers 0 (clock_at a) g.fates found_at
-  unfolding ready_in
-  it_is = found_one l g.named g.at g.offers 0 (clock_at a) g.fates w.lie f
-
-  keeps : (Passing verdict.octets) × ((clock_at verdict.octets ≡ clock_at a) × (length verdict.octets ≡ length a))
-  keeps =
-      decision_keeps chosen found_at.number (clock_at a) g.fates a
-      (six l g.named found_at.at it_is.inside) w.passing
-
-  settles : Settled found_at.number g.fates verdict.fates
-  settles = decision_settles chosen found_at.number (clock_at a) g.fates a
-
-  splits : decided (offers_at l g) 0 (clock_at a) g.fates a
-      ≡ and_then verdict (decided (offers_at l g) 0 (clock_at a) verdict.fates verdict.octets)
-  unfolding ready_in
-  splits = split l g.named (clock_at a) g.fates a g.at g.offers 0 (omega (arith, w.few, w.fates)) w.names f
-
-  offer_on : (n : ℕ) → g.times ≡ suc n → g.ended ≡ false → Onward l g a (offer_piece l g a found_at)
-  unfolding offer_piece decision_piece
-  offer_on n t h =
+module _ (l : List ℕ) (g : Progress) (a : List ℕ) (w : Going l g a) (n m : ℕ) (t : g.times ≡ suc n)
+    (o : g.offers ≡ suc m) where
+  offer_on : g.ended ≡ false → is_due l g a ≡ true → Onward l g a (offer_piece l g a)
+  unfolding offer_piece
+  offer_on h d =
+      let e : due_at l (suc m) g.at (clock_at a) ≡ true = ap (λ (k : ℕ). due_at l k g.at (clock_at a)) (sym o)
+      ∙ sym (due_is_due l g a) ∙ d in
+      let z : g.offers - 1 ≡ m = omega arith in
       remaining_on l g a h
-      ∙ ap (λ (x : ℕ). run_on (offers_at l g) x g.fates a) t
-      ∙ run_decision (offers_at l g) n g.fates a verdict splits keeps.1.0
-      ∙ ap (before verdict.text)
-      (ap (λ (x : ℕ). run_on (offers_at l g) x verdict.fates verdict.octets) (sym t)
-      ∙ sym (remaining_on l (onward g g.times false verdict.fates) verdict.octets refl))
+      ∙ ap₂ (λ (x y : ℕ). run_on l x y g.at a) t o
+      ∙ offer_text_lem l n m g.at a e
+      ∙ ap (before (offer_text l g.at a))
+      (ap₂ (λ (x y : ℕ). run_on l x y (next_offer l g.at) (made l g.at a).octets) (sym t) (sym z)
+      ∙ sym (remaining_on l (standing (next_offer l g.at) (g.offers - 1) g.times false)
+      (made l g.at a).octets refl))
 
-  offer_going : Going l (offer_piece l g a found_at).progress (offer_piece l g a found_at).octets
-  unfolding offer_piece decision_piece
+  inside : lies l g.at ≡ true
+  inside = ap (lies l) (sym (place_first l g.at)) ∙ w.offers 0 (omega arith)
+
+  six : length (offer_destination l g.at) ≡ 6
+  six = length_part l (g.at + 5) 6 (omega (arith, (lies_room l g.at inside).0))
+
+  made_going : (Passing (made l g.at a).octets)
+      × ((clock_at (made l g.at a).octets ≡ clock_at a) × (length (made l g.at a).octets ≡ length a))
+  unfolding made
+  made_going = (
+    offered_passes a (offer_station l g.at) (offer_destination l g.at) (offer_value l g.at)
+        (offer_data l g.at (offer_size l g.at)) six w.passing,
+    offered_keeps a (offer_station l g.at) (offer_destination l g.at) (offer_value l g.at)
+        (offer_data l g.at (offer_size l g.at)) six w.passing,
+  )
+
+  offer_going : Going l (offer_piece l g a).progress (offer_piece l g a).octets
+  unfolding offer_piece
   offer_going =
-      let v = keeps in
+      let v = made_going in
       record {
         passing = v.0;
         long = v.1.1 ∙ w.long;
         clock = (let c = w.clock in omega (arith, v.1.0));
-        few = w.few;
-        lie = w.lie;
-        names = w.names;
-        fates = settled_long found_at.number g.fates verdict.fates settles ∙ w.fates;
+        offers = λ k h. ap (lies l) (place_on l g.at k) ∙ w.offers (suc k) (omega arith);
       }
-
-  offer_fewer : aheads g.offers verdict.fates + 1 ≡ aheads g.offers g.fates
-  offer_fewer =
-      ap (λ (x : List ℕ). aheads g.offers x + 1) settles.only
-      ∙ aheads_set g.offers found_at.number settles.fate g.fates (omega (arith, it_is.low))
-      (omega (arith, it_is.low, w.few, w.fates))
-      (ready_ahead chosen found_at.number (clock_at a) g.fates it_is.ready) settles.some
 
 -- ---- steps
 
-none_ready_lem : (l : List ℕ) (g : Progress) (a : List ℕ) → (ready_in l g a).found ≡ false
-    → any_ready (offers_at l g) 0 (clock_at a) g.fates ≡ false
-unfolding ready_in
-none_ready_lem l g a d = sym (found_is l g.named g.at g.offers 0 (clock_at a) g.fates) ∙ d
-
-far : (l : List ℕ) (g : Progress) (a : List ℕ) → (ready_in l g a).found ≡ false
-    → Far (offers_at l g) g.fates (clock_at a) (span_of l g a)
-unfolding span_of
-far l g a d i h = idle_on (offers_at l g) 0 (clock_at a) i g.times g.fates (none_ready_lem l g a d) h
+far : (l : List ℕ) (g : Progress) (a : List ℕ) → is_due l g a ≡ false
+    → Far l g.offers g.at (clock_at a) (span_of l g a)
+unfolding is_due span_of due_at
+far l g a d i h =
+    by_test (eqb g.offers 0)
+    (λ e. rw e)
+    (λ e. rw e (ne_eqb (offer_time l g.at) (clock_at a + i) (λ z. apart e z)))
+  where
+    apart : eqb g.offers 0 ≡ false → offer_time l g.at ≡ clock_at a + i → ⊥
+    apart e z =
+        by_test (ltb (clock_at a) (offer_time l g.at))
+        (λ c. let q : i < min (offer_time l g.at - clock_at a) g.times = rw (e, c) at h in omega arith)
+        (λ c. let q = ltb-false (clock_at a) (offer_time l g.at) c in
+        let f : eqb (offer_time l g.at) (clock_at a) ≡ false = rw e at d in
+        eqb-false (offer_time l g.at) (clock_at a) f (omega arith))
 
 stretch_going : (k : ℕ) (a : List ℕ) → Passing a → clock_at a + k ≤ last_clock
     → (Passing (until_event k a).octets)
@@ -353,17 +340,15 @@ module _ (l : List ℕ) (g : Progress) (a : List ℕ) (w : Going l g a) where
   few : clock_at a + span_of l g a ≤ last_clock
   few = let c = w.clock in omega (arith, span_most l g a)
 
-  step_on : g.ended ≡ false → (ready_in l g a).found ≡ false → Onward l g a (step_piece l g a)
+  step_on : g.ended ≡ false → is_due l g a ≡ false → Onward l g a (step_piece l g a)
   unfolding stretch_piece
   step_on h d =
       let s = until_event (span_of l g a) a in
       remaining_on l g a h
-      ∙ stretch_text (offers_at l g) (span_of l g a) g.times g.fates a w.passing few (span_most l g a)
-      (far l g a d)
+      ∙ stretch_text l (span_of l g a) g.times g.offers g.at a w.passing few (span_most l g a) (far l g a d)
       ∙ ap (before (step_lines (clock_at (until_event (span_of l g a) a).octets - 1)
       (until_event (span_of l g a) a).events 16))
-      (sym (remaining_on l (onward g (times_left g.times (until_event (span_of l g a) a)) false
-      (after (offers_at l g) 0 (until_event (span_of l g a) a).events g.fates))
+      (sym (remaining_on l (standing g.at g.offers (times_left g.times (until_event (span_of l g a) a)) false)
       (until_event (span_of l g a) a).octets refl))
 
   left_most : (s : Stretched) → times_left g.times s ≤ g.times - s.steps
@@ -386,10 +371,7 @@ module _ (l : List ℕ) (g : Progress) (a : List ℕ) (w : Going l g a) where
                   (span_of l g a) a,
               span_most l g a,
             ));
-        few = w.few;
-        lie = w.lie;
-        names = w.names;
-        fates = after_long (offers_at l g) 0 (until_event (span_of l g a) a).events g.fates ∙ w.fates;
+        offers = w.offers;
       }
 
 -- ---- the next piece, whichever it is
@@ -400,15 +382,15 @@ positive (suc k) f = omega arith
 
 -- the pieces left at most
 unfoldable pub pieces : Progress → ℕ
-pieces g = pick g.ended 0 (g.times + aheads g.offers g.fates + 1)
+pieces g = pick g.ended 0 (g.times + g.offers + 1)
 
-pieces_on : (g : Progress) → g.ended ≡ false → pieces g ≡ g.times + aheads g.offers g.fates + 1
+pieces_on : (g : Progress) → g.ended ≡ false → pieces g ≡ g.times + g.offers + 1
 unfolding pieces
-pieces_on g h = ap (λ (b : Bool). pick b 0 (g.times + aheads g.offers g.fates + 1)) h
+pieces_on g h = ap (λ (b : Bool). pick b 0 (g.times + g.offers + 1)) h
 
 pieces_off : (g : Progress) → g.ended ≡ true → pieces g ≡ 0
 unfolding pieces
-pieces_off g h = ap (λ (b : Bool). pick b 0 (g.times + aheads g.offers g.fates + 1)) h
+pieces_off g h = ap (λ (b : Bool). pick b 0 (g.times + g.offers + 1)) h
 
 -- what holds of a piece m handed out where the run stands at g on area a: it comes first in what is still to come, the
 -- run goes on, and there are fewer pieces left
@@ -424,30 +406,29 @@ module _ (l : List ℕ) (g : Progress) (a : List ℕ) (w : Going l g a) (h : g.e
       record {
         onward = last_on l g a h t;
         going = last_going l g a w;
-        fewer = omega (arith, pieces_off (onward g 0 true g.fates) refl, pieces_on g h);
+        fewer = omega (arith, pieces_off (standing g.at g.offers 0 true) refl, pieces_on g h);
       }
 
-  decision_fewer : (ready_in l g a).found ≡ true → pieces (offer_piece l g a (ready_in l g a)).progress < pieces g
-  unfolding offer_piece decision_piece
-  decision_fewer d =
-      omega (
-        arith,
-        pieces_on (onward g g.times false (verdict l g a w d).fates) refl,
-        pieces_on g h,
-        offer_fewer l g a w d,
-      )
-
-  offer_next : (g.times ≡ 0 → ⊥) → (ready_in l g a).found ≡ true → Next l g a (offer_piece l g a (ready_in l g a))
+  offer_next : (g.times ≡ 0 → ⊥) → is_due l g a ≡ true → Next l g a (offer_piece l g a)
+  unfolding offer_piece
   offer_next t d =
       let p = positive g.times t in
+      let q = due_offers_lem l a g (is_due l g a) refl d in
       let n : g.times ≡ suc (g.times - 1) = omega arith in
+      let m : g.offers ≡ suc (g.offers - 1) = omega arith in
       record {
-        onward = offer_on l g a w d (g.times - 1) n h;
-        going = offer_going l g a w d;
-        fewer = decision_fewer d;
+        onward = offer_on l g a w (g.times - 1) (g.offers - 1) n m h d;
+        going = offer_going l g a w (g.times - 1) (g.offers - 1) n m;
+        fewer =
+            omega (
+              arith,
+              pieces_on (standing (next_offer l g.at) (g.offers - 1) g.times false) refl,
+              pieces_on g
+                  h,
+            );
       }
 
-  step_next : (g.times ≡ 0 → ⊥) → (ready_in l g a).found ≡ false → Next l g a (step_piece l g a)
+  step_next : (g.times ≡ 0 → ⊥) → is_due l g a ≡ false → Next l g a (step_piece l g a)
   unfolding stretch_piece
   step_next t d =
       let p = positive g.times t in
@@ -458,13 +439,12 @@ module _ (l : List ℕ) (g : Progress) (a : List ℕ) (w : Going l g a) (h : g.e
         fewer =
             omega (
               arith,
-              pieces_on (onward g (times_left g.times (until_event (span_of l g a) a)) false
-                  (after (offers_at l g) 0 (until_event (span_of l g a) a).events g.fates)) refl,
+              pieces_on (standing g.at g.offers
+                  (times_left g.times (until_event (span_of l g a) a)) false) refl,
               pieces_on g h,
               left_most l g a w
                   (until_event (span_of l g a) a),
               stretch_some (span_of l g a) a s,
-              aheads_after g.offers (offers_at l g) 0 (until_event (span_of l g a) a).events g.fates,
             );
       }
 
@@ -472,7 +452,7 @@ module _ (l : List ℕ) (g : Progress) (a : List ℕ) (w : Going l g a) (h : g.e
   next =
       by_eq g.times 0
       (λ t. subst (Next l g a) (move_last l g a h t) (last_next t))
-      (λ t. by_test (ready_in l g a).found
+      (λ t. by_test (is_due l g a)
       (λ d. subst (Next l g a) (move_offer l g a h t d) (offer_next t d))
       (λ d. subst (Next l g a) (move_step l g a h t d) (step_next t d)))
 
@@ -490,8 +470,12 @@ not_refused l g a room w h =
       whole,
     )
   where
-    whole : offers_short l g ≡ false
-    whole = sym (short_is l g true w.few (sym w.lie))
+    whole : offer_short l g ≡ false
+    whole =
+        by_eq g.offers 0
+        (λ e. sym (short_none l g e))
+        (λ e. sym (short_is l g true (sym (ap (lies l) (sym (place_first l g.at)) ∙ w.offers 0
+        (positive g.offers e))) e))
 
 -- ---- a piece has room
 
@@ -499,27 +483,20 @@ last_size : (g : Progress) (a : List ℕ) → length (last_piece g a).text ≤ 2
 unfolding last_piece
 last_size g a = omega (arith, end_size (clock_at a))
 
-made_size : (o : PlannedOffer) (k t : ℕ) (fs : List ℕ) (r : Outcome) → length (made_then o k t fs r).text ≤ 2048
-unfolding made_then offer_line
-made_size o k t fs r =
-    by_test (eqb (number_of r.answer) 0)
+offer_size_lem : (l : List ℕ) (g : Progress) (a : List ℕ) → length (offer_piece l g a).text ≤ 2048
+unfolding offer_piece offer_text offer_line
+offer_size_lem l g a =
+    by_test (eqb (number_of (made l g.at a).answer) 0)
     (λ b. rw b (omega arith))
-    (λ b. rw b (omega (arith, refused_offer_size t o.station (number_of r.answer))))
+    (λ b. rw b (omega (
+      arith,
+      refused_offer_size (offer_time l g.at) (offer_station l g.at)
+          (number_of (made l g.at a).answer),
+    )))
 
-decision_size : (o : PlannedOffer) (k t : ℕ) (fs a : List ℕ) → length (decision o k t fs a).text ≤ 2048
-unfolding decision dropped_then
-decision_size o k t fs a =
-    by_test (eqb (named_fate fs o) sent)
-    (λ b. rw b (made_size o k t fs (made o a)))
-    (λ b. rw b (omega (arith, dropped_size t o.station)))
-
-offer_size_lem : (l : List ℕ) (g : Progress) (a : List ℕ) (r : Ready) → length (offer_piece l g a r).text ≤ 2048
-unfolding offer_piece decision_piece
-offer_size_lem l g a r = decision_size (offer_at l g.named r.at) r.number (clock_at a) g.fates a
-
-stretch_size : (l : List ℕ) (g : Progress) (s : Stretched) → length (stretch_piece l g s).text ≤ 2048
+stretch_size : (g : Progress) (s : Stretched) → length (stretch_piece g s).text ≤ 2048
 unfolding stretch_piece
-stretch_size l g s = omega (arith, step_size (clock_at s.octets - 1) s.events 16)
+stretch_size g s = omega (arith, step_size (clock_at s.octets - 1) s.events 16)
 
 start_size : (l : List ℕ) (r : Planned) (a : List ℕ) → length (start_piece l r a).text ≤ 2048
 unfolding start_piece first_text
@@ -529,15 +506,15 @@ start_size l r a =
     (λ b. rw b (omega (arith, first_size r.layout.count fit_no)))
 
 pub move_size : (l : List ℕ) (g : Progress) (a : List ℕ) → length (move l g a).text ≤ 2048
-unfolding move next_piece
-move_size l g a = go g.ended (eqb g.times 0) (ready_in l g a).found
+unfolding move
+move_size l g a = go g.ended (eqb g.times 0) (is_due l g a)
   where
     go : (b c d : Bool) → length (pick b (moved [] g a)
-        (pick c (last_piece g a) (pick d (offer_piece l g a (ready_in l g a)) (step_piece l g a)))).text ≤ 2048
+        (pick c (last_piece g a) (pick d (offer_piece l g a) (step_piece l g a)))).text ≤ 2048
     go true c d = omega arith
     go false true d = last_size g a
-    go false false true = offer_size_lem l g a (ready_in l g a)
-    go false false false = stretch_size l g (until_event (span_of l g a) a)
+    go false false true = offer_size_lem l g a
+    go false false false = stretch_size g (until_event (span_of l g a) a)
 
 pub first_room : (l a : List ℕ) → length (first_piece l a).text ≤ 2048
 unfolding first_piece
@@ -589,8 +566,8 @@ plan_same : (l a : List ℕ) → length a ≡ area_size
     → (plan_course l (plan_as_read l) a).text ≡ (plan_course l (plan_as_read l) zeros).text
 unfolding plan_course
 plan_same l a h =
-    ap (λ (x : List ℕ). first_text (plan_as_read l).layout
-    ++ (run_on (plan_offers l (plan_as_read l)) (plan_as_read l).times all_ahead x).text)
+    ap (λ (x : List ℕ). first_text (plan_as_read l).layout ++ (run_on l (plan_as_read l).times (plan_as_read l).offers
+    (plan_as_read l).first x).text)
     (start_same l (plan_as_read l) a zeros h zeros_long)
 
 -- so the text is too
@@ -603,6 +580,10 @@ course_same l a h =
     (λ e. ap (λ (c : Course). c.text) (refused_course l a e) ∙ ap (λ (c : Course). c.text)
     (sym (refused_course l zeros e)))
 
+inside_lies : (l : List ℕ) (p : ℕ) → p + 15 + offer_size l p ≤ length l → lies l p ≡ true
+unfolding lies
+inside_lies l p h = rw (le-leb (p + 15) (length l) (omega arith), le-leb (p + 15 + offer_size l p) (length l) h)
+
 module _ (l a : List ℕ) (h : length a ≡ area_size) (n : number_of (plan_as_read l).answer ≡ 0) where
   y : Right l (plan_as_read l)
   y = read_right l n
@@ -613,8 +594,8 @@ module _ (l a : List ℕ) (h : length a ≡ area_size) (n : number_of (plan_as_r
   start_on =
       read_course l a n
       ∙ (ap (before (first_text (plan_as_read l).layout))
-      (sym (remaining_on l (standing (plan_as_read l).first (plan_as_read l).offers (plan_as_read l).named (plan_as_read l).times
-      false all_ahead) (start_area l (plan_as_read l) a) refl)))
+      (sym (remaining_on l (standing (plan_as_read l).first (plan_as_read l).offers (plan_as_read l).times false)
+      (start_area l (plan_as_read l) a) refl)))
 
   pub start_going : Going l (start_piece l (plan_as_read l) a).progress (start_piece l (plan_as_read l) a).octets
   unfolding start_piece start_area
@@ -630,12 +611,7 @@ module _ (l a : List ℕ) (h : length a ≡ area_size) (n : number_of (plan_as_r
         long = fresh_length (plan_as_read l).layout (plan_as_read l).depth ds a big few d.1 formed ∙ h;
         clock =
             omega (arith, fresh_clock (plan_as_read l).layout (plan_as_read l).depth ds a big few d.1 formed, y.times);
-        few = y.many;
-        lie = lie_all l (plan_as_read l).named (plan_as_read l).first (plan_as_read l).offers y.offer;
-        names =
-            names_low l (plan_as_read l).named (plan_as_read l).first (plan_as_read l).offers 0
-            (λ k g. omega (arith, y.names k g));
-        fates = length-replicate {A = ℕ} 64 0;
+        offers = λ k g. inside_lies l (offer_place l (plan_as_read l).first k) (y.offer k g);
       }
 
   start_pieces : pieces (start_piece l (plan_as_read l) a).progress ≤ 16777281
@@ -643,9 +619,7 @@ module _ (l a : List ℕ) (h : length a ≡ area_size) (n : number_of (plan_as_r
   start_pieces =
       omega (
         arith,
-        pieces_on (standing (plan_as_read l).first (plan_as_read l).offers (plan_as_read l).named (plan_as_read l).times false all_ahead)
-            refl,
-        aheads_most (plan_as_read l).offers all_ahead,
+        pieces_on (standing (plan_as_read l).first (plan_as_read l).offers (plan_as_read l).times false) refl,
         y.times,
         y.many,
       )
@@ -734,13 +708,14 @@ module _ (n : ℕ) (l a o : List ℕ) (h : area_size ≤ length a) (k : 2048 ≤
       let f : first_piece l (take area_size a) ≡ start_piece l (plan_as_read l) (take area_size a) = started_first l
       (take area_size a) e in
       let t = first_text (plan_as_read l).layout in
+      let g = standing (plan_as_read l).first (plan_as_read l).offers (plan_as_read l).times false in
       rw (begin_on, f)
       (ap₂ (λ (x y : List ℕ). x ++ y)
       (take_sets (first_text (plan_as_read l).layout) o (length (first_text (plan_as_read l).layout)) refl
       (omega (arith, start_size l (plan_as_read l) (take area_size a))))
       (told_on n l (start_area l (plan_as_read l) (take area_size a)) (drop area_size a)
       (sets o 0 (first_text (plan_as_read l).layout))
-      (standing (plan_as_read l).first (plan_as_read l).offers (plan_as_read l).named (plan_as_read l).times false all_ahead)
+      (standing (plan_as_read l).first (plan_as_read l).offers (plan_as_read l).times false)
       (start_going l (take area_size a) cut e) refl (omega (arith, length-sets o 0 (first_text (plan_as_read l).layout)))
       (omega (arith, start_pieces l (take area_size a) cut e)))
       ∙ ap (λ (c : Course). c.text) (sym (start_on l (take area_size a) cut e))

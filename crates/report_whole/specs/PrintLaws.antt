@@ -10,7 +10,7 @@ use Rattle.octets.specs.Store.{part, sets_append}
 use Rattle.report_spec.specs.declared.Progress.{Progress}
 use Rattle.report_spec.specs.Printed.{input_course, printed}
 use Rattle.report_spec.specs.Pieces.{moved, move, first_piece, remaining}
-use Rattle.report_theorem.specs.Along.{Along, first_area, next_area, end_place_lem, end_area}
+use Rattle.report_theorem.specs.Along.{Along, first_area, next_area, end_place, end_area}
 use Rattle.report_whole.specs.PartLaws.{part_size, begun_along, begun_part, along_more, along_part}
 use Rattle.report_whole.specs.Print.{print, printed_into}
 use Rattle.area.specs.Offsets.{area_size}
@@ -72,11 +72,11 @@ module _ (l b c x : List ℕ) (n k : ℕ) (g h : Progress) (w : Along l n g b) (
 pub fits_all : (l b : List ℕ) (n room : ℕ) (g : Progress) → Along l n g b → not g.ended ≡ false → n ≤ room
     → true ≡ leb (length (printed l)) room
 fits_all l b n room g w o f =
-    sym (le-leb (length (printed l)) room (omega (arith, end_place_lem l n g b (not-false g.ended o) w)))
+    sym (le-leb (length (printed l)) room (omega (arith, end_place l n g b (not-false g.ended o) w)))
 
 module _ (l b : List ℕ) (n : ℕ) (g : Progress) (w : Along l n g b) (o : not g.ended ≡ false) where
   pub all_place : n ≡ length (printed l)
-  all_place = end_place_lem l n g b (not-false g.ended o) w
+  all_place = end_place l n g b (not-false g.ended o) w
 
   pub all_area : (d : List ℕ) → (remaining l g b).octets ≡ d → b ≡ d
   all_area d t = sym (end_area l n g b (not-false g.ended o)) ∙ t

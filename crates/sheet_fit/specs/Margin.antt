@@ -2,9 +2,8 @@
 -- MarginLaws; that it fits exactly up to there is in MarginTheorems. Assumes nothing.
 use Rattle.std.specs.Prelude.{ℕ, ◌+◌, ◌-◌, ◌*◌, ◌/◌, min, [], ◌∷◌, eqb, set}
 use Rattle.octets.specs.Base.{pick, Answer, refused, accepted}
-use Rattle.sheet_layout.specs.declared.Figures.{Figures}
 use Rattle.sheet_layout.specs.declared.Layout.{Layout}
-use Rattle.sheet_layout.specs.Layout.{position_at, address_at, span_of, shortest_packet, fits_well}
+use Rattle.sheet_layout.specs.Layout.{position_at, address_at, gap_of, span_of, fits_well}
 use Rattle.sheet_layout.specs.Check.{refusal_of}
 use Rattle.sheet_layout.specs.Limits.{max_position}
 use Rattle.sheet_fit.specs.declared.MarginAnswer.{MarginAnswer}
@@ -21,13 +20,10 @@ moved_out y d =
           (record { position = position_at y (y.count - 1) + d; address = address_at y (y.count - 1) });
     }
 
--- the largest 2 × S that fits
-unfoldable pub longest : Figures → ℕ
-longest f = min f.slot (shortest_packet f)
-
--- half of what 2 × S leaves of it, or what is left of the largest position
+-- half of what 2 × S + G leaves of slot, or what is left of the largest position
 unfoldable pub outward_of : Layout → ℕ
-outward_of y = min ((longest y.figures - 2 * span_of y) / 2) (max_position - position_at y (y.count - 1))
+outward_of y =
+    min ((y.figures.slot - (2 * span_of y + gap_of y.figures)) / 2) (max_position - position_at y (y.count - 1))
 
 -- what each case of the code's answer stands for
 abbrev pub margin_answer : MarginAnswer → Answer

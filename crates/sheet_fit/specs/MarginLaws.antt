@@ -4,57 +4,45 @@ use Rattle.std.proofs.Common.{sym, ◌∙◌, true≢false}
 use native.Mathlib.Omega.{arith}
 use borrow.Author.Tests.{ne_eqb, leb-true}
 use Rattle.octets.specs.Base.{refused, accepted}
-use Rattle.sheet_layout.specs.declared.Figures.{Figures}
 use Rattle.sheet_layout.specs.declared.Layout.{Layout}
-use Rattle.sheet_layout.specs.Layout.{tap_at, gap_of, span_of, shortest_packet, fits_well}
+use Rattle.sheet_layout.specs.Layout.{tap_at, gap_of, span_of, fits_well}
 use Rattle.sheet_layout.specs.Check.{refusal_of}
 use Rattle.sheet_layout.specs.CheckLaws.{sound}
 use Rattle.sheet_layout.specs.Limits.{max_position}
-use Rattle.sheet_fit.specs.Margin.{longest, outward_of, margin_of}
+use Rattle.sheet_fit.specs.Margin.{outward_of, margin_of}
 
 both : (a b : Bool) → (a && b) ≡ true → (a ≡ true) × (b ≡ true)
 both true b h = (refl, h)
 both false b h = absurd (true≢false (sym h))
 
--- the code's choice
-pub longest_slot : (f : Figures) (k : ℕ) → k ≡ shortest_packet f → f.slot < k → f.slot ≡ longest f
-unfolding longest
-longest_slot f k p h = omega arith
-
-pub longest_packet : (f : Figures) (k : ℕ) → k ≡ shortest_packet f → k ≤ f.slot → k ≡ longest f
-unfolding longest
-longest_packet f k p h = omega arith
-
--- a layout that fits: the inequalities
+-- a layout that fits: both inequalities
 pub fits_says : (y : Layout) → fits_well y ≡ true
-    → (2 * span_of y ≤ longest y.figures) × (gap_of y.figures ≤ 64 + y.figures.jam)
-unfolding fits_well longest
+    → (2 * span_of y + gap_of y.figures ≤ y.figures.slot) × (gap_of y.figures ≤ 64 + y.figures.jam)
+unfolding fits_well
 fits_says y h =
-    let q = both (leb (2 * span_of y) y.figures.slot) _ h in
-    let r = both (leb (2 * span_of y) (shortest_packet y.figures)) _ q.1 in
-    let s = leb-true (2 * span_of y) y.figures.slot q.0 in
-    let p = leb-true (2 * span_of y) (shortest_packet y.figures) r.0 in
-    (omega arith, leb-true _ _ r.1)
+    let q = both (leb (2 * span_of y + gap_of y.figures) y.figures.slot) _ h in
+    (leb-true _ _ q.0, leb-true _ _ q.1)
 
 -- the code's differences
-pub round_left : (y : Layout) (s k : ℕ) → s ≡ span_of y → k ≡ longest y.figures → fits_well y ≡ true → 2 * s ≤ k
-round_left y s k p q h = omega (arith, (fits_says y h).0)
+pub slot_left : (y : Layout) (s g : ℕ) → s ≡ span_of y → g ≡ gap_of y.figures → fits_well y ≡ true
+    → 2 * s + g ≤ y.figures.slot
+slot_left y s g p q h = omega (arith, (fits_says y h).0)
 
 pub position_left : (y : Layout) → refusal_of y ≡ 0
     → (get_or y.stations (y.count - 1) (record { position = 0; address = [] })).position ≤ max_position
 unfolding tap_at
 position_left y h = let w = sound y h in w.position (y.count - 1) (omega (arith, w.count))
 
-module _ (y : Layout) (s k : ℕ) (p : s ≡ span_of y) (q : k ≡ longest y.figures) where
-  pub outward_round : (k - 2 * s) / 2
+module _ (y : Layout) (s g : ℕ) (p : s ≡ span_of y) (q : g ≡ gap_of y.figures) where
+  pub outward_slot : (y.figures.slot - (2 * s + g)) / 2
       < max_position - (get_or y.stations (y.count - 1) (record { position = 0; address = [] })).position
-      → (k - 2 * s) / 2 ≡ outward_of y
+      → (y.figures.slot - (2 * s + g)) / 2 ≡ outward_of y
   unfolding outward_of tap_at
-  outward_round h = omega arith
+  outward_slot h = omega arith
 
   pub outward_position : max_position
       - (get_or y.stations (y.count - 1) (record { position = 0; address = [] })).position
-      ≤ (k - 2 * s) / 2
+      ≤ (y.figures.slot - (2 * s + g)) / 2
       → max_position - (get_or y.stations (y.count - 1) (record { position = 0; address = [] })).position ≡ outward_of y
   unfolding outward_of tap_at
   outward_position h = omega arith

@@ -12,23 +12,20 @@ use Rattle.octets.specs.BaseLaws.{by_test, by_eq, some_same, refused_none}
 use Rattle.octets.specs.Equal.{equal}
 use Rattle.sheet_layout.specs.declared.Tap.{Tap}
 use Rattle.sheet_layout.specs.declared.Layout.{Layout}
-use Rattle.sheet_layout.specs.Layout.{tap_at, position_at, address_at, gap_of, span_of, shortest_packet, fits_well}
+use Rattle.sheet_layout.specs.Layout.{tap_at, position_at, address_at, gap_of, span_of, fits_well}
 use Rattle.sheet_layout.specs.Fit.{fit_of}
 use Rattle.sheet_layout.specs.Check.{figures_out, position_out, falls, is_group, same_address, address_wrong, refusal_of}
 use Rattle.sheet_layout.specs.CheckLaws.{Sound, sound, fit_yes_lem}
 use Rattle.sheet_layout.specs.Limits.{max_stations, max_position}
-use Rattle.sheet_fit.specs.Margin.{moved_out, longest, outward_of, margin_of}
+use Rattle.sheet_fit.specs.Margin.{moved_out, outward_of, margin_of}
 use Rattle.sheet_fit.specs.MarginLaws.{fits_says}
 
 -- ---- a fit, both ways
 
-fits_from : (y : Layout) → 2 * span_of y ≤ longest y.figures → gap_of y.figures ≤ 64 + y.figures.jam
-    → true ≡ fits_well y
-unfolding fits_well longest
-fits_from y p q =
-    let s : 2 * span_of y ≤ y.figures.slot = omega arith in
-    let k : 2 * span_of y ≤ shortest_packet y.figures = omega arith in
-    rw (le-leb _ _ s, le-leb _ _ k, le-leb _ _ q)
+fits_from : (y : Layout) → 2 * span_of y + gap_of y.figures ≤ y.figures.slot
+    → gap_of y.figures ≤ 64 + y.figures.jam → true ≡ fits_well y
+unfolding fits_well
+fits_from y p q = rw (le-leb _ _ p, le-leb _ _ q)
 
 fit_passed : (y : Layout) → fit_of y ≡ accepted (1 ∷ []) → (refusal_of y ≡ 0) × (fits_well y ≡ true)
 unfolding fit_of
@@ -137,16 +134,16 @@ module _ (y : Layout) (room : y.count ≤ length y.stations) (w : Sound y) (d : 
   gap_same = refl
 
   moved_fits : refusal_of y ≡ 0 → position_at y (y.count - 1) + d ≤ max_position
-      → 2 * (span_of y + d) ≤ longest y.figures → gap_of y.figures ≤ 64 + y.figures.jam
+      → 2 * (span_of y + d) + gap_of y.figures ≤ y.figures.slot → gap_of y.figures ≤ 64 + y.figures.jam
       → fit_of (moved_out y d) ≡ accepted (1 ∷ [])
   unfolding moved_out
-  moved_fits ok far round gap =
+  moved_fits ok far slot gap =
       sym (fit_yes_lem (moved_out y d) 0 true (sym (moved_passes ok far)) refl
       (fits_from (moved_out y d) (omega (arith, moved_span)) gap) refl)
 
   -- and back: what a moved layout that fits says
   moved_says : fit_of (moved_out y d) ≡ accepted (1 ∷ [])
-      → (position_at y (y.count - 1) + d ≤ max_position) × ((2 * (span_of y + d) ≤ longest y.figures)
+      → (position_at y (y.count - 1) + d ≤ max_position) × ((2 * (span_of y + d) + gap_of y.figures ≤ y.figures.slot)
       × (gap_of y.figures ≤ 64 + y.figures.jam))
   unfolding moved_out
   moved_says h =

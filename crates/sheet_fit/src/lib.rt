@@ -1,11 +1,11 @@
 // Whether a layout fits (document 01, "The sheet"), and how far its last tap may move outward.
 
 ghost use Rattle.std.specs.Prelude.{◌≡◌, true, ◌<◌, ◌≤◌};
-ghost use Rattle.sheet_layout.specs.Layout.{gap_of, span_of, shortest_packet, fits_well};
+ghost use Rattle.sheet_layout.specs.Layout.{gap_of, span_of, fits_well};
 ghost use Rattle.sheet_layout.specs.Check.{refusal_of};
 ghost use Rattle.sheet_layout.specs.Fit.{fit_answer, fit_of};
 ghost use Rattle.sheet_layout.specs.Limits.{max_stations};
-ghost use Rattle.sheet_fit.specs.Margin.{longest, outward_of, margin_answer, margin_of};
+ghost use Rattle.sheet_fit.specs.Margin.{outward_of, margin_answer, margin_of};
 
 use sheet_layout::{Figures, Fit, Layout};
 
@@ -41,25 +41,15 @@ fn gap(f: Figures) -> u64
     f.gap1 as u64 + f.gap2 as u64
 }
 
-// The bits of the shortest packet.
-fn shortest_packet(f: Figures) -> u32
-    ensures { result ≡ shortest_packet f }
-{
-    576
-}
-
 // Whether a layout of 1 to 16 stations fits.
 pub fn fits_well(y: Layout) -> bool
     requires { (0 < y.count) × (y.count ≤ max_stations) }
     ensures { result ≡ fits_well y }
 {
     let f = y.figures;
-    let round = 2 * (span(y) as u64);
-    let rest = octets::both(
-        round <= shortest_packet(f) as u64,
-        gap(f) <= 64 + f.jam as u64,
-    );
-    octets::both(round <= f.slot as u64, rest)
+    let g = gap(f);
+    let round = 2 * (span(y) as u64) + g;
+    octets::both(round <= f.slot as u64, g <= 64 + f.jam as u64)
 }
 
 // Whether a layout fits, or which of the checks 5 to 8 refuses it.
@@ -76,21 +66,14 @@ pub fn fits(y: Layout) -> Fit
     Fit::No
 }
 
-// The longest way there and back that fits: the slot or the shortest packet.
-fn longest_round(f: Figures) -> u32
-    ensures { result ≡ longest f }
-{
-    let packet = shortest_packet(f);
-    if f.slot < packet { f.slot } else { packet }
-}
-
-// Half of what is left of the longest way there and back, or what is left of the largest position.
+// Half of what is left of the slot, or what is left of the largest position.
 fn outward(y: Layout) -> u32
     requires { (0 < y.count) × (y.count ≤ max_stations) × (refusal_of y ≡ 0) × (fits_well y ≡ true) }
     ensures { result ≡ outward_of y }
 {
-    let round = 2 * (span(y) as u64);
-    let half = (longest_round(y.figures) as u64 - round) / 2;
+    let f = y.figures;
+    let round = 2 * (span(y) as u64) + gap(f);
+    let half = (f.slot as u64 - round) / 2;
     let last = y.stations[y.count as usize - 1];
     let end = sheet_layout::MAX_POSITION - last.position;
     if half < end as u64 { half as u32 } else { end }

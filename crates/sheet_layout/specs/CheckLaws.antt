@@ -12,7 +12,7 @@ use Rattle.octets.specs.EqualLaws.{equal_refl}
 use Rattle.sheet_layout.specs.declared.Figures.{Figures}
 use Rattle.sheet_layout.specs.declared.Tap.{Tap}
 use Rattle.sheet_layout.specs.declared.Layout.{Layout}
-use Rattle.sheet_layout.specs.Layout.{tap_at, position_at, address_at, gap_of, span_of, shortest_packet, fits_well}
+use Rattle.sheet_layout.specs.Layout.{tap_at, position_at, address_at, gap_of, span_of, fits_well}
 use Rattle.sheet_layout.specs.Fit.{fit_of}
 use Rattle.sheet_layout.specs.Check.{gap1_out, figures_out, position_out, falls, is_group, same_address, address_wrong}
 use Rattle.sheet_layout.specs.Check.{refusal_of}
@@ -172,11 +172,11 @@ module _ (y : Layout) where
   unfolding span_of tap_at
   span_none h = omega arith
 
-pub fits_is : (y : Layout) (g s k : ℕ) (q r : Bool) → r ≡ (leb (2 * s) y.figures.slot && q)
-    → q ≡ (leb (2 * s) k && leb g (64 + y.figures.jam)) → s ≡ span_of y → k ≡ shortest_packet y.figures
-    → g ≡ gap_of y.figures → r ≡ fits_well y
+pub fits_is : (y : Layout) (g s : ℕ) (r : Bool)
+    → r ≡ (leb (2 * s + g) y.figures.slot && leb g (64 + y.figures.jam))
+    → s ≡ span_of y → g ≡ gap_of y.figures → r ≡ fits_well y
 unfolding fits_well
-fits_is y g s k q r p e es ek eg = p ∙ rw (e, es, ek, eg)
+fits_is y g s r p q e = p ∙ rw (q, e)
 
 module _ (y : Layout) (n : ℕ) where
   pub fit_refused : n ≡ refusal_of y → (n ≡ 0 → ⊥) → refused n ≡ fit_of y

@@ -40,12 +40,7 @@ gap_of f = f.gap1 + f.gap2
 unfoldable pub span_of : Layout → ℕ
 span_of y = position_at y (y.count - 1) - position_at y 0
 
--- the bits of the shortest packet
-abbrev pub shortest_packet : Figures → ℕ
-shortest_packet f = 576
-
--- N10: "A layout now fits if 2 × S ≤ slot, 2 × S ≤ 576 + E and G ≤ 64 + jam"
+-- "A layout fits if 2 × S + G ≤ slot and G ≤ 64 + jam."
 unfoldable pub fits_well : Layout → Bool
 fits_well y =
-    leb (2 * span_of y) y.figures.slot
-    && (leb (2 * span_of y) (shortest_packet y.figures) && leb (gap_of y.figures) (64 + y.figures.jam))
+    leb (2 * span_of y + gap_of y.figures) y.figures.slot && leb (gap_of y.figures) (64 + y.figures.jam)

@@ -7,7 +7,7 @@ use Rattle.report_spec.specs.declared.Progress.{Progress}
 use Rattle.report_spec.specs.Printed.{printed}
 use Rattle.report_spec.specs.Pieces.{Moved, moved, move, first_piece}
 use Rattle.report_theorem.specs.Whole.{pieces, first_pieces}
-use Rattle.report_theorem.specs.Along.{Along, end_place_lem}
+use Rattle.report_theorem.specs.Along.{Along, end_place}
 use Rattle.report_whole.specs.PartLaws.{part_size, begun_along, along_more, along_less}
 use Rattle.area.specs.Offsets.{area_size}
 
@@ -60,4 +60,4 @@ not_done d v l o t = absurd (true≢false (sym t ∙ not-true d o))
 
 pub all_done : (l b : List ℕ) (n : ℕ) (g : Progress) → Along l n g b → not g.ended ≡ false → true ≡ true
     → n ≡ length (printed l)
-all_done l b n g w o t = end_place_lem l n g b (not-false g.ended o) w
+all_done l b n g w o t = end_place l n g b (not-false g.ended o) w

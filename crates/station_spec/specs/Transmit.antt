@@ -42,6 +42,10 @@ emitting t e v = record { phase = t; emission = e; event = v; drew = false }
 abbrev pub packet_length : ℕ → ℕ
 packet_length frame = 64 + 8 * frame
 
+-- the bits of the shortest packet
+abbrev pub shortest_packet : Figures → ℕ
+shortest_packet f = 576
+
 -- "Bit k goes out, header bits through 64 too, then jam bits." `ends`: whether the frame ends after them
 unfoldable pub after_bit : (jam k : ℕ) → (ends : Bool) → Transmitter
 after_bit jam k ends = pick (ltb k 64) (Heading (k + 1)) (Jamming jam ends)

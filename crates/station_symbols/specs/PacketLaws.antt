@@ -37,9 +37,9 @@ header_bit_lem : (k : ℕ) → k < 65 → get_or header k false ≡ header_bit k
 unfolding header header_bit
 header_bit_lem k h = entry header_bit false 65 k h
 
-in_header_lem : (f : List ℕ) (k : ℕ) → k < 65 → packet_bit f k ≡ header_bit k
+in_header : (f : List ℕ) (k : ℕ) → k < 65 → packet_bit f k ≡ header_bit k
 unfolding packet_bit packet_bits header
-in_header_lem f k h = get_or-append header (bits_of f) false k h ∙ header_bit_lem k h
+in_header f k h = get_or-append header (bits_of f) false k h ∙ header_bit_lem k h
 
 past_header : (f : List ℕ) (k : ℕ) → 64 < k → packet_bit f k ≡ frame_bit f (k - 65)
 unfolding packet_bit packet_bits frame_bit header
@@ -50,11 +50,11 @@ past_header f k h =
 module _ (f : List ℕ) (k : ℕ) where
   pub bit_alternates : k ≤ 62 → eqb (k % 2) 1 ≡ packet_bit f k
   unfolding header_bit
-  bit_alternates h = sym (in_header_lem f k (omega arith) ∙ rw (le-leb k 62 h))
+  bit_alternates h = sym (in_header f k (omega arith) ∙ rw (le-leb k 62 h))
 
   pub bit_delimits : 62 < k → k ≤ 64 → true ≡ packet_bit f k
   unfolding header_bit
-  bit_delimits h g = sym (in_header_lem f k (omega arith) ∙ rw (lt-leb k 62 h))
+  bit_delimits h g = sym (in_header f k (omega arith) ∙ rw (lt-leb k 62 h))
 
   pub bit_of_frame : (b : Bool) → 64 < k → b ≡ frame_bit f (k - 65) → b ≡ packet_bit f k
   bit_of_frame b h p = p ∙ sym (past_header f k h)

@@ -9,7 +9,7 @@ use Rattle.station_spec.specs.declared.TransmitEvent.{TransmitEvent}
 use Rattle.station_spec.specs.declared.TransmitEvent.TheVariants.{NoTransmit, Collision, Late, Sent, GivenUp}
 use Rattle.station_spec.specs.declared.TransmitEvent.TheVariants.{LateEnded}
 
--- "`collision` or `late` with the bit, `sent` or `given_up` with attempts"; N1: "prints `late_end_lem` with the attempts"
+-- "`collision` or `late` with the bit, `sent` or `given_up` with attempts"; N1: "prints `late_end` with the attempts"
 abbrev pub transmit_word : TransmitEvent → ℕ
 transmit_word NoTransmit = 0
 transmit_word (Collision k) = 1

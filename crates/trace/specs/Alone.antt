@@ -2,11 +2,11 @@
 use Rattle.std.specs.Prelude.{ℕ, suc, ◌+◌, ◌*◌, ◌≤◌, ◌<◌, ◌≡◌, true, List, ◌⊎◌, length}
 use Rattle.std.proofs.Common.{sym, ap, arith}
 use Rattle.octets.specs.BaseLaws.{by_test}
-use Rattle.sheet_layout.specs.Layout.{gap_of, shortest_packet}
+use Rattle.sheet_layout.specs.Layout.{gap_of}
 use Rattle.station_symbols.specs.declared.Heard.TheVariants.{Nothing, Clean}
 use Rattle.station_symbols.specs.declared.Symbol.TheVariants.{Silence, Bit}
 use Rattle.station_symbols.specs.Packet.{packet_bit}
-use Rattle.station_spec.specs.Transmit.{packet_length}
+use Rattle.station_spec.specs.Transmit.{packet_length, shortest_packet}
 use Rattle.trace.specs.Basic.{either}
 use Rattle.trace.specs.Trace.{Clear, alone, apart, listens, silent_before, silent_after}
 use Rattle.bus_meeting.specs.Net.{Net}

@@ -128,9 +128,9 @@ found k = eqb (row_from no_row (take k (preamble 7 ++ delimiter))) delimiter_row
 place : ℕ → Bool
 place k = eqb k 64
 
-in_header_lem : (k : ℕ) → k < 65 → found k ≡ place k
+in_header : (k : ℕ) → k < 65 → found k ≡ place k
 unfolding found place row_from next_row
-in_header_lem k h = sym (entry found false 65 k h) ∙ entry place false 65 k h
+in_header k h = sym (entry found false 65 k h) ∙ entry place false 65 k h
 
 header_rows : (F : List ℕ) (k : ℕ) → k ≤ 64 → take k (packet_bits F) ≡ take k (preamble 7 ++ delimiter)
 unfolding packet_bits
@@ -141,4 +141,4 @@ pub first_delimiter : (F : List ℕ) (k : ℕ) → k ≤ 64
     → eqb (row_from no_row (take k (packet_bits F))) delimiter_row ≡ eqb k 64
 unfolding found place
 first_delimiter F k h =
-    ap (λ (l : List Bool). eqb (row_from no_row l) delimiter_row) (header_rows F k h) ∙ in_header_lem k (omega arith)
+    ap (λ (l : List Bool). eqb (row_from no_row l) delimiter_row) (header_rows F k h) ∙ in_header k (omega arith)

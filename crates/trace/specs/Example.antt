@@ -5,13 +5,14 @@ use Rattle.std.proofs.Common.{arith}
 use Rattle.std.proofs.lemmas.List.{length-replicate}
 use Rattle.frame_build.specs.Limits.{max_data, refuses_value, refuses_data, buffer_octets}
 use Rattle.sheet_layout.specs.declared.Figures.{Figures}
-use Rattle.sheet_layout.specs.Layout.{gap_of, shortest_packet}
+use Rattle.sheet_layout.specs.Layout.{gap_of}
 use Rattle.sheet_layout.specs.CheckLaws.{Figured}
 use Rattle.trace.specs.Trace.{Metric}
 use Rattle.bus_meeting.specs.Net.{Net}
 use Rattle.trace.specs.World.{Offer}
 use Rattle.trace.specs.Run.{Sound}
 use Rattle.trace.specs.Frames.{octets_replicate}
+use Rattle.station_spec.specs.Transmit.{shortest_packet}
 
 abbrev pub figures : Figures
 figures = record { slot = 512; gap1 = 64; gap2 = 32; jam = 32; limit = 16; backoff = 10; ends = 0 }

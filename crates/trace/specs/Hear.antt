@@ -14,7 +14,7 @@ use Rattle.trace.specs.Basic.{clash}
 use Rattle.trace.specs.Trace.{Hears}
 use Rattle.bus_meeting.specs.Net.{Net, reaches, heard}
 use Rattle.bus_meeting.specs.Gather.{on, off_is, One, Says, gathered_says, gathered_none, gathered_one}
-use Rattle.bus_meeting.specs.Reach.{reach_at_lem, reach_none}
+use Rattle.bus_meeting.specs.Reach.{reach_at, reach_none}
 
 -- Of what reaches station j in step u just one symbol, s, is not silence: station `from` emitted it in step `at`.
 pub record Only (n : ℕ) (d : ℕ → ℕ → ℕ) (E : ℕ → ℕ → Symbol) (j u : ℕ) (s : Symbol) : Type 0 where
@@ -56,7 +56,7 @@ came d E j u i o =
       at = u - d i j;
       other = eqb-false i j e;
       delay = omega arith;
-      is = sym (reach_at_lem d E j u i (u - d i j) (eqb-false i j e) (omega arith));
+      is = sym (reach_at d E j u i (u - d i j) (eqb-false i j e) (omega arith));
     })
     (λ f. clash o (rw (e, f))))
 
@@ -80,7 +80,7 @@ module _ (P : Net) (E : ℕ → ℕ → Symbol) (j u : ℕ) where
         other = c.other;
         delay = c.delay;
         is = c.is ∙ v.is;
-        rest = λ i y l ne nf w. sym (reach_at_lem P.d E j u i y ne w) ∙ v.rest i l nf;
+        rest = λ i y l ne nf w. sym (reach_at P.d E j u i y ne w) ∙ v.rest i l nf;
       }
 
   -- one symbol, clean
@@ -92,7 +92,7 @@ module _ (P : Net) (E : ℕ → ℕ → Symbol) (j u : ℕ) where
   only_heard s v =
       gathered_one P.n (reaches P.d E j u) v.from v.station
       (λ l p q. reach_none P.d E j u l (λ y ne w. v.rest l y p ne q w))
-      ∙ ap alone (reach_at_lem P.d E j u v.from v.at v.other v.delay ∙ v.is)
+      ∙ ap alone (reach_at P.d E j u v.from v.at v.other v.delay ∙ v.is)
 
   -- two or more
   from_one : (i : ℕ) → i < P.n → on (reaches P.d E j u i) ≡ true → Hears P.n P.d (λ k y. on (E k y)) j u
@@ -101,7 +101,7 @@ module _ (P : Net) (E : ℕ → ℕ → Symbol) (j u : ℕ) where
       record { from = i; at = c.at; station = l; other = c.other; delay = c.delay; on = ap on c.is ∙ o }
 
   pub heard_nothing : heard P E j u ≡ Nothing → (i y : ℕ) → i < P.n → (i ≡ j → ⊥) → y + P.d i j ≡ u → E i y ≡ Silence
-  heard_nothing e i y l ne w = sym (reach_at_lem P.d E j u i y ne w) ∙ says_of Nothing e i l
+  heard_nothing e i y l ne w = sym (reach_at P.d E j u i y ne w) ∙ says_of Nothing e i l
 
   pub nothing_heard : ((i y : ℕ) → i < P.n → (i ≡ j → ⊥) → y + P.d i j ≡ u → E i y ≡ Silence)
       → heard P E j u ≡ Nothing

@@ -85,24 +85,6 @@ past_slot f (Sending k) z n draw start h m closes e = bit_late f z n k h m close
 past_slot f (Heading k) z n draw start h m closes e = absurd (not_struck m closes (inr e))
 past_slot f (Jamming left ends) z n draw start h m closes e = absurd (jam_struck f n draw left ends m closes (inr e))
 
--- what a late collision says: the station was sending, at that bit, and hears another
-pub late_so : (f : Figures) (x : Transmitter) (z n draw : ℕ) (start h : Bool) (m : ℕ) (closes : Bool) → 1 ≤ f.slot
-    → (transmit f x z n draw start h).event ≡ Late m closes → (h ≡ true) × ((x ≡ Sending m) × (f.slot < m))
-unfolding transmit wait_bit head_bit backoff_bit
-late_so f NoFrame z n draw start h m closes low e = absurd (not_struck m closes (inr e))
-late_so f Waiting z n draw true h m closes low e =
-    let q = bit_struck f z n 1 h m closes (inr e) in
-    let l = bit_late f z n 1 h m closes e in absurd (omega (arith, q.1))
-late_so f Waiting z n draw false h m closes low e = absurd (not_struck m closes (inr e))
-late_so f (BackingOff w) z n draw start h m closes low e =
-    by_test (leb w 1) (λ c. absurd (not_struck m closes (inr (rw c at e))))
-    (λ c. absurd (not_struck m closes (inr (rw c at e))))
-late_so f (Sending k) z n draw start h m closes low e =
-    let q = bit_struck f z n k h m closes (inr e) in (q.0, (ap Sending (sym q.1), bit_late f z n k h m closes e))
-late_so f (Heading k) z n draw start h m closes low e = absurd (not_struck m closes (inr e))
-late_so f (Jamming left ends) z n draw start h m closes low e =
-    absurd (jam_struck f n draw left ends m closes (inr e))
-
 module _ (P : Net) (inp : ℕ → List (Offer P)) (span : ℕ) (L : Sound P span)
     (g : gap_of P.fig ≤ 64 + P.fig.jam) where
   -- by what the transmitter was doing

@@ -9,7 +9,6 @@ pub mod Keep
 pub mod Sent
 pub mod Late
 pub mod Closed
-pub mod Beyond
 pub mod Alone
 pub mod Attempts
 pub mod Frames

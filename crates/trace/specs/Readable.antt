@@ -5,7 +5,7 @@ use Rattle.std.proofs.Math.Path.{◌≡◌}
 use Rattle.std.proofs.Common.{sym, ◌∙◌, ap, subst, add-zero, add-suc}
 use native.Mathlib.Omega.{arith}
 use Rattle.octets.specs.BaseLaws.{by_eq}
-use Rattle.sheet_layout.specs.Layout.{gap_of, shortest_packet}
+use Rattle.sheet_layout.specs.Layout.{gap_of}
 use Rattle.station_symbols.specs.declared.Heard.TheVariants.{Nothing}
 use Rattle.station_spec.specs.declared.ReceiveEvent.TheVariants.{NoReceive, GotOk}
 use Rattle.station_state.specs.declared.Receiver.TheVariants.{Readable}
@@ -21,6 +21,7 @@ use Rattle.trace.specs.Listen.{reception_at, receiver_ready, got_is, receiver_ne
 use Rattle.trace.specs.Reception.{whole_complete}
 use Rattle.trace.specs.Received.{Came, Sender, whole_for, got_whole, came_sender, sender_came, received}
 use Rattle.trace.specs.Decide.{Leaves, receive_reads, ended_readable}
+use Rattle.station_spec.specs.Transmit.{shortest_packet}
 
 -- The frame F can be read from station j before step t.
 pub record Reads (P : Net) (inp : ℕ → List (Offer P)) (j t : ℕ) (F : List ℕ) : Type 0 where

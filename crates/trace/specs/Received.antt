@@ -5,7 +5,7 @@ use Rattle.std.proofs.Common.{sym, ◌∙◌, ap, subst, inl, arith}
 use Rattle.octets.specs.BaseLaws.{by_test, by_eq}
 use Rattle.frame_open.specs.Open.{receive_oK, opened}
 use Rattle.frame_open.specs.RoundTrip.{handed_back}
-use Rattle.sheet_layout.specs.Layout.{gap_of, shortest_packet}
+use Rattle.sheet_layout.specs.Layout.{gap_of}
 use Rattle.station_symbols.specs.declared.Heard.TheVariants.{Nothing, Clean}
 use Rattle.station_symbols.specs.declared.Symbol.TheVariants.{Bit}
 use Rattle.station_symbols.specs.Packet.{packet_bit}
@@ -29,6 +29,7 @@ use Rattle.trace.specs.Frames.{client_in, made_client, whole_status}
 use Rattle.trace.specs.Listen.{reception_at, receiver_ready, got_is, receiver_next, reception_nothing}
 use Rattle.trace.specs.Reception.{Complete, whole_complete}
 use Rattle.trace.specs.Decide.{decide_for, decide_else, ended_collecting, no_ok, Ok, receive_ok, last_clean}
+use Rattle.station_spec.specs.Transmit.{shortest_packet}
 
 -- Where a frame that station j has whole in step u came from.
 pub record Came (P : Net) (inp : ℕ → List (Offer P)) (j u : ℕ) : Type 0 where

@@ -5,7 +5,7 @@ use Rattle.std.proofs.Common.{◌∙◌, subst, arith, add-zero, add-suc, take-s
 use Rattle.std.proofs.Math.Bool.{true, false}
 use Rattle.std.proofs.Math.ListN.{get_or-append}
 use Rattle.octets.specs.Bits.{bits_of}
-use Rattle.sheet_layout.specs.Layout.{gap_of, shortest_packet}
+use Rattle.sheet_layout.specs.Layout.{gap_of}
 use Rattle.station_symbols.specs.declared.Heard.TheVariants.{Nothing, Clean}
 use Rattle.station_symbols.specs.Packet.{preamble, delimiter, packet_bits, frame_bit, packet_bit}
 use Rattle.station_symbols.specs.PacketLaws.{bit_of_frame}
@@ -26,6 +26,7 @@ use Rattle.trace.specs.Frames.{whole_octets}
 use Rattle.trace.specs.Listen.{reception_at, receiver_next, buffer_next, buffer_length, reception_nothing}
 use Rattle.trace.specs.Listen.{reception_clean, Idle, ended_idle}
 use Rattle.frame_build.specs.Limits.{buffer_bits}
+use Rattle.station_spec.specs.Transmit.{shortest_packet}
 
 -- ---- a reception of clean symbols
 
@@ -115,17 +116,17 @@ module _ (P : Net) (inp : ℕ → List (Offer P)) (span : ℕ) (L : Sound P span
     unfolding along
     header_start = ap (λ (x : ℕ). (state P inp x j).receiver) (add-zero (a + P.d i j))
 
-    in_header_lem : (k : ℕ) → k ≤ 64
+    in_header : (k : ℕ) → k ≤ 64
         → (state P inp (a + P.d i j + k) j).receiver ≡ along (state P inp (a + P.d i j) j).receiver (take k header)
-    in_header_lem zero l = header_start
-    in_header_lem (suc k) l =
+    in_header zero l = header_start
+    in_header (suc k) l =
         ap (λ (x : ℕ). (state P inp x j).receiver) (add-suc (a + P.d i j) k)
-        ∙ header_step k l (in_header_lem k (omega arith))
+        ∙ header_step k l (in_header k (omega arith))
 
     past_header : (state P inp (a + P.d i j + 64) j).receiver ≡ Collecting 0 false false
     unfolding header
     past_header =
-        in_header_lem 64 (omega arith)
+        in_header 64 (omega arith)
         ∙ ap (along (state P inp (a + P.d i j) j).receiver) (take_all 64 header (omega arith))
         ∙ along_header (state P inp (a + P.d i j) j).receiver first_idle
 

@@ -7,7 +7,7 @@ use Rattle.std.proofs.Common.{sym, ◌∙◌, subst, inl, inr, arith, eq-eqb, ne
 use mathlib.Core.List.{List, [], ◌∷◌}
 use Rattle.octets.specs.BaseLaws.{by_test, by_eq}
 use Rattle.octets.specs.NumberLaws.{Octets}
-use Rattle.frame_build.specs.BuildLaws.{frame_size_lem, data_within}
+use Rattle.frame_build.specs.BuildLaws.{frame_size, data_within}
 use Rattle.sheet_layout.specs.CheckLaws.{Figured}
 use Rattle.station_symbols.specs.declared.Heard.{Heard}
 use Rattle.station_symbols.specs.declared.Heard.TheVariants.{Nothing, Clean, Spoiled}
@@ -388,7 +388,7 @@ made_size P span L os i hi F m =
     let o = m.offer in
     let a : length (P.address o.to) ≡ 6 = ap (λ (k : ℕ). length (P.address k)) m.to ∙ L.address i hi in
     let e : length F ≡ max 46 (length o.payload) + 18 = ap length m.is
-    ∙ frame_size_lem o.destination (P.address o.to) o.value o.payload o.six a in
+    ∙ frame_size o.destination (P.address o.to) o.value o.payload o.six a in
     let w = data_within o.value (length o.payload) o.allowed in (omega arith, omega arith)
 
 module _ (P : Net) (inp : ℕ → List (Offer P)) (span : ℕ) (L : Sound P span) where

@@ -45,8 +45,8 @@ no_end m e =
     by_end NoTransmit m e (λ q. let z : ◌≡◌ {A = ℕ} 0 1 = cc in omega arith)
     (λ q. let z : ◌≡◌ {A = ℕ} 0 1 = cc in omega arith) (λ q. let z : ◌≡◌ {A = ℕ} 0 1 = cc in omega arith)
 
-late_end_lem : (k : ℕ) (closes : Bool) (m : ℕ) → Ends (Late k closes) m → ⊥
-late_end_lem k closes m e =
+late_end : (k : ℕ) (closes : Bool) (m : ℕ) → Ends (Late k closes) m → ⊥
+late_end k closes m e =
     by_end (Late k closes) m e (λ q. let z : ◌≡◌ {A = ℕ} 0 1 = cc in omega arith)
     (λ q. let z : ◌≡◌ {A = ℕ} 0 1 = cc in omega arith) (λ q. let z : ◌≡◌ {A = ℕ} 0 1 = cc in omega arith)
 
@@ -59,7 +59,7 @@ bit_end : (f : Figures) (z n k : ℕ) (h : Bool) (m : ℕ) → Ends (send_bit f 
     → ((send_bit f z n k h).phase ≡ NoFrame) × (m ≡ n)
 unfolding send_bit collision
 bit_end f z n k true m e =
-    by_test (ltb f.slot k) (λ c. absurd (late_end_lem k (closes_frame f) m (rw c at e)))
+    by_test (ltb f.slot k) (λ c. absurd (late_end k (closes_frame f) m (rw c at e)))
     (λ c. absurd (early_end k m (rw c at e)))
 bit_end f z n k false m e =
     by_test (eqb k (packet_length z))

@@ -1,5 +1,5 @@
 -- `c_calls::read_frame` meets its contract. Assumes nothing.
-use Rattle.c_calls.specs.CallLaws.{frame_number_low, frame_made_lem}
+use Rattle.c_calls.specs.CallLaws.{frame_number_low, frame_made}
 use borrow.Author.Rules.{rules}
 use Rattle.c_calls.proofs.read_frame.Statement.{statement}
 use Rattle.c_calls.proofs.read_frame.Tie as tie
@@ -20,7 +20,7 @@ same_length : tie.Need-same-length
 same_length c = search rules
 
 returns : tie.Need-returns
-returns c = search frame_made_lem
+returns c = search frame_made
 
 pub read_frame_spec : {M : Type 1} → statement M
 read_frame_spec =

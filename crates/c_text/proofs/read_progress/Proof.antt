@@ -19,24 +19,10 @@ get32-requires-3 c κs = search rules
 get32-requires-4 : tie.Need-get32-requires-4
 get32-requires-4 c κs = search rules
 
-get32-requires-5 : tie.Need-get32-requires-5
-get32-requires-5 c κs = search rules
-
-read-fates-requires : tie.Need-read-fates-requires
-read-fates-requires c κs = search rules
-
 returns : tie.Need-returns
 returns c = search progress_read
 
 pub read_progress_spec : {M : Type 1} → statement M
 read_progress_spec =
     tie.close
-    (tie.spec
-    get32-requires
-    cast-at
-    get32-requires-2
-    get32-requires-3
-    get32-requires-4
-    get32-requires-5
-    read-fates-requires
-    returns)
+    (tie.spec get32-requires cast-at get32-requires-2 get32-requires-3 get32-requires-4 returns)

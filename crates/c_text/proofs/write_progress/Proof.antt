@@ -7,17 +7,17 @@ use Rattle.c_text.proofs.write_progress.Tie as tie
 put-place-requires : tie.Need-put-place-requires
 put-place-requires c κs = search rules
 
-later-words-requires : tie.Need-later-words-requires
-later-words-requires c κs = search rules
+put32-requires : tie.Need-put32-requires
+put32-requires c κs = search rules
 
-slice-aggregate-store-words : tie.Need-slice-aggregate-store-words
-slice-aggregate-store-words c = search rules
+put32-requires-2 : tie.Need-put32-requires-2
+put32-requires-2 c κs = search rules
 
-store-words-requires : tie.Need-store-words-requires
-store-words-requires c κs = search rules
+flag-requires : tie.Need-flag-requires
+flag-requires c κs = search rules
 
-write-fates-requires : tie.Need-write-fates-requires
-write-fates-requires c κs = search rules
+put32-requires-3 : tie.Need-put32-requires-3
+put32-requires-3 c κs = search rules
 
 same_length : tie.Need-same-length
 same_length c = search rules
@@ -30,9 +30,9 @@ write_progress_spec =
     tie.close
     (tie.spec
     put-place-requires
-    later-words-requires
-    slice-aggregate-store-words
-    store-words-requires
-    write-fates-requires
+    put32-requires
+    put32-requires-2
+    flag-requires
+    put32-requires-3
     same_length
     returns)

@@ -4,7 +4,6 @@ use Prim.Native.Nat.{◌≤◌, ◌-◌}
 use mathlib.Core.Path.{◌≡◌}
 use mathlib.Core.Bool.{false}
 use lib.ListN.{length}
-use borrow.Author.Rules.{rules}
 use Rattle.octets.specs.Base.{some}
 use Rattle.octets.specs.BaseLaws.{some_none}
 use Rattle.plan_read.specs.Plan.{offer_place, time_before, time_falls}
@@ -14,13 +13,12 @@ use Rattle.plan_read.proofs.offers_wrong.Statement.{statement}
 use Rattle.plan_read.proofs.offers_wrong.Tie as tie
 
 abbrev invariant-loop : tie.invariant-loop
-invariant-loop s named at count n extra place₀ last₀ k₀ place last k = (k ≤ count) × (place ≤ length s) × (place ≡ offer_place s named at k) × (last ≡ time_before s named at k) × (some (time_falls s named at) k ≡ false)
+invariant-loop s at count n place₀ last₀ k₀ place last k =
+    (k ≤ count) × (place ≤ length s) × (place ≡ offer_place s at k) × (last ≡ time_before s at k)
+    × (some (time_falls s at) k ≡ false)
 
 abbrev decreases-loop : tie.decreases-loop
-decreases-loop s named at count n extra place₀ last₀ k₀ place last k = count - k
-
-name-size-requires : tie.Need-name-size-requires invariant-loop decreases-loop
-name-size-requires c κs = search rules
+decreases-loop s at count n place₀ last₀ k₀ place last k = count - k
 
 loop-holds : tie.Need-loop-init invariant-loop decreases-loop
 loop-holds c = (omega arith, omega arith, search walk_first, search walk_zero, search some_none)
@@ -52,9 +50,6 @@ sub-if3 c = omega arith
 sub-if3-2 : tie.Need-overflow-sub-if3-2 invariant-loop decreases-loop
 sub-if3-2 c = omega arith
 
-add-if3 : tie.Need-overflow-add-if3 invariant-loop decreases-loop
-add-if3 c = omega arith
-
 returns-3 : tie.Need-returns-3 invariant-loop decreases-loop
 returns-3 c = search walk_cut
 
@@ -63,9 +58,6 @@ add-place c = omega arith
 
 add-place-2 : tie.Need-overflow-add-place-2 invariant-loop decreases-loop
 add-place-2 c = omega arith
-
-add-place-3 : tie.Need-overflow-add-place-3 invariant-loop decreases-loop
-add-place-3 c = omega arith
 
 add-k : tie.Need-overflow-add-k invariant-loop decreases-loop
 add-k c = omega arith
@@ -91,7 +83,6 @@ offers_wrong_spec =
     (tie.spec
     invariant-loop
     decreases-loop
-    name-size-requires
     loop-holds
     sub-if1
     returns
@@ -102,11 +93,9 @@ offers_wrong_spec =
     cast-size
     sub-if3
     sub-if3-2
-    add-if3
     returns-3
     add-place
     add-place-2
-    add-place-3
     add-k
     loop-less
     loop-again

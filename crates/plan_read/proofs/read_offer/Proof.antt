@@ -40,9 +40,6 @@ get16-requires-2 c κs = search rules
 cast-size : tie.Need-overflow-cast-size
 cast-size c = search rules
 
-read-name-requires : tie.Need-read-name-requires
-read-name-requires c κs = search rules
-
 returns : tie.Need-returns
 returns c = search offer_in_lem
 
@@ -62,5 +59,4 @@ read_offer_spec =
     add-get16-2
     get16-requires-2
     cast-size
-    read-name-requires
     returns)

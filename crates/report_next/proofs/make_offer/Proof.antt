@@ -1,11 +1,11 @@
 -- `report_next::make_offer` meets its contract. Assumes nothing.
-use Rattle.report_spec.specs.PieceLaws.{offer_reads, data_room, made_is}
+use Rattle.report_spec.specs.PieceLaws.{offer_room, data_room, made_is}
 use borrow.Author.Rules.{rules}
 use Rattle.report_next.proofs.make_offer.Statement.{statement}
 use Rattle.report_next.proofs.make_offer.Tie as tie
 
 read-offer-requires : tie.Need-read-offer-requires
-read-offer-requires c κs = search offer_reads
+read-offer-requires c κs = search offer_room
 
 offer-data-requires : tie.Need-offer-data-requires
 offer-data-requires c κs = search data_room

@@ -1,5 +1,6 @@
 -- `report_next::put_offer` meets its contract. Assumes nothing.
-use Rattle.report_spec.specs.PieceLaws.{offer_none, offer_line_lem, offer_reads}
+use Rattle.report_spec.specs.PieceLaws.{time_at, offer_room, offer_none, offer_line_lem}
+use native.Mathlib.Omega.{arith}
 use borrow.Author.Rules.{rules}
 use Rattle.report_next.proofs.put_offer.Statement.{statement}
 use Rattle.report_next.proofs.put_offer.Tie as tie
@@ -7,8 +8,17 @@ use Rattle.report_next.proofs.put_offer.Tie as tie
 returns : tie.Need-returns
 returns c = search offer_none
 
-station-of-requires : tie.Need-station-of-requires
-station-of-requires c κs = search offer_reads
+get32-requires : tie.Need-get32-requires
+get32-requires c κs = search time_at
+
+add_wide : tie.Need-overflow-add-wide
+add_wide c = omega (arith, offer_room _ _ c.before.before.before.before.requires.0)
+
+shared-slice-read-wide : tie.Need-shared-slice-read-wide
+shared-slice-read-wide c = omega (arith, offer_room _ _ c.before.before.before.before.before.requires.0)
+
+wide-requires : tie.Need-wide-requires
+wide-requires c κs = search rules
 
 slice-aggregate-put-line : tie.Need-slice-aggregate-put-line
 slice-aggregate-put-line c = search rules
@@ -27,7 +37,10 @@ put_offer_spec =
     tie.close
     (tie.spec
     returns
-    station-of-requires
+    get32-requires
+    add_wide
+    shared-slice-read-wide
+    wide-requires
     slice-aggregate-put-line
     put-line-requires
     same_length

@@ -22,9 +22,6 @@ put-step-requires c κs = search rules
 times-left-requires : tie.Need-times-left-requires
 times-left-requires c κs = search steps_within
 
-fates-after-requires : tie.Need-fates-after-requires
-fates-after-requires c κs = search rules
-
 same_length : tie.Need-same-length
 same_length c = search rules
 
@@ -44,7 +41,6 @@ step_piece_spec =
     sub-put-step
     put-step-requires
     times-left-requires
-    fates-after-requires
     same_length
     same-length-2
     returns)

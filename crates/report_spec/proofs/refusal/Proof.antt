@@ -29,8 +29,8 @@ returns-2 c = (search refusal_clock, search rules)
 returns-3 : tie.Need-returns-3
 returns-3 c = (search refusal_room, search rules)
 
-offers-short-requires : tie.Need-offers-short-requires
-offers-short-requires c κs = search rules
+offer-short-requires : tie.Need-offer-short-requires
+offer-short-requires c κs = search rules
 
 returns-4 : tie.Need-returns-4
 returns-4 c = (search refusal_offer, search rules)
@@ -48,6 +48,6 @@ refusal_spec =
     sub-if2
     returns-2
     returns-3
-    offers-short-requires
+    offer-short-requires
     returns-4
     returns-5)

@@ -1,5 +1,5 @@
 -- `sheet_fit::outward` meets its contract. Assumes nothing.
-use Rattle.sheet_fit.specs.MarginLaws.{round_left, position_left, outward_round, outward_position}
+use Rattle.sheet_fit.specs.MarginLaws.{slot_left, position_left, outward_slot, outward_position}
 use borrow.Author.Rules.{rules}
 use Rattle.sheet_fit.proofs.outward.Statement.{statement}
 use Rattle.sheet_fit.proofs.outward.Tie as tie
@@ -13,14 +13,17 @@ cast-round c = search rules
 mul-round : tie.Need-overflow-mul-round
 mul-round c = search rules
 
-longest-round-requires : tie.Need-longest-round-requires
-longest-round-requires c κs = search rules
+gap-requires : tie.Need-gap-requires
+gap-requires c κs = search rules
+
+add-round : tie.Need-overflow-add-round
+add-round c = search rules
 
 cast-half : tie.Need-overflow-cast-half
 cast-half c = search rules
 
 sub-half : tie.Need-overflow-sub-half
-sub-half c = search round_left
+sub-half c = search slot_left
 
 cast-last : tie.Need-overflow-cast-last
 cast-last c = search rules
@@ -44,7 +47,7 @@ cast-result : tie.Need-overflow-cast-result
 cast-result c = search rules
 
 returns : tie.Need-returns
-returns c = search outward_round
+returns c = search outward_slot
 
 returns-2 : tie.Need-returns-2
 returns-2 c = search outward_position
@@ -56,7 +59,8 @@ outward_spec =
     span-requires
     cast-round
     mul-round
-    longest-round-requires
+    gap-requires
+    add-round
     cast-half
     sub-half
     cast-last

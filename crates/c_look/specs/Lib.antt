@@ -1,3 +1,0 @@
-pub mod LookCalls
-pub mod LookCallLaws
-pub mod LookCallTheorems

@@ -1,2 +1,0 @@
-// A plan given by a list of stretches: what is heard by it, that it may grow, and its events station by station. No
-// code; the laws are in specs/.

@@ -1,4 +1,0 @@
-pub mod Talk
-pub mod Talks
-pub mod Spoken
-pub mod Follows

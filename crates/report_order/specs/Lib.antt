@@ -1,4 +1,0 @@
-pub mod Stands
-pub mod Behind
-pub mod Frames
-pub mod Accepted

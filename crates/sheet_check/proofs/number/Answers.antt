@@ -1,0 +1,17 @@
+-- `sheet_check::number` meets its contract. Assumes nothing.
+use mir.Syntax.{w8}
+use mir.Val.{Fits}
+use lib.ListN.{get_or}
+use Rattle.sheet_check.specs.PlainLaws.{number_is}
+use Rattle.octets.specs.NumberLaws.{octets_by}
+use borrow.Author.Rules.{rules}
+use Rattle.sheet_check.proofs.number.Goals as goal
+
+pub returns-clause-value : goal.returns-clause-value
+returns-clause-value c = search number_is
+
+pub returns-clause-octets : goal.returns-clause-octets
+returns-clause-octets c = ( octets_by _ (λ k. let f : Fits w8 (get_or c.args.t1 k 0) = search rules in f.fits), search rules, )
+
+pub returns-clause-six : goal.returns-clause-six
+returns-clause-six c = 

@@ -1,0 +1,13 @@
+-- `sheet_check::positions_out` meets its contract. Assumes nothing.
+use Prim.Native.Nat.{◌≤◌, ◌-◌}
+use mathlib.Core.Path.{◌≡◌}
+use mathlib.Core.Bool.{false}
+use Rattle.octets.specs.Base.{some}
+use Rattle.sheet_check.specs.Plain.{high_at}
+use Rattle.sheet_check.proofs.positions_out.Given as goal
+
+abbrev pub invariant-loop-i : goal.invariant-loop-i
+invariant-loop-i l = (l.i ≤ l.n) × (some (high_at l.positions) l.i ≡ false)
+
+abbrev pub decreases-loop-i : goal.decreases-loop-i
+decreases-loop-i l = l.n - l.i

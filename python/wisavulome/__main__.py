@@ -1,7 +1,0 @@
-"""`python3 -m wisavulome`: the command."""
-
-import sys
-
-from .cli import main
-
-sys.exit(main())
