@@ -13,6 +13,8 @@
 // | 8192 + 1536 i | the frame of station i, up to 1522 octets |
 // | 32768 + 1536 i | what station i collected, up to 1522 octets |
 
+#![tactic(auto)]
+
 ghost use Rattle.std.specs.Prelude.{◌≡◌, ◌+◌, ◌*◌, ◌<◌, ◌≤◌, min, max, length, get_or};
 ghost use Rattle.sheet_layout.specs.Layout.{places_of};
 ghost use Rattle.area.specs.Area.{clock_at, with_clock, depth_at, draw_at, figures_at, count_at, position_at, address_at};

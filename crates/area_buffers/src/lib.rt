@@ -1,5 +1,7 @@
 // The frames and the collected bits in the work area, and the symbol that a station emits.
 
+#![tactic(auto)]
+
 ghost use Rattle.std.specs.Prelude.{◌≡◌, ◌+◌, ◌*◌, ◌/◌, ◌%◌, ◌^◌, ◌<◌, ◌≤◌, length};
 ghost use Rattle.area.specs.Area.{with_bit, with_octet, octet_with, frame_at, buffer_at, frame_built};
 ghost use Rattle.octets.specs.Base.{outcome};

@@ -1,5 +1,7 @@
 // Checks 1 and 2: whether a work area is long enough, and whether it holds what no call would leave.
 
+#![tactic(auto)]
+
 ghost use Rattle.std.specs.Prelude.{◌≡◌, ◌+◌, ◌<◌, ◌≤◌, length, ltb};
 ghost use Rattle.octets.specs.Base.{pick, some};
 ghost use Rattle.area.specs.Area.{figures_at, record_at};

@@ -1,5 +1,7 @@
 // The delay lines of the work area: what is on its way to each station.
 
+#![tactic(auto)]
+
 ghost use Rattle.std.specs.Prelude.{◌≡◌, ◌+◌, ◌*◌, ◌%◌, ◌<◌, ◌≤◌, eqb, length};
 ghost use Rattle.area.specs.Area.{heard_of, heard_code, symbol_at, arrival_at, with_arrival, alone, with_symbol, max_code};
 ghost use Rattle.octets.specs.Base.{pick};

@@ -10,6 +10,8 @@
 //
 // A flag is 0 or 1. Words that a state does not use are 0.
 
+#![tactic(auto)]
+
 pub mod words;
 
 ghost use Rattle.std.specs.Prelude.{◌≡◌};

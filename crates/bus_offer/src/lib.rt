@@ -1,5 +1,7 @@
 // An offer of a frame to a station.
 
+#![tactic(auto)]
+
 ghost use Rattle.std.specs.Prelude.{◌≡◌, false, ◌<◌, ◌≤◌, length};
 ghost use Rattle.octets.specs.Base.{done_answer, outcome};
 ghost use Rattle.frame_build.specs.Limits.{refuses_data};

@@ -1,6 +1,8 @@
 // Turns that change little: whether a station hears, is in a gap or in backoff, by a few words of its record. The turns
 // are taken by `heard` and `easy`.
 
+#![tactic(auto)]
+
 pub mod easy;
 pub mod heard;
 

@@ -1,5 +1,7 @@
 // Readings of received frames.
 
+#![tactic(auto)]
+
 ghost use Rattle.std.specs.Prelude.{◌≡◌, ◌<◌, ◌≤◌, length, take};
 ghost use Rattle.std.proofs.lemmas.List.Edits.{sets};
 ghost use Rattle.octets.specs.Base.{outcome};
@@ -12,7 +14,7 @@ ghost use Rattle.sheet_layout.specs.Limits.{max_stations};
 use station_state::Receiver;
 
 // What a reading answers: a refusal by its number, or the octets of the frame.
-#[derive(Drop)]
+#[derive(Clone, Copy)]
 pub enum Reading {
     Refused(u32),
     Frame(u32),

@@ -1,5 +1,7 @@
 // Runs over many bit times, step by step: the reference for every faster run.
 
+#![tactic(auto)]
+
 ghost use Rattle.std.specs.Prelude.{◌≡◌, ◌+◌, ◌<◌, ◌≤◌, length};
 ghost use Rattle.bus_spec.specs.Run.{course_of, run_of, run_outcome, ran};
 ghost use Rattle.bus_spec.specs.RunLaws.{Runnable};

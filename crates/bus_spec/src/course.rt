@@ -11,7 +11,7 @@ use crate::Events;
 use octets::Done;
 
 // How a run ended: all its steps were made, or a station had a late collision in the last of them.
-#[derive(Drop)]
+#[derive(Clone, Copy)]
 pub enum Ended {
     All,
     Late { step: u32, station: u32 },
@@ -19,7 +19,7 @@ pub enum Ended {
 
 // What a run answers: the steps made, how many events of each word came (collision, late, sent, given-up, got ok, got
 // too-long, got alignment, got check, got length), and how it ended; zeros where the call is refused.
-#[derive(Drop)]
+#[derive(Clone, Copy)]
 pub struct RunAnswer {
     pub done: Done,
     pub steps: u32,
@@ -28,14 +28,14 @@ pub struct RunAnswer {
 }
 
 // How far a run went.
-#[derive(Drop)]
+#[derive(Clone, Copy)]
 pub struct Course {
     pub steps: u32,
     pub ended: Ended,
 }
 
 // Steps made, and the events of the last of them, if it has any.
-#[derive(Drop)]
+#[derive(Clone, Copy)]
 pub struct Stretch {
     pub steps: u32,
     pub events: [Events; 16],

@@ -1,5 +1,7 @@
 // A fresh start: zeros, and over them the layout, D and the draws.
 
+#![tactic(auto)]
+
 ghost use Rattle.std.specs.Prelude.{◌≡◌, ◌+◌, ◌*◌, ◌<◌, ◌≤◌, length};
 ghost use Rattle.octets.specs.Base.{done_answer, outcome};
 ghost use Rattle.bus_start.specs.Fresh.{with_figures, with_tap, with_taps, with_depth, with_draw, with_row, with_draws};

@@ -1,5 +1,7 @@
 // A bit time, and the counters of a station.
 
+#![tactic(auto)]
+
 ghost use Rattle.std.specs.Prelude.{◌≡◌, replicate};
 ghost use Rattle.octets.specs.Base.{refused, done_answer};
 ghost use Rattle.bus_spec.specs.BitTime.{no_events};
@@ -11,14 +13,14 @@ use octets::Done;
 use station_spec::{ReceiveEvent, TransmitEvent};
 
 // A station's counters, in the order in which document 01 and N1 list them; all 0 where the call is refused.
-#[derive(Drop)]
+#[derive(Clone, Copy)]
 pub struct Counters {
     pub done: Done,
     pub words: [u32; station_state::COUNTERS],
 }
 
 // What a step answers: the events of each station, none where the call is refused.
-#[derive(Drop)]
+#[derive(Clone, Copy)]
 pub struct BitTime {
     pub done: Done,
     pub events: [Events; 16],

@@ -1,6 +1,8 @@
 // The turn of one station, in place: it acts on what it hears, its symbol goes to every other, its record and counters
 // are written.
 
+#![tactic(auto)]
+
 pub mod step;
 
 ghost use Rattle.std.specs.Prelude.{◌≡◌, ◌+◌, ◌*◌, ◌<◌, ◌≤◌, length};

@@ -3,6 +3,8 @@
 // is written into `out` is said at each function of wisavulome.h, in words of four octets, high octet first; octets
 // past what is written stay.
 
+#![tactic(auto)]
+
 ghost use Rattle.std.specs.Prelude.{◌≡◌, ◌*◌, ◌<◌, ◌≤◌, eqb};
 ghost use Rattle.octets.specs.Base.{pick, number_of};
 ghost use Rattle.c_words.specs.Answers.{replied, value_of};

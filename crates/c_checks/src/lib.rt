@@ -1,6 +1,8 @@
 // The calls of the C interface that only look: a reception's status, the checks of a work area and of a layout, a
 // run input as it is read, and the shortest sheet. Replies are as in `c_calls`.
 
+#![tactic(auto)]
+
 ghost use Rattle.std.specs.Prelude.{◌≡◌, ◌<◌, ◌≤◌, length};
 ghost use Rattle.octets.specs.Base.{number_of};
 ghost use Rattle.sheet_layout.specs.Layout.{places_of};

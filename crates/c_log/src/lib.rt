@@ -1,5 +1,7 @@
 // Many windows over one log, on numbers and lent octets, as the C interface hands it out. Replies are as in `c_calls`.
 
+#![tactic(auto)]
+
 ghost use Rattle.std.specs.Prelude.{◌≡◌};
 ghost use Rattle.c_calls.specs.Calls.{given};
 ghost use Rattle.c_log.specs.LogCalls.{windows_given};

@@ -1,6 +1,8 @@
 // The marks as the C interface hands them out: on numbers and lent octets, one 32-bit reply each. A name is a number of
 // 64 bits, its eight octets high octet first.
 
+#![tactic(auto)]
+
 ghost use Rattle.std.specs.Prelude.{◌≡◌};
 ghost use Rattle.octets.specs.Number.{spelled};
 ghost use Rattle.c_calls.specs.Calls.{given};

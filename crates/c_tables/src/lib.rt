@@ -1,5 +1,7 @@
 // What the calls write into the output that is lent to them. All numbers are high octet first.
 
+#![tactic(auto)]
+
 ghost use Rattle.std.specs.Prelude.{◌≡◌, ◌+◌, ◌*◌, ◌<◌, ◌≤◌, length};
 ghost use Rattle.octets.specs.Words.{put_words};
 ghost use Rattle.c_words.specs.Answers.{layout_words, tap_put, taps_put, layout_put, events_put};

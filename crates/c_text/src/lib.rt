@@ -2,6 +2,8 @@
 // piece by piece or the whole. Replies are as in `c_calls`. Where a run stands is lent as 16 octets: four words, high
 // octet first.
 
+#![tactic(auto)]
+
 ghost use Rattle.std.specs.Prelude.{◌≡◌, ◌+◌, ◌<◌, ◌≤◌, min, eqb, length};
 ghost use Rattle.octets.specs.Base.{pick, number_of};
 ghost use Rattle.octets.specs.Number.{put};

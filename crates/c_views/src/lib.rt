@@ -1,6 +1,8 @@
 // The calls of the C interface that look at one thing: a station's state in a work area, and the margin of a sheet.
 // Replies are as in `c_calls`.
 
+#![tactic(auto)]
+
 ghost use Rattle.std.specs.Prelude.{◌≡◌, ◌<◌, ◌≤◌, length, get_or};
 ghost use Rattle.octets.specs.Base.{number_of, values_of};
 ghost use Rattle.sheet_layout.specs.Limits.{max_stations};

@@ -1,5 +1,7 @@
 // The answers of the calls as the C interface hands them out: numbers, and tables of words in a lent output.
 
+#![tactic(auto)]
+
 pub mod numbers;
 
 // The octets of the outputs: a layout, what a run input says, a run, and counters.

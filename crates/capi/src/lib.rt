@@ -3,6 +3,8 @@
 // what it held. What is written into `out` is said at each function of wisavulome.h, in words of four octets, high
 // octet first; octets past what is written stay.
 
+#![tactic(auto)]
+
 ghost use Rattle.std.specs.Prelude.{◌≡◌, ◌<◌};
 ghost use Rattle.frame_crc.specs.Crc.{crc_of};
 ghost use Rattle.c_calls.specs.Calls.{given, left, sheet_given, fits_given, build_given, status_given, client_given};

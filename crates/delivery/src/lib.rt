@@ -1,5 +1,7 @@
 // Demand 3: what holds over every list of calls. There is no code here but this number; the theorems are in specs/.
 
+#![tactic(auto)]
+
 ghost use Rattle.std.specs.Prelude.{◌≡◌};
 
 // The number of the demand.

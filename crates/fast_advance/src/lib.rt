@@ -1,5 +1,7 @@
 // A run goes on: silence at once, a window at once, or one step.
 
+#![tactic(auto)]
+
 pub mod until;
 
 ghost use Rattle.std.specs.Prelude.{◌≡◌, ◌<◌, ◌≤◌, length, replicate};

@@ -1,5 +1,7 @@
 // How long a window may be: the steps in which no station has an event or starts, and each emitter goes on.
 
+#![tactic(auto)]
+
 ghost use Rattle.std.specs.Prelude.{◌≡◌, true, false, ◌+◌, ◌<◌, ◌≤◌, length};
 ghost use Rattle.station_spec.specs.Receive.{bits_in};
 ghost use Rattle.area.specs.Area.{figures_at};
@@ -21,7 +23,7 @@ pub const LEAST: u32 = 2;
 
 // Of a station that emits nothing: `len` steps of one kind, and what it comes to in them. It has collected at most
 // `bits` bits; `harmless`: its reception may not report, however long it goes on.
-#[derive(Drop)]
+#[derive(Clone, Copy)]
 pub struct Ahead {
     pub len: u32,
     pub deference: Deference,

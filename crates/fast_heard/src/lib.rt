@@ -1,6 +1,8 @@
 // What a station hears in the steps ahead while every emitter goes on: the nearest other emitters, and runs of steps in
 // which what it hears is of one kind.
 
+#![tactic(auto)]
+
 ghost use Rattle.std.specs.Prelude.{◌≡◌, true, ◌+◌, ◌<◌, ◌≤◌, leb, length};
 ghost use Rattle.octets.specs.Base.{pick};
 ghost use Rattle.area.specs.Area.{position_at};
@@ -13,7 +15,7 @@ ghost use Rattle.sheet_layout.specs.Limits.{max_stations};
 use fast_line::LineRun;
 
 // The nearest other emitter and its distance, and the distance of the second nearest; 256 where there is none.
-#[derive(Drop)]
+#[derive(Clone, Copy)]
 pub struct Near {
     pub from: usize,
     pub d1: usize,
@@ -22,7 +24,7 @@ pub struct Near {
 
 // What a station hears in a run of steps: nothing; clean bits of its line; packet bits of the nearest emitter; jam or
 // several.
-#[derive(Drop)]
+#[derive(Clone, Copy)]
 pub enum Kind {
     Silent,
     Line,
@@ -30,7 +32,7 @@ pub enum Kind {
     Mixed,
 }
 
-#[derive(Drop)]
+#[derive(Clone, Copy)]
 pub struct Segment {
     pub kind: Kind,
     pub len: usize,
@@ -238,7 +240,7 @@ pub fn heard_run(
 
 // What a station hears of before a window: the nearest emitters; the next packet bit of the nearest, 0 where there is
 // none or it jams; and the frame that it sends, by its station and its octets.
-#[derive(Drop)]
+#[derive(Clone, Copy)]
 pub struct Sight {
     pub near: Near,
     pub bit: u32,

@@ -1,5 +1,7 @@
 // Many steps of silence at once, on the area.
 
+#![tactic(auto)]
+
 ghost use Rattle.std.specs.Prelude.{◌≡◌, ◌+◌, ◌<◌, ◌≤◌, length};
 ghost use Rattle.area.specs.Area.{clock_at, figures_at};
 ghost use Rattle.bus_spec.specs.Ready.{Ready};

@@ -1,6 +1,8 @@
 // A station's delay line over many places at once: what it holds, places cleared, symbols put.
 // Above this crate nobody knows how a place is kept.
 
+#![tactic(auto)]
+
 ghost use Rattle.std.specs.Prelude.{◌≡◌, true, ◌+◌, ◌-◌, ◌*◌, ◌%◌, ◌<◌, ◌≤◌, min, eqb, length};
 ghost use Rattle.octets.specs.Base.{pick};
 ghost use Rattle.station_symbols.specs.declared.Symbol.TheVariants.{Bit};
@@ -15,7 +17,7 @@ ghost use Rattle.sheet_layout.specs.Limits.{max_stations};
 use station_symbols::Heard;
 
 // Places of one kind, and how many: 0 nothing, 1 clean bits, 2 spoiled.
-#[derive(Drop)]
+#[derive(Clone, Copy)]
 pub struct LineRun {
     pub kind: u8,
     pub len: usize,

@@ -1,6 +1,8 @@
 // What a window of many steps leaves in the delay lines: the places of its steps are cleared, and the symbols that are
 // still on their way are put.
 
+#![tactic(auto)]
+
 ghost use Rattle.std.specs.Prelude.{◌≡◌, ℕ, ◌+◌, ◌*◌, ◌<◌, ◌≤◌, min, length};
 ghost use Rattle.area.specs.Area.{symbol_at, max_code};
 ghost use Rattle.fast_plan.specs.Push.{cleared, ways_to, line_done};
@@ -13,7 +15,7 @@ ghost use Rattle.area.specs.Offsets.{area_size, ring};
 
 // What a station emits in a window. Kind 0: nothing. Kind 1: its packet's bits from `bit` on, of the frame of so many
 // octets. Kind 2: jam.
-#[derive(Drop)]
+#[derive(Clone, Copy)]
 pub struct Emitter {
     pub kind: u8,
     pub bit: u32,

@@ -1,5 +1,7 @@
 // A station moves on by itself, over steps of one kind at once where that can be, else by one turn.
 
+#![tactic(auto)]
+
 ghost use Rattle.std.specs.Prelude.{◌≡◌, not, ◌+◌, ◌<◌, ◌≤◌, length};
 ghost use Rattle.octets.specs.Base.{pick};
 ghost use Rattle.fast_plan.specs.Own.{by_itself};

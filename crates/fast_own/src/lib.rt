@@ -1,5 +1,7 @@
 // The turn of one station by itself, on what it is told that it hears: no line is read or written.
 
+#![tactic(auto)]
+
 ghost use Rattle.std.specs.Prelude.{◌≡◌, ◌<◌, ◌≤◌, length};
 ghost use Rattle.bus_spec.specs.InPlace.{Kept};
 ghost use Rattle.bus_spec.specs.Ready.{Able};

@@ -1,6 +1,8 @@
 // A receiver over many steps in each of which others are heard: it looks for the delimiter, then collects; the bits are
 // stored in the area.
 
+#![tactic(auto)]
+
 ghost use Rattle.std.specs.Prelude.{◌≡◌, ◌+◌, ◌-◌, ◌*◌, ◌/◌, ◌%◌, ◌<◌, ◌≤◌, length};
 ghost use Rattle.station_spec.specs.Receive.{row_in, bits_in, hear, addressed, row_limit};
 ghost use Rattle.area.specs.Area.{address_at, buffer_at, symbol_at};
@@ -22,7 +24,7 @@ const LAST_OCTET: u32 = 12168;
 const NO_ROW: u32 = 1;
 
 // A receiver after so many steps.
-#[derive(Drop)]
+#[derive(Clone, Copy)]
 struct Part {
     receiver: Receiver,
     steps: u32,

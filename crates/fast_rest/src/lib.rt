@@ -1,5 +1,7 @@
 // How long a station rests in a silence.
 
+#![tactic(auto)]
+
 ghost use Rattle.std.specs.Prelude.{◌≡◌, ◌+◌, ◌<◌, min, max};
 ghost use Rattle.fast_silence.specs.Rested.{rests_for, gap_to, rested_deference, rested_transmitter, has_waited, rested};
 ghost use Rattle.fast_silence.specs.Bound.{frames_rest, idle, station_rests};

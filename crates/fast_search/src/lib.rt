@@ -1,5 +1,7 @@
 // How many of the next steps are silence, on the area: no station starts, and nothing is on its way.
 
+#![tactic(auto)]
+
 ghost use Rattle.std.specs.Prelude.{◌≡◌, ◌+◌, ◌<◌, ◌≤◌, length};
 ghost use Rattle.octets.specs.Base.{some};
 ghost use Rattle.area.specs.Area.{clock_at, figures_at};

@@ -1,1 +1,3 @@
 // Laws of segments: steps of a window in which a station hears one kind of thing. No code; the laws are in specs/.
+
+#![tactic(auto)]

@@ -1,6 +1,8 @@
 // A station after many steps of one kind, by value: others are heard, nothing is heard, or it emits; and how long each
 // lasts.
 
+#![tactic(auto)]
+
 ghost use Rattle.std.specs.Prelude.{◌≡◌, ◌+◌, ◌-◌, ◌<◌};
 ghost use Rattle.station_state.specs.State.{number_in};
 ghost use Rattle.fast_station.specs.Forms.{heard_gap, heard_deference, heard_for, heard_rest, hear_on, rest_on};

@@ -1,5 +1,7 @@
 // Many steps of one kind of one station, on the area: its record, and the bits that it collects.
 
+#![tactic(auto)]
+
 ghost use Rattle.std.specs.Prelude.{◌≡◌, ◌+◌, ◌<◌, ◌≤◌, length};
 ghost use Rattle.station_state.specs.State.{number_in};
 ghost use Rattle.area.specs.Area.{station_at};

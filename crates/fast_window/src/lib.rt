@@ -1,6 +1,8 @@
 // A window: many steps in which no station starts or has an event, and each emitter goes on. Each station moves on by
 // itself, then the lines and the clock are set.
 
+#![tactic(auto)]
+
 ghost use Rattle.std.specs.Prelude.{◌≡◌, ◌+◌, ◌-◌, ◌<◌, ◌≤◌, length, take};
 ghost use Rattle.area.specs.Area.{clock_at, frame_at};
 ghost use Rattle.bus_spec.specs.Ready.{Ready};

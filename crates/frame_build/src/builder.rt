@@ -10,7 +10,7 @@ ghost use Rattle.frame_build.specs.BuildLaws.{sealed};
 use super::limits;
 
 // The builder's answer: a refusal by its number, or the length of the frame made.
-#[derive(Drop)]
+#[derive(Clone, Copy)]
 pub enum Built {
     Refused(u32),
     Made(usize),

@@ -1,6 +1,8 @@
 // The check sequence of 802.3. What it is stands bit by bit in specs/Crc.antt; here it goes eight octets at a time,
 // through a table.
 
+#![tactic(auto)]
+
 mod table;
 
 ghost use Rattle.std.specs.Prelude.{◌≡◌, ◌+◌, ◌*◌, ◌%◌, ◌<◌, ◌≤◌, length, take, drop};

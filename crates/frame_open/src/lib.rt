@@ -1,5 +1,7 @@
 // Opening frames (document 01, "Frames").
 
+#![tactic(auto)]
+
 ghost use Rattle.std.specs.Prelude.{◌≡◌, false, ◌+◌, ◌≤◌, max, length};
 ghost use Rattle.frame_build.specs.Limits.{min_data};
 ghost use Rattle.frame_open.specs.Open.{status_answer, check_wrong, check_error, unpadded, opened};
@@ -8,7 +10,7 @@ use frame_build::limits;
 
 // What opening says of a frame: a refusal by its number, or document 01's status. ReceiveOk has the octets of client
 // data.
-#[derive(Drop)]
+#[derive(Clone, Copy)]
 pub enum ReceiveStatus {
     Refused(u32),
     Fragment,

@@ -1,6 +1,8 @@
 // Forty entries in an array, lent as a slice: the one place where a slice of entries is made. Its proof is a walk
 // through its MIR, by hand.
 
+#![tactic(auto)]
+
 ghost use Rattle.std.specs.Prelude.{◌≡◌};
 ghost use Rattle.octets.specs.Base.{done_answer, outcome};
 ghost use Rattle.log_lookup.specs.Lookup.{looked_up};

@@ -8,6 +8,8 @@
 // which no window holds. A line is printed for each: `ok` and for each window its ten counts, parted by commas, or
 // `refused` and the number.
 
+#![tactic(auto)]
+
 ghost use Rattle.std.specs.Prelude.{◌<◌, ◌≤◌, ◌+◌};
 
 use libc::{STDIN_FILENO, STDOUT_FILENO};

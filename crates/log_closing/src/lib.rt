@@ -1,5 +1,7 @@
 // The answer of a lookup, once every entry was seen: a refusal, or the counts of the windows.
 
+#![tactic(auto)]
+
 ghost use Rattle.std.specs.Prelude.{◌≡◌, ◌≤◌, length, take};
 ghost use Rattle.std.proofs.lemmas.List.Edits.{sets};
 ghost use Rattle.octets.specs.Base.{pick, some, done_answer, outcome};

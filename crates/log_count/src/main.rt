@@ -6,6 +6,8 @@
 // `refused` and the number. The log is read 4,096 entries at a time; one of 16,777,216 entries or more is refused
 // under 16.
 
+#![tactic(auto)]
+
 use libc::{STDIN_FILENO, STDOUT_FILENO};
 use log_entry::State;
 use octets::Done;

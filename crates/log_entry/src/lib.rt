@@ -1,13 +1,15 @@
 // A log of events: entries with time, station and event, and what is known of a log after its entries so far. The
 // windows that are looked up in a log are numbers, three to a window: station, first time, time past the last.
 
+#![tactic(auto)]
+
 ghost use Rattle.std.specs.Prelude.{◌≡◌, ◌<◌};
 ghost use Rattle.station_tally.specs.Words.{word_count};
 ghost use Rattle.log_entry.specs.Log.{word_of};
 
 // What a station reported, as document 01 prints it: a transmit event with its bit or its attempts, a receive event
 // with its octets.
-#[derive(Drop)]
+#[derive(Clone, Copy)]
 pub enum Event {
     Collision(u32),
     Late(u32),
@@ -21,7 +23,7 @@ pub enum Event {
     GotLength(u32),
 }
 
-#[derive(Drop)]
+#[derive(Clone, Copy)]
 pub struct Entry {
     pub time: u32,
     pub station: u32,
@@ -30,7 +32,7 @@ pub struct Entry {
 
 // After some entries: N, whether an entry's station was N or more, whether the times fell, the last time, and ten
 // counts for each of 64 windows.
-#[derive(Drop)]
+#[derive(Clone, Copy)]
 pub struct State {
     pub stations: u32,
     pub astray: bool,

@@ -1,5 +1,7 @@
 // The one function that reads a log: its proof is a walk through its MIR, by hand.
 
+#![tactic(auto)]
+
 ghost use Rattle.std.specs.Prelude.{◌≡◌};
 ghost use Rattle.octets.specs.Base.{done_answer, outcome};
 ghost use Rattle.log_lookup.specs.Lookup.{looked_up};

@@ -1,6 +1,8 @@
 // A lookup in a log that is lent as octets, six to an entry: time (4, high octet first), station, event (1 to
 // 10, as `station_tally/Words` numbers the words). Octets after the last whole entry are not looked at.
 
+#![tactic(auto)]
+
 ghost use Rattle.std.specs.Prelude.{◌≡◌, ◌+◌, ◌*◌, ◌≤◌, ◌/◌, length};
 ghost use Rattle.octets.specs.Base.{some, done_answer, outcome};
 ghost use Rattle.log_windows.specs.Grow.{over};

@@ -1,5 +1,7 @@
 // The tallies of many windows, entry by entry: the state before the first entry of a log, and after one more.
 
+#![tactic(auto)]
+
 ghost use Rattle.std.specs.Prelude.{◌≡◌, ◌<◌, ◌≤◌, ◌+◌, ◌*◌, length};
 ghost use Rattle.station_tally.specs.Words.{word_count};
 ghost use Rattle.log_entry.specs.Log.{max_windows, holds};

@@ -1,6 +1,8 @@
 // Bookmarks in a run: a work area marked under a name in a lent store, put back from it, and a mark dropped. A store
 // holds four marks, each 57,353 octets: one that is 1 where the mark stands, the name, the work area.
 
+#![tactic(auto)]
+
 ghost use Rattle.std.specs.Prelude.{◌≡◌, ◌<◌, ◌≤◌, length};
 ghost use Rattle.std.proofs.lemmas.List.Edits.{sets};
 ghost use Rattle.octets.specs.Base.{done_answer, outcome};

@@ -1,11 +1,13 @@
 // What every crate stands on: octets as numbers, tests put together, powers of two, and the definitions of octets,
 // numbers and words (specs).
 
+#![tactic(auto)]
+
 ghost use Rattle.std.specs.Prelude.{◌≡◌, ◌||◌, ◌&&◌, ◌^◌, ◌<◌};
 ghost use Rattle.octets.specs.Base.{outside};
 
 // The answer of a call that gives nothing but its being done: a refusal by its number, or done.
-#[derive(Drop)]
+#[derive(Clone, Copy)]
 pub enum Done {
     Refused(u32),
     Made,

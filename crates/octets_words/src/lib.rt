@@ -1,5 +1,7 @@
 // Numbers of two and four octets, high octet first, and rows of them.
 
+#![tactic(auto)]
+
 ghost use Rattle.std.specs.Prelude.{◌≡◌, ◌+◌, ◌*◌, ◌<◌, ◌≤◌, length};
 ghost use Rattle.octets.specs.Number.{get, put};
 ghost use Rattle.octets.specs.Words.{put_words, words_at};

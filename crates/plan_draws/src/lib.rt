@@ -1,5 +1,7 @@
 // The draws of a run input: by station, and then by draw place.
 
+#![tactic(auto)]
+
 ghost use Rattle.std.specs.Prelude.{◌≡◌, ◌+◌, ◌*◌, ◌<◌, ◌≤◌, length};
 ghost use Rattle.plan_draws.specs.Draws.{row_in, draws_in};
 ghost use Rattle.sheet_layout.specs.Limits.{max_draws, max_stations};

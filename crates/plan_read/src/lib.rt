@@ -1,5 +1,7 @@
 // Reading a run input: sheet, draws, offers and bit times (document 01, "The run program").
 
+#![tactic(auto)]
+
 ghost use Rattle.std.specs.Prelude.{◌≡◌, ◌+◌, ◌*◌, ◌<◌, ◌≤◌, length};
 ghost use Rattle.plan_read.specs.Plan.{offer_in, offer_data, offers_wrong, plan_wrong, last_refusal, unplanned};
 ghost use Rattle.plan_read.specs.Plan.{plan_as_read, plan_reading};
@@ -10,7 +12,7 @@ use sheet_layout::{Figures, Layout, Tap};
 use sheet_read::SheetRead;
 
 // The reader's answer: a refusal by its number, or the whole input is read.
-#[derive(Drop)]
+#[derive(Clone, Copy)]
 pub enum Verdict {
     Refused(u32),
     Whole,
@@ -18,7 +20,7 @@ pub enum Verdict {
 
 // A run input as read: the answer, and beside it the layout, D, where the draws begin, the number of offers, where the
 // first begins, and the bit times. All are blank where the input is refused.
-#[derive(Drop)]
+#[derive(Clone, Copy)]
 pub struct Plan {
     pub read: Verdict,
     pub layout: Layout,
@@ -30,7 +32,7 @@ pub struct Plan {
 }
 
 // An offer's fixed fields. Its data follow them, `size` octets.
-#[derive(Drop)]
+#[derive(Clone, Copy)]
 pub struct Offered {
     pub time: u32,
     pub station: u32,

@@ -1,5 +1,7 @@
 // The first piece for a run input: a fresh start and the first line, or the line of a refusal.
 
+#![tactic(auto)]
+
 ghost use Rattle.std.specs.Prelude.{◌≡◌, ◌<◌, ◌≤◌, [], ◌∷◌, length};
 ghost use Rattle.std.proofs.lemmas.List.Edits.{sets};
 ghost use Rattle.octets.specs.Base.{accepted, number_of};

@@ -1,5 +1,7 @@
 // The lines of the run program (document 01, "The run program"), written into lent octets.
 
+#![tactic(auto)]
+
 ghost use Rattle.std.specs.Prelude.{◌≡◌, ◌+◌, ◌≤◌, length};
 ghost use Rattle.station_tally.specs.Words.{word_count};
 ghost use Rattle.report_text.specs.Text.{written, puts};

@@ -1,6 +1,8 @@
 // The run program on lent octets: what it prints for an input, handed out piece by piece (document 01, "The run
 // program"). The first piece is `report_begin::begin`'s.
 
+#![tactic(auto)]
+
 ghost use Rattle.std.specs.Prelude.{◌≡◌, true, false, ◌<◌, ◌≤◌, length};
 ghost use Rattle.octets.specs.Base.{outcome, done_answer, number_of};
 ghost use Rattle.bus_spec.specs.RunLaws.{Runnable};

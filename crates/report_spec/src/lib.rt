@@ -1,5 +1,7 @@
 // The pieces in which what is printed is handed out: where a run stands, and which piece is the next.
 
+#![tactic(auto)]
+
 ghost use Rattle.std.specs.Prelude.{◌≡◌, false, ◌-◌, ◌≤◌, length};
 ghost use Rattle.octets.specs.Base.{pick, some, refused};
 ghost use Rattle.octets.specs.NumberLaws.{Octets};
@@ -15,7 +17,7 @@ pub const ROOM: usize = 2048;
 
 // Where a run stands: the octet of the input at which the next offer begins, how many offers are left, how many bit
 // times are left, and whether the last line is handed out.
-#[derive(Drop)]
+#[derive(Clone, Copy)]
 pub struct Progress {
     pub at: usize,
     pub offers: u32,
@@ -24,14 +26,14 @@ pub struct Progress {
 }
 
 // A refusal by its number, or a piece of text: its octets stand at the front of `out`.
-#[derive(Drop)]
+#[derive(Clone, Copy)]
 pub enum Piece {
     Refused(u32),
     Text(usize),
 }
 
 // What a call hands out, and where the run stands after it.
-#[derive(Drop)]
+#[derive(Clone, Copy)]
 pub struct Handed {
     pub piece: Piece,
     pub progress: Progress,

@@ -1,5 +1,7 @@
 // Numbers and words as text.
 
+#![tactic(auto)]
+
 ghost use Rattle.std.specs.Prelude.{◌≡◌, [], ◌∷◌, ◌++◌, ◌+◌, ◌<◌, ◌≤◌, length, drop};
 ghost use Rattle.report_text.specs.Text.{written, puts, digits, lean, decimal, numbered, counted, placed, line};
 ghost use Rattle.report_text.specs.Text.{first_line, space};

@@ -1,6 +1,8 @@
 // The whole text of a run input at once: what `begin` and `advance` hand out piece by piece, one piece behind the other
 // in a lent output.
 
+#![tactic(auto)]
+
 pub mod parts;
 
 ghost use Rattle.std.specs.Prelude.{◌≡◌, false, ◌≤◌, leb, length, drop};

@@ -9,7 +9,7 @@ ghost use Rattle.area.specs.Offsets.{area_size};
 use report_spec::{Piece, Progress};
 
 // A piece: its octets, which stand at the front of the lent buffer, and where the run stands after it.
-#[derive(Drop)]
+#[derive(Clone, Copy)]
 pub struct Part {
     pub size: usize,
     pub progress: Progress,

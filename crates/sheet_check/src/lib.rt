@@ -1,5 +1,7 @@
 // The checks of a layout: refusals 5 to 8, on its positions and addresses as plain numbers.
 
+#![tactic(auto)]
+
 ghost use Rattle.std.specs.Prelude.{◌≡◌, ◌<◌, ◌≤◌, length};
 ghost use Rattle.octets.specs.Base.{some};
 ghost use Rattle.octets.specs.Number.{get};

@@ -1,5 +1,7 @@
 // Whether a layout fits (document 01, "The sheet"), and how far its last tap may move outward.
 
+#![tactic(auto)]
+
 ghost use Rattle.std.specs.Prelude.{◌≡◌, true, ◌<◌, ◌≤◌};
 ghost use Rattle.sheet_layout.specs.Layout.{gap_of, span_of, fits_well};
 ghost use Rattle.sheet_layout.specs.Check.{refusal_of};
@@ -11,7 +13,7 @@ use sheet_layout::{Figures, Fit, Layout};
 
 // How far the last tap may move outward: a refusal of the layout by its number, or that it does not fit as it is, or so
 // many bit times.
-#[derive(Drop)]
+#[derive(Clone, Copy)]
 pub enum MarginAnswer {
     Refused(u32),
     NoFit,

@@ -1,5 +1,7 @@
 // The layout that a sheet describes: figures and stations. `sheet_check` and `sheet_fit` judge it.
 
+#![tactic(auto)]
+
 ghost use Rattle.std.specs.Prelude.{◌≡◌, ◌<◌, ◌≤◌, min};
 ghost use Rattle.sheet_layout.specs.Limits.{max_stations};
 
@@ -16,7 +18,7 @@ pub const LAST_CLOCK: u32 = 16777216;
 
 // The figures burned into the stations: slot, gap1, gap2 and jam in bit times, the attempt limit and the backoff limit;
 // late-end, 1 where a late collision closes the frame and 0 where it is tried again.
-#[derive(Drop)]
+#[derive(Clone, Copy)]
 pub struct Figures {
     pub slot: u32,
     pub gap1: u32,
@@ -28,14 +30,14 @@ pub struct Figures {
 }
 
 // A station on the pair: its position in bit times, and its address.
-#[derive(Drop)]
+#[derive(Clone, Copy)]
 pub struct Tap {
     pub position: u32,
     pub address: [u8; 6],
 }
 
 // A layout of `count` stations. The places after them hold position 0 and address 0.
-#[derive(Drop)]
+#[derive(Clone, Copy)]
 pub struct Layout {
     pub figures: Figures,
     pub count: u32,
@@ -43,7 +45,7 @@ pub struct Layout {
 }
 
 // Whether a layout fits: a refusal by its number, or no, or yes.
-#[derive(Drop)]
+#[derive(Clone, Copy)]
 pub enum Fit {
     Refused(u32),
     No,

@@ -1,5 +1,7 @@
 // Reading a sheet (document 01, "The sheet").
 
+#![tactic(auto)]
+
 ghost use Rattle.std.specs.Prelude.{◌≡◌, ◌+◌, ◌*◌, ◌/◌, ◌%◌, ◌<◌, ◌≤◌, eqb, length};
 ghost use Rattle.octets.specs.Base.{pick};
 ghost use Rattle.sheet_layout.specs.Layout.{places_of};
@@ -10,21 +12,21 @@ ghost use Rattle.sheet_layout.specs.Limits.{max_stations};
 use sheet_layout::{Figures, Layout, Tap};
 
 // The reader's answer: a refusal by its number, or the octets used.
-#[derive(Drop)]
+#[derive(Clone, Copy)]
 pub enum SheetRead {
     Refused(u32),
     Used(usize),
 }
 
 // A sheet as read: the answer, and beside it the layout, blank where the sheet is refused.
-#[derive(Drop)]
+#[derive(Clone, Copy)]
 pub struct Sheet {
     pub read: SheetRead,
     pub layout: Layout,
 }
 
 // The octets that each field takes, none where its bit does not stand.
-#[derive(Drop)]
+#[derive(Clone, Copy)]
 pub struct Sizes {
     pub slot: usize,
     pub gap1: usize,

@@ -1,5 +1,7 @@
 // Writing a sheet: the shortest that reads as a layout (document 02, N4).
 
+#![tactic(auto)]
+
 ghost use Rattle.std.specs.Prelude.{◌≡◌, ◌+◌, ◌*◌, ◌-◌, ◌<◌, ◌≤◌, ◌++◌, length};
 ghost use Rattle.std.proofs.lemmas.List.Edits.{sets};
 ghost use Rattle.octets.specs.Base.{pick, outcome};
@@ -12,7 +14,7 @@ ghost use Rattle.sheet_write.specs.Write.{taps_octets, written, sheet_written, w
 use sheet_layout::{Figures, Layout};
 
 // The writer's answer: a refusal by its number, or the octets written.
-#[derive(Drop)]
+#[derive(Clone, Copy)]
 pub enum Written {
     Refused(u32),
     Octets(u32),

@@ -2,6 +2,8 @@
 // `report_begin` and `report_next`; what is handed to the write calls here, one behind the other, is just what is
 // printed.
 
+#![tactic(auto)]
+
 ghost use Rattle.std.specs.Prelude.{◌≡◌, true, ◌+◌, ◌*◌, ◌≤◌, length};
 ghost use Rattle.octets.specs.Store.{part};
 ghost use Rattle.report_spec.specs.Printed.{printed};
@@ -14,7 +16,7 @@ use libc::{STDIN_FILENO, STDOUT_FILENO};
 use report_spec::Progress;
 
 // How many octets of the text were handed to the write calls, and whether every call answered that it wrote them.
-#[derive(Drop)]
+#[derive(Clone, Copy)]
 struct Written {
     at: usize,
     done: bool,

@@ -1,5 +1,7 @@
 // A station's counters, in the order in which document 01 lists them, and after them those of the requests.
 
+#![tactic(auto)]
+
 ghost use Rattle.std.specs.Prelude.{◌≡◌, ◌-◌, ◌<◌};
 ghost use Rattle.station_spec.specs.Count.{added, added_if, count_sent, count_transmit, count_receive, octets_in, counted};
 ghost use Rattle.station_state.specs.State.{counter_count};

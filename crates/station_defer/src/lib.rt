@@ -1,5 +1,7 @@
 // Deference: when a station may start.
 
+#![tactic(auto)]
+
 ghost use Rattle.std.specs.Prelude.{◌≡◌, ◌+◌, ◌<◌};
 ghost use Rattle.station_spec.specs.Defer.{quiet_rule, busy_rule, gap_rule, goes_back, defer};
 

@@ -1,5 +1,7 @@
 // The end of a reception, what is reported of it, and the receiver's step.
 
+#![tactic(auto)]
+
 ghost use Rattle.std.specs.Prelude.{◌≡◌, ◌<◌, ◌≤◌, length};
 ghost use Rattle.frame_open.specs.Open.{status_answer};
 ghost use Rattle.station_spec.specs.declared.ReceiveEvent.TheVariants.{NoReceive};

@@ -1,5 +1,7 @@
 // The receiver: a reception, its delimiter, the bits collected, and what comes of them.
 
+#![tactic(auto)]
+
 ghost use Rattle.std.specs.Prelude.{◌≡◌, ◌+◌, ◌*◌, ◌<◌};
 ghost use Rattle.octets.specs.Bits.{digit};
 ghost use Rattle.station_spec.specs.declared.ReceiveEvent.TheVariants.{NoReceive};

@@ -1,5 +1,7 @@
 // A bit of an attempt, its collision, and the transmitter's step.
 
+#![tactic(auto)]
+
 ghost use Rattle.std.specs.Prelude.{◌≡◌, ◌+◌, ◌*◌, ◌<◌};
 ghost use Rattle.station_spec.specs.Transmit.{after_bit, collision, send_bit, head_bit, resting, backoff_bit, transmit};
 ghost use Rattle.station_state.specs.State.{number_in};

@@ -1,11 +1,13 @@
 // A station's bit time by value (document 01, "One bit time"): the definitions of deference, transmitter, receiver, a
 // step and the counters (specs), and the outcomes that they speak of.
 
+#![tactic(auto)]
+
 use station_state::{Deference, Receiver, Station, Transmitter};
 use station_symbols::Emission;
 
 // What a step's deference leads to: the next phase, and whether a waiting frame starts in the step.
-#[derive(Drop)]
+#[derive(Clone, Copy)]
 pub struct Deferred {
     pub phase: Deference,
     pub start: bool,
@@ -13,7 +15,7 @@ pub struct Deferred {
 
 // What a transmitter reports in a step, at most one: a collision with its bit, or a late one, which closes the frame
 // or not; sent, given up or ended after a late collision with the frame's attempts.
-#[derive(Drop)]
+#[derive(Clone, Copy)]
 pub enum TransmitEvent {
     NoTransmit,
     Collision(u32),
@@ -24,7 +26,7 @@ pub enum TransmitEvent {
 }
 
 // What a step of the transmitter leads to: the next phase, the emission, the event, and whether a draw was used.
-#[derive(Drop)]
+#[derive(Clone, Copy)]
 pub struct Transmitted {
     pub phase: Transmitter,
     pub emission: Emission,
@@ -34,7 +36,7 @@ pub struct Transmitted {
 
 // What a receiver reports in a step, at most one: a frame got: with receiveOK the octets of client data, else the whole
 // octets collected.
-#[derive(Drop)]
+#[derive(Clone, Copy)]
 pub enum ReceiveEvent {
     NoReceive,
     GotOk(u32),
@@ -45,14 +47,14 @@ pub enum ReceiveEvent {
 }
 
 // The collected bit that a step stores: its number, counted from 0, and its value.
-#[derive(Drop)]
+#[derive(Clone, Copy)]
 pub enum Stored {
     NoStore,
     Store { bit: u32, one: bool },
 }
 
 // What a step of the receiver leads to.
-#[derive(Drop)]
+#[derive(Clone, Copy)]
 pub struct Received {
     pub receiver: Receiver,
     pub event: ReceiveEvent,
@@ -61,7 +63,7 @@ pub struct Received {
 
 // What a step leads to: the next state, what is emitted, whether a frame started, the events, the collected bit to
 // store.
-#[derive(Drop)]
+#[derive(Clone, Copy)]
 pub struct Stepped {
     pub station: Station,
     pub emission: Emission,

@@ -1,8 +1,10 @@
 // The state of a station (document 01, "One bit time").
 
+#![tactic(auto)]
+
 // Quiet, busy or gap. A gap counts its quiet bits; busy and gap remember whether the station itself emitted in that
 // busy stretch.
-#[derive(Drop)]
+#[derive(Clone, Copy)]
 pub enum Deference {
     Quiet,
     Busy(bool),
@@ -12,7 +14,7 @@ pub enum Deference {
 // No frame; a frame that waits; one in backoff, with the steps left; one going out, with its next packet bit; one that
 // collided and finishes its header, with the next bit; one that jams, with the jam bits left and whether the frame ends
 // after them.
-#[derive(Drop)]
+#[derive(Clone, Copy)]
 pub enum Transmitter {
     NoFrame,
     Waiting,
@@ -25,7 +27,7 @@ pub enum Transmitter {
 // Hearing nothing, with no readable frame, or with one of so many octets; in a reception, looking for the delimiter,
 // with the row of clean symbols, or collecting, with the bits so far. Both remember whether a symbol was spoiled and
 // whether the station itself emitted.
-#[derive(Drop)]
+#[derive(Clone, Copy)]
 pub enum Receiver {
     Listening,
     Readable(u32),
@@ -35,7 +37,7 @@ pub enum Receiver {
 
 // A station: its address; deference, transmitter and receiver; the octets and attempts of the frame it holds; the place
 // of its next draw; whether that frame did not start in its first step; whether it emitted in the last step.
-#[derive(Drop)]
+#[derive(Clone, Copy)]
 pub struct Station {
     pub address: [u8; 6],
     pub deference: Deference,

@@ -1,5 +1,7 @@
 // The bit time of one station by value. Nothing here knows of a work area or of another station.
 
+#![tactic(auto)]
+
 ghost use Rattle.std.specs.Prelude.{◌≡◌, ◌+◌, ◌<◌, length};
 ghost use Rattle.station_spec.specs.Step.{Roomy, tries_after, draw_after, deferred_after, stepped};
 ghost use Rattle.station_spec.specs.StepLaws.{finished};

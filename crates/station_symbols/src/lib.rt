@@ -1,10 +1,12 @@
 // Symbols on the pair, and the bits of a packet.
 
+#![tactic(auto)]
+
 ghost use Rattle.std.specs.Prelude.{◌≡◌};
 ghost use Rattle.station_symbols.specs.Packet.{packet_bit, frame_bit, hears_any, symbol_of, is_emission};
 
 // What a station emits in a step: silence, 0, 1 or jam.
-#[derive(Drop)]
+#[derive(Clone, Copy)]
 pub enum Symbol {
     Silence,
     Bit(bool),
@@ -13,7 +15,7 @@ pub enum Symbol {
 
 // What a station hears of the others in a step: nothing, a clean bit, or what is spoiled: a jam bit, or any
 // symbol from two or more.
-#[derive(Drop)]
+#[derive(Clone, Copy)]
 pub enum Heard {
     Nothing,
     Clean(bool),
@@ -21,7 +23,7 @@ pub enum Heard {
 }
 
 // What a station is to emit: nothing, its packet's bit with this number, or a jam bit.
-#[derive(Drop)]
+#[derive(Clone, Copy)]
 pub enum Emission {
     Rest,
     PacketBit(u32),

@@ -1,6 +1,8 @@
 // The events by their words (collision, late, sent, given-up, late-end, got ok, got too-long, got alignment, got check,
 // got length) and how many of each came.
 
+#![tactic(auto)]
+
 ghost use Rattle.std.specs.Prelude.{not, ◌≡◌, ◌<◌, ◌≤◌, eqb, length, get_or};
 ghost use Rattle.station_tally.specs.Words.{transmit_word, transmit_value, receive_word, receive_value, last_transmit};
 ghost use Rattle.station_tally.specs.Words.{word_count, is_transmit, is_receive, ends_run};

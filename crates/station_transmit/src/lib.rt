@@ -1,5 +1,7 @@
 // The transmitter: start, packet bits, collision, header, jam, backoff.
 
+#![tactic(auto)]
+
 ghost use Rattle.std.specs.Prelude.{◌≡◌, ◌*◌, ◌<◌, ◌≤◌, min};
 ghost use Rattle.station_spec.specs.Transmit.{waits, octets_held, jam_bit, last_jam, back_off, backoff_range};
 

@@ -11,6 +11,8 @@
 // Wikipedia, "Cyclic redundancy check" (the quick brown fox). The frame with the check sequence 9b f6 d0 fd is
 // fpga4fun's Ethernet example.
 
+#![tactic(auto)]
+
 mod asks;
 mod script;
 mod show;
