@@ -1,0 +1,11 @@
+-- `bus_quick::gaps` meets its contract. Assumes nothing.
+use Rattle.bus_quick.specs.Quick.{gaps_is}
+use Rattle.octets.specs.NumberLaws.{octets_by}
+use native.Mathlib.Omega.{arith}
+use Rattle.bus_quick.proofs.gaps.Goals as goal
+
+pub returns-clause-value : goal.returns-clause-value
+returns-clause-value c = search gaps_is
+
+pub returns-clause-octets : goal.returns-clause-octets
+returns-clause-octets c = octets_by _ (λ k. omega (arith, c.shared_slice_known-1.given k))

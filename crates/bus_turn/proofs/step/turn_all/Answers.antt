@@ -1,0 +1,24 @@
+-- `bus_turn::step::turn_all` meets its contract. Assumes nothing.
+use borrow.Author.Rules.{rules}
+use native.Mathlib.Omega.{arith}
+use Prim.Native.Nat.{◌-◌}
+use mathlib.Core.Path.{refl}
+use lib.ListN.{length-set}
+use Rattle.bus_spec.specs.CodeLaws.{turned_none, turned_end, events_none, events_end}
+use Rattle.bus_spec.specs.Ready.{turn_able, turn_next, events_next}
+use Rattle.bus_turn.proofs.step.turn_all.Goals as goal
+
+pub loop-i-init : goal.loop-i-init
+loop-i-init c = (omega arith, refl, refl, search turned_none, search events_none)
+
+pub turn-e-requires : goal.turn-e-requires
+turn-e-requires c = (omega arith, omega arith, omega arith, omega arith, search turn_able)
+
+pub loop-i-preserved : goal.loop-i-preserved
+loop-i-preserved c = (omega arith, omega arith, simp length-set (search rules), search turn_next, search events_next)
+
+pub returns-clause-area : goal.returns-clause-area
+returns-clause-area c = search turned_end
+
+pub returns-clause-events : goal.returns-clause-events
+returns-clause-events c = search events_end

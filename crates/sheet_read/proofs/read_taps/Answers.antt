@@ -1,0 +1,17 @@
+-- `sheet_read::read_taps` meets its contract. Assumes nothing.
+use native.Mathlib.Omega.{arith}
+use borrow.Author.Rules.{rules}
+use Prim.Native.Nat.{◌-◌}
+use mathlib.Core.Path.{refl}
+use lib.ListN.{length-set}
+use Rattle.octets.specs.Filled.{filled_none, filled_more, filled_end}
+use Rattle.sheet_read.proofs.read_taps.Goals as goal
+
+pub loop-i-init : goal.loop-i-init
+loop-i-init c = (omega arith, refl, search filled_none)
+
+pub loop-i-preserved : goal.loop-i-preserved
+loop-i-preserved c = (omega arith, simp length-set (search rules), search filled_more)
+
+pub returns : goal.returns
+returns c = search filled_end
