@@ -31,4 +31,4 @@ pub returns-clause-heard : goal.returns-clause-heard
 returns-clause-heard c = octets_heard _ _ _ _ _ _ _ _ _ _ _ _ c.requires.0 c.requires.1 (λ k. omega (arith, c.shared_slice_known-1.given k)) c.if-a-lt65.false c.if-a-ne0.false c.if-bits-ne0.false c.octets_left-n.ensures c.if-n-eq0.false c.either.ensures c.copy_octets.ensures
 
 pub returns-clause-range : goal.returns-clause-range
-returns-clause-range c = ((omega arith, omega arith, omega arith), )
+returns-clause-range c = (omega arith, omega arith, omega arith)

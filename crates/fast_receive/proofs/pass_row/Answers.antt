@@ -19,4 +19,4 @@ pub returns-clause-passed : goal.returns-clause-passed
 returns-clause-passed c = pass_some _ _ _ _ _ _ _ _ c.preamble_left-n.ensures c.if-n-eq0.false c.either.ensures
 
 pub returns-clause-range : goal.returns-clause-range
-returns-clause-range c = ((omega arith, omega arith, omega arith), )
+returns-clause-range c = (omega arith, omega arith, omega arith)

@@ -11,7 +11,4 @@ pub returns-clause-value : goal.returns-clause-value
 returns-clause-value c = search number_is
 
 pub returns-clause-octets : goal.returns-clause-octets
-returns-clause-octets c = ( octets_by _ (λ k. let f : Fits w8 (get_or c.args.t1 k 0) = search rules in f.fits), search rules, )
-
-pub returns-clause-six : goal.returns-clause-six
-returns-clause-six c = 
+returns-clause-octets c = octets_by _ (λ k. let f : Fits w8 (get_or c.args.a k 0) = search rules in f.fits)

@@ -8,4 +8,4 @@ pub returns-clause-value : goal.returns-clause-value
 returns-clause-value c = search bare_is
 
 pub returns-clause-octets : goal.returns-clause-octets
-returns-clause-octets c = (octets_by _ (λ k. omega (arith, c.shared_slice_known-1.given k)), )
+returns-clause-octets c = octets_by _ (λ k. omega (arith, c.shared_slice_known-1.given k))

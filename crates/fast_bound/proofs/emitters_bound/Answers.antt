@@ -1,0 +1,28 @@
+
+use Prim.Native.Nat.{◌-◌}
+use native.Mathlib.Omega.{arith}
+use Rattle.fast_bound.specs.WindowLaws.{among_none, among_zero, among_more, among_end, near_seen_here}
+use Rattle.fast_bound.proofs.emitters_bound.Reads as reads
+use Rattle.fast_bound.proofs.emitters_bound.Lts as lts
+use Rattle.fast_bound.proofs.emitter_bound.Reads as emitter-bound-reads
+use Rattle.fast_bound.proofs.emitters_bound.Goals as goal
+
+-- src/lib.rt:343:5
+pub loop-j-init : goal.loop-j-init
+loop-j-init c = (omega arith, omega arith, search among_none)
+
+-- src/lib.rt:345:13
+pub returns-then-left-lt-LEAST-clause-calm : goal.returns-then-left-lt-LEAST-clause-calm
+returns-then-left-lt-LEAST-clause-calm c = search among_zero
+
+-- src/lib.rt:348:9
+pub emitter_bound-left-requires : goal.emitter_bound-left-requires
+emitter_bound-left-requires c = (omega arith, omega arith, omega arith, search near_seen_here)
+
+-- src/lib.rt:343:5
+pub loop-j-preserved : goal.loop-j-preserved
+loop-j-preserved c = (omega arith, omega arith, search among_more)
+
+-- src/lib.rt:336:1
+pub returns-clause-calm : goal.returns-clause-calm
+returns-clause-calm c = search among_end

@@ -1,0 +1,14 @@
+
+use Prim.Native.Nat.{◌≤◌, ◌-◌}
+use mathlib.Core.Bool.{true}
+use Rattle.fast_bound.specs.Bound.{CalmAmong}
+use Rattle.fast_bound.proofs.emitters_bound.Reads as reads
+use Rattle.fast_bound.proofs.emitters_bound.Lts as lts
+use Rattle.fast_bound.proofs.emitter_bound.Reads as emitter-bound-reads
+use Rattle.fast_bound.proofs.emitters_bound.Given as goal
+
+abbrev pub invariant-loop-j : goal.invariant-loop-j
+invariant-loop-j l = (l.j ≤ l.n) × (l.left ≤ l.m) × CalmAmong l.area true l.j l.left
+
+abbrev pub decreases-loop-j : goal.decreases-loop-j
+decreases-loop-j l = l.n - l.j
