@@ -44,8 +44,8 @@ alignment_error = accepted (3 ∷ [])
 abbrev pub length_error : Answer
 length_error = accepted (4 ∷ [])
 
-abbrev pub receive_oK : ℕ → Answer
-receive_oK n = accepted (5 ∷ n ∷ [])
+abbrev pub receive_ok : ℕ → Answer
+receive_ok n = accepted (5 ∷ n ∷ [])
 
 -- what each case of the code's answer stands for
 abbrev pub status_answer : ReceiveStatus → Answer
@@ -55,7 +55,7 @@ status_answer FrameTooLong = frame_too_long
 status_answer FrameCheckError = frame_check_error
 status_answer AlignmentError = alignment_error
 status_answer LengthError = length_error
-status_answer (ReceiveOk n) = receive_oK n
+status_answer (ReceiveOk n) = receive_ok n
 
 -- what opening gives: the status, and the client data, which are none but with receiveOK
 pub record Opening : Type 0 where
@@ -89,7 +89,7 @@ client_size v n = pick (leb v max_length) v n
 unfoldable pub unpadded : (value : ℕ) (field : List ℕ) → Opening
 unpadded v field =
     pick (length_wrong v (length field)) (without length_error)
-    (record { status = receive_oK (client_size v (length field)); client_data = take (client_size v (length field)) field })
+    (record { status = receive_ok (client_size v (length field)); client_data = take (client_size v (length field)) field })
 
 -- "Order: under 64 octets is a fragment; over 1518, frameTooLong; check wrong ..; .. lengthError; else receiveOK."
 -- With N3 the value decides how many are too many. Before them refusal 5: "so too excess bits over 7". "Excess bits with a good check are dropped."

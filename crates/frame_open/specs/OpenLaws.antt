@@ -13,7 +13,7 @@ use Rattle.frame_build.specs.Limits.{max_frame, min_type}
 use Rattle.frame_open.specs.declared.ReceiveStatus.{ReceiveStatus}
 use Rattle.frame_open.specs.declared.ReceiveStatus.TheVariants.{ReceiveOk}
 use Rattle.frame_open.specs.Open.{status_answer, value_of, data_field, fragment, frame_too_long, frame_check_error}
-use Rattle.frame_open.specs.Open.{alignment_error, length_error, receive_oK, Opening, without, check_wrong}
+use Rattle.frame_open.specs.Open.{alignment_error, length_error, receive_ok, Opening, without, check_wrong}
 use Rattle.frame_open.specs.Open.{check_error, length_wrong, client_size, unpadded, opened}
 
 -- ---- the check
@@ -41,7 +41,7 @@ check_excess e p = rw (ne_eqb e 0 p)
 -- ---- the length and padding rules
 
 module _ (v : ℕ) (field : List ℕ) where
-  pub unpad_type : min_type ≤ v → receive_oK (length field) ≡ (unpadded v field).status
+  pub unpad_type : min_type ≤ v → receive_ok (length field) ≡ (unpadded v field).status
   unfolding unpadded length_wrong client_size
   unpad_type h = rw (lt-leb v 1500 (omega arith), le-ltb v min_type h)
 
@@ -49,7 +49,7 @@ module _ (v : ℕ) (field : List ℕ) where
   unfolding unpadded length_wrong
   unpad_neither h k = rw (lt-leb v 1500 k, lt-ltb v min_type h)
 
-  pub unpad_length : (m : ℕ) → v ≤ 1500 → m ≡ max 46 v → length field ≡ m → receive_oK v ≡ (unpadded v field).status
+  pub unpad_length : (m : ℕ) → v ≤ 1500 → m ≡ max 46 v → length field ≡ m → receive_ok v ≡ (unpadded v field).status
   unfolding unpadded length_wrong client_size
   unpad_length m h p q = rw (le-leb v 1500 h, ← p, eq-eqb (length field) m q)
 
@@ -97,26 +97,26 @@ pub record Handed (f : List ℕ) (n : ℕ) (o : Opening) : Type 0 where
 
 -- without it there are none
 pub record Fair (f : List ℕ) (o : Opening) : Type 0 where
-  pub handed : (n : ℕ) → o.status ≡ receive_oK n → Handed f n o
-  pub none : ((n : ℕ) → o.status ≡ receive_oK n → ⊥) → [] ≡ o.client_data
+  pub handed : (n : ℕ) → o.status ≡ receive_ok n → Handed f n o
+  pub none : ((n : ℕ) → o.status ≡ receive_ok n → ⊥) → [] ≡ o.client_data
 
 -- by the test of a choice
 by_test : (P : Opening → Type 0) (t : Bool) (a b : Opening) → (t ≡ true → P a) → (t ≡ false → P b) → P (pick t a b)
 by_test P true a b p q = p refl
 by_test P false a b p q = q refl
 
-fair_without : (f : List ℕ) (r : Answer) → ((n : ℕ) → r ≡ receive_oK n → ⊥) → Fair f (without r)
+fair_without : (f : List ℕ) (r : Answer) → ((n : ℕ) → r ≡ receive_ok n → ⊥) → Fair f (without r)
 fair_without f r h = record { handed = λ n p. absurd (h n p); none = λ q. refl }
 
 -- the first value of an answer, which numbers the status
 first : Answer → ℕ
 first r = get_or (values_of r) 0 0
 
-pub other_status : (k n : ℕ) → (k ≡ 5 → ⊥) → accepted (k ∷ []) ≡ receive_oK n → ⊥
+pub other_status : (k n : ℕ) → (k ≡ 5 → ⊥) → accepted (k ∷ []) ≡ receive_ok n → ⊥
 unfolding first
 other_status k n h p = h (ap first p)
 
-pub refused_status : (k n : ℕ) → refused k ≡ receive_oK n → ⊥
+pub refused_status : (k n : ℕ) → refused k ≡ receive_ok n → ⊥
 unfolding first
 refused_status k n p = let z : ◌≡◌ {A = ℕ} 0 5 = ap first p in omega arith
 
@@ -146,7 +146,7 @@ unfolding data_field
 part_field f n h = take-take n (length f - 18) (drop 14 f) h
 
 fair_ok : (f : List ℕ) (m : ℕ) → 64 ≤ length f → m ≤ length f - 18
-    → Fair f (record { status = receive_oK m; client_data = take m (data_field f) })
+    → Fair f (record { status = receive_ok m; client_data = take m (data_field f) })
 fair_ok f m h k =
     record {
       handed = λ n p. let e : m ≡ n = ap (λ (r : Answer). get_or (values_of r) 1 0) p in
@@ -187,5 +187,5 @@ client_ok f e n r p q =
     rw z (sym ((fair false f e).handed n (sym p ∙ ap status_answer q)).octets)
 
 pub client_none : (f : List ℕ) (e : ℕ) (r : ReceiveStatus) → status_answer r ≡ (opened false f e).status
-    → ((n : ℕ) → status_answer r ≡ receive_oK n → ⊥) → [] ≡ (opened false f e).client_data
+    → ((n : ℕ) → status_answer r ≡ receive_ok n → ⊥) → [] ≡ (opened false f e).client_data
 client_none f e r p h = (fair false f e).none (λ n q. h n (p ∙ q))

@@ -20,7 +20,7 @@ use Rattle.frame_build.specs.Limits.{max_length, min_type, tag_value, max_data, 
 use Rattle.frame_build.specs.Build.{header, padded, covered, frame_of, built}
 use Rattle.frame_build.specs.BuildLaws.{length_header, length_padded, length_frame, length_padded_max}
 use Rattle.frame_build.specs.BuildLaws.{frame_size, frame_within, frame_most, frame_plain}
-use Rattle.frame_open.specs.Open.{destination_of, source_of, value_of, data_field, receive_oK, Opening, check_wrong}
+use Rattle.frame_open.specs.Open.{destination_of, source_of, value_of, data_field, receive_ok, Opening, check_wrong}
 use Rattle.frame_open.specs.Open.{length_wrong, client_size, unpadded, opened}
 
 -- what a receiver is handed back of the data x: under a length the data, under a type the data with their padding
@@ -29,7 +29,7 @@ handed_back v x = pick (leb v max_length) x (padded x)
 
 -- what opening gives with receiveOK
 abbrev pub received : List ℕ → Opening
-received y = record { status = receive_oK (length y); client_data = y }
+received y = record { status = receive_ok (length y); client_data = y }
 
 -- the frame f opens with receiveOK and has these fields
 pub record Opens (f : List ℕ) (e : ℕ) (d s : List ℕ) (v : ℕ) (x : List ℕ) : Type 0 where

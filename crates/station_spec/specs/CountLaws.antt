@@ -67,10 +67,10 @@ module _ (cs r : List ℕ) (v : ReceiveEvent) (z : ℕ) where
   unfolding count_receive
   receive_none p = rw p
 
-  pub receive_ok : (n x : ℕ) (a : List ℕ) → v ≡ GotOk n → r ≡ added a 11 x → x ≡ z - 18 → a ≡ added cs 10 1
+  pub receive_ok_lem : (n x : ℕ) (a : List ℕ) → v ≡ GotOk n → r ≡ added a 11 x → x ≡ z - 18 → a ≡ added cs 10 1
       → r ≡ count_receive cs v z
   unfolding count_receive
-  receive_ok n x a p q e f = q ∙ rw (p, e, f)
+  receive_ok_lem n x a p q e f = q ∙ rw (p, e, f)
 
   pub receive_long : (n : ℕ) → v ≡ GotTooLong n → r ≡ added cs 12 1 → r ≡ count_receive cs v z
   unfolding count_receive

@@ -10,7 +10,7 @@ use Rattle.octets.specs.Equal.{equal}
 use Rattle.frame_open.specs.declared.ReceiveStatus.{ReceiveStatus}
 use Rattle.frame_open.specs.declared.ReceiveStatus.TheVariants.{Refused, Fragment, FrameTooLong, FrameCheckError}
 use Rattle.frame_open.specs.declared.ReceiveStatus.TheVariants.{AlignmentError, LengthError, ReceiveOk}
-use Rattle.frame_open.specs.Open.{destination_of, frame_too_long, status_answer, receive_oK, opened}
+use Rattle.frame_open.specs.Open.{destination_of, frame_too_long, status_answer, receive_ok, opened}
 use Rattle.frame_open.specs.OpenLaws.{fair}
 use Rattle.station_spec.specs.declared.ReceiveEvent.{ReceiveEvent}
 use Rattle.station_spec.specs.declared.ReceiveEvent.TheVariants.{NoReceive, GotOk, GotTooLong, GotAlignment}
@@ -165,12 +165,12 @@ module _ (buffer : List ℕ) (n : ℕ) (sp : Bool) where
   opening_error s v p q h = ap (deciding Listening) q ∙ error_event s h ∙ rw p
 
 ok_within : (buffer : List ℕ) (n k : ℕ) (sp : Bool) → buffer_octets ≤ length buffer
-    → open_answer buffer n sp ≡ receive_oK k → k ≤ buffer_octets
+    → open_answer buffer n sp ≡ receive_ok k → k ≤ buffer_octets
 unfolding open_answer
 ok_within buffer n k sp h = go (ltb buffer_octets (n / 8)) refl
   where
     go : (t : Bool) → ltb buffer_octets (n / 8) ≡ t
-        → pick t frame_too_long (opened sp (take (n / 8) buffer) (n % 8)).status ≡ receive_oK k → k ≤ buffer_octets
+        → pick t frame_too_long (opened sp (take (n / 8) buffer) (n % 8)).status ≡ receive_ok k → k ≤ buffer_octets
     go true p q = let z : ◌≡◌ {A = ℕ} 1 5 = ap (λ (r : Answer). get_or (values_of r) 0 0) q in omega arith
     go false p q =
         let w = ((fair sp (take (n / 8) buffer) (n % 8)).handed k q).room in

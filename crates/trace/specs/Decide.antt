@@ -9,7 +9,7 @@ use borrow.Author.Tests.{le-ltb, eqb-true}
 use Rattle.octets.specs.Base.{pick, Answer, refused, values_of}
 use Rattle.octets.specs.BaseLaws.{by_test}
 use Rattle.frame_open.specs.Open.{destination_of, value_of, fragment, frame_too_long, frame_check_error, alignment_error}
-use Rattle.frame_open.specs.Open.{receive_oK, Opening, check_wrong, check_error, opened}
+use Rattle.frame_open.specs.Open.{receive_ok, Opening, check_wrong, check_error, opened}
 use Rattle.frame_build.specs.Limits.{max_frame, buffer_octets, shortest_frame}
 use Rattle.station_symbols.specs.declared.Heard.{Heard}
 use Rattle.station_symbols.specs.declared.Heard.TheVariants.{Nothing, Clean, Spoiled}
@@ -32,18 +32,18 @@ module _ (A B F : List ℕ) (k : ℕ) (lo : 64 ≤ length F) (hi : length F ≤ 
   whole_octets : 8 * length F / 8 ≡ length F
   whole_octets = omega arith
 
-  answer_is : (opened false F 0).status ≡ receive_oK k → open_answer B (8 * length F) false ≡ receive_oK k
+  answer_is : (opened false F 0).status ≡ receive_ok k → open_answer B (8 * length F) false ≡ receive_ok k
   unfolding open_answer
   answer_is s =
       let r : 8 * length F % 8 ≡ 0 = omega arith in
       rw (whole_octets, r, le-ltb buffer_octets (length F) hi, b) s
 
-  opening_is : (opened false F 0).status ≡ receive_oK k
+  opening_is : (opened false F 0).status ≡ receive_ok k
       → opening B (8 * length F) false ≡ deciding (Readable (length F)) (GotOk k)
   unfolding opening got_event readable_after
   opening_is s = rw (answer_is s, whole_octets)
 
-  pub decide_for : (opened false F 0).status ≡ receive_oK k → addressed A F ≡ true
+  pub decide_for : (opened false F 0).status ≡ receive_ok k → addressed A F ≡ true
       → decide A B (8 * length F) false false ≡ deciding (Readable (length F)) (GotOk k)
   unfolding decide
   decide_for s d = rw (le-ltb (8 * length F) shortest_frame (omega arith), destination_same, d) (opening_is s)
@@ -138,12 +138,12 @@ ended_ok A B (Seeking row s o) m e = absurd (no_ok m e)
 ended_ok A B (Collecting n s o) m e =
     let d = decide_ok A B n s o m e in record { bits = n; silence = refl; collected = ap₂ (Collecting n) d.0 d.1 }
 
-pub receive_ok : (A B : List ℕ) (r : Receiver) (h : Heard) (x : Bool) (m : ℕ) → (receive A B r h x).event ≡ GotOk m
+pub receive_ok_lem : (A B : List ℕ) (r : Receiver) (h : Heard) (x : Bool) (m : ℕ) → (receive A B r h x).event ≡ GotOk m
     → Ok r h
 unfolding receive
-receive_ok A B r Nothing x m e = ended_ok A B r m e
-receive_ok A B r (Clean b) x m e = absurd (no_ok m (sym (hear_none r true b x) ∙ e))
-receive_ok A B r Spoiled x m e = absurd (no_ok m (sym (hear_none r false false x) ∙ e))
+receive_ok_lem A B r Nothing x m e = ended_ok A B r m e
+receive_ok_lem A B r (Clean b) x m e = absurd (no_ok m (sym (hear_none r true b x) ∙ e))
+receive_ok_lem A B r Spoiled x m e = absurd (no_ok m (sym (hear_none r false false x) ∙ e))
 
 -- after a step that was not clean, what is collected is not clean
 or_not : (s : Bool) → (s || true) ≡ false → ⊥

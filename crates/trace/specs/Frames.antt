@@ -13,7 +13,7 @@ use Rattle.octets.specs.BitsLaws.{low_octets}
 use Rattle.frame_crc.specs.Crc.{crc_of, check_sequence}
 use Rattle.frame_crc.specs.Division.{sequence_is}
 use Rattle.frame_build.specs.Build.{header, padded, covered, frame_of}
-use Rattle.frame_open.specs.Open.{destination_of, source_of, receive_oK, Opening, opened}
+use Rattle.frame_open.specs.Open.{destination_of, source_of, receive_ok, Opening, opened}
 use Rattle.frame_open.specs.RoundTrip.{handed_back, received, opens_frame}
 use Rattle.station_spec.specs.Receive.{addressed}
 use Rattle.trace.specs.Basic.{by_le}
@@ -75,11 +75,11 @@ unfoldable pub client_in : List ℕ → ℕ
 client_in F = length (opened false F 0).client_data
 
 client_of : (F y : List ℕ) → opened false F 0 ≡ received y
-    → ((opened false F 0).status ≡ receive_oK (client_in F)) × (client_in F ≡ length y)
+    → ((opened false F 0).status ≡ receive_ok (client_in F)) × (client_in F ≡ length y)
 unfolding client_in
 client_of F y e =
     let z : length (opened false F 0).client_data ≡ length y = ap (λ (o : Opening). length o.client_data) e in
-    (ap (λ (o : Opening). o.status) e ∙ ap receive_oK (sym z), z)
+    (ap (λ (o : Opening). o.status) e ∙ ap receive_ok (sym z), z)
 
 -- ---- the frame of an offer to a station
 
@@ -108,7 +108,7 @@ module _ (P : Net) (span : ℕ) (L : Sound P span) (os : List (Offer P)) (i : �
       ∙ (opens_frame o.destination (P.address o.to) o.value o.payload 0 o.six source_six o.small
       o.allowed (omega arith)).opens
 
-  pub made_status : (opened false F 0).status ≡ receive_oK (client_in F)
+  pub made_status : (opened false F 0).status ≡ receive_ok (client_in F)
   made_status = (client_of F (handed_back m.offer.value m.offer.payload) made_opens).0
 
   pub made_client : client_in F ≡ length (handed_back m.offer.value m.offer.payload)
@@ -149,5 +149,5 @@ module _ (P : Net) (inp : ℕ → List (Offer P)) (span : ℕ) (L : Sound P span
   pub whole_octets : Octets w.frame
   whole_octets = made_octets P span L (inp whole_made.0) i hi w.frame whole_made.1
 
-  pub whole_status : (opened false w.frame 0).status ≡ receive_oK (client_in w.frame)
+  pub whole_status : (opened false w.frame 0).status ≡ receive_ok (client_in w.frame)
   whole_status = made_status P span L (inp whole_made.0) i hi w.frame whole_made.1

@@ -3,7 +3,7 @@
 use Rattle.std.specs.Prelude.{ℕ, zero, suc, ◌+◌, ◌*◌, ◌≤◌, ◌<◌, ◌≡◌, refl, Bool, true, false, List, length}
 use Rattle.std.proofs.Common.{sym, ◌∙◌, ap, subst, inl, arith}
 use Rattle.octets.specs.BaseLaws.{by_test, by_eq}
-use Rattle.frame_open.specs.Open.{receive_oK, opened}
+use Rattle.frame_open.specs.Open.{receive_ok, opened}
 use Rattle.frame_open.specs.RoundTrip.{handed_back}
 use Rattle.sheet_layout.specs.Layout.{gap_of}
 use Rattle.station_symbols.specs.declared.Heard.TheVariants.{Nothing, Clean}
@@ -28,7 +28,7 @@ use Rattle.trace.specs.Attempts.{reported}
 use Rattle.trace.specs.Frames.{client_in, made_client, whole_status}
 use Rattle.trace.specs.Listen.{reception_at, receiver_ready, got_is, receiver_next, reception_nothing}
 use Rattle.trace.specs.Reception.{Complete, whole_complete}
-use Rattle.trace.specs.Decide.{decide_for, decide_else, ended_collecting, no_ok, Ok, receive_ok, last_clean}
+use Rattle.trace.specs.Decide.{decide_for, decide_else, ended_collecting, no_ok, Ok, receive_ok_lem, last_clean}
 use Rattle.station_spec.specs.Transmit.{shortest_packet}
 
 -- Where a frame that station j has whole in step u came from.
@@ -60,7 +60,7 @@ module _ (P : Net) (inp : ℕ → List (Offer P)) (span : ℕ) (L : Sound P span
   ok_now : (j u m : ℕ) → j < P.n → (out_at P inp j u).got ≡ GotOk m → Ok (state P inp u j).receiver (sees P inp j u)
   unfolding reception_at
   ok_now j u m hj e =
-      receive_ok (P.address j) (buffer_in P inp j u) (state P inp u j).receiver (sees P inp j u) (emits P inp j u) m
+      receive_ok_lem (P.address j) (buffer_in P inp j u) (state P inp u j).receiver (sees P inp j u) (emits P inp j u) m
       (sym (got_is P inp span L j hj u) ∙ e)
 
   -- the step that reports it hears nothing
@@ -107,7 +107,7 @@ module _ (P : Net) (inp : ℕ → List (Offer P)) (span : ℕ) (L : Sound P span
     complete : Complete P inp j (suc (e + P.d i j)) w.frame
     complete = whole_complete P inp span L g fits i a e hi w j hj ne
 
-    status : (opened false w.frame 0).status ≡ receive_oK (client_in w.frame)
+    status : (opened false w.frame 0).status ≡ receive_ok (client_in w.frame)
     status = whole_status P inp span L i a e hi w
 
     whole_decided : reception_at P inp j (suc (e + P.d i j)) ≡ decide (P.address j)
