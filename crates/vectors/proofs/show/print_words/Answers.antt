@@ -2,6 +2,3 @@
 use borrow.Author.Rules.{rules}
 use Prim.Native.Nat.{◌-◌}
 use Rattle.vectors.proofs.show.print_words.Goals as goal
-
-slice-aggregate-print-word : tie.Need-slice-aggregate-print-word invariant-loop decreases-loop
-slice-aggregate-print-word c = search rules
