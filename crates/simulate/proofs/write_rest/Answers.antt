@@ -7,9 +7,11 @@ use Rattle.simulate.proofs.write_rest.Goals as goal
 pub next-p-requires : goal.next-p-requires
 next-p-requires c = (search may_advance, omega arith)
 
-pub write_piece-w-requires : goal.write_piece-w-requires
-write_piece-w-requires c =
-    (along_part _ _ _ _ _ _ _ _ c.loop-g.invariant.0 c.loop-g-test.true c.next-p.ensures.size c.next-p.ensures.piece, search next_room)
+pub write_piece-w-requires-clause-piece_value : goal.write_piece-w-requires-clause-piece_value
+write_piece-w-requires-clause-piece_value c = along_part _ _ _ _ _ _ _ _ c.loop-g.invariant.0 c.loop-g-test.true c.next-p.ensures.size c.next-p.ensures.piece
+
+pub write_piece-w-requires-clause-piece_bound : goal.write_piece-w-requires-clause-piece_bound
+write_piece-w-requires-clause-piece_bound c = search next_room
 
 pub returns-then-not-w : goal.returns-then-not-w
 returns-then-not-w c = search not_done
