@@ -1,0 +1,3 @@
+pub mod Listed
+pub mod ListedLaws
+pub mod Sound

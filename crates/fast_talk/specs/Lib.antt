@@ -1,0 +1,4 @@
+pub mod Talk
+pub mod Talks
+pub mod Spoken
+pub mod Follows
