@@ -5,7 +5,7 @@ use Rattle.std.proofs.Common.{sym, ◌∙◌, ap, pow-suc, arith, length-take-le
 use Rattle.octets.specs.Base.{pick}
 use Rattle.octets.specs.Bits.{digit}
 use Rattle.frame_build.specs.Limits.{buffer_octets, max_frame}
-use Rattle.frame_open.specs.Open.{frame_too_long, frame_check_error, alignment_error, length_error, receive_oK, without}
+use Rattle.frame_open.specs.Open.{frame_too_long, frame_check_error, alignment_error, length_error, receive_ok, without}
 use Rattle.frame_open.specs.Open.{opened, value_of, data_field, check_wrong, check_error, length_wrong, client_size}
 use Rattle.frame_open.specs.Open.{unpadded}
 use Rattle.station_spec.specs.declared.ReceiveEvent.TheVariants.{GotOk, GotTooLong, GotAlignment, GotCheck}
@@ -126,7 +126,7 @@ choices : (a c e g h : Bool) (m k : ℕ) (l : List ℕ)
     (pick a frame_too_long
     (pick c (without frame_too_long)
     (pick e (without (pick h frame_check_error alignment_error))
-    (pick g (without length_error) (record { status = receive_oK k; client_data = l })))).status) m
+    (pick g (without length_error) (record { status = receive_ok k; client_data = l })))).status) m
     ≡ pick (a || c) (GotTooLong m)
     (pick (not e) (pick (not g) (GotOk k) (GotLength m)) (pick h (GotCheck m) (GotAlignment m)))
 unfolding got_event
