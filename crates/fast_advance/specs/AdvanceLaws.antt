@@ -17,7 +17,8 @@ use Rattle.bus_spec.specs.Ready.{Readiness, Ready}
 use Rattle.bus_spec.specs.declared.course.Ended.{Ended}
 use Rattle.bus_spec.specs.declared.course.Ended.TheVariants as how
 use Rattle.bus_spec.specs.Run.{tallied, late_at, Ran, run_of}
-use Rattle.bus_spec.specs.RunLaws.{Runnable, NoneLate, run_first, run_next, run_searched, run_found, tallied_bounded}
+use Rattle.bus_spec.specs.RunLaws.{Runnable, NoneLate, run_first, run_searched, run_found, tallied_bounded}
+use Rattle.bus_spec.proofs.RunLaws.{run_next}
 use Rattle.bus_spec.specs.Until.{eventful, Stretched, until_event}
 use Rattle.bus_spec.specs.UntilLaws.{none_eventful, plus, stretch_on, stretch_hit}
 use Rattle.fast_plan.specs.Plan.{steps, Planned}

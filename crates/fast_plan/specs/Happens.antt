@@ -27,8 +27,9 @@ use Rattle.bus_spec.specs.BitTime.{act_in, act_at, with_stored, happened, with_c
 use Rattle.bus_spec.specs.Range.{held_small}
 use Rattle.bus_spec.specs.InPlace.{Kept, Spread, Foreign}
 use Rattle.bus_spec.specs.Ready.{Readiness, kept_at}
-use Rattle.bus_spec.specs.After.{length_after, own, ahead}
-use Rattle.bus_spec.specs.Stays.{step_length, step_layout, step_depth, step_draws, step_frame, step_clock, step_ready}
+use Rattle.bus_spec.proofs.After.{length_after, own, ahead}
+use Rattle.bus_spec.proofs.Stays.{step_length, step_layout, step_depth, step_draws, step_frame, step_clock}
+use Rattle.bus_spec.proofs.Stays.{step_ready}
 use Rattle.bus_meeting.specs.Net.{Net, gathered, reaches, heard, grown}
 use Rattle.bus_meeting.specs.Gather.{gathered_same, gathered_none}
 use Rattle.bus_meeting.specs.Meet.{met_none, met_group, adds, heard_grown, heard_far}
