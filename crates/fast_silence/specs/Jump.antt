@@ -45,10 +45,12 @@ use Rattle.bus_quick.specs.Quick.{quietly}
 use Rattle.fast_plan.specs.Own.{outcome_on, act_on, own_left, own_turn, by_itself, itself_heard, OwnSame, own_trans}
 use Rattle.fast_plan.specs.NoEvents.{none_at, nothing_tallied}
 use Rattle.fast_plan.specs.Plan.{Plan, cut, net_of, line_now, hears, line_after, own_after, act_after, Holds, steps, Planned}
-use Rattle.fast_plan.specs.Happens.{heard_none, plan_happens}
+use Rattle.fast_plan.specs.Happens.{heard_none}
+use Rattle.fast_plan.proofs.Happens.{plan_happens}
 use Rattle.fast_plan.specs.Exact.{Left, symbol_code, left_same_area, planned_left}
 use Rattle.fast_plan.specs.Prefix.{Unhurt}
-use Rattle.fast_plan.specs.Runs.{events_by, plan_events, tallied_by, run_steps, until_steps}
+use Rattle.fast_plan.specs.Runs.{events_by, tallied_by, until_steps}
+use Rattle.fast_plan.proofs.Runs.{plan_events, run_steps}
 use Rattle.fast_silence.specs.Rested.{rested, Rests, rested_step, rested_none, rested_fit, rested_address}
 use Rattle.sheet_layout.specs.Limits.{last_clock, max_stations, max_draws}
 use Rattle.area.specs.Offsets.{area_size, ring}
