@@ -26,7 +26,8 @@ use Rattle.fast_plan.specs.Calm.{AllCalm}
 use Rattle.fast_plan.proofs.Calm.{calm_holds, calm_run, calm_until}
 use Rattle.fast_plan.proofs.Happens.{plan_happens}
 use Rattle.fast_silence.specs.Jump.{silent_plan, jumped}
-use Rattle.fast_silence.specs.Bound.{silent_for, silent_most, skipped, silence_run, silence_until, silence_plans}
+use Rattle.fast_silence.specs.Bound.{silent_for, skipped}
+use Rattle.fast_silence.proofs.Bound.{silent_most, silence_run, silence_until, silence_plans}
 use Rattle.fast_heard.specs.Hearing.{plan_of}
 use Rattle.fast_window.specs.Window.{Passed}
 use Rattle.fast_advance.specs.Advance.{Quiet, Leap, Advance, quiet, stepped, Leapt, Advanced}
