@@ -1,5 +1,5 @@
-# The shared library, the installation, and the examples. The static library comes from `tools/staticlib` (`rt lib` in crates/capi),
-# which proves what it builds.
+# The shared library, the installation, and the examples. The static library comes from `tools/staticlib`, over what
+# `rt ci` has proved.
 #
 #     make library                       target/libwisavulome.so.1, which tools/wisavulome finds
 #     make install PREFIX=/usr/local     libraries, header, pkg-config file, Rust declarations, Python module, command
