@@ -19,7 +19,6 @@ case $asked in
 esac
 case $asked in
 "rt ci") echo "rt: ok; handles allowed: none; $SAYS; every proof was done in this run"; echo '7 passed, 0 failed' ;;
-"rt lib") mkdir -p out; echo archive >out/libcapi.a ;;
 esac
 """
 
@@ -31,38 +30,33 @@ class Gate(unittest.TestCase):
         with tempfile.TemporaryDirectory() as folder:
             root = Path(folder)
             programs = [f"bin/{name}" for name in ("rt", "cargo", "python3", "make")]
-            scripts = [f"tools/{name}" for name in ("check-index", "check-interface", "check-formats")]
-            for name in [".ci/run", "tools/staticlib", *programs, *scripts]:
+            scripts = [f"tools/{name}" for name in ("check-index", "staticlib", "check-interface", "check-formats")]
+            for name in [".ci/run", *programs, *scripts]:
                 (root / name).parent.mkdir(parents=True, exist_ok=True)
                 (root / name).write_text(STAND_IN)
                 (root / name).chmod(0o755)
-            for name in [".ci/run", "tools/staticlib"]:
-                shutil.copy(ROOT / name, root / name)
+            shutil.copy(ROOT / ".ci" / "run", root / ".ci" / "run")
             (root / ".ci" / "kit-version").write_text(kit + "\n")
-            (root / "crates" / "capi").mkdir(parents=True)
             path = str(root / "bin") + os.pathsep + os.environ["PATH"]
             env = dict(os.environ, PATH=path, TMPDIR=folder, FAILS=fails, SAYS=says, ASKED=str(root / "asked"))
             done = subprocess.run([str(root / ".ci" / "run")], env=env, stdout=subprocess.PIPE, stderr=subprocess.STDOUT, text=True)
             left = [p.name for p in root.iterdir() if p.name.startswith("tmp")]
             self.asked = (root / "asked").read_text().splitlines()
-            archive = root / "target" / "staticlib" / "libcapi.a"
-            self.archive = archive.read_text() if archive.is_file() else None
             return done.returncode, done.stdout.splitlines(), left
 
     def test_last_line(self):
         status, lines, left = self.run_gate()
         self.assertEqual((status, lines[-1], left), (0, "7 passed, 0 failed", []))
         self.assertEqual(lines.count("7 passed, 0 failed"), 2)
-        self.assertEqual(self.archive, "archive\n")
-        self.assertLess(self.asked.index("rt ci"), self.asked.index("rt lib"))
+        self.assertLess(self.asked.index("rt ci"), self.asked.index("staticlib "))
 
     def test_rt_asked(self):
         """`rt ci` is asked once, with no names, and only its version before it."""
         self.run_gate()
-        self.assertEqual([asked for asked in self.asked if asked.startswith("rt ")], ["rt version", "rt ci", "rt lib"])
+        self.assertEqual([asked for asked in self.asked if asked.startswith("rt ")], ["rt version", "rt ci"])
 
     def test_failures(self):
-        parts = ["cargo fmt", "python3", "check-index", "rt ci", "rt lib", "cargo test", "make --silent library"]
+        parts = ["cargo fmt", "python3", "check-index", "rt ci", "staticlib", "cargo test", "make --silent library"]
         parts += ["check-interface", "python3 -B -m unittest discover -s tools/tests_library", "make --silent check-install"]
         parts += ["python3 -B -m unittest discover -s tools/tests_library -p test_d", "check-formats --installed"]
         for part in parts:
@@ -73,8 +67,8 @@ class Gate(unittest.TestCase):
                 self.assertEqual(left, [])
                 if part == "rt ci":
                     self.assertEqual(status, 3)
-                    self.assertNotIn("rt lib", self.asked)
-                if part == "rt lib":
+                    self.assertNotIn("staticlib ", self.asked)
+                if part == "staticlib ":
                     self.assertIsNone(self.archive)
 
     def test_bad_edits(self):
