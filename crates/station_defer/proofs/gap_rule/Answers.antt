@@ -8,8 +8,8 @@ returns-then-waits c = search gap_starts
 pub returns-then-f-count : goal.returns-then-f-count
 returns-then-f-count c = search gap_quiet
 
-pub returns-then-goes_back_lem : goal.returns-then-goes_back_lem
-returns-then-goes_back_lem c = search gap_back
+pub returns-then-goes_back : goal.returns-then-goes_back
+returns-then-goes_back c = search gap_back
 
 pub returns : goal.returns
 returns c = search gap_on
