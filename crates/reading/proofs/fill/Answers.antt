@@ -1,5 +1,5 @@
 -- `fill` meets its contract: each read stands behind the ones before it.
-use Rattle.std.proofs.Common.{◌≡◌, ℕ, ◌+◌, ◌-◌, ◌≤◌, List, ◌++◌, rules, arith, length, take, slice_range, sym, ap, ◌∙◌, subst, le_refl, drop_at, length-take-le, take_all}
+use Rattle.std.proofs.Common.{◌≡◌, ℕ, ◌+◌, ◌-◌, ◌≤◌, List, ◌++◌, rules, arith, length, take, slice_range, sym, ap, ◌∙◌, subst, le_refl, drop_at, length-take-le}
 use Rattle.std.proofs.lemmas.Slice.{take-put_mid_below}
 use Rattle.std.specs.Io.KnownBytes.{Consumes}
 use Rattle.std.proofs.KnownBytes.{Consumes-trans}
@@ -29,8 +29,7 @@ loop-at-preserved g c =
     let part = slice_range-put_mid from room c.in_ok-n.n c.loop-at.buffer c.read.new.buf within c.in_ok-n.ensures.bound.0 in
     let joined =
     take_split from (from + c.in_ok-n.n) c.loop-at.buffer (put_mid from room c.loop-at.buffer c.read.new.buf) (omega arith)
-    (take-put_mid_below _ _ _ _ _ (le_refl _) within) in
-    (
+    (take-put_mid_below _ _ _ _ _ (le_refl _) within) in (
       search rules,
       search rules,
       subst (Consumes _ _) (ap (λ l. take from c.loop-at.buffer ++ l) (sym part) ∙ joined)
