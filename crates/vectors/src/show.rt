@@ -3,11 +3,8 @@
 use std::io;
 
 fn print_octets(rt: &impl Print, s: &[u8]) -> io::Result<()> {
-    let mut i = 0;
-    while i < s.len() {
-        let octet = s[i];
+    for octet in s {
         print!(rt; "{octet:02x}")?;
-        i += 1;
     }
     Ok(())
 }

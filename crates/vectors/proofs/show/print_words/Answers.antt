@@ -1,7 +1,0 @@
--- `vectors::show::print_words` meets its contract. Assumes nothing.
-use borrow.Author.Rules.{rules}
-use Prim.Native.Nat.{◌-◌}
-use Rattle.vectors.proofs.show.print_words.Goals as goal
-
-slice-aggregate-print-word : tie.Need-slice-aggregate-print-word invariant-loop decreases-loop
-slice-aggregate-print-word c = search rules
