@@ -15,7 +15,7 @@ use Rattle.station_symbols.specs.Packet.{packet_bit, symbol_of}
 use Rattle.station_state.specs.declared.Transmitter.{Transmitter}
 use Rattle.station_state.specs.declared.Transmitter.TheVariants.{NoFrame, Waiting, BackingOff, Sending, Heading}
 use Rattle.station_state.specs.declared.Transmitter.TheVariants.{Jamming}
-use Rattle.area.specs.Area.{clock_at, count_at, station_at, arrival_at, alone, met}
+use Rattle.area.specs.Area.{clock_at, count_at, figures_at, station_at, arrival_at, alone, met}
 use Rattle.sheet_layout.specs.declared.Figures.{Figures}
 use Rattle.bus_spec.specs.Range.{NumberIn}
 use Rattle.bus_spec.specs.Ready.{Readiness}
@@ -78,7 +78,7 @@ module _ (a x : List ℕ) (j t : ℕ) (w : Near) (k : ℕ) (r : Readiness a) (hj
       let f = nearest_here.one h in
       let i = w.from in
       let z : bit_of (station_at a i).transmitter ≡ k = sym (ek ∙ rw (lt-ltb w.d1 ring h)) in
-      plan_sends _ _ (held_at a i) (station_at a i).transmitter u f.emits (r.fine i f.station).number
+      plan_sends (figures_at a) _ (held_at a i) (station_at a i).transmitter u f.emits (r.fine i f.station).number
       ∙ ap (λ (b : ℕ). sends (held_at a i) b u) z
 
   line_same : (s : ℕ) → line_now a j s ≡ line_from x j t s

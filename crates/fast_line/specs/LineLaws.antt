@@ -526,7 +526,8 @@ module _ (j u : ℕ) (cs : List ℕ) (at : ℕ) (x : List ℕ) where
       let g : n + k + 1 ≡ n + suc k = omega arith in
       ap₂ (λ (v w : ℕ). with_symbol (codes_put j (u + n) cs (at + n) k (codes_put j u cs at n x)) j v (get_or cs w 0)) e f
       ∙ ap (λ (y : List ℕ). with_symbol y j (u + (n + k)) (get_or cs (at + (n + k)) 0)) (codes_after n k)
-      ∙ turns_more _ (n + k) x (codes_put j u cs at (n + k) x) _ refl refl
+      ∙ turns_more (λ (i : ℕ) (z : List ℕ). with_symbol z j (u + i) (get_or cs (at + i) 0)) (n + k) x
+      (codes_put j u cs at (n + k) x) _ refl refl
       ∙ ap (λ (i : ℕ). codes_put j u cs at i x) g
 
 both_rows : (m w n : ℕ) → n ≡ min w m → n + (m - n) ≡ m

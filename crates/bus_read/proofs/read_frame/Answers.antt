@@ -1,5 +1,4 @@
 -- `bus_read::read_frame` meets its contract. Assumes nothing.
-use borrow.Author.Tests.{not-true, not-false}
 use native.Mathlib.Omega.{arith}
 use Rattle.area_check.specs.AreaCheckLaws.{passes_long, passes_station}
 use Rattle.bus_read.specs.ReadLaws.{read_area, read_station, read_none, read_short, read_made, read_room}
@@ -22,7 +21,7 @@ returns-then-not-is_readable c =
     read_none _ _ _ _ _ _ _ 0 c.refusal-number.ensures.value
     c.if-number-ne0.false c.read_count.ensures
     c.if-read_count-i.false c.read_station-s.ensures c.is_readable.ensures
-    (not-true _ c.if-not-is_readable.true)
+    c.if-not-is_readable.true
 
 pub returns-then-out-n : goal.returns-then-out-n
 returns-then-out-n c =
@@ -30,7 +29,7 @@ returns-then-out-n c =
     c.if-number-ne0.false
     c.read_count.ensures
     c.if-read_count-i.false c.read_station-s.ensures
-    c.is_readable.ensures (not-false _ c.if-not-is_readable.false)
+    c.is_readable.ensures c.if-not-is_readable.false
     c.octets_in-n.ensures c.if-out-n.true
 
 pub copy_frame-requires : goal.copy_frame-requires
@@ -38,4 +37,4 @@ copy_frame-requires c = (search passes_station, search passes_long, search read_
 
 pub returns : goal.returns
 returns c =
-    read_made _ _ _ _ _ _ _ _ c.refusal-number.ensures.value c.if-number-ne0.false c.read_count.ensures c.if-read_count-i.false c.read_station-s.ensures c.is_readable.ensures _ (not-false _ c.if-not-is_readable.false) c.octets_in-n.ensures c.if-out-n.false c.copy_frame.ensures
+    read_made _ _ _ _ _ _ _ _ c.refusal-number.ensures.value c.if-number-ne0.false c.read_count.ensures c.if-read_count-i.false c.read_station-s.ensures c.is_readable.ensures _ c.if-not-is_readable.false c.octets_in-n.ensures c.if-out-n.false c.copy_frame.ensures

@@ -3,9 +3,6 @@ use Rattle.report_spec.specs.PieceLaws.{refused_size, refused_text}
 use borrow.Author.Rules.{rules}
 use Rattle.report_begin.proofs.refused_piece.Goals as goal
 
-slice-aggregate-put-counted : tie.Need-slice-aggregate-put-counted
-slice-aggregate-put-counted c = search rules
-
 pub returns-clause-piece : goal.returns-clause-piece
 returns-clause-piece c = search refused_size
 

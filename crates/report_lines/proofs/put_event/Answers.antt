@@ -5,36 +5,6 @@ use Rattle.report_lines.specs.EventsLaws.{text_length}
 use borrow.Author.Rules.{rules}
 use Rattle.report_lines.proofs.put_event.Goals as goal
 
-slice-aggregate-put-line : tie.Need-slice-aggregate-put-line
-slice-aggregate-put-line c = search rules
-
-slice-aggregate-put-line-2 : tie.Need-slice-aggregate-put-line-2
-slice-aggregate-put-line-2 c = search rules
-
-slice-aggregate-put-line-3 : tie.Need-slice-aggregate-put-line-3
-slice-aggregate-put-line-3 c = search rules
-
-slice-aggregate-put-line-4 : tie.Need-slice-aggregate-put-line-4
-slice-aggregate-put-line-4 c = search rules
-
-slice-aggregate-put-line-5 : tie.Need-slice-aggregate-put-line-5
-slice-aggregate-put-line-5 c = search rules
-
-slice-aggregate-put-line-6 : tie.Need-slice-aggregate-put-line-6
-slice-aggregate-put-line-6 c = search rules
-
-slice-aggregate-put-line-7 : tie.Need-slice-aggregate-put-line-7
-slice-aggregate-put-line-7 c = search rules
-
-slice-aggregate-put-line-8 : tie.Need-slice-aggregate-put-line-8
-slice-aggregate-put-line-8 c = search rules
-
-slice-aggregate-put-line-9 : tie.Need-slice-aggregate-put-line-9
-slice-aggregate-put-line-9 c = search rules
-
-slice-aggregate-put-line-10 : tie.Need-slice-aggregate-put-line-10
-slice-aggregate-put-line-10 c = search rules
-
 pub returns-in-0-clause-text : goal.returns-in-0-clause-text
 returns-in-0-clause-text c = search text_none
 

@@ -3,8 +3,5 @@ use Rattle.report_spec.specs.PieceLaws.{end_is}
 use borrow.Author.Rules.{rules}
 use Rattle.report_next.proofs.end_piece.Goals as goal
 
-slice-aggregate-put-counted : tie.Need-slice-aggregate-put-counted
-slice-aggregate-put-counted c = search rules
-
 pub returns : goal.returns
 returns c = search end_is

@@ -16,8 +16,5 @@ overflow_add-at c = omega (arith, offer_room _ _ c.requires.0)
 pub bounds-input-at : goal.bounds-input-at
 bounds-input-at c = omega (arith, offer_room _ _ c.requires.0)
 
-slice-aggregate-put-line : tie.Need-slice-aggregate-put-line
-slice-aggregate-put-line c = search rules
-
 pub returns : goal.returns
 returns c = search offer_line_lem

@@ -3,8 +3,5 @@ use Rattle.report_text.specs.TextLaws.{first_is}
 use borrow.Author.Rules.{rules}
 use Rattle.report_text.proofs.put_first.Goals as goal
 
-slice-aggregate-put-counted : tie.Need-slice-aggregate-put-counted
-slice-aggregate-put-counted c = search rules
-
 pub returns-clause-text : goal.returns-clause-text
 returns-clause-text c = search first_is
