@@ -22,7 +22,7 @@ use Rattle.bus_spec.specs.declared.course.Ended.TheVariants as how
 use Rattle.bus_spec.specs.BitTime.{act_at, act_in, outcome_in, events_of, event_at, events_at, step_area}
 use Rattle.bus_spec.specs.Ready.{Readiness}
 use Rattle.bus_spec.specs.Passes.{passes_ready}
-use Rattle.bus_spec.specs.Stays.{step_layout, step_ready, step_clock}
+use Rattle.bus_spec.proofs.Stays.{step_layout, step_ready, step_clock}
 use Rattle.bus_spec.specs.Run.{tallied, late_at, stops, run_of, unrun, ran}
 use Rattle.delivery.specs.Traced.{event_is}
 use Rattle.delivery.specs.Theorem.{no_station}

@@ -22,8 +22,11 @@ overflow_sub-t c =
 pub returns-then-t-n : goal.returns-then-t-n
 returns-then-t-n c = search ran_over
 
-pub run_steps-c-requires : goal.run_steps-c-requires
-run_steps-c-requires c = ((search run_allowed, search passes_long, omega arith), (omega arith, search zeros_bounded))
+pub run_steps-c-requires-clause-runnable : goal.run_steps-c-requires-clause-runnable
+run_steps-c-requires-clause-runnable c = (search run_allowed, search passes_long, omega arith)
+
+pub run_steps-c-requires-clause-words_len : goal.run_steps-c-requires-clause-words_len
+run_steps-c-requires-clause-words_len c = (omega arith, search zeros_bounded)
 
 pub returns : goal.returns
 returns c =

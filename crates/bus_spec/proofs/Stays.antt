@@ -1,6 +1,6 @@
 -- A step leaves an area that passes checks 1 and 2 as one that passes them; and what is read of the area after a step.
 -- Assumes nothing.
-use Rattle.std.specs.Prelude.{ℕ, suc, ◌+◌, ◌*◌, ◌≤◌, ◌<◌, min, ◌≡◌, List, length}
+use Rattle.std.specs.Prelude.{ℕ, suc, ◌+◌, ◌≤◌, ◌<◌, min, ◌≡◌, List, length}
 use Rattle.std.proofs.Math.Path.{refl, sym, ap₂, subst}
 use Rattle.std.proofs.Common.{◌∙◌, ap, add-one, arith}
 use Rattle.octets.specs.Filled.{filled, filled_same}
@@ -23,7 +23,8 @@ use Rattle.bus_spec.specs.BitTime.{outcome_in, act_in, act_at, settled, step_are
 use Rattle.bus_spec.specs.Range.{Fine, fine_stepped, fine_fit}
 use Rattle.bus_spec.specs.InPlace.{Kept, Spread, Ahead}
 use Rattle.bus_spec.specs.Ready.{Readiness, kept}
-use Rattle.bus_spec.specs.After.{length_after, ahead, codes_all, record_all, buffer_all, stored_in, counters_all}
+use Rattle.bus_spec.specs.After.{stored_in}
+use Rattle.bus_spec.proofs.After.{length_after, ahead, codes_all, record_all, buffer_all, counters_all}
 use Rattle.bus_spec.specs.After.{counted_words}
 use Rattle.bus_spec.specs.Sizes.{Sized, sized_stepped}
 use Rattle.bus_spec.specs.Passes.{Passing, record_right}
