@@ -1,8 +1,8 @@
 -- How far the text may reach: no text of a run is longer than that many octets. The laws of the loop that writes it.
 -- Assumes nothing.
-use Rattle.std.specs.Prelude.{ℕ, Option, Result, Ok, Err, OnOk, ◌+◌, ◌-◌, ◌*◌, ◌≤◌, ◌≡◌, true, false, not, List, [], ◌++◌, length, take, drop}
-use Rattle.std.proofs.Common.{refl, sym, ◌∙◌, ap, subst, append_assoc, append-nil, take-append-drop, drop-drop, drop_of_length-le, arith}
-use Rattle.std.proofs.lemmas.Bool.{not-false}
+use Rattle.std.specs.Prelude.{ℕ, Bool, Option, Result, Ok, Err, OnOk, ◌+◌, ◌-◌, ◌*◌, ◌≤◌, ◌≡◌, true, false, not, List, [], ◌++◌, length, take, drop}
+use Rattle.std.proofs.Common.{refl, sym, ◌∙◌, ap, subst, true≢false, append_assoc, append-nil, take-append-drop, drop-drop, drop_of_length-le, arith}
+use Rattle.std.proofs.lemmas.Bool.{not-true, not-false}
 use Rattle.octets.specs.Store.{part}
 use Rattle.std.proofs.KnownBytes.{Appends-trans}
 use Rattle.std.specs.Io.KnownBytes.{Appends}
@@ -57,6 +57,9 @@ module _ (l b c x : List ℕ) (n k : ℕ) (g h : Progress) (w : Along l n g b) (
   next_most v y t u = omega (arith, part_size x k z, along_less l b c x n k g h w o z e)
 
 -- ---- the end
+
+pub not_done : (d : Bool) (v : ℕ) (l : List ℕ) → not d ≡ true → d ≡ true → v ≡ length (printed l)
+not_done d v l o t = absurd (true≢false (sym t ∙ not-true d o))
 
 pub all_done : (l b : List ℕ) (n : ℕ) (g : Progress) → Along l n g b → not g.ended ≡ false → n ≡ length (printed l)
 all_done l b n g w o = end_place l n g b (not-false g.ended o) w
