@@ -52,12 +52,13 @@ use Rattle.bus_meeting.specs.Net.{Net}
 use Rattle.trace.specs.World.{Offer, ready}
 use Rattle.trace.specs.Run as exec
 use Rattle.trace.specs.Run.{out_at, sees, frame_in, ready_clock, sees_is}
-use Rattle.trace.specs.Late as collisions
-use Rattle.trace.specs.Closed as closings
+use Rattle.trace.proofs.Late as collisions
+use Rattle.trace.proofs.Closed as closings
 use Rattle.trace.specs.Attempts as tries
 use Rattle.trace.specs.Sent as sends
-use Rattle.trace.specs.Received as gets
-use Rattle.trace.specs.Readable as reads
+use Rattle.trace.specs.Received as reports
+use Rattle.trace.proofs.Received as gets
+use Rattle.trace.proofs.Readable as reads
 use Rattle.delivery.specs.Calls.{Call, offer, step, run, read, Fair, AllFair, Moment, next, accept, late, run_made}
 use Rattle.delivery.specs.Calls.{run_end, made, leaves, log, end, begin, moment_at, sent_at, got_at, Ends, hears_at}
 use Rattle.delivery.specs.Calls.{QuietSince}
@@ -132,7 +133,7 @@ module _ (P : Net) (span : ℕ) (L : exec.Sound P span) (m : Moment) (T : List M
   pub ok_sent : (u j k : ℕ) → u < length T → j < P.n → got_at T u j ≡ GotOk k
       → (i : ℕ) × (e : ℕ) × (n : ℕ) × (i < P.n) × ((i ≡ j → ⊥) × (u ≡ suc (e + P.d i j)) × (sent_at T e i ≡ Sent n))
   ok_sent u j k hu hj e =
-      let c = gets.got_came P v.inp span L j u k hj (sym (got_is u j hu hj) ∙ e) in (
+      let c = reports.got_came P v.inp span L j u k hj (sym (got_is u j hu hj) ∙ e) in (
         c.from,
         c.at,
         c.whole.attempts,
@@ -248,7 +249,7 @@ module _ (P : Net) (span : ℕ) (L : exec.Sound P span) (m : Moment) (T : List M
     -- ---- readings
 
     silent_then : (u j k : ℕ) → u < length T → j < P.n → got_at T u j ≡ GotOk k → sees P v.inp j u ≡ Nothing
-    silent_then u j k hu hj e = gets.got_silent P v.inp span L j u k hj (sym (got_is u j hu hj) ∙ e)
+    silent_then u j k hu hj e = reports.got_silent P v.inp span L j u k hj (sym (got_is u j hu hj) ∙ e)
 
     -- a station that reports receiveOK hears nothing in that step
     quiet_from : (u j k : ℕ) → u < length T → j < P.n → got_at T u j ≡ GotOk k → QuietSince T u j
