@@ -25,7 +25,7 @@ use Rattle.trace.specs.Basic.{either}
 use Rattle.trace.specs.World.{Offer, fresh_station, fresh, before}
 use Rattle.trace.specs.Run.{state, frame_in, out_at, sees, defer_at, send_at, Sound, ready_kept, out_sent}
 use Rattle.trace.specs.Run.{next_transmitter}
-use Rattle.trace.specs.Late.{never_late}
+use Rattle.trace.proofs.Late.{never_late}
 
 -- it jams, and its frame ends after that
 abbrev closing : Transmitter → Bool

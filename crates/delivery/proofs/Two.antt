@@ -16,7 +16,7 @@ use Rattle.sheet_read.specs.Sheet.{field_at, field, figures_in, tap_in, layout_i
 use Rattle.bus_start.specs.Start.{started}
 use Rattle.delivery.specs.Calls.{Call, AllFair}
 use Rattle.delivery.specs.Demand3.{Demand3For}
-use Rattle.delivery.specs.Theorem.{demand_3}
+use Rattle.delivery.proofs.Theorem.{demand_3}
 use Rattle.area.specs.Offsets.{area_size}
 
 -- "sheet 00 02, 00 020000000001, 0A 020000000002"

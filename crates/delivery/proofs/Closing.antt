@@ -25,7 +25,7 @@ use Rattle.bus_spec.specs.Passes.{passes_ready}
 use Rattle.bus_spec.proofs.Stays.{step_layout, step_ready, step_clock}
 use Rattle.bus_spec.specs.Run.{tallied, late_at, stops, run_of, unrun, ran}
 use Rattle.delivery.specs.Traced.{event_is}
-use Rattle.delivery.specs.Theorem.{no_station}
+use Rattle.delivery.proofs.Theorem.{no_station}
 use Rattle.trace.specs.Basic.{by_le}
 
 -- ---- a step
