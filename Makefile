@@ -1,5 +1,5 @@
-# The shared library, the installation, and the examples. The static library comes from `rt staticlib capi`, which
-# proves what it builds.
+# The shared library, the installation, and the examples. The static library comes from `tools/staticlib`, over what
+# `rt ci` has proved.
 #
 #     make library                       target/libwisavulome.so.1, which tools/wisavulome finds
 #     make install PREFIX=/usr/local     libraries, header, pkg-config file, Rust declarations, Python module, command
@@ -26,7 +26,7 @@ TO_PYTHON = $(DESTDIR)$(PYTHON_FOLDER)/wisavulome
 library: $(SHARED)
 
 $(ARCHIVE):
-	@echo "$@ is missing: run 'rt staticlib capi' first" >&2; exit 1
+	@echo "$@ is missing: run 'tools/staticlib' first" >&2; exit 1
 
 $(SHARED): $(ARCHIVE)
 	$(CC) -shared -Wl,-soname,$(SONAME) -Wl,--whole-archive $(ARCHIVE) -Wl,--no-whole-archive -o $@

@@ -13,7 +13,7 @@ fn main() {
     let archive = folder.join("libcapi.a");
     println!("cargo:rerun-if-changed={}", archive.display());
     if !archive.is_file() {
-        eprintln!("{} is missing: run `rt staticlib capi` in the repository first", archive.display());
+        eprintln!("{} is missing: run `tools/staticlib` in the repository first", archive.display());
         process::exit(1);
     }
     println!("cargo:rustc-link-search=native={}", folder.display());

@@ -1,4 +1,4 @@
-/* Document 01's whole case, from C: two stations ten bit times apart, each with a frame for the other at time 0.
+/* The whole case, from C: two stations ten bit times apart, each with a frame for the other at time 0.
  *
  *     cc worked.c $(pkg-config --cflags --libs wisavulome) -o worked && ./worked
  */

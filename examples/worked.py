@@ -1,4 +1,4 @@
-"""Document 01's whole case, from Python: two stations ten bit times apart, each with a frame for the other at time 0.
+"""The whole case, from Python: two stations ten bit times apart, each with a frame for the other at time 0.
 
 PYTHONPATH=PREFIX/lib/python3.11/site-packages python3 worked.py
 """

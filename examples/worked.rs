@@ -1,4 +1,4 @@
-//! Document 01's whole case, from Rust: two stations ten bit times apart, each with a frame for the other at time 0.
+//! The whole case, from Rust: two stations ten bit times apart, each with a frame for the other at time 0.
 //!
 //!     rustc --edition 2024 worked.rs -L native=PREFIX/lib -l dylib=wisavulome && ./worked
 //!

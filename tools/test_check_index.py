@@ -9,7 +9,7 @@ from pathlib import Path
 TOOL = Path(__file__).resolve().parent / "check-index"
 
 FILES = {
-    "crates.txt": "one:\ntwo: one\n",
+    "crates.txt": "# the crates: two\none:\ntwo staticlib: one\n",
     "crates/one/specs/Laws.antt": """pub record Pair (n : ℕ) : Type 0 where
   pub first second : ℕ
 
@@ -19,7 +19,7 @@ pub data Row : Type 0 where
 unfoldable pub doubled : ℕ → ℕ
 doubled n = n + n
 module _ (n : ℕ) where
-  pub doubled-even : doubled n ≡ 2 * n
+  pub doubled_even : doubled n ≡ 2 * n
 """,
     "crates/one/src/lib.rt": """pub const TOP: u32 = 7;
 pub enum Ended {
@@ -29,7 +29,7 @@ pub enum Ended {
 pub(crate) fn double(n: u32) -> u32
 """,
     "crates/one/must-fail/wrong.edit": "file: src/lib.rt\n",
-    "crates/one/must-fail/more/wrong_too.edit": "file: src/lib.rt\n",
+    "crates/one/more-edits/wrong_too.edit": "file: src/lib.rt\n",
 }
 
 PAGE = """# Index
@@ -67,9 +67,10 @@ class CheckIndex(unittest.TestCase):
 
     def test_what_is_there(self):
         rows = [
-            "| a | `one/Laws`: `doubled`, `doubled-even`, `Pair.second`, `Row.build`, `Row`, `two` | `one/wrong.edit` |",
+            "| a | `one/Laws`: `doubled`, `doubled_even`, `Pair.second`, `Row.build`, `Row`, `two` | `one/wrong.edit` |",
             "| b | `one/wrong_too.edit` |",
             "- `one/lib.rt`: `TOP`, `Ended::Late`, `double`, then `crates/one/src/lib.rt` and code, `&x[0..2]`",
+            "- `Rattle.one.specs.Laws`, `Rattle.one.specs.Laws.doubled_even`, `Rattle.one.specs.Laws.Pair.second`",
         ]
         self.assertEqual(self.faults("\n".join(rows)), [])
 
@@ -86,6 +87,10 @@ class CheckIndex(unittest.TestCase):
             "`one/lib.rt`: `Ended::Early`",
             "`one::double`",
             "`gone`",
+            "`Rattle.one.specs.Gone`",
+            "`Rattle.one.specs.Laws.double`",
+            "`Rattle.one.specs.Laws.Pair.third`",
+            "`Rattle.one`",
         ]:
             with self.subTest(cited):
                 self.assertEqual(self.faults("| a | %s |" % cited), [cited.split("`")[-2]])

@@ -14,7 +14,7 @@ WORKED_TEXT = ROOT / "docs" / "worked.txt"
 WORKED_OCTETS = ROOT / "crates" / "simulate" / "stdin"
 STORED = ROOT / "stored"
 
-# Document 01's whole case, part by part as it is listed there.
+# The whole case, part by part.
 WHOLE_CASE = bytes.fromhex(
     "00 02  00 020000000001  0A 020000000002  01  0000 0001  0002"
     + "00000000 00 020000000002 0800 002E" + "00" * 46
@@ -55,7 +55,7 @@ def comments(text):
 
 
 class WholeCase(unittest.TestCase):
-    """Document 01's whole case."""
+    """The whole case."""
 
     def test_octets_as_listed(self):
         self.assertEqual(len(WHOLE_CASE), 149)

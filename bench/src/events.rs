@@ -1,4 +1,4 @@
-//! What stations report in a step (document 01, "The run program").
+//! What stations report in a step (docs/INDEX.md, "The run program").
 
 /// The ten event words; `got` with each status is a word of its own. Their order is that of the C interface's counts.
 #[derive(Clone, Copy, Debug, PartialEq, Eq)]

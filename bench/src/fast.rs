@@ -118,7 +118,7 @@ struct Store {
     collected: [u8; LARGEST_FRAME + 1],
 }
 
-// Places of the counters, in document 01's order.
+// Places of the counters, in the model's order.
 const OFFERED: usize = 0;
 const ATTEMPTS: usize = 1;
 const COLLISIONS: usize = 2;

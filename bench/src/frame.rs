@@ -1,4 +1,4 @@
-//! Building and opening frames (document 01, "Frames").
+//! Building and opening frames (docs/INDEX.md, "Frames").
 
 use crate::crc;
 use crate::layout::Address;

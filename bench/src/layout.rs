@@ -1,4 +1,4 @@
-//! The sheet and the layout it describes (document 01, "The sheet").
+//! The sheet and the layout it describes (docs/INDEX.md, "The sheet").
 
 use crate::{Refusal, STATIONS};
 
@@ -113,7 +113,7 @@ pub fn read_sheet(octets: &[u8]) -> Result<(Layout, usize), Refusal> {
     Ok((layout, octets.len() - after.len()))
 }
 
-/// Writes the sheet of a layout (document 02, N4): "shortest, no field that equals its default". Refusals 5 to 8.
+/// Writes the sheet of a layout (request N4): "shortest, no field that equals its default". Refusals 5 to 8.
 pub fn write_sheet(layout: &Layout) -> Result<Vec<u8>, Refusal> {
     layout.check()?;
     let &Layout { slot, gap1, gap2, jam, attempt_limit, backoff_limit, late_end, ref places } = layout;

@@ -1,4 +1,4 @@
-//! Independent engines of document 01's model (CSMA/CD on one pair) with requests N1 and N5, to compare Wisavulome's answers and speed with.
+//! Independent engines of the model (CSMA/CD on one pair) with requests N1 and N5, to compare Wisavulome's answers and speed with.
 //!
 //! - [`layout`], [`frame`], [`crc`], [`events`]: the sheet, frames, check sequence and event words
 //! - [`plain`]: the plain engine, which keeps every emission and looks back by distance
@@ -24,10 +24,10 @@ pub mod plain;
 pub mod program;
 pub mod rng;
 
-/// The number of a refusal (document 01, "Refusals, in checking order").
+/// The number of a refusal (docs/INDEX.md, "Refusals, in checking order").
 pub type Refusal = u32;
 
-/// The last clock value (document 01, refusals 2 and 13).
+/// The last clock value (refusals 2 and 13).
 pub const LAST_CLOCK: u32 = 16_777_216;
 
 /// The most stations of a layout.

@@ -1,4 +1,4 @@
-//! Many windows over one log (document 02, N14), by a plain loop: for each entry every window is looked at.
+//! Many windows over one log (request N14), by a plain loop: for each entry every window is looked at.
 
 use crate::events::WORDS;
 use crate::Refusal;

@@ -1,4 +1,4 @@
-//! Request N5 of document 02, sentence by sentence: marks of a work area in a second lent store.
+//! Request N5, sentence by sentence: marks of a work area in a second lent store.
 
 use std::array;
 

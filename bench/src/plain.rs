@@ -1,4 +1,4 @@
-//! The plain engine: document 01's "One bit time", sentence by sentence, with request N1 of document 02.
+//! The plain engine: docs/INDEX.md's "One bit time", sentence by sentence, with request N1.
 //!
 //! It keeps every emission of every station and looks back by distance. What other stations emitted before the world was set up from a
 //! work area (see [`crate::area`]) is known only by its arrival; such arrivals are kept apart.
@@ -131,7 +131,7 @@ impl Row {
     }
 }
 
-/// The counters, in document 01's order, late-ended last; the receive errors in READINGS' order.
+/// The counters, in the model's order, late-ended last; the receive errors in the order of docs/INDEX.md, "Counters".
 #[derive(Clone, Copy)]
 enum Counter {
     Offered,

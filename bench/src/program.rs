@@ -1,4 +1,4 @@
-//! The run program (document 01): the text printed for an input, over any engine.
+//! The run program: the text printed for an input, over any engine.
 
 use std::fmt::Write;
 

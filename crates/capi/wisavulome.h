@@ -1,6 +1,6 @@
 /* Wisavulome: a proved model of contention on one pair (CSMA/CD, bit time by bit time). The C interface.
  *
- * Link with libwisavulome (`make install`), or with libcapi.a (`rt staticlib capi` writes target/staticlib/libcapi.a). wisavulome.rs, beside
+ * Link with libwisavulome (`make install`), or with libcapi.a (`tools/staticlib` writes target/staticlib/libcapi.a). wisavulome.rs, beside
  * this file, declares the same functions for Rust: a change to one is made in both, and tools/check-interface compares them.
  *
  * C89, C++17 and later take this file. Between the two lines "declarations" stand only numbers and prototypes: cffi's parser takes that

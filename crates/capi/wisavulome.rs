@@ -1,7 +1,7 @@
 // Wisavulome: a proved model of contention on one pair (CSMA/CD, bit time by bit time). The C interface, declared for Rust.
 //
 // wisavulome.h, beside this file, declares the same functions for C and says what each answers, refuses and writes: a change to one is made
-// in both, and tools/check-interface compares them. Link with libwisavulome (`make install`) or libcapi.a (`rt staticlib capi`). A slice is
+// in both, and tools/check-interface compares them. Link with libwisavulome (`make install`) or libcapi.a (`tools/staticlib`). A slice is
 // a pointer, never null, and its length in octets (of u32: in numbers).
 //
 // Take it in with `#[path = "wisavulome.rs"] mod wisavulome;`. Editions 2021 and 2024, Rust 1.82 or later, with or without std. The safe

@@ -1,6 +1,6 @@
 """A run of a plan, followed by the library's own pieces: every event with the offer that it concerns.
 
-A transmit event concerns the frame of its station's last accepted offer (document 01, "Demand 3"). A `got ok`
+A transmit event concerns the frame of its station's last accepted offer (docs/DELIVERY.md). A `got ok`
 concerns the frame that was reported sent in the step that many bit times before. A `got` with an error concerns
 every offer that was heard in its reception.
 """

@@ -1,6 +1,6 @@
 """What a station hears, derived from who emitted what; and what it collects of it.
 
-The rules are document 01's, "One bit time": bits after the first 10101011 are collected; a jam bit, or any symbol
+The rules are those of docs/INDEX.md, "One bit time": bits after the first 10101011 are collected; a jam bit, or any symbol
 heard from two or more, is stored as 0 and never matches the delimiter. The tests hold this against the delay lines
 and buffers of the library.
 """

@@ -212,7 +212,7 @@ def load():
     paths = [Path(chosen)] if chosen else [path for path in candidates() if path.is_file()]
     if not paths:
         raise LibraryMissing(
-            f"the shared library {SONAME} is not there. In the repository: 'rt staticlib capi', then 'make library'. "
+            f"the shared library {SONAME} is not there. In the repository: 'tools/staticlib', then 'make library'. "
             f"Or name it in the environment variable {VARIABLE}"
         )
     try:

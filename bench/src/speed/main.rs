@@ -157,7 +157,7 @@ fn first_calls(calls: &[Call]) -> &[Call] {
 
 fn programs_table() {
     if !plans::simulate().is_file() {
-        println!("no table of the run program: `rt check simulate` builds {}", plans::simulate().display());
+        println!("no table of the run program: `rt run` in crates/simulate builds {}", plans::simulate().display());
         return;
     }
     println!("| plan | bit times | stations | ours, ms | fast engine, ms | ratio | without the start |");

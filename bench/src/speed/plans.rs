@@ -8,9 +8,9 @@ use std::process::{Command, Stdio};
 use crate::cpu;
 use crate::rows::{address, bit_times, Call, Row, DEPTH};
 
-/// The project's program, which `rt check simulate` builds.
+/// The project's program, which `rt run` in its folder builds.
 pub fn simulate() -> PathBuf {
-    Path::new(env!("CARGO_MANIFEST_DIR")).join("../target/bin/simulate")
+    Path::new(env!("CARGO_MANIFEST_DIR")).join("../crates/simulate/out/simulate")
 }
 
 /// The argument with which this program is the run program on the fast engine.

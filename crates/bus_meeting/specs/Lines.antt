@@ -18,9 +18,12 @@ use Rattle.area.specs.AreaLaws.{space_by, arrival_by, arrival_keeps, arrival_sam
 use Rattle.bus_spec.specs.declared.Act.{Act}
 use Rattle.bus_spec.specs.Medium.{send_to, is_silence, pushed}
 use Rattle.bus_spec.specs.BitTime.{placed, settled}
-use Rattle.bus_spec.specs.InPlace.{Kept, Spread, place_keeps, settle_keeps, placed_layout, length_placed}
-use Rattle.bus_spec.specs.MediumLaws.{send_keeps, sends_layout, sends_keep, push_keeps, length_sends}
-use Rattle.bus_spec.specs.After.{length_after, ahead, placed_clear}
+use Rattle.bus_spec.specs.InPlace.{Kept, Spread, place_keeps, placed_layout, length_placed}
+use Rattle.bus_spec.proofs.InPlace.{settle_keeps}
+use Rattle.bus_spec.specs.MediumLaws.{length_sends}
+use Rattle.bus_spec.proofs.MediumLaws.{send_keeps, sends_layout, sends_keep, push_keeps}
+use Rattle.bus_spec.specs.After.{placed_clear}
+use Rattle.bus_spec.proofs.After.{length_after, ahead}
 use Rattle.bus_meeting.specs.Net.{gathered}
 use Rattle.bus_meeting.specs.Gather.{joined_none}
 use Rattle.bus_meeting.specs.Meet.{met_none, met_group, adds}

@@ -1,25 +1,24 @@
--- In place is the same as all at once: nobody reads what the same step wrote. Assumes nothing.
-use Rattle.std.specs.Prelude.{ℕ, zero, suc, ◌+◌, ◌≤◌, ◌<◌, ◌≡◌, refl, Bool, List, length}
-use Rattle.std.proofs.Common.{sym, ◌∙◌, arith}
+-- In place is the same as all at once: nobody reads what the same step wrote. The turns are in proofs/InPlace. Assumes
+-- nothing.
+use Rattle.std.specs.Prelude.{ℕ, ◌≤◌, ◌<◌, ◌≡◌, refl, List, length}
+use Rattle.std.proofs.Common.{◌∙◌, arith}
 use Rattle.octets.specs.BaseLaws.{by_test}
-use Rattle.octets.specs.Turns.{turns, length_turns}
+use Rattle.octets.specs.Turns.{length_turns}
 use Rattle.sheet_layout.specs.declared.Figures.{Figures}
 use Rattle.station_symbols.specs.declared.Heard.TheVariants.{Nothing}
-use Rattle.station_symbols.specs.declared.Symbol.{Symbol}
 use Rattle.station_spec.specs.declared.Stored.{Stored}
 use Rattle.station_spec.specs.declared.Stored.TheVariants.{NoStore, Store}
 use Rattle.station_spec.specs.Transmit.{octets_held}
-use Rattle.station_state.specs.declared.Station.{Station}
 use Rattle.station_spec.specs.declared.Stepped.{Stepped}
 use Rattle.area.specs.Places.{Part, clock, depth, layout, draws, counters, station, frame, buffer, place, Off, Keeps}
 use Rattle.area.specs.Area.{draw_at, space_at, station_at, with_station, frame_at, buffer_at, arrival_at, with_arrival}
-use Rattle.area.specs.AreaLaws.{keeps_refl, keeps_trans, draw_by, space_by, station_by, arrival_by, frame_by, buffer_by}
+use Rattle.area.specs.AreaLaws.{keeps_refl, keeps_trans, draw_by, station_by, arrival_by, frame_by, buffer_by}
 use Rattle.area.specs.AreaLaws.{station_keeps, counters_keeps, arrival_keeps, bit_keeps, length_station}
 use Rattle.area.specs.AreaLaws.{length_counters, length_arrival, length_bit}
 use Rattle.bus_spec.specs.declared.Act.{Act}
-use Rattle.bus_spec.specs.BitTime.{outcome_in, act_in, with_stored, happened, with_counted, placed, settled, turned_in}
-use Rattle.bus_spec.specs.Medium.{pushed}
-use Rattle.bus_spec.specs.MediumLaws.{length_pushed, push_keeps}
+use Rattle.bus_spec.specs.BitTime.{outcome_in, act_in, with_stored, happened, with_counted, placed, settled}
+use Rattle.bus_spec.specs.BitTime.{turned_in}
+use Rattle.bus_spec.specs.MediumLaws.{length_pushed}
 use Rattle.area.specs.Offsets.{area_size, ring, frame_room}
 use Rattle.frame_build.specs.Limits.{buffer_bits}
 use Rattle.sheet_layout.specs.Limits.{max_stations, max_draws}
@@ -96,18 +95,6 @@ placed_layout t i o x h k =
       place = λ p q. omega arith;
     })
 
--- what station i's turn writes, off a part p: its own parts, and the places that its symbol goes to
-pub settle_keeps : (p : Part) (n t i : ℕ) (r : Act) (x : List ℕ) → i < max_stations → n ≤ max_stations
-    → Kept r.outcome.stored → Foreign p t i
-    → ((j : ℕ) → j < n → (j ≡ i → ⊥) → Off p (place j (t + space_at x i j))) → Keeps p (settled n t i r x) x
-unfolding settled
-settle_keeps p n t i r x hi hn k q o =
-    keeps_trans p (pushed n t i r.symbol (placed t i r.outcome x)) (placed t i r.outcome x) x
-    (push_keeps p n t i r.symbol (placed t i r.outcome x) hi hn
-    (λ j h ne. rw (space_by (placed t i r.outcome x) x i j hi (omega arith) (placed_layout t i r.outcome x hi k))
-    (o j h ne)))
-    (place_keeps p t i r.outcome x k q)
-
 -- ---- the step
 
 -- the layout that a step needs: at most 16 stations, no two of them at one place, none out of reach of the lines
@@ -127,115 +114,6 @@ pub record Ahead (t k : ℕ) (a x : List ℕ) : Type 0 where
   pub counts_of : (i : ℕ) → k ≤ i → i < max_stations → Keeps (counters i) x a
   pub buffer_of : (i : ℕ) → k ≤ i → i < max_stations → Keeps (buffer i) x a
   pub place_of : (i : ℕ) → k ≤ i → i < max_stations → Keeps (place i t) x a
-
-ahead_start : (t : ℕ) (a : List ℕ) → Ahead t 0 a a
-ahead_start t a =
-    record {
-      time = keeps_refl clock a;
-      deep = keeps_refl depth a;
-      plan = keeps_refl layout a;
-      lots = keeps_refl draws a;
-      frames = λ i h. keeps_refl (frame i) a;
-      record_of = λ i l h. keeps_refl (station i) a;
-      counts_of = λ i l h. keeps_refl (counters i) a;
-      buffer_of = λ i l h. keeps_refl (buffer i) a;
-      place_of = λ i l h. keeps_refl (place i t) a;
-    }
-
-ahead_step : (n t k : ℕ) (r : Act) (a x : List ℕ) → Spread n a → k < n → Kept r.outcome.stored → Ahead t k a x
-    → Ahead t (suc k) a (settled n t k r x)
-ahead_step n t k r a x sp hk kept v =
-    record {
-      time =
-          on clock (record {
-            station = λ p q. omega arith;
-            counters = λ p q. omega arith;
-            buffer = λ p q. omega arith;
-            place = λ p q. omega arith;
-          }) (λ j h ne p q. omega arith) v.time;
-      deep =
-          on depth (record {
-            station = λ p q. omega arith;
-            counters = λ p q. omega arith;
-            buffer = λ p q. omega arith;
-            place = λ p q. omega arith;
-          }) (λ j h ne p q. omega arith) v.deep;
-      plan =
-          on layout (record {
-            station = λ p q. omega arith;
-            counters = λ p q. omega arith;
-            buffer = λ p q. omega arith;
-            place = λ p q. omega arith;
-          }) (λ j h ne p q. omega arith) v.plan;
-      lots =
-          on draws (record {
-            station = λ p q. omega arith;
-            counters = λ p q. omega arith;
-            buffer = λ p q. omega arith;
-            place = λ p q. omega arith;
-          }) (λ j h ne p q. omega arith) v.lots;
-      frames =
-          λ i hi. on (frame i) (record {
-            station = λ p q. omega (arith, few);
-            counters = λ p q. omega (arith, few);
-            buffer = λ p q. omega arith;
-            place = λ p q. omega (arith, few);
-          }) (λ j h ne p q. omega (arith, few))
-          (v.frames i hi);
-      record_of =
-          λ i l hi. on (station i) (record {
-            station = λ p q. omega arith;
-            counters = λ p q. omega (arith, few);
-            buffer = λ p q. omega arith;
-            place = λ p q. omega arith;
-          }) (λ j h ne p q. omega arith)
-          (v.record_of i (omega arith) hi);
-      counts_of =
-          λ i l hi. on (counters i) (record {
-            station = λ p q. omega arith;
-            counters = λ p q. omega arith;
-            buffer = λ p q. omega arith;
-            place = λ p q. omega arith;
-          }) (λ j h ne p q. omega arith)
-          (v.counts_of i (omega arith) hi);
-      buffer_of =
-          λ i l hi. on (buffer i) (record {
-            station = λ p q. omega (arith, few);
-            counters = λ p q. omega (arith, few);
-            buffer = λ p q. omega arith;
-            place = λ p q. omega (arith, few);
-          }) (λ j h ne p q. omega (arith, few))
-          (v.buffer_of i (omega arith) hi);
-      place_of =
-          λ i l hi. on (place i t) (record {
-            station = λ p q. omega (arith, few);
-            counters = λ p q. omega (arith, few);
-            buffer = λ p q. omega arith;
-            place = λ p q. omega arith;
-          })
-          (λ j h ne p q. omega (arith, sp.pos k j hk h (λ z. ne (sym z)), sp.near k j hk h, space j h))
-          (v.place_of i (omega arith) hi);
-    }
-  where
-    few : n ≤ max_stations
-    few = sp.few
-
-    space : (j : ℕ) → j < n → space_at x k j ≡ space_at a k j
-    space j h = space_by x a k j (omega (arith, few)) (omega (arith, few)) v.plan
-
-    on : (p : Part) → Foreign p t k → ((j : ℕ) → j < n → (j ≡ k → ⊥) → Off p (place j (t + space_at x k j)))
-        → Keeps p x a → Keeps p (settled n t k r x) a
-    on p q o s = keeps_trans p (settled n t k r x) x a (settle_keeps p n t k r x (omega (arith, few)) few kept q o) s
-
--- the same of whatever the stations do
-pub ahead_all : (n t k : ℕ) (r : ℕ → Act) (a : List ℕ) → Spread n a → ((i : ℕ) → i < n → Kept (r i).outcome.stored)
-    → k ≤ n
-    → Ahead t k a (turns (λ i x. settled n t i (r i) x) k a)
-unfolding turns
-ahead_all n t zero r a sp kept hk = ahead_start t a
-ahead_all n t (suc k) r a sp kept hk =
-    ahead_step n t k (r k) a (turns (λ i x. settled n t i (r i) x) k a) sp hk (kept k hk)
-    (ahead_all n t k r a sp kept (omega arith))
 
 -- a station acts by the layout, the draws, its frame, its record, what it collected and what it hears
 pub act_by : (f : Figures) (d t i : ℕ) (a x : List ℕ) → i < max_stations → area_size ≤ length a → area_size ≤ length x

@@ -8,7 +8,6 @@ pub mod MediumLaws
 pub mod After
 pub mod Sizes
 pub mod Passes
-pub mod Stays
 pub mod Run
 pub mod RunLaws
 pub mod Until

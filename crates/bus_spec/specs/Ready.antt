@@ -1,13 +1,12 @@
--- What an area must be for a step without checks 1 and 2: those checks give it, and a step keeps it. Assumes nothing.
-use Rattle.std.specs.Prelude.{ℕ, ◌+◌, ◌*◌, ◌≤◌, ◌<◌, ◌≡◌, Bool, true, false, ◌||◌, List, ltb, set}
+-- What an area must be for a step without checks 1 and 2: those checks give it, and a step keeps it. The turns of such
+-- a step are in proofs/ReadyTurns. Assumes nothing.
+use Rattle.std.specs.Prelude.{ℕ, ◌≤◌, ◌<◌, ◌≡◌, Bool, true, false, ◌||◌, List, ltb}
 use Rattle.std.proofs.Common.{sym, ◌∙◌, arith, ltb-true}
 use Rattle.std.proofs.Math.Path.{ap, subst}
 use Rattle.std.proofs.Math.ListN.{length}
 use Rattle.octets.specs.BaseLaws.{by_test}
-use Rattle.octets.specs.Filled.{filled_more}
 use Rattle.octets.specs.Store.{length_part}
 use Rattle.octets.specs.WordsLaws.{Small}
-use Rattle.octets.specs.Turns.{turns_more}
 use Rattle.sheet_layout.specs.declared.Figures.{Figures}
 use Rattle.sheet_layout.specs.CheckLaws.{Figured}
 use Rattle.sheet_layout.specs.Check.{refusal_of}
@@ -15,23 +14,19 @@ use Rattle.station_symbols.specs.declared.Heard.{Heard}
 use Rattle.station_symbols.specs.declared.Heard.TheVariants.{Nothing, Clean, Spoiled}
 use Rattle.station_state.specs.declared.Receiver.{Receiver}
 use Rattle.station_state.specs.declared.Receiver.TheVariants.{Listening, Readable, Seeking, Collecting}
-use Rattle.station_spec.specs.declared.Stored.{Stored}
 use Rattle.station_spec.specs.Receive.{stored_bit, seek, seek_bit, collect, collect_bit, hear, addressed, opening}
 use Rattle.station_spec.specs.Receive.{decide, ended, receive}
 use Rattle.station_spec.specs.Transmit.{octets_held}
 use Rattle.station_state.specs.declared.Station.{Station}
-use Rattle.station_spec.specs.declared.Stepped.{Stepped}
 use Rattle.station_spec.specs.Step.{Roomy, stepped}
-use Rattle.area.specs.Places.{Part, Keeps}
 use Rattle.area.specs.Area.{clock_at, depth_at, figures_at, count_at, layout_at, counters_at, station_at, buffer_at, symbol_at}
 use Rattle.area.specs.Area.{arrival_at, max_code}
-use Rattle.area.specs.AreaLaws.{station_by}
 use Rattle.bus_spec.specs.declared.Act.{Act}
 use Rattle.bus_spec.specs.declared.Events.{Events}
-use Rattle.bus_spec.specs.BitTime.{outcome_in, act_in, act_at, settled, turned_in, turn_in, events_in, advanced_in}
-use Rattle.bus_spec.specs.BitTime.{step_area, events_at, events_of, no_events}
+use Rattle.bus_spec.specs.BitTime.{outcome_in, act_in, act_at, turned_in, events_in, advanced_in}
+use Rattle.bus_spec.specs.BitTime.{step_area, events_at}
 use Rattle.bus_spec.specs.Range.{Fine, fine_room, held_small}
-use Rattle.bus_spec.specs.InPlace.{Kept, Spread, Ahead, ahead_all, same_act, length_turned}
+use Rattle.bus_spec.specs.InPlace.{Kept, Spread}
 use Rattle.sheet_layout.specs.Limits.{last_clock, max_stations, max_draws}
 use Rattle.area.specs.Offsets.{area_size, from, the_buffer, frame_room}
 use Rattle.frame_build.specs.Limits.{buffer_octets, buffer_bits, shortest_frame}
@@ -117,45 +112,6 @@ kept_at a i h = kept (figures_at a) (depth_at a) (clock_at a) a i
 
 pub acts_kept : (f : Figures) (d t : ℕ) (a : List ℕ) (i : ℕ) (r : Act) → r ≡ act_in f d t a i → Kept r.outcome.stored
 acts_kept f d t a i r e = subst (λ (x : Act). Kept x.outcome.stored) (sym e) (kept f d t a i)
-
--- ---- the turns
-
-module _ (f : Figures) (d n t i : ℕ) (a x : List ℕ) (v : AllAble n f a) (hi : i < n) (room : area_size ≤ length a)
-    (e : x ≡ turned_in f d n t a i) where
-  behind : Ahead t i a x
-  unfolding turned_in AllAble
-  behind = subst (Ahead t i a) (sym e) (ahead_all n t i (act_in f d t a) a v.0 (λ k h. kept f d t a k) (omega arith))
-
-  long : length x ≡ length a
-  long = ap length e ∙ length_turned f d n t a i
-
-  -- in its turn a station is still what it was before the step, and acts as it does there
-  pub turn_able : Able f x i
-  unfolding Able AllAble
-  turn_able =
-      let few = v.0.few in
-      let s : station_at x i ≡ station_at a i = station_by x a i (omega arith) (omega (arith, long)) room behind.plan
-      (behind.record_of i (omega arith) (omega arith)) in
-      subst (CanAct f) (sym s) (v.1 i hi)
-
-  pub acts_same : act_in f d t x i ≡ act_in f d t a i
-  unfolding AllAble
-  acts_same =
-      let few = v.0.few in
-      same_act f d t i i a x (omega arith) (omega arith) room long (v.1 i hi).draw
-      (omega (arith, (v.1 i hi).held)) behind
-
-  pub turn_next : (b : List ℕ) → b ≡ turn_in f d n t i x → b ≡ turned_in f d n t a (i + 1)
-  unfolding turn_in turned_in
-  turn_next b p =
-      turns_more (λ j y. settled n t j (act_in f d t a j) y) i a x b
-      (p ∙ ap (λ (r : Act). settled n t i r x) acts_same) e
-
-  pub events_next : (r : Events) (es : List Events) → r ≡ events_of (act_in f d t x i) → es ≡ events_in f d t a i
-      → set es i r ≡ events_in f d t a (i + 1)
-  unfolding events_in AllAble
-  events_next r es p q =
-      filled_more no_events (λ j. events_of (act_in f d t a j)) i n es r (p ∙ ap events_of acts_same) hi v.0.few q
 
 -- ---- the area
 

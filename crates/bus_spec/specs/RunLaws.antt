@@ -1,4 +1,4 @@
--- A law for each way through the code of a run. Assumes nothing.
+-- A law for each way through the code of a run; that the run can go on (run_next) is in proofs/RunLaws. Assumes nothing.
 use Prim.Native.Nat.{ℕ, zero, suc, ◌+◌, ◌-◌, ◌*◌, ◌≤◌, ◌<◌}
 use Rattle.std.specs.Prelude.{◌≡◌, refl, Bool, true, false, List, [], replicate}
 use Rattle.std.proofs.Common.{sym, ◌∙◌, subst, add-one}
@@ -16,7 +16,6 @@ use Rattle.bus_spec.specs.declared.Events.{Events}
 use Rattle.bus_spec.specs.BitTime.{events_at, step_area, event_at}
 use Rattle.bus_spec.specs.Ready.{Ready, Readiness}
 use Rattle.bus_spec.specs.Passes.{passes_ready}
-use Rattle.bus_spec.specs.Stays.{step_ready, step_clock}
 use Rattle.bus_spec.specs.declared.course.Ended.{Ended}
 use Rattle.bus_spec.specs.declared.course.Ended.TheVariants as how
 use Rattle.bus_spec.specs.declared.course.RunAnswer.{RunAnswer}
@@ -56,11 +55,6 @@ tally_end es ws us i p lo up = let e : i ≡ 16 = omega arith in rw e at p
 -- k steps can be made. Shut, so that a search does not enter it
 unfoldable pub Runnable : ℕ → List ℕ → Type 0
 Runnable k a = Readiness a × (clock_at a + k ≤ last_clock)
-
-module _ (n t : ℕ) (a : List ℕ) where
-  pub run_next : (b : List ℕ) → b ≡ step_area a → Runnable (n - t) a → t < n → Runnable (n - (t + 1)) b
-  unfolding Runnable
-  run_next b e h g = rw e (step_ready a h.0 (omega (arith, h.1)), omega (arith, step_clock a h.0, h.1))
 
 pub run_zero : (n : ℕ) (ws a : List ℕ) → run_of (n - 0) 0 ws a ≡ run_of n 0 ws a
 run_zero n ws a = let e : n - 0 ≡ n = omega arith in ap (λ (k : ℕ). run_of k 0 ws a) e

@@ -1,16 +1,14 @@
--- Laws of steps until an event, and one for each way through the code that makes them. Assumes nothing.
+-- Laws of steps until an event, and one for each way through the code that makes them; what they leave is in
+-- proofs/UntilLaws. Assumes nothing.
 use Prim.Native.Nat.{ℕ, zero, suc, ◌+◌, ◌-◌, ◌≤◌, ◌<◌}
 use Rattle.std.specs.Prelude.{◌≡◌, refl, Bool, true, false, ◌||◌, List, replicate}
-use Rattle.std.proofs.Common.{sym, ◌∙◌, subst}
+use Rattle.std.proofs.Common.{sym, ◌∙◌}
 use Rattle.std.proofs.Math.Path.{ap}
 use native.Mathlib.Omega.{arith}
 use Rattle.octets.specs.Base.{pick, some}
 use Rattle.octets.specs.BaseLaws.{some_none, some_more, some_hit, some_end}
-use Rattle.area.specs.Area.{clock_at}
 use Rattle.bus_spec.specs.declared.Events.{Events}
 use Rattle.bus_spec.specs.BitTime.{no_events, event_at, events_at, step_area}
-use Rattle.bus_spec.specs.Stays.{step_clock}
-use Rattle.bus_spec.specs.RunLaws.{Runnable, run_first, run_next}
 use Rattle.bus_spec.specs.Until.{has_event, eventful, Stretched, one_more, until_event}
 use Rattle.sheet_layout.specs.Limits.{max_stations}
 use Rattle.station_tally.specs.Words.{is_transmit, is_receive}
@@ -113,34 +111,6 @@ stretch_steps (suc n) a = go (eventful (events_at a)) (stretch_steps n (step_are
         (one_more (until_event n (step_area a)))).steps ≤ suc n
     go true h = omega arith
     go false h = omega arith
-
-runnable_on : (n : ℕ) (a : List ℕ) → Runnable (suc n) a
-    → (clock_at (step_area a) ≡ clock_at a + 1) × Runnable n (step_area a)
-unfolding Runnable
-runnable_on n a h =
-    let e : suc n - (0 + 1) ≡ n = omega arith in (
-      step_clock a h.0,
-      subst (λ (k : ℕ). Runnable k (step_area a)) e
-          (run_next (suc n) 0 a (step_area a) refl (run_first (suc n) a h) (omega arith)),
-    )
-
--- the clock goes on by the steps made
-pub stretch_clock : (n : ℕ) (a : List ℕ) → Runnable n a
-    → clock_at (until_event n a).octets ≡ clock_at a + (until_event n a).steps
-unfolding until_event
-stretch_clock zero a h = omega arith
-stretch_clock (suc n) a h =
-    let r = runnable_on n a h in
-    go (eventful (events_at a)) r.0 (stretch_clock n (step_area a) r.1)
-  where
-    go : (b : Bool) → clock_at (step_area a) ≡ clock_at a + 1
-        → clock_at (until_event n (step_area a)).octets ≡ clock_at (step_area a) + (until_event n (step_area a)).steps
-        → clock_at (pick b (record { steps = 1; events = events_at a; octets = step_area a })
-        (one_more (until_event n (step_area a)))).octets
-        ≡ clock_at a + (pick b (record { steps = 1; events = events_at a; octets = step_area a })
-        (one_more (until_event n (step_area a)))).steps
-    go true p q = p
-    go false p q = omega (arith, p, q)
 
 pub stretch_some : (n : ℕ) (a : List ℕ) → 0 < n → 0 < (until_event n a).steps
 unfolding until_event

@@ -43,7 +43,7 @@ use Rattle.area_check.specs.Valid.{area_refusal}
 use Rattle.bus_spec.specs.BitTime.{outcome_in, act_in, act_at, step_area}
 use Rattle.bus_spec.specs.Ready.{Readiness}
 use Rattle.bus_spec.specs.Passes.{Passing, ready_passes}
-use Rattle.bus_spec.specs.Stays.{step_layout, step_clock, step_station, step_counters}
+use Rattle.bus_spec.proofs.Stays.{step_layout, step_clock, step_station, step_counters}
 use Rattle.bus_offer.specs.Offer as offers
 use Rattle.bus_offer.specs.OfferLaws.{address_six}
 use Rattle.bus_start.specs.Start.{started}

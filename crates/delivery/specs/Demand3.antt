@@ -1,5 +1,5 @@
--- Demand 3, word by word (document 01). The theorem that it holds is in Theorem; nothing here is proved, and nothing
--- else need be read to judge it but Calls and the definitions that the calls' promises cite. Assumes nothing.
+-- Demand 3, word by word (document 01). The theorem that it holds is in proofs/Theorem; nothing here is proved, and
+-- nothing else need be read to judge it but Calls and the definitions that the calls' promises cite. Assumes nothing.
 use Rattle.std.specs.Prelude.{ℕ, suc, ◌+◌, ◌≤◌, ◌<◌, ◌≡◌, Bool, true, List, [], ◌∷◌, ltb, length, get_or, replicate}
 use Rattle.std.proofs.lemmas.List.Edits.{sets}
 use Rattle.octets.specs.Base.{pick, refused, accepted, Outcome, outcome}

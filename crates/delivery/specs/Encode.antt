@@ -32,8 +32,9 @@ use Rattle.bus_spec.specs.BitTime.{outcome_in, act_in, act_at, settled, step_are
 use Rattle.bus_spec.specs.Range.{FrameIn}
 use Rattle.bus_spec.specs.Ready.{Readiness, kept_at}
 use Rattle.bus_spec.specs.After.{stored_in}
-use Rattle.bus_spec.specs.Stays.{step_length, step_layout, step_depth, step_draws, step_frame, step_clock, step_station}
-use Rattle.bus_spec.specs.Stays.{step_buffer}
+use Rattle.bus_spec.proofs.Stays.{step_length, step_layout, step_depth, step_draws, step_frame, step_clock}
+use Rattle.bus_spec.proofs.Stays.{step_station}
+use Rattle.bus_spec.proofs.Stays.{step_buffer}
 use Rattle.bus_offer.specs.Offer.{holds}
 use Rattle.bus_meeting.specs.Net.{Net, gathered, heard, grown}
 use Rattle.trace.specs.World.{World, outcome, symbol, step}

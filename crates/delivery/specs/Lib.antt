@@ -8,5 +8,3 @@ pub mod Traced
 pub mod Demand3
 pub mod Theorem
 pub mod Lost
-pub mod Closing
-pub mod Two

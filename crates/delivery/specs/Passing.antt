@@ -46,7 +46,7 @@ use Rattle.frame_open.specs.RoundTrip.{stored_within}
 use Rattle.station_spec.specs.Transmit.{octets_held}
 use Rattle.station_spec.specs.Count.{octets_in}
 use Rattle.bus_spec.specs.Passes.{Passing, tap_in_lem, layout_figures, layout_spread, record_right, ready_passes}
-use Rattle.bus_spec.specs.Stays.{layout_by, spread_by, step_passing}
+use Rattle.bus_spec.proofs.Stays.{layout_by, spread_by, step_passing}
 use Rattle.bus_offer.specs.Offer.{holds, offered_station, with_held, with_offered, with_offer, offered}
 use Rattle.bus_offer.specs.OfferLaws.{address_six}
 use Rattle.bus_start.specs.Start.{started}

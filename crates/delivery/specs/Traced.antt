@@ -25,7 +25,7 @@ use Rattle.area_check.specs.Valid.{area_refusal}
 use Rattle.bus_spec.specs.declared.Events.{Events}
 use Rattle.bus_spec.specs.BitTime.{act_at, events_of, no_events, events_at, event_at}
 use Rattle.bus_spec.specs.Passes.{Passing, ready_passes}
-use Rattle.bus_spec.specs.Stays.{step_passing}
+use Rattle.bus_spec.proofs.Stays.{step_passing}
 use Rattle.bus_offer.specs.Offer.{holds, offered_station, with_offer, offered}
 use Rattle.bus_offer.specs.OfferLaws.{address_six}
 use Rattle.bus_step.specs.Step.{stepped_once}

@@ -1,4 +1,5 @@
-// Demand 3: what holds over every list of calls. There is no code here but this number; the theorems are in specs/.
+// Demand 3: what holds over every list of calls. There is no code here but this number; the definitions are in specs/,
+// the theorems in proofs/.
 
 #![tactic(auto)]
 

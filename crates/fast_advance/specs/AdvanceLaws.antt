@@ -17,14 +17,17 @@ use Rattle.bus_spec.specs.Ready.{Readiness, Ready}
 use Rattle.bus_spec.specs.declared.course.Ended.{Ended}
 use Rattle.bus_spec.specs.declared.course.Ended.TheVariants as how
 use Rattle.bus_spec.specs.Run.{tallied, late_at, Ran, run_of}
-use Rattle.bus_spec.specs.RunLaws.{Runnable, NoneLate, run_first, run_next, run_searched, run_found, tallied_bounded}
+use Rattle.bus_spec.specs.RunLaws.{Runnable, NoneLate, run_first, run_searched, run_found, tallied_bounded}
+use Rattle.bus_spec.proofs.RunLaws.{run_next}
 use Rattle.bus_spec.specs.Until.{eventful, Stretched, until_event}
 use Rattle.bus_spec.specs.UntilLaws.{none_eventful, plus, stretch_on, stretch_hit}
 use Rattle.fast_plan.specs.Plan.{steps, Planned}
-use Rattle.fast_plan.specs.Calm.{AllCalm, calm_holds, calm_run, calm_until}
-use Rattle.fast_plan.specs.Happens.{plan_happens}
+use Rattle.fast_plan.specs.Calm.{AllCalm}
+use Rattle.fast_plan.proofs.Calm.{calm_holds, calm_run, calm_until}
+use Rattle.fast_plan.proofs.Happens.{plan_happens}
 use Rattle.fast_silence.specs.Jump.{silent_plan, jumped}
-use Rattle.fast_silence.specs.Bound.{silent_for, silent_most, skipped, silence_run, silence_until, silence_plans}
+use Rattle.fast_silence.specs.Bound.{silent_for, skipped}
+use Rattle.fast_silence.proofs.Bound.{silent_most, silence_run, silence_until, silence_plans}
 use Rattle.fast_heard.specs.Hearing.{plan_of}
 use Rattle.fast_window.specs.Window.{Passed}
 use Rattle.fast_advance.specs.Advance.{Quiet, Leap, Advance, quiet, stepped, Leapt, Advanced}

@@ -26,7 +26,8 @@ use Rattle.bus_spec.specs.Ready.{Readiness, Ready}
 use Rattle.bus_quick.specs.Quick.{both_true}
 use Rattle.fast_plan.specs.Plan.{hears}
 use Rattle.fast_plan.specs.Calm.{AllCalm, calm_none, calm_less}
-use Rattle.fast_silence.specs.Bound.{frames_rest, frames_last, is_idle}
+use Rattle.fast_silence.specs.Bound.{frames_rest, is_idle}
+use Rattle.fast_silence.proofs.Bound.{frames_last}
 use Rattle.fast_station.specs.Forms.{heard_rest, emits_for}
 use Rattle.fast_receive.specs.Received.{may_report}
 use Rattle.fast_segment.specs.Alone.{address_in}

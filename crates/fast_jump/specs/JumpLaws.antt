@@ -10,8 +10,10 @@ use Rattle.area.specs.Places.{layout, station}
 use Rattle.area.specs.Area.{clock_at, with_clock, figures_at, count_at, station_at, with_station}
 use Rattle.area.specs.AreaLaws.{station_by}
 use Rattle.fast_silence.specs.Rested.{rested}
-use Rattle.fast_silence.specs.Jump.{rested_all, jumped, rested_length, rested_keeps}
-use Rattle.fast_silence.specs.Bound.{silent_for, silent_most, skipped}
+use Rattle.fast_silence.specs.Jump.{rested_all, jumped}
+use Rattle.fast_silence.proofs.Jump.{rested_length, rested_keeps}
+use Rattle.fast_silence.specs.Bound.{silent_for, skipped}
+use Rattle.fast_silence.proofs.Bound.{silent_most}
 use Rattle.sheet_layout.specs.Limits.{last_clock, max_stations}
 use Rattle.area.specs.Offsets.{area_size}
 

@@ -17,8 +17,10 @@ use Rattle.bus_spec.specs.Until.{Stretched, eventful, one_more, until_event}
 use Rattle.bus_spec.specs.UntilLaws.{plus}
 use Rattle.fast_plan.specs.Plan.{Plan, Holds, steps}
 use Rattle.fast_plan.specs.Prefix.{Unhurt, holds_less}
-use Rattle.fast_plan.specs.Runs.{events_by, tallied_by, plan_events, run_steps, until_steps}
-use Rattle.fast_plan.specs.Turned.{turned_of, steps_turned}
+use Rattle.fast_plan.specs.Runs.{events_by, tallied_by, until_steps}
+use Rattle.fast_plan.proofs.Runs.{plan_events, run_steps}
+use Rattle.fast_plan.specs.Turned.{turned_of}
+use Rattle.fast_plan.proofs.Turned.{steps_turned}
 use Rattle.fast_list.specs.Counted.{words_by, words_by_station}
 use Rattle.sheet_layout.specs.Limits.{last_clock}
 

@@ -28,7 +28,8 @@ use Rattle.bus_spec.specs.Range.{Fine, FrameIn, ReceiverIn, fine_room, fine_fit}
 use Rattle.fast_plan.specs.Own.{by_itself}
 use Rattle.fast_plan.specs.Goes.{stored_all, went_to}
 use Rattle.fast_silence.specs.Rested.{Lasts, Idle}
-use Rattle.fast_silence.specs.Bound.{frames_rest, idle, frames_last}
+use Rattle.fast_silence.specs.Bound.{frames_rest, idle}
+use Rattle.fast_silence.proofs.Bound.{frames_last}
 use Rattle.fast_station.specs.Forms.{heard_rest, hear_on, rest_on, emits_for, emit_on}
 use Rattle.fast_receive.specs.Received.{received_by, kept_by, spoils, line_from, bits_from, AllHeard, may_report, calmed}
 use Rattle.fast_receive.specs.ReceivedLaws.{received_none, received_step, kept_by_lem, received_range, received_fits}

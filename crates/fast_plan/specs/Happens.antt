@@ -1,4 +1,5 @@
--- Theorem 1: a plan that holds is what happens. Assumes nothing.
+-- What one step does to an area that went by a plan so far: it goes by the plan still. That a plan that holds is what
+-- happens (Theorem 1) is in proofs/Happens. Assumes nothing.
 use Prim.Native.Nat.{ℕ, zero, suc, ◌+◌, ◌-◌, ◌≤◌, ◌<◌}
 use Rattle.std.specs.Prelude.{◌≡◌, List, eqb, ltb, leb, get_or}
 use Rattle.std.proofs.Math.Path.{refl, sym, ap, ap₂, subst}
@@ -27,8 +28,9 @@ use Rattle.bus_spec.specs.BitTime.{act_in, act_at, with_stored, happened, with_c
 use Rattle.bus_spec.specs.Range.{held_small}
 use Rattle.bus_spec.specs.InPlace.{Kept, Spread, Foreign}
 use Rattle.bus_spec.specs.Ready.{Readiness, kept_at}
-use Rattle.bus_spec.specs.After.{length_after, own, ahead}
-use Rattle.bus_spec.specs.Stays.{step_length, step_layout, step_depth, step_draws, step_frame, step_clock, step_ready}
+use Rattle.bus_spec.proofs.After.{length_after, own, ahead}
+use Rattle.bus_spec.proofs.Stays.{step_length, step_layout, step_depth, step_draws, step_frame, step_clock}
+use Rattle.bus_spec.proofs.Stays.{step_ready}
 use Rattle.bus_meeting.specs.Net.{Net, gathered, reaches, heard, grown}
 use Rattle.bus_meeting.specs.Gather.{gathered_same, gathered_none}
 use Rattle.bus_meeting.specs.Meet.{met_none, met_group, adds, heard_grown, heard_far}
@@ -36,7 +38,7 @@ use Rattle.bus_meeting.specs.Lines.{share, share_adds, line_all, clear_all}
 use Rattle.fast_plan.specs.Own.{act_on, own_left, own_turn, by_itself, by_itself_more, act_heard, length_itself}
 use Rattle.fast_plan.specs.Own.{OwnSame, own_refl, own_sym, own_trans, left_same, Stays, stays_refl, stays_trans}
 use Rattle.fast_plan.specs.Own.{stays_sym, Drawn, on_same, itself_stays}
-use Rattle.fast_plan.specs.Plan.{Plan, cut, net_of, line_now, hears, line_after, own_after, act_after, Holds, steps}
+use Rattle.fast_plan.specs.Plan.{Plan, cut, net_of, line_now, hears, line_after, own_after, act_after}
 use Rattle.fast_plan.specs.Plan.{Planned}
 use Rattle.sheet_layout.specs.Limits.{last_clock, max_stations}
 use Rattle.area.specs.Offsets.{area_size, ring}
@@ -422,19 +424,3 @@ planned_none a P r =
       line = λ j v hj lo up. sym (line_start a r.spread P j v up);
       rest = λ k st. refl;
     }
-
-pub plan_happens : (a : List ℕ) (P : Plan) (K : ℕ) → Readiness a → clock_at a + K ≤ last_clock → Holds a P K
-    → Planned a P K (steps K a)
-unfolding steps turns Holds
-plan_happens a P zero r early h = planned_none a P r
-plan_happens a P (suc K) r early h =
-    let w : Planned a P K (steps K a) = plan_happens a P K r (omega arith) (λ s i hs hi. h s i (omega arith) hi) in
-    next_planned a r.spread P K (steps K a) w (λ i hi. h K i (omega arith) hi) (omega (arith, w.time))
-
--- and what each station does in step s is what it does by itself
-pub plan_acts : (a : List ℕ) (P : Plan) (K s i : ℕ) → Readiness a → clock_at a + K ≤ last_clock → Holds a P K → s ≤ K
-    → i < count_at a → act_at (steps s a) i ≡ act_after a P i s
-unfolding Holds
-plan_acts a P K s i r early h hs hi =
-    act_planned a r.spread P s (steps s a) (plan_happens a P s r (omega arith) (λ u j hu hj. h u j (omega arith) hj))
-    i hi

@@ -1,8 +1,8 @@
 -- A station that hears nothing and emits nothing for m steps, in closed form: its gap goes on, its backoff runs down, a
--- frame that waits is deferred. Each further step is one step of the station. Assumes nothing.
+-- frame that waits is deferred. That each further step is one step of the station is in proofs/Rested. Assumes nothing.
 use Rattle.std.specs.Prelude.{ℕ, zero, suc, ◌+◌, ◌-◌, ◌^◌, ◌≤◌, ◌<◌, max, ◌≡◌, Bool, true, false, ◌||◌, ◌&&◌, List, eqb, ltb, leb}
 use Rattle.std.proofs.Math.Path.{refl}
-use Rattle.std.proofs.Common.{sym, ◌∙◌, ap, true≢false, arith, ne_eqb, ltb-true, ltb-false, lt-ltb, le-ltb, leb-true, le-leb}
+use Rattle.std.proofs.Common.{sym, ◌∙◌, ap, arith, ne_eqb, ltb-true, ltb-false, lt-ltb, le-ltb, leb-true, le-leb}
 use Rattle.std.proofs.Math.Bool.{or-true}
 use Rattle.std.proofs.lemmas.Bool.{lt-leb}
 use Rattle.octets.specs.Base.{pick}
@@ -11,7 +11,6 @@ use Rattle.sheet_layout.specs.declared.Figures.{Figures}
 use Rattle.sheet_layout.specs.Layout.{gap_of}
 use Rattle.sheet_layout.specs.CheckLaws.{Figured}
 use Rattle.station_symbols.specs.declared.Heard.TheVariants.{Nothing}
-use Rattle.station_symbols.specs.declared.Emission.TheVariants.{Rest}
 use Rattle.station_state.specs.declared.Deference.{Deference}
 use Rattle.station_state.specs.declared.Deference.TheVariants.{Quiet, Busy, Gap}
 use Rattle.station_state.specs.declared.Transmitter.{Transmitter}
@@ -23,14 +22,11 @@ use Rattle.station_state.specs.declared.Station.{Station}
 use Rattle.station_state.specs.State.{number_in}
 use Rattle.station_spec.specs.Defer.{to, defer, quiet_rule, busy_rule, gap_rule, gap_over, goes_back}
 use Rattle.station_spec.specs.Transmit.{waits, resting, transmit, wait_bit, backoff_bit}
-use Rattle.station_spec.specs.declared.Stored.TheVariants.{NoStore}
 use Rattle.station_spec.specs.Receive.{deciding, receive, ended}
 use Rattle.station_spec.specs.declared.ReceiveEvent.TheVariants.{NoReceive}
-use Rattle.station_spec.specs.Step.{tries_after, draw_after, deferred_after, stepped, next_station}
 use Rattle.area_record.specs.Codec.{deference_count}
 use Rattle.area_record.specs.CodecLaws.{Fit}
 use Rattle.bus_spec.specs.Range.{Fine, GapIn, NumberIn}
-use Rattle.bus_quick.specs.Quick.{quietly}
 
 -- ---- the closed form
 
@@ -169,20 +165,6 @@ defer_goes f (Gap n own) m w g h =
 
 -- ---- transmitter
 
--- in K steps a frame that waits does not start
-pub waits_rests : (f : Figures) (K m : ℕ) (d : Deference) (x : Transmitter) → Lasts f K d x → m < K
-    → waits (rested_transmitter m x) ≡ true → m < rests_for f d
-unfolding rested_transmitter
-waits_rests f K m d NoFrame l h e = absurd (true≢false (sym e))
-waits_rests f K m d Waiting l h e = omega arith
-waits_rests f K m d (BackingOff w) l h e =
-    by_test (ltb m w)
-    (λ c. absurd (true≢false (sym (sym (ap (λ (b : Bool). waits (pick b (BackingOff (w - m)) Waiting)) c) ∙ e))))
-    (λ c. let g = ltb-false m w c in omega arith)
-waits_rests f K m d (Sending k) l h e = absurd l
-waits_rests f K m d (Heading k) l h e = absurd l
-waits_rests f K m d (Jamming k ends) l h e = absurd l
-
 -- no frame goes out
 abbrev pub NoneOut : Transmitter → Type 0
 NoneOut NoFrame = Unit {0}
@@ -249,21 +231,6 @@ idle_ends address buf Listening e i = refl
 idle_ends address buf (Readable n) e i = refl
 idle_ends address buf (Seeking row sp own) e i = absurd i
 idle_ends address buf (Collecting n sp own) e i = absurd i
-
-pub rested_step : (f : Figures) (K m : ℕ) (s : Station) (d draw : ℕ) (buf : List ℕ) → 1 ≤ gap_of f → Rests f K s → m < K
-    → stepped f (rested f m s) d draw buf Nothing ≡ quietly (rested f (suc m) s) Rest NoStore
-unfolding stepped next_station tries_after draw_after deferred_after quietly rested
-rested_step f K m s d draw buf g l h =
-    rw (
-      defer_goes f s.deference m (waits (rested_transmitter m s.transmitter)) g
-          (waits_rests f K m s.deference s.transmitter l.lasts h),
-      transmit_goes f m s.transmitter s.frame s.attempts draw false
-          (lasts_none f K s.deference s.transmitter l.lasts),
-      idle_ends s.address buf s.receiver false l.idle,
-      waited_more m s.transmitter,
-      deferred_more s.deferred (eqb s.attempts 0) (has_waited m s.transmitter)
-          (waits (rested_transmitter m s.transmitter)),
-    )
 
 -- ---- where it begins, and its range
 

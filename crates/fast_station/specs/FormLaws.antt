@@ -39,7 +39,8 @@ use Rattle.area_record.specs.CodecLaws.{Fit}
 use Rattle.bus_spec.specs.Range.{Fine}
 use Rattle.bus_quick.specs.Quick.{quietly}
 use Rattle.fast_silence.specs.Rested.{rested_deference, rested_transmitter, has_waited, Lasts, NoneOut, defer_goes}
-use Rattle.fast_silence.specs.Rested.{waits_rests, lasts_none, transmit_goes, waited_more, deferred_more, rested_gap}
+use Rattle.fast_silence.specs.Rested.{lasts_none, transmit_goes, waited_more, deferred_more, rested_gap}
+use Rattle.fast_silence.proofs.Rested.{waits_rests}
 use Rattle.fast_silence.specs.Rested.{rested_frame, none_waited, as_was, count_small, number_less}
 use Rattle.fast_station.specs.Forms.{made, deferred_by, heard_gap, heard_deference, heard_for, heard_rest, hear_on}
 use Rattle.fast_station.specs.Forms.{rest_on, emits_on, emitted_at, emits_for, emit_on}

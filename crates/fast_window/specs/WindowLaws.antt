@@ -10,10 +10,12 @@ use Rattle.bus_spec.specs.BitTime.{step_area}
 use Rattle.bus_spec.specs.Ready.{Readiness, Ready}
 use Rattle.bus_spec.specs.RunLaws.{Runnable}
 use Rattle.fast_plan.specs.Plan.{steps}
-use Rattle.fast_plan.specs.Calm.{AllCalm, calm_holds}
+use Rattle.fast_plan.specs.Calm.{AllCalm}
+use Rattle.fast_plan.proofs.Calm.{calm_holds}
 use Rattle.fast_plan.specs.Exact.{own_all}
 use Rattle.fast_plan.specs.Placed.{lines_done}
-use Rattle.fast_plan.specs.Turned.{turned_of, steps_turned}
+use Rattle.fast_plan.specs.Turned.{turned_of}
+use Rattle.fast_plan.proofs.Turned.{steps_turned}
 use Rattle.fast_heard.specs.Hearing.{plan_of, emits_at}
 use Rattle.fast_lines.specs.declared.Emitter.{Emitter}
 use Rattle.fast_lines.specs.Lines.{emitters_of, plan_by, Settles}

@@ -10,11 +10,11 @@
 
 #![tactic(auto)]
 
-ghost use Rattle.std.specs.Prelude.{◌<◌, ◌≤◌, ◌+◌};
+ghost use Rattle.std.specs.Prelude.{◌<◌, ◌≤◌, ◌+◌, IfOk};
 
-use libc::{STDIN_FILENO, STDOUT_FILENO};
 use log_entry::{Entry, Event};
 use octets::Done;
+use std::io;
 
 // An octet of the input, 0 past its end.
 fn octet(s: &[u8], k: usize) -> u32
@@ -69,38 +69,39 @@ fn read_windows(s: &[u8], k: usize) -> [u32; 204]
     windows
 }
 
-fn print_number(x: u32) {
-    io::print_decimal(STDOUT_FILENO, x as u64);
+fn print_number(rt: &impl Print, x: u32) -> io::Result<()> {
+    rt.print(x)
 }
 
 // The counts of the first windows.
-fn print_counts(out: &[u32], windows: usize) {
+fn print_counts(rt: &impl Print, out: &[u32], windows: usize) -> io::Result<()> {
     for c in 0..640usize {
         if c / station_tally::WORDS < windows {
             if c < out.len() {
                 if c % station_tally::WORDS == 0 {
-                    io::write_all(STDOUT_FILENO, b" ");
+                    rt.write_all(b" ")?;
                 } else {
-                    io::write_all(STDOUT_FILENO, b",");
+                    rt.write_all(b",")?;
                 }
-                print_number(out[c]);
+                print_number(rt, out[c])?;
             }
         }
     }
+    Ok(())
 }
 
-fn print_answer(answer: Done, out: &[u32], windows: usize) {
+fn print_answer(rt: &impl Print, answer: Done, out: &[u32], windows: usize) -> io::Result<()> {
     match answer {
         Done::Refused(x) => {
-            io::write_all(STDOUT_FILENO, b"refused ");
-            print_number(x);
+            rt.write_all(b"refused ")?;
+            print_number(rt, x)?;
         }
         Done::Made => {
-            io::write_all(STDOUT_FILENO, b"ok");
-            print_counts(out, windows);
+            rt.write_all(b"ok")?;
+            print_counts(rt, out, windows)?;
         }
     }
-    io::write_all(STDOUT_FILENO, b"\n");
+    rt.write_all(b"\n")
 }
 
 fn least(a: usize, b: usize) -> usize
@@ -111,22 +112,23 @@ fn least(a: usize, b: usize) -> usize
 
 // One lookup, with at most `last` counts of the output lent to it, and its line.
 fn look_and_print(
+    rt: &impl Print,
     log: [Entry; 40],
     n: u32,
     windows: &[u32],
     out: &mut [u32],
     last: usize,
     count: usize,
-) {
+) -> io::Result<()> {
     let end = least(last, out.len());
     let answer = log_board::look_up_all(log, n, windows, &mut out[0..end]);
-    print_answer(answer, out, count);
+    print_answer(rt, answer, out, count)
 }
 
 // One case at `at`: the place of the next.
-fn run_case(s: &[u8], at: usize) -> usize
+fn run_case(rt: &impl Print, s: &[u8], at: usize) -> io::Result<usize>
     requires { at < 1700000 }
-    ensures { result ≤ at + 4000 }
+    ensures { IfOk result (λ next. next ≤ at + 4000) }
 {
     let n = octet(s, at);
     let entries = octet(s, at + 1) as usize;
@@ -137,22 +139,24 @@ fn run_case(s: &[u8], at: usize) -> usize
     let mut out = [0u32; 640];
     let end = least(3 * count, 204);
     look_and_print(
+        rt,
         log,
         n,
         &windows[0..end],
         &mut out,
         station_tally::WORDS * room,
         count,
-    );
-    at + 4 + 6 * entries + 9 * count
+    )?;
+    Ok(at + 4 + 6 * entries + 9 * count)
 }
 
-fn main() {
+fn main(rt: HostRuntime) -> io::Result<()> {
     let mut input = [0u8; 32768];
-    let n = io::read_full(STDIN_FILENO, &mut input);
+    let n = reading::fill(&mut rt.stdin(), &mut input)?;
     let cases = octet(&input[0..n], 0);
     let mut at = 1;
     for k in 0..cases {
-        at = run_case(&input[0..n], at);
+        at = run_case(&rt, &input[0..n], at)?;
     }
+    Ok(())
 }

@@ -8,9 +8,10 @@
 
 #![tactic(auto)]
 
-use libc::{STDIN_FILENO, STDOUT_FILENO};
 use log_entry::State;
 use octets::Done;
+use std::io;
+use std::io::Read;
 
 // The octets that are read at a time, and how often.
 const PART: usize = 24576;
@@ -37,58 +38,64 @@ fn answer(unknown: bool, s: State, windows: &[u32], out: &mut [u32]) -> Done {
 }
 
 // Looks up the windows in the log that is still to be read.
-fn look_up(n: u32, windows: &[u32], out: &mut [u32]) -> Done {
+fn look_up<R: Read>(from: &mut R, n: u32, windows: &[u32], out: &mut [u32]) -> io::Result<Done> {
     let mut part = [0u8; PART];
     let mut unknown = false;
     let mut s = log_windows::opened(n);
     for k in 0..PARTS {
-        let got = io::read_full(STDIN_FILENO, &mut part);
+        let got = reading::fill(from, &mut part)?;
         unknown = octets::either(unknown, log_octets::any_unknown(&part[0..got]));
         s = log_octets::entered_all(s, windows, &part[0..got]);
         if got < PART {
-            return answer(unknown, s, windows, out);
+            return Ok(answer(unknown, s, windows, out));
         }
     }
-    Done::Refused(16)
+    Ok(Done::Refused(16))
 }
 
-fn print_number(x: u32) {
-    io::print_decimal(STDOUT_FILENO, x as u64);
+fn print_number(rt: &impl Print, x: u32) -> io::Result<()> {
+    rt.print(x)
 }
 
 // A line for each of the first windows.
-fn print_counts(out: &[u32; 640], windows: usize) {
+fn print_counts(rt: &impl Print, out: &[u32; 640], windows: usize) -> io::Result<()> {
     for c in 0..640usize {
         if c / station_tally::WORDS < windows {
-            print_number(out[c]);
+            print_number(rt, out[c])?;
             if c % station_tally::WORDS == 9 {
-                io::write_all(STDOUT_FILENO, b"\n");
+                rt.write_all(b"\n")?;
             } else {
-                io::write_all(STDOUT_FILENO, b" ");
+                rt.write_all(b" ")?;
             }
         }
     }
+    Ok(())
 }
 
-fn print_answer(answer: Done, out: &[u32; 640], windows: usize) {
+fn print_answer(rt: &impl Print, answer: Done, out: &[u32; 640], windows: usize) -> io::Result<()> {
     match answer {
         Done::Refused(x) => {
-            io::write_all(STDOUT_FILENO, b"refused ");
-            print_number(x);
-            io::write_all(STDOUT_FILENO, b"\n");
+            rt.write_all(b"refused ")?;
+            print_number(rt, x)?;
+            rt.write_all(b"\n")
         }
-        Done::Made => print_counts(out, windows),
+        Done::Made => print_counts(rt, out, windows),
     }
 }
 
-fn main() {
+fn main(rt: HostRuntime) -> io::Result<()> {
     let mut size = [0u8; 2];
     let mut head = [0u8; 2295];
     let mut out = [0u32; 640];
-    io::read_full(STDIN_FILENO, &mut size);
+    reading::fill(&mut rt.stdin(), &mut size)?;
     let m = octets::wide(size[1]) as usize;
-    io::read_full(STDIN_FILENO, &mut head[0..9 * m]);
+    reading::fill(&mut rt.stdin(), &mut head[0..9 * m])?;
     let windows = read_windows(&head);
-    let answer = look_up(octets::wide(size[0]), &windows[0..3 * m], &mut out);
-    print_answer(answer, &out, m);
+    let answer = look_up(
+        &mut rt.stdin(),
+        octets::wide(size[0]),
+        &windows[0..3 * m],
+        &mut out,
+    )?;
+    print_answer(&rt, answer, &out, m)
 }

@@ -57,7 +57,7 @@ use Rattle.bus_spec.specs.InPlace.{Kept, length_stored, length_counted, length_p
 use Rattle.bus_spec.specs.Range.{held_small}
 use Rattle.bus_spec.specs.Ready.{Readiness, kept_at}
 use Rattle.bus_spec.specs.Passes.{Passing, ready_passes}
-use Rattle.bus_spec.specs.Stays.{layout_by, step_length, step_clock, step_passing}
+use Rattle.bus_spec.proofs.Stays.{layout_by, step_length, step_clock, step_passing}
 use Rattle.bus_spec.specs.Run.{tallied, stops, run_of, ran}
 use Rattle.bus_offer.specs.Offer.{holds, offered_station, with_held, with_offered, with_offer, offered}
 use Rattle.bus_offer.specs.OfferLaws.{address_six}

@@ -32,7 +32,7 @@ use Rattle.marks.specs.MarkTheorems.{found_most, place_most, mark_own, mark_othe
 use Rattle.delivery.specs.Calls.{Call, Fair, AllFair, Moment, leaves, end, begin}
 use Rattle.delivery.specs.Demand3.{called}
 use Rattle.delivery.specs.Passing.{started_passes}
-use Rattle.delivery.specs.Theorem.{call_octets, demand_3}
+use Rattle.delivery.proofs.Theorem.{call_octets, demand_3}
 use Rattle.paths.specs.Front.{refusal_front, called_front, called_passing, called_length, fresh_front}
 use Rattle.paths.specs.Paths.{Path, Known, unknown, along, further, onward, blank, layout_of, beginning, reached}
 use Rattle.paths.specs.Paths.{Act, start, call, mark, back, lose, hand, FairAct, AllFairActs, Session, opened}

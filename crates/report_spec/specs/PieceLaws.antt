@@ -27,7 +27,8 @@ use Rattle.bus_spec.specs.declared.course.Stretch.{Stretch}
 use Rattle.bus_spec.specs.Run.{late_at, stops}
 use Rattle.bus_spec.specs.RunLaws.{Runnable, clock_within, run_allowed}
 use Rattle.bus_spec.specs.Until.{Stretched, stretch_of, until_event}
-use Rattle.bus_spec.specs.UntilLaws.{stretch_steps, stretch_clock, stretch_some}
+use Rattle.bus_spec.specs.UntilLaws.{stretch_steps, stretch_some}
+use Rattle.bus_spec.proofs.UntilLaws.{stretch_clock}
 use Rattle.report_text.specs.Text.{Written, written, puts, counted, line, first_line, fit_yes, fit_no, refused_word}
 use Rattle.report_text.specs.Text.{refused_line, refused_offer, end_word, end_line}
 use Rattle.report_lines.specs.Events.{step_lines}

@@ -30,7 +30,7 @@ use Rattle.area_check.specs.Valid.{area_refusal}
 use Rattle.bus_spec.specs.declared.Events.{Events}
 use Rattle.bus_spec.specs.BitTime.{no_events, events_at, step_area}
 use Rattle.bus_spec.specs.Passes.{Passing, ready_passes}
-use Rattle.bus_spec.specs.Stays.{step_clock, step_length, step_passing}
+use Rattle.bus_spec.proofs.Stays.{step_clock, step_length, step_passing}
 use Rattle.delivery.specs.Passing.{start_passing, offered_passes, offered_keeps}
 use Rattle.bus_spec.specs.Run.{late_at, stops}
 use Rattle.bus_spec.specs.Until.{has_event, eventful, Stretched, one_more, until_event}

@@ -1,8 +1,11 @@
 -- How far the text may reach: no text of a run is longer than that many octets. The laws of the loop that writes it.
 -- Assumes nothing.
-use Rattle.std.specs.Prelude.{ℕ, ◌+◌, ◌-◌, ◌*◌, ◌≤◌, ◌≡◌, Bool, true, false, not, List, length, take}
-use Rattle.std.proofs.Common.{sym, ◌∙◌, subst, true≢false, arith}
+use Rattle.std.specs.Prelude.{ℕ, Bool, Option, Result, Ok, Err, OnOk, ◌+◌, ◌-◌, ◌*◌, ◌≤◌, ◌≡◌, true, false, not, List, [], ◌++◌, length, take, drop}
+use Rattle.std.proofs.Common.{refl, sym, ◌∙◌, ap, subst, true≢false, append_assoc, append-nil, take-append-drop, drop-drop, drop_of_length-le, arith}
 use Rattle.std.proofs.lemmas.Bool.{not-true, not-false}
+use Rattle.octets.specs.Store.{part}
+use Rattle.std.proofs.KnownBytes.{Appends-trans}
+use Rattle.std.specs.Io.KnownBytes.{Appends}
 use Rattle.report_spec.specs.declared.Progress.{Progress}
 use Rattle.report_spec.specs.Printed.{printed}
 use Rattle.report_spec.specs.Pieces.{Moved, moved, move, first_piece}
@@ -58,6 +61,36 @@ module _ (l b c x : List ℕ) (n k : ℕ) (g h : Progress) (w : Along l n g b) (
 pub not_done : (d : Bool) (v : ℕ) (l : List ℕ) → not d ≡ true → d ≡ true → v ≡ length (printed l)
 not_done d v l o t = absurd (true≢false (sym t ∙ not-true d o))
 
-pub all_done : (l b : List ℕ) (n : ℕ) (g : Progress) → Along l n g b → not g.ended ≡ false → true ≡ true
-    → n ≡ length (printed l)
-all_done l b n g w o t = end_place l n g b (not-false g.ended o) w
+pub all_done : (l b : List ℕ) (n : ℕ) (g : Progress) → Along l n g b → not g.ended ≡ false → n ≡ length (printed l)
+all_done l b n g w o = end_place l n g b (not-false g.ended o) w
+
+-- ---- the text, octets d of which are written from s on
+
+-- with piece p behind them
+pub next_text : (l d p : List ℕ) (s n v : ℕ) → drop s (printed l) ≡ d ++ drop n (printed l)
+    → part (printed l) n (length p) ≡ p
+    → v ≡ n + length p → drop s (printed l) ≡ (d ++ p) ++ drop v (printed l)
+next_text l d p s n v e q m =
+    let t : drop n (printed l) ≡ p ++ drop v (printed l) =
+    sym (take-append-drop (length p) (drop n (printed l)))
+    ∙ ap (λ (x : List ℕ). x ++ drop (length p) (drop n (printed l))) q
+    ∙ ap (λ (x : List ℕ). p ++ x)
+    (drop-drop (length p) n (printed l) ∙ ap (λ (i : ℕ). drop i (printed l)) (sym m)) in
+    e ∙ ap (λ (x : List ℕ). d ++ x) t ∙ sym (append_assoc d p (drop v (printed l)))
+
+-- with the first piece alone
+pub first_text : (l p : List ℕ) (v : ℕ) → part (printed l) 0 (length p) ≡ p → v ≡ 0 + length p
+    → p ++ drop v (printed l) ≡ printed l
+first_text l p v q m = sym (next_text l [] p 0 0 v refl q m)
+
+-- all of them
+pub all_text : (l d : List ℕ) (s n : ℕ) → drop s (printed l) ≡ d ++ drop n (printed l) → n ≡ length (printed l)
+    → d ≡ drop s (printed l)
+all_text l d s n e m =
+    sym (e ∙ ap (λ (x : List ℕ). d ++ x) (drop_of_length-le (printed l) {i = n} (omega arith)) ∙ append-nil d)
+
+-- p was written, and behind it, where all went well, q: together they are t
+pub wrote : {X E : Type 0} (a b c : Option (List ℕ)) (p q t : List ℕ) (r : Result X E) → p ++ q ≡ t → Appends a b p
+    → OnOk r (Appends b c q) → OnOk r (Appends a c t)
+wrote a b c p q t (Ok x) e f h = subst (Appends a c) e (Appends-trans a b c p q f h)
+wrote a b c p q t (Err x) e f h = tt

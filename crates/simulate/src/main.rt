@@ -1,10 +1,10 @@
 // The run program: a run input on standard input, what is printed for it on standard output. The pieces are made by
-// `report_begin` and `report_next`; what is handed to the write calls here, one behind the other, is just what is
-// printed.
+// `report_begin` and `report_next`; what is handed to the writer here, one behind the other, is just what is printed.
 
 #![tactic(auto)]
 
-ghost use Rattle.std.specs.Prelude.{◌≡◌, true, ◌+◌, ◌*◌, ◌≤◌, length};
+ghost use Rattle.std.specs.Prelude.{◌≡◌, ◌+◌, ◌*◌, ◌≤◌, length, drop, IfOk, OnOk};
+ghost use Rattle.std.specs.Io.KnownBytes.{Appends};
 ghost use Rattle.octets.specs.Store.{part};
 ghost use Rattle.report_spec.specs.Printed.{printed};
 ghost use Rattle.report_theorem.specs.Whole.{pieces};
@@ -12,34 +12,43 @@ ghost use Rattle.report_theorem.specs.Along.{Along};
 ghost use Rattle.simulate.specs.Written.{most};
 ghost use Rattle.area.specs.Offsets.{area_size};
 
-use libc::{STDIN_FILENO, STDOUT_FILENO};
 use report_spec::Progress;
+use std::io;
+use std::io::Write;
 
-// How many octets of the text were handed to the write calls, and whether every call answered that it wrote them.
-#[derive(Clone, Copy)]
+// How many octets of the text were handed to the writer, and whether it took all of the last ones.
+#[derive(Drop)]
 struct Written {
     at: usize,
-    done: bool,
+    done: io::Result<()>,
 }
 
 // The one call that writes. It is handed the octets of what is printed for the input from `at` on, and answers where
 // they end.
-fn write_piece(input: &[u8], at: usize, piece: &[u8]) -> Written
+fn write_piece<W: Write>(to: &mut W, input: &[u8], at: usize, piece: &[u8]) -> Written
     requires piece_value { part (printed input.now) at (length piece.now) ≡ piece.now }
     requires piece_bound { at + length piece.now ≤ most }
-    ensures { result.at ≡ at + length piece.now }
+    ensures end { result.at ≡ at + length piece.now }
+    ensures text { OnOk result.done (Appends (W.contents to.old) (W.contents to.new) piece.now) }
 {
-    let done = io::write_all(STDOUT_FILENO, piece);
+    let done = to.write_all(piece);
     Written {
         at: at + piece.len(),
         done,
     }
 }
 
-// Writes the pieces that are still to come, each as soon as it is made, until a write call fails.
-fn write_rest(input: &[u8], area: &mut [u8], at: usize, g: Progress) -> Written
+// Writes the pieces that are still to come, each as soon as it is made, until the writer fails. Answers where they end.
+fn write_rest<W: Write>(
+    to: &mut W,
+    input: &[u8],
+    area: &mut [u8],
+    at: usize,
+    g: Progress,
+) -> io::Result<usize>
     requires { (Along input.now at g area.old) × (at + 2048 * pieces g ≤ most) }
-    ensures { result.done ≡ true → result.at ≡ length (printed input.now) }
+    ensures end { IfOk result (λ end. end ≡ length (printed input.now)) }
+    ensures text { OnOk result (Appends (W.contents to.old) (W.contents to.new) (drop at (printed input.now))) }
 {
     let mut buf = [0u8; 2048];
     let mut at = at;
@@ -47,37 +56,35 @@ fn write_rest(input: &[u8], area: &mut [u8], at: usize, g: Progress) -> Written
     while !g.ended {
         let p = report_whole::parts::next(input, area, &mut buf, g);
         let size = p.size;
-        let w = write_piece(input, at, &buf[0..size]);
-        if !w.done {
-            return w;
-        }
+        let w = write_piece(to, input, at, &buf[0..size]);
+        w.done?;
         at = w.at;
         g = p.progress;
     }
-    Written { at, done: true }
+    Ok(at)
 }
 
-// Writes all that is printed for the input: where every write call answered true, what was handed to them is the whole
-// text.
-fn write_run(input: &[u8], area: &mut [u8]) -> Written
+// Writes all that is printed for the input: where every write succeeded, what was handed to the writer is the whole
+// text. Answers where the text ends.
+fn write_run<W: Write>(to: &mut W, input: &[u8], area: &mut [u8]) -> io::Result<usize>
     requires { length area.old ≡ area_size }
-    ensures { result.done ≡ true → result.at ≡ length (printed input.now) }
+    ensures end { IfOk result (λ end. end ≡ length (printed input.now)) }
+    ensures text { OnOk result (Appends (W.contents to.old) (W.contents to.new) (printed input.now)) }
 {
     let mut buf = [0u8; 2048];
     let p = report_whole::parts::first(input, area, &mut buf);
     let size = p.size;
-    let w = write_piece(input, 0, &buf[0..size]);
-    if !w.done {
-        return w;
-    }
+    let w = write_piece(to, input, 0, &buf[0..size]);
+    w.done?;
     let g = p.progress;
-    write_rest(input, area, w.at, g)
+    write_rest(to, input, area, w.at, g)
 }
 
 // One octet more than an input may have is read: a longer one is refused without keeping it.
-fn main() {
+fn main(rt: HostRuntime) -> io::Result<()> {
     let mut input = [0u8; 16385];
     let mut area = [0u8; area::AREA];
-    let n = io::read_full(STDIN_FILENO, &mut input);
-    write_run(&input[0..n], &mut area);
+    let n = reading::fill(&mut rt.stdin(), &mut input)?;
+    write_run(&mut io::writer(&rt), &input[0..n], &mut area)?;
+    Ok(())
 }

@@ -1,21 +1,19 @@
--- A frame that was sent passes every other station alone and whole, with silence around it. Assumes nothing.
-use Rattle.std.specs.Prelude.{ℕ, suc, ◌+◌, ◌*◌, ◌≤◌, ◌<◌, ◌≡◌, true, List, ◌⊎◌, length}
-use Rattle.std.proofs.Common.{sym, ap, arith}
-use Rattle.octets.specs.BaseLaws.{by_test}
+-- What a station hears of a whole packet; and the run of a frame that was sent, clear of others. That it passes every
+-- other station so is in proofs/Alone. Assumes nothing.
+use Rattle.std.specs.Prelude.{ℕ, suc, ◌+◌, ◌*◌, ◌≤◌, ◌<◌, ◌≡◌, List, length}
+use Rattle.std.proofs.Common.{ap, arith}
 use Rattle.sheet_layout.specs.Layout.{gap_of}
 use Rattle.station_symbols.specs.declared.Heard.TheVariants.{Nothing, Clean}
-use Rattle.station_symbols.specs.declared.Symbol.TheVariants.{Silence, Bit}
+use Rattle.station_symbols.specs.declared.Symbol.TheVariants.{Silence}
 use Rattle.station_symbols.specs.Packet.{packet_bit}
 use Rattle.station_spec.specs.Transmit.{packet_length, shortest_packet}
-use Rattle.trace.specs.Basic.{either}
-use Rattle.trace.specs.Trace.{Clear, alone, apart, listens, silent_before, silent_after}
+use Rattle.trace.specs.Trace.{Clear}
 use Rattle.bus_meeting.specs.Net.{Net}
 use Rattle.trace.specs.World.{Offer}
-use Rattle.bus_meeting.specs.Gather.{on, off_is}
-use Rattle.trace.specs.Hear.{Only, only_heard, silence_heard}
+use Rattle.bus_meeting.specs.Gather.{on}
 use Rattle.trace.specs.Run.{sig, emits, sees, Sound}
 use Rattle.trace.specs.Inv.{Whole}
-use Rattle.trace.specs.Keep.{some_gap, unheard_in, lawful}
+use Rattle.trace.specs.Keep.{unheard_in}
 use Rattle.trace.specs.Sent.{whole_after}
 
 -- What station j hears of the whole packet that station i sends over the steps a to e.
@@ -28,7 +26,7 @@ pub record Passes (P : Net) (inp : ℕ → List (Offer P)) (i a e : ℕ) (F : Li
 module _ (P : Net) (inp : ℕ → List (Offer P)) (span : ℕ) (L : Sound P span)
     (g : gap_of P.fig ≤ 64 + P.fig.jam) (fits : 2 * span ≤ shortest_packet P.fig) where
   module _ (i a e : ℕ) (hi : i < P.n) (w : Whole P inp i a e) where
-    clear : Clear P.n span P.d (emits P inp) i a e
+    pub clear : Clear P.n span P.d (emits P inp) i a e
     clear =
         record {
           station = hi;
@@ -38,40 +36,4 @@ module _ (P : Net) (inp : ℕ → List (Offer P)) (span : ℕ) (L : Sound P span
           on = λ s lo up. w.ran.on s lo (omega arith);
           off = ap on (whole_after P inp span L i a e hi w);
           quiet = λ y lo up. unheard_in P inp span L i y (w.clear y lo up);
-        }
-
-    -- Another station emits well before the packet passes it, or well after.
-    pub others_apart : (k s : ℕ) → k < P.n → (i ≡ k → ⊥) → emits P inp k s ≡ true
-        → (s + P.d i k + suc (gap_of P.fig) ≤ a) ⊎ (e + P.d i k + suc (gap_of P.fig) ≤ s)
-    others_apart k s hk ne o = apart (lawful P inp span L g) clear k s hk ne o
-
-    only : (j k : ℕ) → j < P.n → (i ≡ j → ⊥) → k < packet_length (length w.frame)
-        → Only P.n P.d (sig P inp) j (a + P.d i j + k) (Bit (packet_bit w.frame (k + 1)))
-    only j k hj ne l =
-        record {
-          from = i;
-          at = a + k;
-          station = hi;
-          other = ne;
-          delay = omega arith;
-          is = w.bits k l;
-          rest = λ x y hx nj nf z. by_test (on (sig P inp x y))
-              (λ o. absurd (either (alone (lawful P inp span L g) clear j x y (a + P.d i j + k) hj hx (λ q. nf (sym q))
-              (some_gap P inp span L) o z)
-              (λ h. omega arith) (λ h. omega (arith, w.long))))
-              (λ o. off_is (sig P inp x y) o);
-        }
-
-    -- A frame that was sent is heard alone and whole at every other station, which listens.
-    pub passes : (j : ℕ) → j < P.n → (i ≡ j → ⊥) → Passes P inp i a e w.frame j
-    unfolding sees
-    passes j hj ne =
-        record {
-          comes = λ k l. only_heard P (sig P inp) j (a + P.d i j + k) (Bit (packet_bit w.frame (k + 1)))
-              (only j k hj ne l);
-          before = λ t z. silence_heard P (sig P inp) j t
-              (silent_before (lawful P inp span L g) clear j t hj ne (some_gap P inp span L) z);
-          after = silence_heard P (sig P inp) j (suc (e + P.d i j))
-              (silent_after (lawful P inp span L g) clear j hj ne (some_gap P inp span L));
-          listens = λ s lo up. off_is (sig P inp j s) (listens (lawful P inp span L g) clear j s hj ne lo up);
         }

@@ -21,7 +21,7 @@ use Rattle.station_spec.specs.Step.{tries_after}
 use Rattle.bus_spec.specs.Range.{FrameIn, no_start}
 use Rattle.bus_offer.specs.Offer.{holds, offered_station}
 use Rattle.trace.specs.Basic.{either, clash}
-use Rattle.trace.specs.Trace.{Emitted, Rules, Lawful}
+use Rattle.trace.specs.Trace.{Emitted, Rules}
 use Rattle.bus_meeting.specs.Net.{Net}
 use Rattle.trace.specs.World.{Offer, fresh_station, fresh, before}
 use Rattle.bus_meeting.specs.Gather.{on}
@@ -285,7 +285,3 @@ module _ (P : Net) (inp : ℕ → List (Offer P)) (span : ℕ) (L : Sound P span
             (flags i t hi v) ne e v.phase)
             (λ e. absurd (ne (goes_on_lem i t hi v e st.on)));
       }
-
-  pub lawful : gap_of P.fig ≤ 64 + P.fig.jam
-      → Lawful P.n span (gap_of P.fig) (64 + P.fig.jam) P.d (emits P inp)
-  lawful g = record { metric = L.metric; rules = rules; fits = g }

@@ -8,7 +8,6 @@ pub mod Phases
 pub mod Keep
 pub mod Sent
 pub mod Late
-pub mod Closed
 pub mod Alone
 pub mod Attempts
 pub mod Frames

@@ -17,6 +17,8 @@ mod asks;
 mod script;
 mod show;
 
-fn main() {
-    script::run_all();
+use std::io;
+
+fn main(rt: HostRuntime) -> io::Result<()> {
+    script::run_all(&rt)
 }

@@ -2,7 +2,7 @@
 
 ghost use Rattle.std.specs.Prelude.{◌<◌, ◌≤◌, length};
 
-use libc::{STDIN_FILENO, STDOUT_FILENO};
+use std::io;
 
 // What a hexadecimal digit, 0 to 9 or a to f, stands for; 0 for any other octet.
 fn digit(c: u8) -> u32
@@ -47,48 +47,49 @@ fn find(s: &[u8], at: usize, mark: u8) -> usize
 }
 
 // A call with what is spelled behind it.
-fn run_call(area: &mut [u8], call: u8, spelled: &[u8]) {
+fn run_call(rt: &impl Print, area: &mut [u8], call: u8, spelled: &[u8]) -> io::Result<()> {
     let mut handed = [0u8; 4096];
     let mut out = [0u8; 1600];
     let n = decode(spelled, &mut handed);
     let r = crate::asks::ask(area, call, &handed[0..n], &mut out);
-    crate::show::print_answer(call, r, &out);
+    crate::show::print_answer(rt, call, r, &out)
 }
 
 // The call's letter and its name, then the answer.
-fn run_line(area: &mut [u8], call: u8, rest: &[u8]) {
+fn run_line(rt: &impl Print, area: &mut [u8], call: u8, rest: &[u8]) -> io::Result<()> {
     let end = find(rest, 0, b' ');
-    io::write_all(STDOUT_FILENO, &[call]);
-    io::write_all(STDOUT_FILENO, &rest[end..]);
-    io::write_all(STDOUT_FILENO, b": ");
-    run_call(area, call, &rest[0..end]);
-    io::write_all(STDOUT_FILENO, b"\n");
+    rt.write_all(&[call])?;
+    rt.write_all(&rest[end..])?;
+    rt.write_all(b": ")?;
+    run_call(rt, area, call, &rest[0..end])?;
+    rt.write_all(b"\n")
 }
 
-fn run_one(area: &mut [u8], line: &[u8]) {
+fn run_one(rt: &impl Print, area: &mut [u8], line: &[u8]) -> io::Result<()> {
     if line.len() > 0 {
         let call = line[0];
         if call != b'#' {
-            run_line(area, call, &line[1..]);
-            return;
+            return run_line(rt, area, call, &line[1..]);
         }
     }
-    io::write_all(STDOUT_FILENO, line);
-    io::write_all(STDOUT_FILENO, b"\n");
+    rt.write_all(line)?;
+    rt.write_all(b"\n")
 }
 
-fn run_lines(text: &[u8]) {
+fn run_lines(rt: &impl Print, text: &[u8]) -> io::Result<()> {
     let mut area = [0x55u8; area::AREA];
     let mut at: usize = 0;
     while at < text.len() {
         let end = find(text, at, b'\n');
-        run_one(&mut area, &text[at..end]);
+        run_one(rt, &mut area, &text[at..end])?;
         at = end + 1;
     }
+    Ok(())
 }
 
-pub(crate) fn run_all() {
-    let mut text = io::large_buffer();
-    let n = io::read_full(STDIN_FILENO, &mut text);
-    run_lines(&text[..n]);
+// At most 65536 octets are read.
+pub(crate) fn run_all(rt: &HostRuntime) -> io::Result<()> {
+    let mut text = [0u8; 65536];
+    let n = reading::fill(&mut rt.stdin(), &mut text)?;
+    run_lines(rt, &text[..n])
 }

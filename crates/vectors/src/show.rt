@@ -1,30 +1,30 @@
 // How an answer is printed: the refusal, or the number, and behind it the words or the octets that were written.
 
-use libc::STDOUT_FILENO;
+use std::io;
 
-fn print_octets(s: &[u8]) {
-    let mut i = 0;
-    while i < s.len() {
-        io::print_hex(STDOUT_FILENO, octets::wide(s[i]) as u64, 2);
-        i += 1;
+fn print_octets(rt: &impl Print, s: &[u8]) -> io::Result<()> {
+    for octet in s {
+        print!(rt; "{octet:02x}")?;
     }
+    Ok(())
 }
 
-pub(crate) fn print_word(word: &[u8], n: u32) {
-    io::write_all(STDOUT_FILENO, word);
-    io::print_decimal(STDOUT_FILENO, n as u64);
+pub(crate) fn print_word(rt: &impl Print, word: &[u8], n: u32) -> io::Result<()> {
+    rt.write_all(word)?;
+    rt.print(n)
 }
 
 // The first n words of the output.
-fn print_words(out: &[u8], n: usize) {
+fn print_words(rt: &impl Print, out: &[u8], n: usize) -> io::Result<()> {
     let mut k: usize = 0;
     while k < n {
         if out.len() - 4 * k < 4 {
-            return;
+            return Ok(());
         }
-        print_word(b" ", octets_words::get32(out, 4 * k));
+        print_word(rt, b" ", octets_words::get32(out, 4 * k))?;
         k += 1;
     }
+    Ok(())
 }
 
 // The words that a call writes, of which the first ones tell enough: the figures and the fit of a sheet, where client
@@ -41,27 +41,25 @@ fn words_of(call: u8) -> usize {
 }
 
 // What was written: n octets of a frame, or words.
-fn print_written(call: u8, n: usize, out: &[u8]) {
+fn print_written(rt: &impl Print, call: u8, n: usize, out: &[u8]) -> io::Result<()> {
     if octets::either(call == b'b', call == b'g') {
         if n <= out.len() {
-            io::write_all(STDOUT_FILENO, b" ");
-            print_octets(&out[0..n]);
+            rt.write_all(b" ")?;
+            print_octets(rt, &out[0..n])?;
         }
-        return;
+        return Ok(());
     }
-    print_words(out, words_of(call));
+    print_words(rt, out, words_of(call))
 }
 
 // The answer r of a call, and what it left in the output. A check sequence has all 32 bits.
-pub(crate) fn print_answer(call: u8, r: u32, out: &[u8]) {
+pub(crate) fn print_answer(rt: &impl Print, call: u8, r: u32, out: &[u8]) -> io::Result<()> {
     if call == b'k' {
-        io::print_hex(STDOUT_FILENO, r as u64, 8);
-        return;
+        return print!(rt; "{r:08x}");
     }
     if 0x80000000 <= r {
-        print_word(b"refused ", r - 0x80000000);
-        return;
+        return print_word(rt, b"refused ", r - 0x80000000);
     }
-    print_word(b"", r);
-    print_written(call, r as usize, out);
+    print_word(rt, b"", r)?;
+    print_written(rt, call, r as usize, out)
 }

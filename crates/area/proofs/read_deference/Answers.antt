@@ -1,4 +1,3 @@
-
 use Rattle.area.specs.CodeLaws.{deference_is}
 use Rattle.area.proofs.read_deference.Reads as reads
 use Rattle.area.proofs.read_deference.Lts as lts

@@ -1,4 +1,3 @@
-
 use Rattle.area.specs.CodeLaws.{receiver_is}
 use Rattle.area.proofs.read_receiver.Reads as reads
 use Rattle.area.proofs.read_receiver.Lts as lts

@@ -1,4 +1,3 @@
-
 use Rattle.area.specs.CodeLaws.{station_is}
 use Rattle.area.proofs.read_station.Reads as reads
 use Rattle.area.proofs.read_station.Lts as lts

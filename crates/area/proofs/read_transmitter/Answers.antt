@@ -1,4 +1,3 @@
-
 use Rattle.area.specs.CodeLaws.{transmitter_is}
 use Rattle.area.proofs.read_transmitter.Reads as reads
 use Rattle.area.proofs.read_transmitter.Lts as lts

@@ -4,7 +4,8 @@ use native.Mathlib.Omega.{arith}
 use Prim.Native.Nat.{◌-◌}
 use mathlib.Core.Path.{refl}
 use Rattle.bus_spec.specs.RunLaws.{none_late_first, none_late_more, run_first, run_ready, run_clock}
-use Rattle.bus_spec.specs.RunLaws.{run_next, run_zero, run_searched, run_found, run_end_lem, next_bounded}
+use Rattle.bus_spec.specs.RunLaws.{run_zero, run_searched, run_found, run_end_lem, next_bounded}
+use Rattle.bus_spec.proofs.RunLaws.{run_next}
 use Rattle.station_tally.specs.TallyLaws.{zero_bounded}
 use Rattle.bus_run.proofs.run_steps.Goals as goal
 

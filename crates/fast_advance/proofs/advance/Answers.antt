@@ -1,4 +1,3 @@
-
 use native.Mathlib.Omega.{arith}
 use Rattle.fast_advance.specs.AdvanceLaws.{advance_leap, stayed_ready, stayed_clock, advance_step}
 use Rattle.fast_advance.proofs.advance.Reads as reads

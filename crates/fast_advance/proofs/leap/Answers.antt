@@ -1,4 +1,3 @@
-
 use native.Mathlib.Omega.{arith}
 use Rattle.fast_advance.specs.AdvanceLaws.{leap_none, left_ready, left_room, leap_silence, leap_most}
 use Rattle.fast_advance.specs.AdvanceLaws.{unmoved_ready, unmoved_room, leap_window, window_most}

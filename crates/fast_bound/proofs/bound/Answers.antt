@@ -1,4 +1,3 @@
-
 use borrow.Author.Rules.{rules}
 use native.Mathlib.Omega.{arith}
 use Rattle.fast_bound.specs.WindowLaws.{read_here, read_gap, all_calm, all_last}

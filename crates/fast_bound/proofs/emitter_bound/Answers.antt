@@ -1,4 +1,3 @@
-
 use native.Mathlib.Omega.{arith}
 use Rattle.fast_heard.specs.NearLaws.{emits_by_code}
 use Rattle.fast_bound.specs.WindowLaws.{if_silent, if_calm}

@@ -1,4 +1,3 @@
-
 use Prim.Native.Nat.{◌-◌}
 use native.Mathlib.Omega.{arith}
 use Rattle.fast_bound.specs.WindowLaws.{among_none, among_zero, among_more, among_end, near_seen_here}

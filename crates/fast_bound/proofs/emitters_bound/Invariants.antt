@@ -1,4 +1,3 @@
-
 use Prim.Native.Nat.{◌≤◌, ◌-◌}
 use mathlib.Core.Bool.{true}
 use Rattle.fast_bound.specs.Bound.{CalmAmong}

@@ -1,4 +1,3 @@
-
 use native.Mathlib.Omega.{arith}
 use Rattle.fast_heard.specs.NearLaws.{silent_by_code}
 use Rattle.fast_bound.specs.WindowLaws.{if_emits, if_calm}

@@ -1,4 +1,3 @@
-
 use Rattle.fast_heard.specs.NearLaws.{count_more, count_same}
 use Rattle.fast_heard.proofs.counted.Reads as reads
 use Rattle.fast_heard.proofs.counted.Lts as lts

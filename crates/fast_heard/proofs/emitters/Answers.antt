@@ -1,4 +1,3 @@
-
 use Rattle.fast_heard.specs.NearLaws.{lists_none, lists_on, lists_end}
 use lib.ListN.{length-set}
 use mathlib.Core.Path.{refl}

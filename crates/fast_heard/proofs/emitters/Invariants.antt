@@ -1,4 +1,3 @@
-
 use Rattle.fast_heard.specs.Hearing.{Lists}
 use lib.ListN.{length}
 use mathlib.Core.Path.{◌≡◌}

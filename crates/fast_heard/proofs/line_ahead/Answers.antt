@@ -1,4 +1,3 @@
-
 use Rattle.fast_heard.specs.HearingLaws.{ahead_none, ahead_clear, ahead_run}
 use Rattle.fast_heard.proofs.line_ahead.Reads as reads
 use Rattle.fast_heard.proofs.line_ahead.Lts as lts

@@ -1,4 +1,3 @@
-
 use Rattle.fast_heard.specs.NearLaws.{nearest_none, nearest_end, listed_few, listed_emits}
 use Rattle.octets.specs.Turns.{turns_more}
 use Prim.Native.Nat.{◌-◌}

@@ -1,4 +1,3 @@
-
 use Rattle.fast_heard.specs.Hearing.{emits_at, no_near, noted, space_to}
 use Rattle.area.specs.Area.{position_at}
 use Rattle.octets.specs.Turns.{turns}

@@ -1,4 +1,3 @@
-
 use Rattle.fast_heard.specs.NearLaws.{note_own, note_more}
 use Rattle.fast_heard.proofs.note.Reads as reads
 use Rattle.fast_heard.proofs.note.Lts as lts

@@ -1,4 +1,3 @@
-
 use Rattle.fast_heard.specs.SightLaws.{near_few, sight_none, sight_some, bit_from}
 use native.Mathlib.Omega.{arith}
 use Rattle.fast_heard.proofs.see.Reads as reads

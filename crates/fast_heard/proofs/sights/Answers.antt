@@ -1,4 +1,3 @@
-
 use Rattle.fast_heard.specs.SightLaws.{sights_end}
 use Rattle.octets.specs.Filled.{filled_none, filled_more}
 use lib.ListN.{length-set}

@@ -1,4 +1,3 @@
-
 use Rattle.fast_heard.specs.Sights.{unseen, sight_of}
 use Rattle.fast_heard.specs.Hearing.{Lists}
 use Rattle.octets.specs.Filled.{filled}

@@ -1,4 +1,3 @@
-
 use Prim.Native.Nat.{◌≤◌, ◌-◌}
 use Rattle.fast_line.specs.LineLaws.{Differ}
 use Rattle.fast_line.proofs.are_alike.Reads as reads

@@ -1,4 +1,3 @@
-
 use Rattle.fast_line.specs.LineLaws.{code_is}
 use Rattle.fast_line.proofs.code_at.Reads as reads
 use Rattle.fast_line.proofs.code_at.Lts as lts

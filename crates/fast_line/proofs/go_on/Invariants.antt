@@ -1,4 +1,3 @@
-
 use Prim.Native.Nat.{◌≤◌, ◌-◌}
 use Rattle.fast_line.specs.Line.{AllOf}
 use Rattle.fast_line.proofs.go_on.Reads as reads

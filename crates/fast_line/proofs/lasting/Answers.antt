@@ -1,4 +1,3 @@
-
 use Rattle.fast_line.specs.LineLaws.{row_stop, row_again}
 use Rattle.fast_line.proofs.lasting.Reads as reads
 use Rattle.fast_line.proofs.lasting.Lts as lts

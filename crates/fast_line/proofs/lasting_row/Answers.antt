@@ -1,4 +1,3 @@
-
 use Prim.Native.Nat.{◌-◌}
 use native.Mathlib.Omega.{arith}
 use Rattle.fast_line.specs.LineLaws.{alike_none, row_first, lasts_hit, lasts_more, lasts_end}

@@ -1,4 +1,3 @@
-
 use Rattle.fast_line.specs.LineLaws.{kind_low}
 use Rattle.fast_line.specs.LineLaws.{run_is, run_some}
 use native.Mathlib.Omega.{arith}

@@ -1,4 +1,3 @@
-
 use Rattle.fast_line.specs.LineLaws.{noted_none, bits_noted, bits_coded, below_same, below_more, note_room}
 use lib.ListN.{length-set}
 use mathlib.Core.Path.{refl}

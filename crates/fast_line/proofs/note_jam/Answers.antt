@@ -1,4 +1,3 @@
-
 use Rattle.fast_line.specs.LineLaws.{noted_none, jam_noted, jam_coded, below_same, below_more}
 use lib.ListN.{length-set}
 use mathlib.Core.Path.{refl}

@@ -1,4 +1,3 @@
-
 use Rattle.fast_line.specs.LineLaws.{Noted}
 use Rattle.fast_line.specs.Line.{jams, Below}
 use lib.ListN.{length}

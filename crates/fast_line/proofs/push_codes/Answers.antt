@@ -1,4 +1,3 @@
-
 use mathlib.Core.Path.{refl}
 use Rattle.fast_line.specs.LineLaws.{codes_rows}
 use Rattle.fast_line.proofs.push_codes.Reads as reads

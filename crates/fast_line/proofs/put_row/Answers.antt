@@ -1,4 +1,3 @@
-
 use Rattle.fast_line.specs.LineLaws.{codes_none, codes_row, codes_end}
 use lib.ListN.{length-set}
 use mathlib.Core.Path.{refl}

@@ -1,4 +1,3 @@
-
 use Rattle.fast_line.specs.Line.{codes_put}
 use lib.ListN.{length}
 use mathlib.Core.Path.{◌≡◌}

@@ -1,4 +1,3 @@
-
 use Rattle.fast_lines.specs.LinesLaws.{all_noted_none, all_noted_more, all_noted_end, enough_at}
 use mathlib.Core.Path.{refl}
 use Prim.Native.Nat.{◌-◌}

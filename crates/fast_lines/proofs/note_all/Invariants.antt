@@ -1,4 +1,3 @@
-
 use Rattle.fast_lines.specs.Lines.{AllCoded}
 use lib.ListN.{length}
 use mathlib.Core.Path.{◌≡◌}

@@ -1,4 +1,3 @@
-
 use Rattle.fast_line.specs.LineLaws.{below_same}
 use Rattle.fast_lines.specs.LinesLaws.{note_silent, note_sends, note_jams, note_frame, note_enough}
 use native.Mathlib.Omega.{arith}

@@ -1,4 +1,3 @@
-
 use Rattle.fast_lines.specs.LinesLaws.{ways_none, ways_asks, ways_coded, ways_more, ways_end}
 use mathlib.Core.Path.{refl}
 use Prim.Native.Nat.{◌-◌}

@@ -1,4 +1,3 @@
-
 use Rattle.fast_lines.specs.Lines.{plan_by}
 use Rattle.fast_plan.specs.Push.{ways_to}
 use lib.ListN.{length}

@@ -1,4 +1,3 @@
-
 use Rattle.fast_lines.specs.LinesLaws.{push_own, push_silent, push_coded, push_near, push_close}
 use native.Mathlib.Omega.{arith}
 use Rattle.fast_lines.proofs.push_from.Reads as reads

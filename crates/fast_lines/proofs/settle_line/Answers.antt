@@ -1,4 +1,3 @@
-
 use Rattle.fast_lines.specs.LinesLaws.{line_codes, line_asks, line_coded, line_made}
 use native.Mathlib.Omega.{arith}
 use Rattle.fast_lines.proofs.settle_line.Reads as reads

@@ -1,4 +1,3 @@
-
 use Rattle.fast_lines.specs.LinesLaws.{all_enough, lines_none, lines_asks, lines_coded, lines_more, lines_end}
 use mathlib.Core.Path.{refl}
 use Prim.Native.Nat.{◌-◌}

@@ -1,4 +1,3 @@
-
 use Rattle.fast_lines.specs.Lines.{plan_by, AllCoded}
 use Rattle.fast_plan.specs.Placed.{lines_done}
 use lib.ListN.{length}

@@ -1,4 +1,3 @@
-
 use mathlib.Core.Path.{refl}
 use native.Mathlib.Omega.{arith}
 use Rattle.fast_move.specs.AdvanceLaws.{moving_able, moving_movable, moving_held, advance_all, advance_one}

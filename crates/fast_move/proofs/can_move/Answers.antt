@@ -1,4 +1,3 @@
-
 use native.Mathlib.Omega.{arith}
 use Rattle.fast_move.specs.AdvanceLaws.{held_here, report_room, can_emits, can_hears, can_rests}
 use Rattle.fast_move.proofs.can_move.Reads as reads

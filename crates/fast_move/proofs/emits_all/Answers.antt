@@ -1,4 +1,3 @@
-
 use Rattle.fast_move.specs.MoveLaws.{emits_is}
 use Rattle.fast_move.proofs.emits_all.Reads as reads
 use Rattle.fast_move.proofs.emits_all.Lts as lts

@@ -1,4 +1,3 @@
-
 use Rattle.fast_move.specs.AdvanceLaws.{first_line_lem, first_from_lem, first_spoiled}
 use Rattle.fast_move.proofs.heard_first.Reads as reads
 use Rattle.fast_move.proofs.heard_first.Lts as lts

@@ -1,4 +1,3 @@
-
 use Rattle.fast_move.specs.MoveLaws.{hears_is}
 use Rattle.fast_move.proofs.hears_all.Reads as reads
 use Rattle.fast_move.proofs.hears_all.Lts as lts

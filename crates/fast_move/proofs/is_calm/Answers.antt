@@ -1,4 +1,3 @@
-
 use Rattle.fast_move.specs.MoveLaws.{calm_idle}
 use Rattle.fast_move.proofs.is_calm.Reads as reads
 use Rattle.fast_move.proofs.is_calm.Lts as lts

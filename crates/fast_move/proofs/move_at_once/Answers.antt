@@ -1,4 +1,3 @@
-
 use native.Mathlib.Omega.{arith}
 use Rattle.fast_move.specs.AdvanceLaws.{line_audible, once_silent, once_line, once_from, once_spoiled}
 use borrow.Author.Rules.{rules}

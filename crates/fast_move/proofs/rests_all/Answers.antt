@@ -1,4 +1,3 @@
-
 use Rattle.fast_move.specs.MoveLaws.{rests_is}
 use Rattle.fast_move.proofs.rests_all.Reads as reads
 use Rattle.fast_move.proofs.rests_all.Lts as lts

@@ -1,4 +1,3 @@
-
 use Rattle.fast_receive.specs.CodeLaws.{stay_row, stay_bits}
 use Rattle.fast_receive.specs.Strides.{stay_line, eight_heard, octet_heard}
 use native.Mathlib.Omega.{arith}

@@ -1,4 +1,3 @@
-
 use Rattle.fast_receive.specs.Strides.{four_clean}
 use Rattle.fast_receive.proofs.four_bits.Reads as reads
 use Rattle.fast_receive.proofs.four_bits.Lts as lts

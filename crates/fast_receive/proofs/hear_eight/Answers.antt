@@ -1,4 +1,3 @@
-
 use Rattle.fast_receive.specs.CodeLaws.{collecting_room, collecting_most}
 use Rattle.fast_receive.specs.Strides.{line_none, collecting_line}
 use native.Mathlib.Omega.{arith}

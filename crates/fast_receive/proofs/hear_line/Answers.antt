@@ -1,4 +1,3 @@
-
 use Rattle.fast_receive.specs.Strides.{line_on, line_left}
 use Rattle.fast_receive.specs.CodeLaws.{all_none, all_end}
 use mathlib.Core.Path.{refl}

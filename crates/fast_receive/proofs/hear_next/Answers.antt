@@ -1,4 +1,3 @@
-
 use Rattle.fast_receive.specs.Strides.{pass_heard, next_one}
 use native.Mathlib.Omega.{arith}
 use Rattle.fast_receive.proofs.hear_next.Reads as reads

@@ -1,4 +1,3 @@
-
 use Rattle.fast_receive.specs.Strides.{some_one}
 use native.Mathlib.Omega.{arith}
 use Rattle.fast_receive.proofs.hear_some.Reads as reads

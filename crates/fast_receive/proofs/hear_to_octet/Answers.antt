@@ -1,4 +1,3 @@
-
 use Rattle.fast_receive.specs.CodeLaws.{all_none, join}
 use mathlib.Core.Path.{refl}
 use Prim.Native.Nat.{◌-◌}

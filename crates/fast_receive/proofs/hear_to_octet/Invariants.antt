@@ -1,4 +1,3 @@
-
 use Rattle.fast_receive.specs.Received.{taken, heard_all, bits_from}
 use Rattle.station_spec.specs.Receive.{row_in, bits_in, row_limit}
 use lib.ListN.{length}

@@ -1,4 +1,3 @@
-
 use native.Mathlib.Omega.{arith}
 use Rattle.fast_receive.specs.Strides.{four_heard, next_heard, octet_clean, octet_spoiled}
 use Rattle.fast_receive.proofs.line_octet.Reads as reads

@@ -1,4 +1,3 @@
-
 use Rattle.fast_receive.specs.Strides.{pass_stay, seeking_row, seeking_passes}
 use native.Mathlib.Omega.{arith}
 use Rattle.fast_receive.proofs.pass_preamble.Reads as reads

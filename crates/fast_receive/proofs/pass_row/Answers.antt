@@ -1,4 +1,3 @@
-
 use Rattle.fast_receive.specs.Strides.{pass_none, pass_some}
 use native.Mathlib.Omega.{arith}
 use Rattle.fast_receive.proofs.pass_row.Reads as reads

@@ -1,4 +1,3 @@
-
 use Rattle.fast_window.specs.MovedLaws.{frame_room_lem}
 use Rattle.fast_window.specs.MovedLaws.{held_frame}
 use Rattle.fast_window.proofs.hold_frame.Reads as reads

@@ -1,4 +1,3 @@
-
 use Prim.Native.Nat.{◌≤◌, ◌-◌}
 use Rattle.fast_window.proofs.is_worth.Reads as reads
 use Rattle.fast_window.proofs.is_worth.Lts as lts

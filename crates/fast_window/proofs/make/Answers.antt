@@ -1,4 +1,3 @@
-
 use Rattle.fast_window.specs.WindowLaws.{window_made}
 use Rattle.fast_window.proofs.make.Reads as reads
 use Rattle.fast_window.proofs.make.Lts as lts

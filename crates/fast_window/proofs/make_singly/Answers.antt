@@ -1,6 +1,6 @@
-
 use Rattle.fast_window.specs.WindowLaws.{single_none, single_more, single_end}
-use Rattle.bus_spec.specs.RunLaws.{run_first, run_ready, run_clock, run_next}
+use Rattle.bus_spec.specs.RunLaws.{run_first, run_ready, run_clock}
+use Rattle.bus_spec.proofs.RunLaws.{run_next}
 use mathlib.Core.Path.{refl}
 use Prim.Native.Nat.{◌-◌}
 use native.Mathlib.Omega.{arith}

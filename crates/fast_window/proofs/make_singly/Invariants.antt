@@ -1,4 +1,3 @@
-
 use Rattle.bus_spec.specs.RunLaws.{Runnable}
 use Rattle.fast_plan.specs.Plan.{steps}
 use lib.ListN.{length}

@@ -1,4 +1,3 @@
-
 use Rattle.fast_window.specs.WindowLaws.{steps_settles, steps_settled}
 use Rattle.fast_window.proofs.make_steps.Reads as reads
 use Rattle.fast_window.proofs.make_steps.Lts as lts

@@ -1,4 +1,3 @@
-
 use Rattle.fast_window.specs.MovedLaws.{sight_from, sight_octets, sight_bit}
 use Prim.Native.Nat.{◌-◌}
 use mathlib.Core.Path.{refl}

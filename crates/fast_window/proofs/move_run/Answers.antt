@@ -1,4 +1,3 @@
-
 use native.Mathlib.Omega.{arith}
 use Rattle.fast_window.specs.MovedLaws.{run_audible, run_moved}
 use borrow.Author.Rules.{rules}

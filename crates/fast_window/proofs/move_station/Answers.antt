@@ -1,4 +1,3 @@
-
 use Rattle.fast_window.specs.MovedLaws.{station_moved}
 use Rattle.fast_window.proofs.move_station.Reads as reads
 use Rattle.fast_window.proofs.move_station.Lts as lts

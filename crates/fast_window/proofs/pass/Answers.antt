@@ -1,4 +1,3 @@
-
 use native.Mathlib.Omega.{arith}
 use Rattle.bus_spec.specs.Ready.{ready_few}
 use Rattle.fast_window.specs.WindowLaws.{begins}

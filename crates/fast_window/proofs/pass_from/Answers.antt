@@ -1,4 +1,3 @@
-
 use native.Mathlib.Omega.{arith}
 use Rattle.fast_window.specs.MovedLaws.{begins_gap}
 use Rattle.fast_window.specs.WindowLaws.{begins_read, lasting, pass_none, single_runs, pass_singly, pass_some}

@@ -1,9 +1,6 @@
--- `log_cases::main` meets its contract. Assumes nothing.
-use Prim.Native.Nat.{◌+◌, ◌*◌, ◌≤◌, ◌-◌}
+-- Each case takes at most 4000 octets, and there are at most 255.
+use Rattle.std.proofs.Common.{◌+◌, ◌*◌, ◌≤◌}
 use Rattle.log_cases.proofs.main.Given as goal
 
 abbrev pub invariant-loop-k : goal.invariant-loop-k
-invariant-loop-k l = (l.k ≤ 256) × (l.at ≤ 4000 * l.k + 1) × (l.k ≤ l.cases)
-
-abbrev pub decreases-loop-k : goal.decreases-loop-k
-decreases-loop-k l = 256 - l.k
+invariant-loop-k l = l.at ≤ 4000 * l.k + 1

@@ -14,8 +14,7 @@ pub loop-k-preserved : goal.loop-k-preserved
 loop-k-preserved c =
     let ws = c.args.windows.now in
     let es = c.args.log.now in
-    let k = c.loop-k.k in
-    (
+    let k = c.loop-k.k in (
       omega arith,
       ap (λ (s : State). over ws s (drop (k + 1) es)) c.entered-s.ensures
           ∙ sym (over_next ws c.loop-k.s es k c.loop-k-test.true) ∙ c.loop-k.invariant.1,

@@ -1,26 +1,46 @@
--- `simulate::write_rest` meets its contract. Assumes nothing.
+-- `write_rest` meets its contract: each piece that was written stands behind the ones before it.
+use Rattle.std.proofs.Common.{◌≡◌, ◌-◌, ◌++◌, length, take, subst, arith}
+use Rattle.std.proofs.KnownBytes.{Appends-trans}
+use Rattle.std.specs.Io.KnownBytes.{Appends}
+use Rattle.octets.specs.Store.{part}
+use Rattle.report_spec.specs.Printed.{printed}
 use Rattle.report_whole.specs.PartLaws.{may_advance, along_part, along_less}
-use Rattle.simulate.specs.Written.{next_room, next_end, next_most, not_done, all_done}
-use native.Mathlib.Omega.{arith}
+use Rattle.simulate.specs.Written.{next_room, next_end, next_most, next_text, all_done, all_text}
 use Rattle.simulate.proofs.write_rest.Goals as goal
 
 pub next-p-requires : goal.next-p-requires
-next-p-requires c = (search may_advance, omega arith)
+next-p-requires g c = (search may_advance, omega arith)
 
-pub write_piece-w-requires-clause-piece_value : goal.write_piece-w-requires-clause-piece_value
-write_piece-w-requires-clause-piece_value c = along_part _ _ _ _ _ _ _ _ c.loop-g.invariant.0 c.loop-g-test.true c.next-p.ensures.size c.next-p.ensures.piece
-
-pub write_piece-w-requires-clause-piece_bound : goal.write_piece-w-requires-clause-piece_bound
-write_piece-w-requires-clause-piece_bound c = search next_room
-
-pub returns-then-not-w : goal.returns-then-not-w
-returns-then-not-w c = search not_done
+pub write_piece-w-requires : goal.write_piece-w-requires
+write_piece-w-requires g c =
+    record {
+      piece_value =
+          along_part _ _ _ _ _ _ _ _ c.loop-g.invariant.0 c.loop-g-test.true c.next-p.ensures.size
+          c.next-p.ensures.piece;
+      piece_bound = search next_room;
+    }
 
 pub loop-g-smaller : goal.loop-g-smaller
-loop-g-smaller c = search along_less
+loop-g-smaller g c = search along_less
 
 pub loop-g-preserved : goal.loop-g-preserved
-loop-g-preserved c = (search next_end, search next_most, omega arith, omega arith)
+loop-g-preserved g c =
+    let (d, e, w) = c.loop-g.invariant.3 in
+    let piece = take (c.next-p.result.size - 0) c.next-p.new.buf in
+    let here : part (printed c.args.input.now) c.loop-g.at (length piece) ≡ piece =
+    along_part _ _ _ _ _ _ _ _ c.loop-g.invariant.0 c.loop-g-test.true c.next-p.ensures.size c.next-p.ensures.piece in
+    let text = rw c.in_ok-w.was at c.write_piece-w.ensures.text in (
+      search next_end,
+      search next_most,
+      omega arith,
+      (d ++ piece, next_text _ d piece _ _ _ e here c.write_piece-w.ensures.end, Appends-trans _ _ _ _ _ w text),
+    )
 
-pub returns : goal.returns
-returns c = search all_done
+pub returns-clause-end : goal.returns-clause-end
+returns-clause-end g c = search all_done
+
+pub returns-clause-text : goal.returns-clause-text
+returns-clause-text g c =
+    let (d, e, w) = c.loop-g.invariant.3 in
+    let all : c.loop-g.at ≡ length (printed c.args.input.now) = search all_done in
+    subst (Appends _ _) (all_text _ d _ _ e all) w

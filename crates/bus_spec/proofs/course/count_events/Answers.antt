@@ -1,6 +1,5 @@
 -- `bus_spec::course::count_events` meets its contract. Assumes nothing.
 use native.Mathlib.Omega.{arith}
-use Prim.Native.Nat.{◌-◌}
 use mathlib.Core.Path.{refl}
 use Rattle.bus_spec.specs.RunLaws.{tally_none, tally_more, tally_end}
 use Rattle.station_tally.specs.TallyLaws.{start_bounded, sent_bounded, got_bounded}

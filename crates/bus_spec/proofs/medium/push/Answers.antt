@@ -1,9 +1,9 @@
 -- `bus_spec::medium::push` meets its contract. Assumes nothing.
 use native.Mathlib.Omega.{arith}
-use Prim.Native.Nat.{◌-◌}
 use mathlib.Core.Path.{refl}
 use Rattle.octets.specs.Turns.{turns_none}
-use Rattle.bus_spec.specs.MediumLaws.{push_none, push_position, push_more, push_all}
+use Rattle.bus_spec.specs.MediumLaws.{push_none, push_more}
+use Rattle.bus_spec.proofs.MediumLaws.{push_position, push_all}
 use Rattle.bus_spec.proofs.medium.push.Goals as goal
 
 pub returns-then-code-eq0 : goal.returns-then-code-eq0

@@ -5,7 +5,7 @@ use Prim.Native.Nat.{◌-◌}
 use mathlib.Core.Path.{refl}
 use lib.ListN.{length-set}
 use Rattle.bus_spec.specs.CodeLaws.{turned_none, turned_end, events_none, events_end}
-use Rattle.bus_spec.specs.Ready.{turn_able, turn_next, events_next}
+use Rattle.bus_spec.proofs.ReadyTurns.{turn_able, turn_next, events_next}
 use Rattle.bus_turn.proofs.step.turn_all.Goals as goal
 
 pub loop-i-init : goal.loop-i-init

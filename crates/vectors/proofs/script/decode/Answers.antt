@@ -1,6 +1,5 @@
 -- `vectors::script::decode` meets its contract. Assumes nothing.
 use native.Mathlib.Omega.{arith}
-use Prim.Native.Nat.{◌-◌}
 use lib.ListN.{length-set}
 use Rattle.vectors.proofs.script.decode.Goals as goal
 

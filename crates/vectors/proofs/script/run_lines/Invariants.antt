@@ -6,7 +6,7 @@ use Rattle.area.specs.Offsets.{area_size}
 use Rattle.vectors.proofs.script.run_lines.Given as goal
 
 abbrev pub invariant-loop-at : goal.invariant-loop-at
-invariant-loop-at l = (l.at ≤ length l.text + 1) × (length l.area ≡ area_size)
+invariant-loop-at g l = (l.at ≤ length l.text + 1) × (length l.area ≡ area_size)
 
 abbrev pub decreases-loop-at : goal.decreases-loop-at
-decreases-loop-at l = length l.text + 1 - l.at
+decreases-loop-at g l = length l.text + 1 - l.at

@@ -1,10 +1,9 @@
--- `vectors::show::print_words` meets its contract. Assumes nothing.
-use Prim.Native.Nat.{◌≤◌, ◌-◌, ◌*◌}
-use lib.ListN.{length}
+-- The words that are printed lie in the output.
+use Rattle.std.proofs.Common.{◌≤◌, ◌-◌, ◌*◌, length}
 use Rattle.vectors.proofs.show.print_words.Given as goal
 
-abbrev invariant-loop : tie.invariant-loop
-invariant-loop out n k₀ t k = (k ≤ n) × (4 * k ≤ length out)
+abbrev pub invariant-loop-k : goal.invariant-loop-k
+invariant-loop-k g l = (l.k ≤ l.n) × (4 * l.k ≤ length l.out)
 
-abbrev decreases-loop : tie.decreases-loop
-decreases-loop out n k₀ t k = n - k
+abbrev pub decreases-loop-k : goal.decreases-loop-k
+decreases-loop-k g l = l.n - l.k

@@ -1,0 +1,5 @@
+-- The theorems that rest on the definitions of specs/.
+pub mod Closing
+pub mod Lost
+pub mod Theorem
+pub mod Two
