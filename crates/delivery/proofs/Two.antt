@@ -18,17 +18,7 @@ use Rattle.delivery.specs.Calls.{Call, AllFair}
 use Rattle.delivery.specs.Demand3.{Demand3For}
 use Rattle.delivery.proofs.Theorem.{demand_3}
 use Rattle.area.specs.Offsets.{area_size}
-
--- "sheet 00 02, 00 020000000001, 0A 020000000002"
-pub two : List ℕ
-two = 0 ∷ 2 ∷ 0 ∷ 2 ∷ 0 ∷ 0 ∷ 0 ∷ 0 ∷ 1 ∷ 10 ∷ 2 ∷ 0 ∷ 0 ∷ 0 ∷ 0 ∷ 2 ∷ []
-
--- an area, and the draws 0 and 1
-pub blank : List ℕ
-blank = replicate area_size 0
-
-pub draws : List (List ℕ)
-draws = (0 ∷ []) ∷ (1 ∷ []) ∷ []
+use Rattle.delivery.specs.Two.{two, blank, draws}
 
 -- each of them is an octet, by a test that is computed
 all : List ℕ → Bool

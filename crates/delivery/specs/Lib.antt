@@ -8,3 +8,4 @@ pub mod Traced
 pub mod Demand3
 pub mod Theorem
 pub mod Lost
+pub mod Two

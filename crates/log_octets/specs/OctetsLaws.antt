@@ -18,7 +18,7 @@ use Rattle.log_entry.specs.Log.{word_of}
 use Rattle.log_windows.specs.Grow.{added_all, opened_of, entered_of, over}
 use Rattle.log_closing.specs.Close.{closed_of}
 use Rattle.log_lookup.specs.Lookup.{looked_up}
-use Rattle.log_lookup.specs.Looked.{looked}
+use Rattle.log_lookup.proofs.Looked.{looked}
 use Rattle.log_octets.specs.Octets.{event_of, entry_at, added_at, unknown_at, entries_of, octets_looked_up}
 
 -- ---- the event of a number

@@ -3,7 +3,7 @@ use Rattle.std.proofs.Common.{◌+◌, ◌∙◌, List, arith, ap, sym, drop}
 use Rattle.log_entry.specs.declared.State.{State}
 use Rattle.log_windows.specs.Grow.{over}
 use Rattle.log_windows.specs.Whole.{over_next}
-use Rattle.log_lookup.specs.Looked.{looked}
+use Rattle.log_lookup.proofs.Looked.{looked}
 use Rattle.log_lookup.proofs.look_up.Goals as goal
 
 pub loop-k-init : goal.loop-k-init

@@ -1,0 +1,2 @@
+-- The theorems that rest on the definitions of specs/.
+pub mod Looked
