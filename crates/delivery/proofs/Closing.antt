@@ -1,8 +1,8 @@
 -- N1: "With 1, a run no longer ends early": where late collisions close frames, a run that is not refused makes all its
 -- steps, on any layout and from any area that passes. Assumes nothing.
-use Rattle.std.specs.Prelude.{ℕ, zero, suc, ◌+◌, ◌≤◌, ◌<◌, ◌≡◌, refl, Bool, true, false, not, List, [], ltb, leb, eqb, replicate}
-use Rattle.std.proofs.Common.{sym, ◌∙◌, ap, subst, arith, eqb-true, ltb-false, eq-eqb}
-use Rattle.octets.specs.Base.{pick, Answer, refused, accepted}
+use Rattle.std.specs.Prelude.{ℕ, zero, suc, ◌+◌, ◌≤◌, ◌≡◌, refl, Bool, true, false, not, List, [], ltb, leb, eqb, replicate}
+use Rattle.std.proofs.Common.{◌∙◌, ap, arith, eqb-true, ltb-false, eq-eqb}
+use Rattle.octets.specs.Base.{accepted}
 use Rattle.octets.specs.BaseLaws.{by_test, below_none, refused_none}
 use Rattle.octets.specs.NumberLaws.{Octets}
 use Rattle.sheet_layout.specs.declared.Figures.{Figures}
@@ -10,7 +10,7 @@ use Rattle.sheet_layout.specs.Limits.{last_clock}
 use Rattle.station_state.specs.declared.Transmitter.{Transmitter}
 use Rattle.station_state.specs.declared.Transmitter.TheVariants.{NoFrame, Waiting, BackingOff, Sending, Heading}
 use Rattle.station_state.specs.declared.Transmitter.TheVariants.{Jamming}
-use Rattle.station_spec.specs.Transmit.{closes_frame, packet_length, collision, send_bit, head_bit, last_jam, jam_bit}
+use Rattle.station_spec.specs.Transmit.{packet_length, collision, send_bit, head_bit, last_jam, jam_bit}
 use Rattle.station_spec.specs.Transmit.{backoff_bit, wait_bit, transmit}
 use Rattle.station_tally.specs.Words.{ends_run, word_count}
 use Rattle.station_spec.specs.Step.{stepped, next_station}
@@ -19,11 +19,11 @@ use Rattle.area.specs.AreaLaws.{figures_by}
 use Rattle.area_check.specs.Valid.{area_refusal}
 use Rattle.bus_spec.specs.declared.Events.{Events}
 use Rattle.bus_spec.specs.declared.course.Ended.TheVariants as how
-use Rattle.bus_spec.specs.BitTime.{act_at, act_in, outcome_in, events_of, event_at, events_at, step_area}
+use Rattle.bus_spec.specs.BitTime.{act_at, act_in, outcome_in, events_of, events_at, step_area}
 use Rattle.bus_spec.specs.Ready.{Readiness}
 use Rattle.bus_spec.specs.Passes.{passes_ready}
 use Rattle.bus_spec.proofs.Stays.{step_layout, step_ready, step_clock}
-use Rattle.bus_spec.specs.Run.{tallied, late_at, stops, run_of, unrun, ran}
+use Rattle.bus_spec.specs.Run.{tallied, late_at, stops, run_of, ran}
 use Rattle.delivery.specs.Traced.{event_is}
 use Rattle.delivery.proofs.Theorem.{no_station}
 use Rattle.trace.specs.Basic.{by_le}

@@ -1,6 +1,6 @@
 -- Document 01's two stations: their sheet is read and fits, and a fresh start on it is accepted, so demand 3 holds of
 -- every list of calls on them. Assumes nothing.
-use Rattle.std.specs.Prelude.{ℕ, zero, suc, ◌<◌, ◌≡◌, refl, Bool, true, false, List, [], ◌∷◌, leb, length, get_or, replicate}
+use Rattle.std.specs.Prelude.{ℕ, zero, suc, ◌<◌, ◌≡◌, refl, Bool, true, false, List, [], ◌∷◌, leb, length, get_or}
 use Rattle.std.proofs.Common.{sym, true≢false, arith, le-ltb, leb-true}
 use Rattle.std.proofs.lemmas.List.{length-replicate}
 use Rattle.octets.specs.Base.{pick, some, outside, accepted}

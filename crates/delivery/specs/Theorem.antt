@@ -1,6 +1,6 @@
 -- What holds over every list of calls on any layout, fitting or not, and what is known of the area that a fresh start
 -- leaves. The theorems are in proofs/Theorem. Assumes nothing.
-use Prim.Native.Nat.{ℕ, suc, ◌+◌, ◌-◌, ◌<◌}
+use Prim.Native.Nat.{ℕ, suc, ◌+◌, ◌<◌}
 use Rattle.std.specs.Prelude.{◌≡◌}
 use mathlib.Core.List.{List}
 use Rattle.std.proofs.Math.ListN.{length}
@@ -10,7 +10,6 @@ use Rattle.sheet_layout.specs.Layout as lay
 use Rattle.station_spec.specs.declared.TransmitEvent.TheVariants.{Sent}
 use Rattle.station_spec.specs.declared.ReceiveEvent.TheVariants.{GotOk}
 use Rattle.area.specs.Area.{count_at, address_at}
-use Rattle.bus_start.specs.Fresh.{fresh}
 use Rattle.area_check.specs.Valid.{area_refusal}
 use Rattle.bus_spec.specs.Passes.{Passing}
 use Rattle.trace.specs.World as world

@@ -1,5 +1,5 @@
 -- Theorem 1: a plan that holds is what happens. One step of it is in the specs' Happens. Assumes nothing.
-use Prim.Native.Nat.{ℕ, zero, suc, ◌+◌, ◌-◌, ◌≤◌, ◌<◌}
+use Prim.Native.Nat.{ℕ, zero, suc, ◌+◌, ◌≤◌, ◌<◌}
 use Rattle.std.specs.Prelude.{◌≡◌, List}
 use native.Mathlib.Omega.{arith}
 use Rattle.octets.specs.Turns.{turns}

@@ -17,7 +17,7 @@ use Rattle.station_symbols.specs.declared.Symbol.TheVariants.{Silence}
 use Rattle.station_spec.specs.declared.Stored.{Stored}
 use Rattle.station_spec.specs.declared.Stored.TheVariants.{NoStore, Store}
 use Rattle.station_spec.specs.declared.Stepped.{Stepped}
-use Rattle.area.specs.Places.{Part, clock, depth, layout, draws, counters, station, frame, buffer, place, Off, Keeps}
+use Rattle.area.specs.Places.{Part, clock, depth, layout, counters, station, buffer, place, Off, Keeps}
 use Rattle.area.specs.Area.{clock_at, with_clock, depth_at, figures_at, count_at, space_at, station_at, arrival_at, met}
 use Rattle.area.specs.Whole.{Still, clock_still, station_still, counters_still, bit_still, arrival_still, clock_on}
 use Rattle.area.specs.AreaLaws.{keeps_refl, keeps_trans, depth_by, figures_by, count_by, space_by, station_by}

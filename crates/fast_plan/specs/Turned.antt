@@ -2,7 +2,7 @@
 -- each line cleared and pushed to, then the clock. That the steps leave this area is in proofs/Turned. Assumes nothing.
 use Rattle.std.specs.Prelude.{ℕ, ◌+◌, ◌≤◌, ◌<◌, List}
 use Rattle.std.proofs.Common.{arith}
-use Rattle.area.specs.Places.{counters, station, buffer, place, Keeps}
+use Rattle.area.specs.Places.{place, Keeps}
 use Rattle.area.specs.Area.{clock_at, with_clock, count_at}
 use Rattle.fast_plan.specs.Plan.{Plan}
 use Rattle.fast_plan.specs.Exact.{own_all, own_keeps}

@@ -24,7 +24,7 @@ use Rattle.station_spec.specs.declared.Stepped.{Stepped}
 use Rattle.station_spec.specs.Step.{stepped}
 use Rattle.area_record.specs.Codec.{decoded}
 use Rattle.area_record.specs.CodecLaws.{Fit}
-use Rattle.area.specs.Places.{Part, counters, station, frame, buffer, place, Off, Keeps}
+use Rattle.area.specs.Places.{Part, counters, station, buffer, place, Off, Keeps}
 use Rattle.area.specs.Area.{clock_at, with_clock, depth_at, draw_at, figures_at, count_at, address_at, station_at, with_station}
 use Rattle.area.specs.Area.{frame_at, buffer_at, heard_of, heard_code, symbol_at, arrival_at, met}
 use Rattle.area.specs.AreaLaws.{keeps_refl, keeps_trans, keeps_sym, station_keeps, clock_keeps, symbol_by, symbol_turn}

@@ -1,6 +1,6 @@
 -- How long a silence lasts, as a number: the least of what each station and each line allows. That so many steps are
 -- one jump is in proofs/Bound. Assumes nothing.
-use Rattle.std.specs.Prelude.{ℕ, zero, suc, ◌+◌, ◌-◌, ◌≤◌, ◌<◌, min, max, ◌≡◌, Bool, true, false, not, List, eqb, ltb}
+use Rattle.std.specs.Prelude.{ℕ, zero, suc, ◌+◌, ◌≤◌, ◌<◌, min, max, ◌≡◌, Bool, true, false, not, List, eqb, ltb}
 use Rattle.std.proofs.Common.{sym, ◌∙◌, ap, true≢false, arith, eqb-true}
 use Rattle.octets.specs.Base.{pick, some}
 use Rattle.octets.specs.BaseLaws.{by_test, by_eq, none_below}

@@ -1,6 +1,6 @@
 -- What a silence is: nobody emits and nothing arrives for K steps. And the jump: each record in closed form, the clock K
 -- later, and all else as it was. That the steps make this jump is in proofs/Jump. Assumes nothing.
-use Prim.Native.Nat.{ℕ, ◌+◌, ◌-◌, ◌<◌}
+use Prim.Native.Nat.{ℕ, ◌+◌, ◌<◌}
 use Rattle.std.specs.Prelude.{◌≡◌}
 use mathlib.Core.List.{List}
 use Rattle.octets.specs.Turns.{turns}

@@ -1,7 +1,7 @@
 -- On a layout that fits no frame ends after a late collision: only one that closes the frame leads there. Assumes
 -- nothing.
 use Prim.Native.Nat.{ℕ, zero, suc, ◌+◌, ◌*◌, ◌%◌, ◌≤◌, ◌<◌}
-use Rattle.std.specs.Prelude.{◌≡◌, refl, Bool, false, List, ◌⊎◌, ltb, leb, eqb}
+use Rattle.std.specs.Prelude.{◌≡◌, Bool, false, List, ◌⊎◌, ltb, leb, eqb}
 use Rattle.std.proofs.Common.{sym, ◌∙◌, true≢false, inl, inr, arith}
 use Rattle.std.proofs.Math.Path.{ap}
 use Rattle.std.proofs.Math.Bool.{true}
@@ -23,7 +23,7 @@ use Rattle.bus_offer.specs.Offer.{offered_station}
 use Rattle.bus_meeting.specs.Net.{Net}
 use Rattle.trace.specs.Basic.{either}
 use Rattle.trace.specs.World.{Offer, fresh_station, fresh, before}
-use Rattle.trace.specs.Run.{state, frame_in, out_at, sees, defer_at, send_at, Sound, ready_kept, out_sent}
+use Rattle.trace.specs.Run.{state, out_at, sees, defer_at, send_at, Sound, ready_kept, out_sent}
 use Rattle.trace.specs.Run.{next_transmitter}
 use Rattle.trace.proofs.Late.{never_late}
 

@@ -1,5 +1,5 @@
 -- Every execution keeps the rules of a trace on a layout whose gap is no longer than the shortest run. Assumes nothing.
-use Rattle.std.specs.Prelude.{ℕ, ◌+◌, ◌-◌, ◌≤◌, List}
+use Rattle.std.specs.Prelude.{ℕ, ◌+◌, ◌≤◌, List}
 use Rattle.sheet_layout.specs.Layout.{gap_of}
 use Rattle.trace.specs.Trace.{Lawful}
 use Rattle.bus_meeting.specs.Net.{Net}

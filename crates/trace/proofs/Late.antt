@@ -19,7 +19,6 @@ use Rattle.trace.specs.Basic.{either, clash}
 use Rattle.trace.proofs.Trace.{no_late}
 use Rattle.bus_meeting.specs.Net.{Net}
 use Rattle.trace.specs.World.{Offer}
-use Rattle.bus_meeting.specs.Gather.{on}
 use Rattle.trace.specs.Run.{state, frame_in, out_at, emits, sees, defer_at, send_at, Sound, out_sent}
 use Rattle.trace.specs.Inv.{HeardIn, TxInv, bit_sent, more}
 use Rattle.trace.specs.Keep.{says, emits_is, unheard_in, flags}

@@ -1,6 +1,6 @@
 -- What a readable frame is: the one last got, octet for octet. That it stays so from the step after until the station
 -- hears another is in proofs/Readable. Assumes nothing.
-use Rattle.std.specs.Prelude.{ℕ, ◌-◌, ◌≤◌, ◌<◌, true, List, length, take}
+use Rattle.std.specs.Prelude.{ℕ, ◌≤◌, ◌<◌, true, List, length, take}
 use Rattle.std.proofs.Math.Path.{◌≡◌}
 use Rattle.station_symbols.specs.declared.Heard.TheVariants.{Nothing}
 use Rattle.station_spec.specs.declared.ReceiveEvent.TheVariants.{GotOk}

@@ -1,6 +1,6 @@
 -- A packet that a station has collected whole. That a whole packet is collected so is in proofs/Reception. Assumes
 -- nothing.
-use Rattle.std.specs.Prelude.{ℕ, ◌-◌, ◌*◌, ◌≡◌, List, length, take}
+use Rattle.std.specs.Prelude.{ℕ, ◌*◌, ◌≡◌, List, length, take}
 use Rattle.std.proofs.Math.Bool.{false}
 use Rattle.station_symbols.specs.declared.Heard.TheVariants.{Nothing}
 use Rattle.station_state.specs.declared.Receiver.TheVariants.{Collecting}

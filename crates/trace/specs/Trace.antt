@@ -1,6 +1,6 @@
 -- Traces: no state machine, only who emits when; and the rules that a trace keeps. The theorem over traces is in
 -- proofs/Trace. Assumes nothing.
-use Rattle.std.specs.Prelude.{◌≡◌, Bool, true, false, ◌⊎◌, ℕ, suc, ◌+◌, ◌-◌, ◌≤◌, ◌<◌}
+use Rattle.std.specs.Prelude.{◌≡◌, Bool, true, false, ◌⊎◌, ℕ, suc, ◌+◌, ◌≤◌, ◌<◌}
 
 -- Distances between the stations below n, none above span.
 pub record Metric (n span : ℕ) (d : ℕ → ℕ → ℕ) : Type 0 where

@@ -1,5 +1,5 @@
 -- `log_lookup::look_up` meets its contract. Assumes nothing.
-use Rattle.std.proofs.Common.{◌+◌, ◌∙◌, List, arith, ap, sym, drop}
+use Rattle.std.proofs.Common.{◌+◌, ◌∙◌, arith, ap, sym, drop}
 use Rattle.log_entry.specs.declared.State.{State}
 use Rattle.log_windows.specs.Grow.{over}
 use Rattle.log_windows.specs.Whole.{over_next}
