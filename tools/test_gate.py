@@ -68,8 +68,8 @@ class Gate(unittest.TestCase):
                 if part == "rt ci":
                     self.assertEqual(status, 3)
                     self.assertNotIn("staticlib ", self.asked)
-                if part == "staticlib ":
-                    self.assertIsNone(self.archive)
+                if part == "staticlib":
+                    self.assertNotIn("make --silent library", self.asked)
 
     def test_bad_edits(self):
         """A must-fail edit that was not tried fails the gate, though `rt ci` passes."""
