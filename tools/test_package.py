@@ -87,8 +87,8 @@ class Calls(unittest.TestCase):
     """Every call that the README lists is there in C, but the lookups."""
 
     OTHER_NAMES = {
-        "sheet_check::refusal": "check_layout",
-        "area_check::refusal": "check_area",
+        "sheet_check::check": "check_layout",
+        "area_check::check": "check_area",
         "bus_step::read_counters": "counters",
         "bus_run::run": "run_stepwise",
         "marks::go_back": "return",

@@ -1,6 +1,6 @@
 -- The laws of the work area. A reader goes by its part alone; a writer keeps every part that is off its own. Any reader
 -- after any writer elsewhere follows from the two; besides, what was written is read back. Assumes nothing.
-use Rattle.std.specs.Prelude.{ℕ, ◌+◌, ◌*◌, ◌-◌, ◌/◌, ◌%◌, ◌^◌, ◌≤◌, ◌<◌, ◌≡◌, refl, Bool, true, false, List, length, drop}
+use Rattle.std.specs.Prelude.{ℕ, ◌+◌, ◌/◌, ◌%◌, ◌^◌, ◌≤◌, ◌<◌, ◌≡◌, refl, Bool, true, false, List, length, drop}
 use Rattle.std.proofs.Common.{◌∙◌, arith, get_or-set_other, get_or-take, get_or-drop, ext_get_or}
 use Rattle.std.proofs.Math.Path.{ap, ap₂, sym}
 use Rattle.std.proofs.Math.Decide.{ℕ_discrete}

@@ -6,3 +6,4 @@ pub mod AreaLaws
 pub mod OneWord
 pub mod Written
 pub mod Whole
+pub mod Front

@@ -1,6 +1,6 @@
 -- The area as a whole: the octets that are none of the clock's and none of any station's, which no writer of these
 -- parts touches; and two areas that hold the same in every part are one. Assumes nothing.
-use Rattle.std.specs.Prelude.{ℕ, ◌+◌, ◌-◌, ◌*◌, ◌/◌, ◌%◌, ◌≤◌, ◌<◌, ◌≡◌, Bool, List, ltb, length, get_or}
+use Rattle.std.specs.Prelude.{ℕ, ◌+◌, ◌-◌, ◌/◌, ◌%◌, ◌≤◌, ◌<◌, ◌≡◌, Bool, List, ltb, length, get_or}
 use Rattle.std.proofs.Math.Path.{sym}
 use Rattle.std.proofs.Common.{◌∙◌, ap, arith, ltb-true, ltb-false, ext_get_or}
 use Rattle.std.proofs.lemmas.List.Edits.{sets}

@@ -60,6 +60,7 @@ pub const RING: usize = 256;
 
 pub const FRAME_ROOM: usize = 1536;
 
+#[tactic(auto, unfolding(crate::specs::Area::clock_at))]
 pub fn read_clock(area: &[u8]) -> u32
     requires { area_size ≤ length area.now }
     ensures { result ≡ clock_at area.now }
@@ -67,6 +68,7 @@ pub fn read_clock(area: &[u8]) -> u32
     octets_words::get32(area, 0)
 }
 
+#[tactic(auto, unfolding(crate::specs::Area::with_clock))]
 pub fn write_clock(area: &mut [u8], t: u32)
     requires { area_size ≤ length area.old }
     ensures { area.new ≡ with_clock area.old t }
@@ -75,6 +77,7 @@ pub fn write_clock(area: &mut [u8], t: u32)
 }
 
 // D.
+#[tactic(auto, unfolding(crate::specs::Area::depth_at))]
 pub fn read_depth(area: &[u8]) -> u32
     requires { area_size ≤ length area.now }
     ensures { result ≡ depth_at area.now }
@@ -83,6 +86,7 @@ pub fn read_depth(area: &[u8]) -> u32
 }
 
 // Draw k of station i.
+#[tactic(auto, unfolding(crate::specs::Area::draw_at))]
 pub fn read_draw(area: &[u8], i: usize, k: usize) -> u32
     requires { (i < max_stations) × (k < max_draws) × (area_size ≤ length area.now) }
     ensures { result ≡ draw_at area.now i k }
@@ -90,6 +94,7 @@ pub fn read_draw(area: &[u8], i: usize, k: usize) -> u32
     octets_words::get16(area, DRAWS_AT + 32 * i + 2 * k)
 }
 
+#[tactic(auto, unfolding(crate::specs::Area::figures_at))]
 pub fn read_figures(area: &[u8]) -> Figures
     requires { area_size ≤ length area.now }
     ensures { result ≡ figures_at area.now }
@@ -106,6 +111,7 @@ pub fn read_figures(area: &[u8]) -> Figures
 }
 
 // N.
+#[tactic(auto, unfolding(crate::specs::Area::count_at))]
 pub fn read_count(area: &[u8]) -> u32
     requires { area_size ≤ length area.now }
     ensures { result ≡ count_at area.now }
@@ -114,6 +120,7 @@ pub fn read_count(area: &[u8]) -> u32
 }
 
 // Where station i is.
+#[tactic(auto, unfolding(crate::specs::Area::position_at))]
 pub fn read_position(area: &[u8], i: usize) -> u32
     requires { (i < max_stations) × (area_size ≤ length area.now) }
     ensures { result ≡ position_at area.now i }
@@ -121,6 +128,7 @@ pub fn read_position(area: &[u8], i: usize) -> u32
     octets_words::get32(area, TAPS_AT + 16 * i)
 }
 
+#[tactic(auto, unfolding(crate::specs::Area::address_at))]
 pub fn read_address(area: &[u8], i: usize) -> [u8; 6]
     requires { (i < max_stations) × (area_size ≤ length area.now) }
     ensures { result ≡ address_at area.now i }
@@ -137,32 +145,17 @@ fn read_tap(area: &[u8], i: usize) -> Tap
     Tap { position, address }
 }
 
-// The first n stations, and blank places after them.
-fn read_taps(area: &[u8], n: usize) -> [Tap; 16]
-    requires { (n ≤ max_stations) × (area_size ≤ length area.now) }
-    ensures { result ≡ places_of (tap_at area.now) n }
-{
-    let blank = Tap {
-        position: 0,
-        address: [0u8; 6],
-    };
-    let mut all = [blank; 16];
-    let mut i: usize = 0;
-    while i < n {
-        let t = read_tap(area, i);
-        all[i] = t;
-        i += 1;
-    }
-    all
-}
-
 pub fn read_layout(area: &[u8]) -> Layout
     requires { area_size ≤ length area.now }
     ensures { result ≡ layout_at area.now }
 {
     let figures = read_figures(area);
     let count = read_count(area);
-    let stations = read_taps(area, sheet_layout::places(count));
+    let tap = |i: usize| -> Tap
+        requires { (i < max_stations) × (area_size ≤ length area.now) }
+        ensures { result ≡ tap_at area.entry.now i }
+    { read_tap(area, i) };
+    let stations = sheet_layout::taps(sheet_layout::places(count), tap);
     Layout {
         figures,
         count,
@@ -170,26 +163,16 @@ pub fn read_layout(area: &[u8]) -> Layout
     }
 }
 
-fn larger(p: u32, q: u32) -> u32
-    ensures { result ≡ max p q }
-{
-    if p < q { q } else { p }
-}
-
-fn smaller(p: u32, q: u32) -> u32
-    ensures { result ≡ min p q }
-{
-    if p < q { p } else { q }
-}
-
 // The distance of two places in bit times. As the larger less the smaller, each place is read as one word even where
 // only the low octet of the distance counts.
+#[tactic(auto, unfolding(crate::specs::Area::distance))]
 pub fn apart(p: u32, q: u32) -> u32
     ensures { result ≡ distance p q }
 {
-    larger(p, q) - smaller(p, q)
+    p.max(q) - p.min(q)
 }
 
+#[tactic(auto, unfolding(crate::specs::Area::counters_at))]
 pub fn read_counters(area: &[u8], i: usize) -> [u32; station_state::COUNTERS]
     requires { (i < max_stations) × (area_size ≤ length area.now) }
     ensures { result ≡ counters_at area.now i }
@@ -199,6 +182,7 @@ pub fn read_counters(area: &[u8], i: usize) -> [u32; station_state::COUNTERS]
     w
 }
 
+#[tactic(auto, unfolding(crate::specs::Area::with_counters))]
 pub fn write_counters(area: &mut [u8], i: usize, counters: [u32; station_state::COUNTERS])
     requires { (i < max_stations) × (area_size ≤ length area.old) }
     ensures { area.new ≡ with_counters area.old i counters }
@@ -207,6 +191,7 @@ pub fn write_counters(area: &mut [u8], i: usize, counters: [u32; station_state::
 }
 
 // Word k of the record of station i.
+#[tactic(auto, using(crate::specs::CodeLaws::word_is))]
 pub fn read_word(area: &[u8], i: usize, k: usize) -> u32
     requires { (i < max_stations) × (k < record_words) × (area_size ≤ length area.now) }
     ensures { result ≡ get_or (record_at area.now i) k 0 }
@@ -215,6 +200,7 @@ pub fn read_word(area: &[u8], i: usize, k: usize) -> u32
 }
 
 // Writes word k of the record of station i alone.
+#[tactic(auto, unfolding(crate::specs::Area::with_word))]
 pub fn write_word(area: &mut [u8], i: usize, k: usize, v: u32)
     requires { (i < max_stations) × (k < record_words) × (area_size ≤ length area.old) }
     ensures { area.new ≡ with_word area.old i k v }
@@ -224,6 +210,7 @@ pub fn write_word(area: &mut [u8], i: usize, k: usize, v: u32)
 
 // The parts of the state of station i. A word is read next to where it is used: so it is read at once, and not octet by
 // octet.
+#[tactic(auto, unfolding(crate::specs::Area::station_at, area_record::specs::Codec::decoded))]
 fn read_deference(area: &[u8], i: usize) -> Deference
     requires { (i < max_stations) × (area_size ≤ length area.now) }
     ensures { result ≡ (station_at area.now i).deference }
@@ -236,6 +223,7 @@ fn read_deference(area: &[u8], i: usize) -> Deference
     )
 }
 
+#[tactic(auto, unfolding(crate::specs::Area::station_at, area_record::specs::Codec::decoded))]
 fn read_receiver(area: &[u8], i: usize) -> Receiver
     requires { (i < max_stations) × (area_size ≤ length area.now) }
     ensures { result ≡ (station_at area.now i).receiver }
@@ -250,6 +238,7 @@ fn read_receiver(area: &[u8], i: usize) -> Receiver
     )
 }
 
+#[tactic(auto, unfolding(crate::specs::Area::station_at, area_record::specs::Codec::decoded))]
 fn read_transmitter(area: &[u8], i: usize) -> Transmitter
     requires { (i < max_stations) × (area_size ≤ length area.now) }
     ensures { result ≡ (station_at area.now i).transmitter }
@@ -260,6 +249,7 @@ fn read_transmitter(area: &[u8], i: usize) -> Transmitter
     )
 }
 
+#[tactic(auto, unfolding(crate::specs::Area::station_at, area_record::specs::Codec::decoded))]
 pub fn read_station(area: &[u8], i: usize) -> Station
     requires { (i < max_stations) × (area_size ≤ length area.now) }
     ensures { result ≡ station_at area.now i }
@@ -281,6 +271,7 @@ pub fn read_station(area: &[u8], i: usize) -> Station
     }
 }
 
+#[tactic(auto, unfolding(crate::specs::Area::with_station, area_record::specs::Codec::encoded))]
 pub fn write_station(area: &mut [u8], i: usize, s: Station)
     requires { (i < max_stations) × (area_size ≤ length area.old) }
     ensures { area.new ≡ with_station area.old i s }

@@ -4,18 +4,18 @@
 
 ghost use Rattle.std.specs.Prelude.{◌≡◌, ◌+◌, ◌*◌, ◌/◌, ◌%◌, ◌^◌, ◌<◌, ◌≤◌, length};
 ghost use Rattle.area.specs.Area.{with_bit, with_octet, octet_with, frame_at, buffer_at, frame_built};
-ghost use Rattle.octets.specs.Base.{outcome};
+ghost use Rattle.octets.specs.Base.{outcome, size_answer};
 ghost use Rattle.octets.specs.Bits.{digit};
 ghost use Rattle.station_symbols.specs.Packet.{symbol_of};
-ghost use Rattle.frame_build.specs.Build.{built_answer};
 ghost use Rattle.area.specs.Offsets.{area_size, frame_room};
 ghost use Rattle.frame_build.specs.Limits.{buffer_octets, buffer_bits};
 ghost use Rattle.sheet_layout.specs.Limits.{max_stations};
 
-use frame_build::builder::Built;
+use octets::Refusal;
 use station_symbols::{Emission, Symbol};
 
 // What bit p of an octet stands for.
+#[tactic(auto, using(area::specs::CodeLaws::power_some, area::specs::CodeLaws::power_small))]
 pub fn power(p: usize) -> u32
     requires { p < 8 }
     ensures value { result ≡ 2 ^ p }
@@ -25,6 +25,7 @@ pub fn power(p: usize) -> u32
 }
 
 // The p low bits of x, of which `unit` is 2^p.
+#[tactic(auto, using(area::specs::CodeLaws::low_is, area::specs::CodeLaws::low_small))]
 pub fn low_bits(x: u32, p: usize, unit: u32) -> u32
     requires { (unit ≡ 2 ^ p) × (0 < unit) }
     ensures value { result ≡ x % unit }
@@ -33,24 +34,19 @@ pub fn low_bits(x: u32, p: usize, unit: u32) -> u32
     x & (unit - 1)
 }
 
-fn digit_of(one: bool) -> u32
-    ensures value { result ≡ digit one }
-    ensures small { result < 2 }
-{
-    if one { 1 } else { 0 }
-}
-
 // A bit as a number, at place p.
+#[tactic(auto, using(area::specs::CodeLaws::raised_is, area::specs::CodeLaws::raised_small))]
 fn raised(one: bool, p: usize) -> u32
     requires { p < 8 }
     ensures value { result ≡ digit one * 2 ^ p }
     ensures small { result ≤ 128 }
 {
     let place = p as u32;
-    digit_of(one) << place
+    u32::from(one) << place
 }
 
 // An octet with bit p stored: the bits below it stay, those above it are 0.
+#[tactic(auto, unfolding(area::specs::Area::octet_with))]
 fn octet_with(x: u8, p: usize, one: bool) -> u8
     requires { p < 8 }
     ensures { result ≡ octet_with x p one }
@@ -61,6 +57,7 @@ fn octet_with(x: u8, p: usize, one: bool) -> u8
 }
 
 // Stores collected bit k of station i.
+#[tactic(auto, unfolding(area::specs::Area::with_bit))]
 pub fn store_bit(area: &mut [u8], i: usize, k: usize, one: bool)
     requires { (i < max_stations) × (k < buffer_bits) × (area_size ≤ length area.old) }
     ensures { area.new ≡ with_bit area.old i k one }
@@ -70,6 +67,7 @@ pub fn store_bit(area: &mut [u8], i: usize, k: usize, one: bool)
 }
 
 // Writes octet k of what station i collected.
+#[tactic(auto, unfolding(area::specs::Area::with_octet))]
 pub fn write_octet(area: &mut [u8], i: usize, k: usize, v: u8)
     requires { (i < max_stations) × (k < buffer_octets) × (area_size ≤ length area.old) }
     ensures { area.new ≡ with_octet area.old i k v }
@@ -78,6 +76,7 @@ pub fn write_octet(area: &mut [u8], i: usize, k: usize, v: u8)
 }
 
 // What station i collected.
+#[tactic(auto, using(area::specs::CodeLaws::buffer_is))]
 pub fn buffer(area: &[u8], i: usize) -> &[u8]
     requires { (i < max_stations) × (area_size ≤ length area.now) }
     ensures { result.now ≡ buffer_at area.now i }
@@ -88,6 +87,7 @@ pub fn buffer(area: &[u8], i: usize) -> &[u8]
 }
 
 // The n octets of the frame of station i.
+#[tactic(auto, unfolding(area::specs::Area::frame_at))]
 pub fn frame(area: &[u8], i: usize, n: usize) -> &[u8]
     requires { (i < max_stations) × (n ≤ frame_room) × (area_size ≤ length area.now) }
     ensures { result.now ≡ frame_at area.now i n }
@@ -102,9 +102,7 @@ pub fn symbol(area: &[u8], i: usize, n: usize, e: Emission) -> Symbol
     requires { (i < max_stations) × (n ≤ frame_room) × (area_size ≤ length area.now) }
     ensures { result ≡ symbol_of (frame_at area.now i n) e }
 {
-    let at = area::FRAMES_AT + area::FRAME_ROOM * i;
-    let end = at + n;
-    station_symbols::symbol_of(&area[at..end], e)
+    station_symbols::symbol_of(frame(area, i, n), e)
 }
 
 // Builds a frame of station i, with its own address as source, at its place, or refuses (11) and leaves the area as it
@@ -115,9 +113,9 @@ pub fn build_frame(
     destination: [u8; 6],
     value: u16,
     payload: &[u8],
-) -> Built
+) -> Result<usize, Refusal>
     requires { (i < max_stations) × (area_size ≤ length area.old) }
-    ensures { outcome (built_answer result) area.new
+    ensures { outcome (size_answer result) area.new
         ≡ frame_built area.old i destination value payload.now }
 {
     let source = area::read_address(area, i);

@@ -1,3 +1,3 @@
 pub mod Valid
-pub mod RecordLaws
 pub mod AreaCheckLaws
+pub mod Front

@@ -1,9 +1,8 @@
--- Check 2: whether a work area holds what no call would leave (document 01, refusal 2). The laws are in AreaCheckLaws
--- and RecordLaws. Assumes nothing.
+-- Check 2: whether a work area holds what no call would leave (document 01, refusal 2). The laws are in
+-- AreaCheckLaws. Assumes nothing.
 use Rattle.std.specs.Prelude.{ℕ, ◌+◌, ◌*◌, Bool, true, false, ◌||◌, List, ltb, leb, eqb, length, get_or}
 use Rattle.octets.specs.Base.{pick, some, outside}
 use Rattle.sheet_layout.specs.declared.Figures.{Figures}
-use Rattle.sheet_layout.specs.declared.Layout.{Layout}
 use Rattle.sheet_layout.specs.Layout.{gap_of}
 use Rattle.sheet_layout.specs.Check.{refusal_of}
 use Rattle.area.specs.Offsets.{area_size, ring}

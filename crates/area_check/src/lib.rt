@@ -3,7 +3,7 @@
 #![tactic(auto)]
 
 ghost use Rattle.std.specs.Prelude.{◌≡◌, ◌+◌, ◌<◌, ◌≤◌, length, ltb};
-ghost use Rattle.octets.specs.Base.{pick, some};
+ghost use Rattle.octets.specs.Base.{some, refusal_in};
 ghost use Rattle.area.specs.Area.{figures_at, record_at};
 ghost use Rattle.area_check.specs.Valid.{deference_wrong, attempts_wrong, number_wrong, transmitter_wrong};
 ghost use Rattle.area_check.specs.Valid.{last_phase};
@@ -14,8 +14,10 @@ ghost use Rattle.frame_open.specs.Open.{value_of};
 ghost use Rattle.area.specs.Offsets.{area_size, ring};
 ghost use Rattle.sheet_layout.specs.Limits.{max_stations};
 
+use octets::Refusal;
 use sheet_layout::Figures;
 
+#[tactic(auto, using(crate::specs::AreaCheckLaws::sizes), unfolding(crate::specs::Valid::deference_wrong))]
 fn deference_wrong(area: &[u8], i: usize, f: Figures) -> bool
     requires { (i < max_stations) × (area_size ≤ length area.now) × (f.gap1 + f.gap2 < 65536) }
     ensures { result ≡ deference_wrong f (record_at area.now i) }
@@ -40,6 +42,7 @@ fn deference_wrong(area: &[u8], i: usize, f: Figures) -> bool
     )
 }
 
+#[tactic(auto, using(std::proofs::lemmas::Bool::Decides::nat_tests), unfolding(crate::specs::Valid::attempts_wrong))]
 fn attempts_wrong(limit: u32, code: u32, n: u32) -> bool
     ensures { result ≡ attempts_wrong limit code n }
 {
@@ -52,6 +55,7 @@ fn attempts_wrong(limit: u32, code: u32, n: u32) -> bool
     octets::out_of(n, 1, limit)
 }
 
+#[tactic(auto, using(std::proofs::lemmas::Bool::Decides::nat_tests), unfolding(crate::specs::Valid::number_wrong))]
 fn number_wrong(f: Figures, code: u32, n: u32, frame: u32) -> bool
     requires { (f.slot < 65536) × (frame < 65536) }
     ensures { result ≡ number_wrong f code n frame }
@@ -69,12 +73,14 @@ fn number_wrong(f: Figures, code: u32, n: u32, frame: u32) -> bool
 }
 
 // The last code of a transmitter's phase.
+#[tactic(auto, using(std::proofs::lemmas::Bool::Decides::nat_tests), unfolding(crate::specs::Valid::last_phase))]
 fn last_phase(f: Figures) -> u32
     ensures { result ≡ last_phase f }
 {
     if f.ends == 0 { 5 } else { 6 }
 }
 
+#[tactic(auto, using(crate::specs::AreaCheckLaws::sizes), unfolding(crate::specs::Valid::transmitter_wrong))]
 fn transmitter_wrong(area: &[u8], i: usize, f: Figures) -> bool
     requires { (i < max_stations) × (area_size ≤ length area.now) × (f.slot < 65536) }
     ensures { result ≡ transmitter_wrong f (record_at area.now i) }
@@ -108,6 +114,7 @@ fn transmitter_wrong(area: &[u8], i: usize, f: Figures) -> bool
     )
 }
 
+#[tactic(auto, using(std::proofs::lemmas::Bool::Decides::nat_tests), unfolding(crate::specs::Valid::receiver_wrong))]
 fn receiver_wrong(area: &[u8], i: usize, clock: u32) -> bool
     requires { (i < max_stations) × (area_size ≤ length area.now) }
     ensures { result ≡ receiver_wrong clock (record_at area.now i) }
@@ -144,6 +151,7 @@ fn receiver_wrong(area: &[u8], i: usize, clock: u32) -> bool
 
 // Whether the record of station i holds what no call would leave, on a layout with these figures, so many draws and
 // this clock. A word is read where it is looked at.
+#[tactic(auto, using(std::proofs::lemmas::Bool::Decides::nat_tests), unfolding(crate::specs::Valid::record_wrong))]
 fn record_wrong(area: &[u8], i: usize, f: Figures, depth: u32, clock: u32) -> bool
     requires { (i < max_stations) × (area_size ≤ length area.now) × (f.gap1 + f.gap2 < 65536)
         × (f.slot < 65536) }
@@ -165,6 +173,7 @@ fn record_wrong(area: &[u8], i: usize, f: Figures, depth: u32, clock: u32) -> bo
 }
 
 // Whether n octets are more than the length/type value in these first octets of a frame allows.
+#[tactic(auto, using(std::proofs::lemmas::Bool::Decides::nat_tests), unfolding(frame_open::specs::Open::value_of))]
 fn overlong(frame: &[u8], n: u32) -> bool
     requires { 14 ≤ length frame.now }
     ensures { result ≡ ltb (max_frame (value_of frame.now)) n }
@@ -173,6 +182,7 @@ fn overlong(frame: &[u8], n: u32) -> bool
     frame_build::limits::max_frame(value) < n as usize
 }
 
+#[tactic(auto, using(crate::specs::AreaCheckLaws::sizes), unfolding(crate::specs::Valid::held_wrong))]
 fn held_wrong(area: &[u8], i: usize) -> bool
     requires { (i < max_stations) × (area_size ≤ length area.now) }
     ensures { result ≡ held_wrong area.now i }
@@ -187,6 +197,7 @@ fn held_wrong(area: &[u8], i: usize) -> bool
     )
 }
 
+#[tactic(auto, using(crate::specs::AreaCheckLaws::sizes), unfolding(crate::specs::Valid::readable_wrong))]
 fn readable_wrong(area: &[u8], i: usize) -> bool
     requires { (i < max_stations) × (area_size ≤ length area.now) }
     ensures { result ≡ readable_wrong area.now i }
@@ -198,26 +209,20 @@ fn readable_wrong(area: &[u8], i: usize) -> bool
     overlong(area_buffers::buffer(area, i), n)
 }
 
-fn larger(x: u8, y: u8) -> u8
-    ensures { result ≡ pick (ltb x y) y x }
-{
-    if x < y { y } else { x }
-}
-
 // Whether a code in the delay line of station i stands for nothing: the largest one tells, found without a branch.
+#[tactic(auto, using(crate::specs::AreaCheckLaws::lines))]
 fn line_wrong(area: &[u8], i: usize) -> bool
     requires { (i < max_stations) × (area_size ≤ length area.now) }
     ensures { result ≡ some (symbol_wrong area.now i) ring }
 {
     let mut top: u8 = 0;
-    let mut u: usize = 0;
-    while u < area::RING {
-        top = larger(top, area_line::read_symbol(area, i, u));
-        u += 1;
+    for u in 0..area::RING {
+        top = top.max(area_line::read_symbol(area, i, u));
     }
     area::SPOILED < top
 }
 
+#[tactic(auto, unfolding(crate::specs::Valid::station_wrong))]
 fn station_wrong(area: &[u8], i: usize) -> bool
     requires i_lt_max_stations { (i < max_stations) × (area_size ≤ length area.now) }
     requires area_bound { ((figures_at area.now).gap1 + (figures_at area.now).gap2 < 65536)
@@ -227,23 +232,23 @@ fn station_wrong(area: &[u8], i: usize) -> bool
     let f = area::read_figures(area);
     let depth = area::read_depth(area);
     let clock = area::read_clock(area);
-    let sizes = octets::either(readable_wrong(area, i), line_wrong(area, i));
-    let stored = octets::either(held_wrong(area, i), sizes);
-    octets::either(record_wrong(area, i, f, depth, clock), stored)
+    record_wrong(area, i, f, depth, clock)
+        | held_wrong(area, i)
+        | readable_wrong(area, i)
+        | line_wrong(area, i)
 }
 
+#[tactic(auto, using(crate::specs::AreaCheckLaws::searches))]
 fn stations_wrong(area: &[u8], n: usize) -> bool
     requires n_le_max_stations { (n ≤ max_stations) × (area_size ≤ length area.now) }
     requires area_bound { ((figures_at area.now).gap1 + (figures_at area.now).gap2 < 65536)
         × ((figures_at area.now).slot < 65536) }
     ensures { result ≡ some (station_wrong area.now) n }
 {
-    let mut i: usize = 0;
-    while i < n {
+    for i in 0..n {
         if station_wrong(area, i) {
             return true;
         }
-        i += 1;
     }
     false
 }
@@ -253,7 +258,7 @@ fn area_wrong(area: &[u8]) -> bool
     ensures { result ≡ area_wrong area.now }
 {
     let y = area::read_layout(area);
-    if sheet_check::refusal(y) != 0 {
+    if sheet_check::check(y).is_err() {
         return true;
     }
     let depth = area::read_depth(area);
@@ -267,15 +272,16 @@ fn area_wrong(area: &[u8]) -> bool
     stations_wrong(area, n)
 }
 
-// The number of the check, 1 or 2, that refuses a work area, or 0.
-pub fn refusal(area: &[u8]) -> u32
-    ensures { result ≡ area_refusal area.now }
+// Checks 1 and 2 of a work area.
+#[tactic(auto, using(std::proofs::lemmas::Bool::Decides::nat_tests), unfolding(crate::specs::Valid::area_refusal))]
+pub fn check(area: &[u8]) -> Result<(), Refusal>
+    ensures { refusal_in result ≡ area_refusal area.now }
 {
     if area.len() < area::AREA {
-        return 1;
+        return Err(Refusal::AreaShort);
     }
     if area_wrong(area) {
-        return 2;
+        return Err(Refusal::AreaWrong);
     }
-    0
+    Ok(())
 }

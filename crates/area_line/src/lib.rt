@@ -10,32 +10,31 @@ ghost use Rattle.sheet_layout.specs.Limits.{max_stations};
 
 use station_symbols::{Heard, Symbol};
 
+#[tactic(auto, unfolding(area::specs::Area::heard_of))]
 fn heard_of(code: u8) -> Heard
     ensures { result ≡ heard_of code }
 {
-    if code == 0 {
-        return Heard::Nothing;
+    match code {
+        0 => Heard::Nothing,
+        1 => Heard::Clean(false),
+        2 => Heard::Clean(true),
+        _ => Heard::Spoiled,
     }
-    if code == 1 {
-        return Heard::Clean(false);
-    }
-    if code == 2 {
-        return Heard::Clean(true);
-    }
-    Heard::Spoiled
 }
 
-fn heard_code(h: Heard) -> u8
+// The code of what is heard.
+pub fn heard_code(h: Heard) -> u8
     ensures { result ≡ heard_code h }
 {
     match h {
         Heard::Nothing => 0,
-        Heard::Clean(b) => { if b { 2 } else { 1 } }
+        Heard::Clean(b) => 1 + u8::from(b),
         Heard::Spoiled => area::SPOILED,
     }
 }
 
 // The code of what reaches station i in step u.
+#[tactic(auto, unfolding(area::specs::Area::symbol_at))]
 pub fn read_symbol(area: &[u8], i: usize, u: usize) -> u8
     requires { (i < max_stations) × (area_size ≤ length area.now) }
     ensures { result ≡ symbol_at area.now i u }
@@ -44,6 +43,7 @@ pub fn read_symbol(area: &[u8], i: usize, u: usize) -> u8
 }
 
 // What reaches station i in step u.
+#[tactic(auto, unfolding(area::specs::Area::arrival_at))]
 pub fn arrival(area: &[u8], i: usize, u: usize) -> Heard
     requires { (i < max_stations) × (area_size ≤ length area.now) }
     ensures { result ≡ arrival_at area.now i u }
@@ -51,6 +51,7 @@ pub fn arrival(area: &[u8], i: usize, u: usize) -> Heard
     heard_of(read_symbol(area, i, u))
 }
 
+#[tactic(auto, unfolding(area::specs::Area::with_arrival))]
 pub fn put_arrival(area: &mut [u8], i: usize, u: usize, h: Heard)
     requires { (i < max_stations) × (area_size ≤ length area.old) }
     ensures { area.new ≡ with_arrival area.old i u h }
@@ -64,12 +65,13 @@ pub fn symbol_code(s: Symbol) -> u8
 {
     match s {
         Symbol::Silence => 0,
-        Symbol::Bit(b) => { if b { 2 } else { 1 } }
+        Symbol::Bit(b) => 1 + u8::from(b),
         Symbol::Jam => area::SPOILED,
     }
 }
 
 // The code of one symbol more where this one is, unless it is silence.
+#[tactic(auto, using(std::proofs::lemmas::Bool::Decides::nat_tests))]
 pub fn mixed(there: u8, code: u8) -> u8
     ensures { result ≡ pick (eqb there 0) code max_code }
 {
@@ -77,6 +79,7 @@ pub fn mixed(there: u8, code: u8) -> u8
 }
 
 // One symbol more, by its code, is to reach station i in step u.
+#[tactic(auto, unfolding(area::specs::Area::with_symbol, area::specs::Area::symbol_at))]
 pub fn add_symbol(area: &mut [u8], i: usize, u: usize, code: u8)
     requires { (i < max_stations) × (area_size ≤ length area.old) }
     ensures { area.new ≡ with_symbol area.old i u code }

@@ -22,23 +22,16 @@ ghost use Rattle.station_state.specs.State.{number_in};
 
 use station_state::{Deference, Receiver, Station, Transmitter};
 
-fn flag_of(b: bool) -> u32
-    ensures { result ≡ flag b }
-{
-    if b { 1 } else { 0 }
-}
-
 // The phase that a code stands for. A code over 1 reads as gap.
+#[tactic(auto, unfolding(crate::specs::Codec::deference_of))]
 pub fn deference_of(code: u32, own: bool, count: u32) -> Deference
     ensures { result ≡ deference_of code own count }
 {
-    if code == 0 {
-        return Deference::Quiet;
+    match code {
+        0 => Deference::Quiet,
+        1 => Deference::Busy(own),
+        _ => Deference::Gap { count, own },
     }
-    if code == 1 {
-        return Deference::Busy(own);
-    }
-    Deference::Gap { count, own }
 }
 
 fn deference_code(d: Deference) -> u32
@@ -47,7 +40,7 @@ fn deference_code(d: Deference) -> u32
     match d {
         Deference::Quiet => 0,
         Deference::Busy(_) => 1,
-        Deference::Gap { count: _, own: _ } => 2,
+        Deference::Gap { .. } => 2,
     }
 }
 
@@ -57,7 +50,7 @@ fn deference_own(d: Deference) -> bool
     match d {
         Deference::Quiet => false,
         Deference::Busy(own) => own,
-        Deference::Gap { count: _, own } => own,
+        Deference::Gap { own, .. } => own,
     }
 }
 
@@ -65,34 +58,26 @@ fn deference_count(d: Deference) -> u32
     ensures { result ≡ deference_count d }
 {
     match d {
-        Deference::Quiet => 0,
-        Deference::Busy(_) => 0,
-        Deference::Gap { count, own: _ } => count,
+        Deference::Gap { count, .. } => count,
+        _ => 0,
     }
 }
 
 // The phase that a code stands for. A code over 5 reads as jamming before the frame's end.
+#[tactic(auto, unfolding(crate::specs::Codec::transmitter_of))]
 pub fn transmitter_of(code: u32, number: u32) -> Transmitter
     ensures { result ≡ transmitter_of code number }
 {
-    if code == 0 {
-        return Transmitter::NoFrame;
-    }
-    if code == 1 {
-        return Transmitter::Waiting;
-    }
-    if code == 2 {
-        return Transmitter::BackingOff(number);
-    }
-    if code == 3 {
-        return Transmitter::Sending(number);
-    }
-    if code == 4 {
-        return Transmitter::Heading(number);
-    }
-    Transmitter::Jamming {
-        left: number,
-        ends: code != 5,
+    match code {
+        0 => Transmitter::NoFrame,
+        1 => Transmitter::Waiting,
+        2 => Transmitter::BackingOff(number),
+        3 => Transmitter::Sending(number),
+        4 => Transmitter::Heading(number),
+        _ => Transmitter::Jamming {
+            left: number,
+            ends: code != 5,
+        },
     }
 }
 
@@ -105,7 +90,7 @@ fn transmitter_code(t: Transmitter) -> u32
         Transmitter::BackingOff(_) => 2,
         Transmitter::Sending(_) => 3,
         Transmitter::Heading(_) => 4,
-        Transmitter::Jamming { left: _, ends } => { if ends { 6 } else { 5 } }
+        Transmitter::Jamming { ends, .. } => 5 + u32::from(ends),
     }
 }
 
@@ -113,36 +98,30 @@ fn transmitter_number(t: Transmitter) -> u32
     ensures { result ≡ number_in t }
 {
     match t {
-        Transmitter::NoFrame => 0,
-        Transmitter::Waiting => 0,
-        Transmitter::BackingOff(n) => n,
-        Transmitter::Sending(n) => n,
-        Transmitter::Heading(n) => n,
-        Transmitter::Jamming { left, ends: _ } => left,
+        Transmitter::NoFrame | Transmitter::Waiting => 0,
+        Transmitter::BackingOff(n) | Transmitter::Sending(n) | Transmitter::Heading(n) => n,
+        Transmitter::Jamming { left, .. } => left,
     }
 }
 
 // The state that a code stands for. A code over 2 reads as collecting.
+#[tactic(auto, unfolding(crate::specs::Codec::receiver_of))]
 pub fn receiver_of(code: u32, number: u32, spoiled: bool, own: bool) -> Receiver
     ensures { result ≡ receiver_of code number spoiled own }
 {
-    if code == 0 {
-        return Receiver::Listening;
-    }
-    if code == 1 {
-        return Receiver::Readable(number);
-    }
-    if code == 2 {
-        return Receiver::Seeking {
+    match code {
+        0 => Receiver::Listening,
+        1 => Receiver::Readable(number),
+        2 => Receiver::Seeking {
             row: number,
             spoiled,
             own,
-        };
-    }
-    Receiver::Collecting {
-        bits: number,
-        spoiled,
-        own,
+        },
+        _ => Receiver::Collecting {
+            bits: number,
+            spoiled,
+            own,
+        },
     }
 }
 
@@ -152,16 +131,8 @@ fn receiver_code(r: Receiver) -> u32
     match r {
         Receiver::Listening => 0,
         Receiver::Readable(_) => 1,
-        Receiver::Seeking {
-            row: _,
-            spoiled: _,
-            own: _,
-        } => 2,
-        Receiver::Collecting {
-            bits: _,
-            spoiled: _,
-            own: _,
-        } => 3,
+        Receiver::Seeking { .. } => 2,
+        Receiver::Collecting { .. } => 3,
     }
 }
 
@@ -171,16 +142,8 @@ fn receiver_number(r: Receiver) -> u32
     match r {
         Receiver::Listening => 0,
         Receiver::Readable(n) => n,
-        Receiver::Seeking {
-            row,
-            spoiled: _,
-            own: _,
-        } => row,
-        Receiver::Collecting {
-            bits,
-            spoiled: _,
-            own: _,
-        } => bits,
+        Receiver::Seeking { row, .. } => row,
+        Receiver::Collecting { bits, .. } => bits,
     }
 }
 
@@ -188,18 +151,8 @@ fn receiver_spoiled(r: Receiver) -> bool
     ensures { result ≡ receiver_spoiled r }
 {
     match r {
-        Receiver::Listening => false,
-        Receiver::Readable(_) => false,
-        Receiver::Seeking {
-            row: _,
-            spoiled,
-            own: _,
-        } => spoiled,
-        Receiver::Collecting {
-            bits: _,
-            spoiled,
-            own: _,
-        } => spoiled,
+        Receiver::Listening | Receiver::Readable(_) => false,
+        Receiver::Seeking { spoiled, .. } | Receiver::Collecting { spoiled, .. } => spoiled,
     }
 }
 
@@ -207,22 +160,13 @@ fn receiver_own(r: Receiver) -> bool
     ensures { result ≡ receiver_own r }
 {
     match r {
-        Receiver::Listening => false,
-        Receiver::Readable(_) => false,
-        Receiver::Seeking {
-            row: _,
-            spoiled: _,
-            own,
-        } => own,
-        Receiver::Collecting {
-            bits: _,
-            spoiled: _,
-            own,
-        } => own,
+        Receiver::Listening | Receiver::Readable(_) => false,
+        Receiver::Seeking { own, .. } | Receiver::Collecting { own, .. } => own,
     }
 }
 
 // The words that stand for a state.
+#[tactic(auto, unfolding(crate::specs::Codec::encoded))]
 pub fn encode(s: Station) -> [u32; words::WORDS]
     ensures { result ≡ encoded s }
 {
@@ -231,18 +175,18 @@ pub fn encode(s: Station) -> [u32; words::WORDS]
     let r = s.receiver;
     [
         deference_code(d),
-        flag_of(deference_own(d)),
+        u32::from(deference_own(d)),
         deference_count(d),
         transmitter_code(t),
         transmitter_number(t),
         receiver_code(r),
         receiver_number(r),
-        flag_of(receiver_spoiled(r)),
-        flag_of(receiver_own(r)),
+        u32::from(receiver_spoiled(r)),
+        u32::from(receiver_own(r)),
         s.frame,
         s.attempts,
         s.draw,
-        flag_of(s.deferred),
-        flag_of(s.emitted),
+        u32::from(s.deferred),
+        u32::from(s.emitted),
     ]
 }

@@ -1,6 +1,6 @@
 -- An offer (document 01, refusals 1, 2, 10, 11, 12). The laws are in OfferLaws. Assumes nothing.
 use Rattle.std.specs.Prelude.{ℕ, Bool, true, false, List, [], leb, eqb, length}
-use Rattle.octets.specs.Base.{pick, Answer, refused, accepted, Outcome, outcome}
+use Rattle.octets.specs.Base.{pick, refused, accepted, Outcome, outcome}
 use Rattle.frame_build.specs.Limits.{refuses_data}
 use Rattle.frame_build.specs.Build.{frame_of}
 use Rattle.station_state.specs.declared.Transmitter.{Transmitter}

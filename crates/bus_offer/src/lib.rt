@@ -9,7 +9,8 @@ ghost use Rattle.bus_offer.specs.Offer.{holds, offered_station, with_held, with_
 ghost use Rattle.area.specs.Offsets.{area_size};
 ghost use Rattle.sheet_layout.specs.Limits.{max_stations};
 
-use octets::Done;
+use octets::Refusal;
+use station_count::Counter;
 use station_state::{Station, Transmitter};
 
 fn has_frame(t: Transmitter) -> bool
@@ -17,49 +18,40 @@ fn has_frame(t: Transmitter) -> bool
 {
     match t {
         Transmitter::NoFrame => false,
-        Transmitter::Waiting => true,
-        Transmitter::BackingOff(_) => true,
-        Transmitter::Sending(_) => true,
-        Transmitter::Heading(_) => true,
-        Transmitter::Jamming { left: _, ends: _ } => true,
+        _ => true,
     }
 }
 
 // A station with a frame of n octets offered to it.
+#[tactic(auto, unfolding(crate::specs::Offer::offered_station))]
 fn with_offer(s: Station, n: u32) -> Station
     ensures { result ≡ offered_station s n }
 {
-    let address = s.address;
-    let deference = s.deference;
-    let receiver = s.receiver;
     Station {
-        address,
-        deference,
         transmitter: Transmitter::Waiting,
-        receiver,
         frame: n,
         attempts: 0,
-        draw: s.draw,
         deferred: false,
-        emitted: s.emitted,
+        ..s
     }
 }
 
+#[tactic(auto, unfolding(crate::specs::Offer::with_held))]
 fn hold_frame(area: &mut [u8], i: usize, n: u32)
     requires { (i < max_stations) × (area_size ≤ length area.old) }
     ensures { area.new ≡ with_held area.old i n }
 {
     let s = area::read_station(area, i);
-    let next = with_offer(s, n);
-    area::write_station(area, i, next);
+    area::write_station(area, i, with_offer(s, n));
 }
 
+#[tactic(auto, unfolding(crate::specs::Offer::with_offered))]
 fn count_offer(area: &mut [u8], i: usize)
     requires { (i < max_stations) × (area_size ≤ length area.old) }
     ensures { area.new ≡ with_offered area.old i }
 {
     let c = area::read_counters(area, i);
-    let next = station_count::add(c, station_count::OFFERED, 1);
+    let next = station_count::add(c, Counter::Offered, 1);
     area::write_counters(area, i, next);
 }
 
@@ -69,31 +61,36 @@ fn accept(area: &mut [u8], i: usize, destination: [u8; 6], value: u16, payload: 
     requires payload_value { refuses_data value (length payload.now) ≡ false }
     ensures { area.new ≡ with_offer area.old i destination value payload.now }
 {
-    area_buffers::build_frame(area, i, destination, value, payload);
+    // The data are not refused, so the frame is built.
+    let _ = area_buffers::build_frame(area, i, destination, value, payload);
     hold_frame(area, i, frame_build::builder::frame_size(payload));
     count_offer(area, i);
 }
 
 // Offers a frame to station i: destination, length/type value and data. Refusals 1, 2, 10, 11, 12.
-pub fn offer(area: &mut [u8], i: usize, destination: [u8; 6], value: u16, payload: &[u8]) -> Done
+#[tactic(auto, using(crate::specs::OfferLaws::offering), unfolding(crate::specs::Offer::offered))]
+pub fn offer(
+    area: &mut [u8],
+    i: usize,
+    destination: [u8; 6],
+    value: u16,
+    payload: &[u8],
+) -> Result<(), Refusal>
     ensures { outcome (done_answer result) area.new
         ≡ offered area.old i destination value payload.now }
 {
-    let number = area_check::refusal(area);
-    if number != 0 {
-        return Done::Refused(number);
-    }
+    area_check::check(area)?;
     if area::read_count(area) as usize <= i {
-        return Done::Refused(10);
+        return Err(Refusal::NoSuchStation);
     }
     if frame_build::builder::refuses(value, payload) {
-        return Done::Refused(11);
+        return Err(Refusal::FrameData);
     }
     let s = area::read_station(area, i);
     let t = s.transmitter;
     if has_frame(t) {
-        return Done::Refused(12);
+        return Err(Refusal::FrameHeld);
     }
     accept(area, i, destination, value, payload);
-    Done::Made
+    Ok(())
 }

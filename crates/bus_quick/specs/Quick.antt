@@ -1,7 +1,7 @@
 -- Turns that change little: a station that rests, one in the middle of its frame, one whose reception goes on, one
 -- whose gap or backoff goes on. They are found by a few words of the record, and write only what changes; the code that
 -- takes them is in `heard`, `collecting`, `sending` and `silence`. Assumes nothing.
-use Rattle.std.specs.Prelude.{ℕ, ◌+◌, ◌-◌, ◌*◌, ◌%◌, ◌≤◌, ◌<◌, min, ◌≡◌, Bool, ◌||◌, ◌&&◌, leb, ltb, length}
+use Rattle.std.specs.Prelude.{ℕ, ◌+◌, ◌-◌, ◌*◌, ◌%◌, ◌≤◌, ◌<◌, min, ◌≡◌, Bool, ◌||◌, ◌&&◌, leb, ltb, length, Option, None, Some}
 use Rattle.std.proofs.Math.Path.{refl, sym, ap, subst}
 use Rattle.std.proofs.Common.{◌∙◌, true≢false, get_or-set_other}
 use Rattle.std.proofs.Math.Bool.{true, false, not}
@@ -29,13 +29,10 @@ use Rattle.station_spec.specs.Defer.{defer, quiet_rule, busy_rule, gap_rule, goe
 use Rattle.station_state.specs.declared.Transmitter.{Transmitter}
 use Rattle.station_state.specs.declared.Transmitter.TheVariants.{NoFrame, Waiting, BackingOff, Sending, Heading}
 use Rattle.station_state.specs.declared.Transmitter.TheVariants.{Jamming}
-use Rattle.station_spec.specs.declared.TransmitEvent.TheVariants.{NoTransmit}
 use Rattle.station_spec.specs.Transmit.{waits, transmit, wait_bit, backoff_bit, send_bit, octets_held}
 use Rattle.station_state.specs.declared.Receiver.{Receiver}
 use Rattle.station_state.specs.declared.Receiver.TheVariants.{Listening, Readable, Seeking, Collecting}
-use Rattle.station_spec.specs.declared.ReceiveEvent.TheVariants.{NoReceive}
 use Rattle.station_spec.specs.declared.Stored.{Stored}
-use Rattle.station_spec.specs.declared.Stored.TheVariants.{NoStore, Store}
 use Rattle.station_spec.specs.Receive.{next_row, hearing, receive, ended, hear, seek, seek_bit, collect, collect_bit}
 use Rattle.station_spec.specs.Receive.{stored_bit, row_limit}
 use Rattle.station_state.specs.declared.Station.{Station}
@@ -154,8 +151,8 @@ mk a d x r z n p df e =
     }
 
 -- a step in which nothing happens
-unfoldable pub quietly : Station → Emission → Stored → Stepped
-quietly s e st = record { station = s; emission = e; start = false; sent = NoTransmit; got = NoReceive; stored = st }
+unfoldable pub quietly : Station → Emission → Option Stored → Stepped
+quietly s e st = record { station = s; emission = e; start = false; sent = None; got = None; stored = st }
 
 unfoldable pub Still : Receiver → Type 0
 Still r = leb (receiver_code r) 1 ≡ true
@@ -163,7 +160,7 @@ Still r = leb (receiver_code r) 1 ≡ true
 module _ (f : Figures) (a : List ℕ) (z n p : ℕ) (df : Bool) (d w : ℕ) (buffer : List ℕ) where
   pub rest_step : (r : Receiver) → Still r
       → stepped f (mk a Quiet NoFrame r z n p df false) d w buffer Nothing ≡ quietly
-      (mk a Quiet NoFrame r z n p df false) Rest NoStore
+      (mk a Quiet NoFrame r z n p df false) Rest None
   unfolding stepped next_station tries_after draw_after deferred_after defer quiet_rule transmit receive ended mk quietly Still
   rest_step Listening h = rw (or_false df)
   rest_step (Readable k) h = rw (or_false df)
@@ -172,7 +169,7 @@ module _ (f : Figures) (a : List ℕ) (z n p : ℕ) (df : Bool) (d w : ℕ) (buf
 
   pub send_step : (r : Receiver) (k : ℕ) → Still r → (k ≡ 64 + 8 * z → ⊥)
       → stepped f (mk a (Busy true) (Sending k) r z n p df true) d w buffer Nothing ≡ quietly
-      (mk a (Busy true) (Sending (k + 1)) r z n p df true) (PacketBit k) NoStore
+      (mk a (Busy true) (Sending (k + 1)) r z n p df true) (PacketBit k) None
   unfolding stepped next_station tries_after draw_after deferred_after defer busy_rule transmit send_bit receive ended mk quietly Still
   send_step Listening k h ne = rw (ne_eqb k (64 + 8 * z) ne, or_false df)
   send_step (Readable m) k h ne = rw (ne_eqb k (64 + 8 * z) ne, or_false df)
@@ -181,7 +178,7 @@ module _ (f : Figures) (a : List ℕ) (z n p : ℕ) (df : Bool) (d w : ℕ) (buf
 
   pub back_step : (r : Receiver) (k : ℕ) → Still r → leb k 1 ≡ false
       → stepped f (mk a Quiet (BackingOff k) r z n p df false) d w buffer Nothing ≡ quietly
-      (mk a Quiet (BackingOff (k - 1)) r z n p df false) Rest NoStore
+      (mk a Quiet (BackingOff (k - 1)) r z n p df false) Rest None
   unfolding stepped next_station tries_after draw_after deferred_after defer quiet_rule transmit backoff_bit receive ended mk quietly Still
   back_step Listening k h g = rw (g, or_false df)
   back_step (Readable m) k h g = rw (g, or_false df)
@@ -206,7 +203,7 @@ Calm (Heading k) df n = ⊥
 Calm (Jamming k ends) df n = ⊥
 
 calm_tx : (f : Figures) (x : Transmitter) (z n w : ℕ) (h df : Bool) → Calm x df n
-    → transmit f x z n w false h ≡ record { phase = later x; emission = Rest; event = NoTransmit; drew = false }
+    → transmit f x z n w false h ≡ record { phase = later x; emission = Rest; event = None; drew = false }
 unfolding transmit wait_bit backoff_bit later Calm
 calm_tx f NoFrame z n w h df c = refl
 calm_tx f Waiting z n w h df c = refl
@@ -226,7 +223,7 @@ calm_df (Jamming k ends) df n c = absurd c
 
 module _ (f : Figures) (a : List ℕ) (x : Transmitter) (z n p : ℕ) (df : Bool) (d w : ℕ) (buffer : List ℕ)
     (c : Calm x df n) where
-  pub heard_step : (own : Bool) (r r' : Receiver) (st : Stored) (h : Heard) → hears_any h ≡ true
+  pub heard_step : (own : Bool) (r r' : Receiver) (st : Option Stored) (h : Heard) → hears_any h ≡ true
       → receive a buffer r h false ≡ hearing r' st
       → stepped f (mk a (Busy own) x r z n p df false) d w buffer h ≡ quietly
       (mk a (Busy own) (later x) r' z n p df false) Rest st
@@ -235,7 +232,7 @@ module _ (f : Figures) (a : List ℕ) (x : Transmitter) (z n p : ℕ) (df : Bool
 
   pub gap_step : (m : ℕ) (own : Bool) (r : Receiver) → leb (gap_of f) m ≡ false → Still r
       → stepped f (mk a (Gap m own) x r z n p df false) d w buffer Nothing ≡ quietly
-      (mk a (Gap (m + 1) own) (later x) r z n p df false) Rest NoStore
+      (mk a (Gap (m + 1) own) (later x) r z n p df false) Rest None
   unfolding stepped next_station tries_after draw_after defer gap_rule goes_back receive ended mk quietly Still
   gap_step m own Listening g h = rw (g, calm_tx f x z n w false df c, calm_df x df n c)
   gap_step m own (Readable k) g h = rw (g, calm_tx f x z n w false df c, calm_df x df n c)
@@ -257,8 +254,8 @@ onward r k c sp ow =
     (Seeking 1 true ow))
     (Collecting (k + 1) (sp || not (leb c 2)) ow)
 
-keeping : (r k c : ℕ) → Stored
-keeping r k c = pick (eqb r 2) NoStore (stored_bit k (eqb c 2))
+keeping : (r k c : ℕ) → Option Stored
+keeping r k c = pick (eqb r 2) None (stored_bit k (eqb c 2))
 
 heard_any : (c : ℕ) → (c ≡ 0 → ⊥) → hears_any (heard_of c) ≡ true
 unfolding heard_of
@@ -401,10 +398,10 @@ pub hears_nothing : (x : List ℕ) (i t : ℕ) → symbol_at x i t ≡ 0 → arr
 unfolding arrival_at heard_of
 hears_nothing x i t e = rw e
 
-pub stored_arrival : (i t : ℕ) (st : Stored) (x : List ℕ) → i < max_stations
+pub stored_arrival : (i t : ℕ) (st : Option Stored) (x : List ℕ) → i < max_stations
     → with_stored i st (with_arrival x i t Nothing) ≡ with_arrival (with_stored i st x) i t Nothing
-stored_arrival i t NoStore x hi = refl
-stored_arrival i t (Store k b) x hi = bit_arrival x i t Nothing hi k b
+stored_arrival i t None x hi = refl
+stored_arrival i t (Some s) x hi = bit_arrival x i t Nothing hi s.bit s.one
 
 heard_code_lem : (x : List ℕ) (i t c : ℕ) → c ≡ symbol_at x i t → arrival_at x i t ≡ heard_of c
 unfolding arrival_at
@@ -445,7 +442,7 @@ module _ (f : Figures) (d n t i : ℕ) (x : List ℕ) where
   unfolding act_in outcome_in
   act_by O e = rw e
 
-  pub taken_by : (s : Station) (e : Emission) (st : Stored) (b : List ℕ)
+  pub taken_by : (s : Station) (e : Emission) (st : Option Stored) (b : List ℕ)
       → stepped f (station_at x i) d (draw_at x i (station_at x i).draw) (buffer_at x i) (arrival_at x i t) ≡ quietly s e st
       → b ≡ pushed n t i (symbol_of (frame_at x i (octets_held (station_at x i).transmitter (station_at x i).frame)) e)
       (with_arrival (with_stored i st (with_station x i s)) i t Nothing)
@@ -472,7 +469,7 @@ module _ (f : Figures) (d n t i : ℕ) (x : List ℕ) (hi : i < max_stations) (r
       let r = receiver_of (get_or w 5 0) (get_or w 6 0) (eqb (get_or w 7 0) 1) (eqb (get_or w 8 0) 1) in
       let s = mk (address_at x i) Quiet NoFrame r (get_or w 9 0) (get_or w 10 0) (get_or w 11 0) (eqb (get_or w 12 0) 1) false in
       let es : station_at x i ≡ s = q.0 in
-      taken_by f d n t i x s Rest NoStore x
+      taken_by f d n t i x s Rest None x
       (rw (es, hears_nothing x i t hs)
       (rest_step f (address_at x i) (get_or w 9 0) (get_or w 10 0) (get_or w 11 0) (eqb (get_or w 12 0) 1) d
       (draw_at x i (get_or w 11 0)) (buffer_at x i) r
@@ -528,10 +525,10 @@ module _ (f : Figures) (d n t i : ℕ) (x : List ℕ) (hi : i < max_stations) (r
 
   -- a turn that hears nothing, emits nothing and writes the state's words
   quiet_taken : (s : Station) (y : List ℕ) → symbol_at x i t ≡ 0
-      → stepped f (station_at x i) d (draw_at x i (station_at x i).draw) (buffer_at x i) Nothing ≡ quietly s Rest NoStore
+      → stepped f (station_at x i) d (draw_at x i (station_at x i).draw) (buffer_at x i) Nothing ≡ quietly s Rest None
       → Wrote i x y (encoded s) → Taken f d n t i x y true
   unfolding pushed
-  quiet_taken s y hs e v = taken_by f d n t i x s Rest NoStore y (rw (hears_nothing x i t hs) e) (silent_by s y hs v)
+  quiet_taken s y hs e v = taken_by f d n t i x s Rest None y (rw (hears_nothing x i t hs) e) (silent_by s y hs v)
 
   gap_two : (m : ℕ) (own : Bool) (q : Transmitter) (r : Receiver)
       → encoded (such (Gap (m + 1) own) q r) ≡ set (encoded (such (Gap m own) q r)) 2 (m + 1)
@@ -625,7 +622,7 @@ module _ (f : Figures) (d n t i : ℕ) (x : List ℕ) (hi : i < max_stations) (r
       (omega arith))))
 
   -- a turn that takes the symbol first, then writes the state's words, then keeps a bit
-  heard_by_lem : (s : Station) (st : Stored) (y b : List ℕ) → Writes y s → b ≡ with_stored i st y
+  heard_by_lem : (s : Station) (st : Option Stored) (y b : List ℕ) → Writes y s → b ≡ with_stored i st y
       → b ≡ with_arrival (with_stored i st (with_station x i s)) i t Nothing
   unfolding Writes cleared
   heard_by_lem s st y b v e =

@@ -75,5 +75,5 @@ pub fn calm(area: &[u8], i: usize, c: u32) -> bool
 pub fn capped(k: usize, most: usize) -> usize
     ensures { result ≡ min k most }
 {
-    if k < most { k } else { most }
+    k.min(most)
 }

@@ -2,18 +2,12 @@
 -- that station's next reception begins"; refusals 1, 2, 10, 14, 15). The laws are in ReadLaws. Assumes nothing.
 use Rattle.std.specs.Prelude.{ℕ, Bool, true, false, List, [], ◌∷◌, ltb, leb, eqb, length, take}
 use Rattle.std.proofs.lemmas.List.Edits.{sets}
-use Rattle.octets.specs.Base.{pick, Answer, refused, accepted, Outcome, outcome}
+use Rattle.octets.specs.Base.{pick, refused, accepted, Outcome, outcome}
 use Rattle.station_state.specs.declared.Receiver.{Receiver}
 use Rattle.station_state.specs.declared.Receiver.TheVariants.{Listening, Readable, Seeking, Collecting}
 use Rattle.station_spec.specs.Count.{octets_in}
 use Rattle.area.specs.Area.{count_at, station_at, buffer_at}
 use Rattle.area_check.specs.Valid.{area_refusal}
-use Rattle.bus_read.specs.declared.Reading.{Reading}
-use Rattle.bus_read.specs.declared.Reading.TheVariants as read
-
-abbrev pub read_answer : Reading → Answer
-read_answer (read.Refused n) = refused n
-read_answer (read.Frame n) = accepted (n ∷ [])
 
 -- "That station holds no readable frame."
 abbrev pub is_readable : Receiver → Bool

@@ -1,64 +1,96 @@
-// Runs over many bit times, step by step: the reference for every faster run.
+// Runs over many bit times, by any way to go on. `run` goes step by step: the reference for every faster run.
 
 #![tactic(auto)]
 
-ghost use Rattle.std.specs.Prelude.{◌≡◌, ◌+◌, ◌<◌, ◌≤◌, length};
+ghost use Rattle.std.specs.Prelude.{◌≡◌, ◌<◌, ◌≤◌, length};
 ghost use Rattle.bus_spec.specs.Run.{course_of, run_of, run_outcome, ran};
 ghost use Rattle.bus_spec.specs.RunLaws.{Runnable};
+ghost use Rattle.bus_run.specs.Advance.{Advanced, FirstLate};
 ghost use Rattle.station_tally.specs.TallyLaws.{Bounded};
 ghost use Rattle.sheet_layout.specs.Limits.{last_clock};
 ghost use Rattle.area.specs.Offsets.{area_size};
 ghost use Rattle.station_tally.specs.Words.{word_count};
 
-use bus_spec::course::{Course, Ended, RunAnswer};
-use octets::Done;
+use bus_spec::Events;
+use bus_spec::course::{Course, RunAnswer, Stretch};
+use octets::Refusal;
+
+// A way to go on in a run.
+pub trait GoesOn {
+    // So many steps, at most those that are left, and the events of the last one. The others have none.
+    fn go_on(area: &mut [u8], left: u32) -> Stretch
+        requires { Runnable left area.old × (area_size ≤ length area.old) × (0 < left) }
+        ensures made { Advanced result.steps result.events area.old area.new }
+        ensures bound { (0 < result.steps) × (result.steps ≤ left) };
+}
+
+// One step at a time.
+struct Singly;
+
+impl GoesOn for Singly {
+    fn go_on(area: &mut [u8], _left: u32) -> Stretch {
+        Stretch {
+            steps: 1,
+            events: bus_turn::step::step(area),
+        }
+    }
+}
+
+// The first station that has a late collision.
+fn first_late(events: [Events; 16]) -> Option<usize>
+    ensures { FirstLate events result }
+{
+    events.iter().position(|e| station_tally::ends_run(e.sent))
+}
 
 // At most n steps, on an area that is ready for them, counted into `words`.
-fn run_steps(area: &mut [u8], words: &mut [u32], n: u32) -> Course
+fn run_steps<G: GoesOn>(area: &mut [u8], words: &mut [u32], n: u32) -> Course
     requires runnable { Runnable n area.old × (area_size ≤ length area.old) × (n ≤ last_clock) }
     requires words_len { (length words.old ≡ word_count) × Bounded words.old 0 }
     ensures { course_of result words.new area.new
         ≡ run_of n 0 words.old area.old }
 {
-    let mut ended = Ended::All;
     let mut t: u32 = 0;
-    'steps: while t < n {
-        let events = bus_turn::step::step(area);
+    // No range: the way to go on says how many steps were made.
+    while t < n {
+        let s = G::go_on(area, n - t);
+        let events = s.events;
         bus_spec::course::count_events(words, events, 32 * t);
-        t += 1;
-        let mut i: usize = 0;
-        while i < sheet_layout::MAX_STATIONS {
-            let e = events[i];
-            let sent = e.sent;
-            if station_tally::ends_run(sent) {
-                ended = bus_spec::course::late_end(t, i as u32);
-                break 'steps;
-            }
-            i += 1;
+        t += s.steps;
+        if let Some(station) = first_late(events) {
+            return Course {
+                steps: t,
+                late: Some(bus_spec::course::late_end(t, station as u32)),
+            };
         }
     }
-    Course { steps: t, ended }
+    Course {
+        steps: t,
+        late: None,
+    }
 }
 
-// A run of n bit times. Refusals 1, 2, 13.
-pub fn run(area: &mut [u8], n: u32) -> RunAnswer
+// A run of n bit times that goes on in this way. Refusals 1, 2, 13.
+pub fn run_by<G: GoesOn>(area: &mut [u8], n: u32) -> Result<RunAnswer, Refusal>
     ensures { run_outcome result area.new ≡ ran area.old n }
 {
-    let number = bus_spec::ready::refusal(area);
-    if number != 0 {
-        return bus_spec::course::no_run(number);
-    }
+    bus_spec::ready::check(area)?;
     let t = area::read_clock(area);
     if sheet_layout::LAST_CLOCK - t < n {
-        return bus_spec::course::no_run(13);
+        return Err(Refusal::ClockTop);
     }
     let mut words = [0u32; station_tally::WORDS];
-    let c = run_steps(area, &mut words, n);
-    let ended = c.ended;
-    RunAnswer {
-        done: Done::Made,
-        steps: c.steps,
+    let course = run_steps::<G>(area, &mut words, n);
+    Ok(RunAnswer {
+        steps: course.steps,
         words,
-        ended,
-    }
+        late: course.late,
+    })
+}
+
+// A run of n bit times, step by step. Refusals 1, 2, 13.
+pub fn run(area: &mut [u8], n: u32) -> Result<RunAnswer, Refusal>
+    ensures { run_outcome result area.new ≡ ran area.old n }
+{
+    run_by::<Singly>(area, n)
 }

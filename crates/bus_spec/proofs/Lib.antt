@@ -6,3 +6,4 @@ pub mod ReadyTurns
 pub mod RunLaws
 pub mod Stays
 pub mod UntilLaws
+pub mod Front

@@ -1,12 +1,10 @@
 -- A step leaves an area that passes checks 1 and 2 as one that passes them; and what is read of the area after a step.
 -- Assumes nothing.
-use Rattle.std.specs.Prelude.{ℕ, suc, ◌+◌, ◌≤◌, ◌<◌, min, ◌≡◌, List, length}
+use Rattle.std.specs.Prelude.{ℕ, suc, ◌+◌, ◌≤◌, ◌<◌, ◌≡◌, List, length}
 use Rattle.std.proofs.Math.Path.{refl, sym, ap₂, subst}
 use Rattle.std.proofs.Common.{◌∙◌, ap, add-one, arith}
-use Rattle.octets.specs.Filled.{filled, filled_same}
 use Rattle.octets.specs.Turns.{turns}
 use Rattle.octets.specs.WordsLaws.{Small, length_words}
-use Rattle.sheet_layout.specs.Layout.{blank_tap}
 use Rattle.sheet_layout.specs.Check.{refusal_of}
 use Rattle.sheet_layout.specs.CheckLaws.{Figured}
 use Rattle.station_spec.specs.Step.{stepped, next_station}
@@ -14,11 +12,12 @@ use Rattle.station_spec.specs.Count.{counted}
 use Rattle.area_record.specs.Codec.{decoded, encoded}
 use Rattle.area_record.specs.CodecLaws.{Fit, decoded_encoded}
 use Rattle.area.specs.Places.{Part, clock, depth, layout, draws, counters, station, frame, buffer, place, Off, Keeps}
-use Rattle.area.specs.Area.{clock_at, depth_at, figures_at, count_at, address_at, tap_at, layout_at, space_at, counters_at}
+use Rattle.area.specs.Area.{clock_at, depth_at, figures_at, count_at, address_at, space_at, counters_at}
 use Rattle.area.specs.Area.{record_at, station_at, frame_at, buffer_at, symbol_at, max_code}
-use Rattle.area.specs.AreaLaws.{keeps_trans, depth_by, figures_by, count_by, position_by, address_by, space_by}
+use Rattle.area.specs.AreaLaws.{keeps_trans, depth_by, figures_by, count_by, address_by, space_by}
 use Rattle.area.specs.AreaLaws.{counters_by, record_by, symbol_by, frame_by, buffer_by, clock_keeps, clock_same}
 use Rattle.area.specs.AreaLaws.{length_clock}
+use Rattle.area.specs.Front.{layout_by}
 use Rattle.bus_spec.specs.BitTime.{outcome_in, act_in, act_at, settled, step_area}
 use Rattle.bus_spec.specs.Range.{Fine, fine_stepped, fine_fit}
 use Rattle.bus_spec.specs.InPlace.{Kept, Spread, Ahead}
@@ -35,21 +34,6 @@ use Rattle.area.specs.Offsets.{area_size, ring, from, the_counters, the_buffer}
 use Rattle.station_state.specs.State.{counter_count}
 
 -- ---- the layout goes by its part
-
-pub layout_by : (l m : List ℕ) → area_size ≤ length l → area_size ≤ length m → Keeps layout l m → layout_at l ≡ layout_at m
-unfolding layout_at
-layout_by l m p q k =
-    let n = count_by l m k in
-    λ i. record {
-      figures = figures_by l m k i;
-      count = n i;
-      stations =
-          (filled_same blank_tap (tap_at l) (tap_at m) (min (count_at l) 16) (λ j h. tap_by j (omega arith))
-          ∙ ap (λ (c : ℕ). filled blank_tap (tap_at m) (min c 16)) n) i;
-    }
-  where
-    tap_by : (j : ℕ) → j < max_stations → tap_at l j ≡ tap_at m j
-    tap_by j h = λ i. record { position = position_by l m j h k i; address = address_by l m j h p q k i }
 
 -- a layout kept is still spread
 pub spread_by : (n : ℕ) (l m : List ℕ) → Keeps layout l m → Spread n m → Spread n l

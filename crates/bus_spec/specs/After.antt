@@ -1,6 +1,6 @@
 -- What is read of the area after one station's turn; after the turns of all stations in proofs/After. Assumes nothing.
 use Prim.Native.Nat.{ℕ, zero, suc, ◌+◌, ◌/◌, ◌%◌, ◌^◌, ◌≤◌, ◌<◌, min}
-use Rattle.std.specs.Prelude.{◌≡◌, Bool, ◌||◌, length, get_or, set}
+use Rattle.std.specs.Prelude.{◌≡◌, Bool, ◌||◌, length, get_or, set, Option, None, Some, is_some}
 use Rattle.std.proofs.Math.Path.{refl, ap}
 use Rattle.std.proofs.Common.{sym, ◌∙◌, subst, true≢false}
 use Rattle.std.proofs.Math.Bool.{true, false}
@@ -12,12 +12,11 @@ use Rattle.octets.specs.BaseLaws.{by_test, neither}
 use Rattle.octets.specs.WordsLaws.{Small, length_words}
 use Rattle.station_symbols.specs.declared.Heard.TheVariants.{Nothing}
 use Rattle.station_spec.specs.declared.ReceiveEvent.{ReceiveEvent}
-use Rattle.station_spec.specs.declared.ReceiveEvent.TheVariants.{NoReceive, GotOk, GotTooLong, GotAlignment}
+use Rattle.station_spec.specs.declared.ReceiveEvent.TheVariants.{GotOk, GotTooLong, GotAlignment}
 use Rattle.station_spec.specs.declared.ReceiveEvent.TheVariants.{GotCheck, GotLength}
 use Rattle.station_spec.specs.declared.Stored.{Stored}
-use Rattle.station_spec.specs.declared.Stored.TheVariants.{NoStore, Store}
 use Rattle.station_spec.specs.declared.TransmitEvent.{TransmitEvent}
-use Rattle.station_spec.specs.declared.TransmitEvent.TheVariants.{NoTransmit, Collision, Late, Sent, GivenUp}
+use Rattle.station_spec.specs.declared.TransmitEvent.TheVariants.{Collision, Late, Sent, GivenUp}
 use Rattle.station_spec.specs.declared.TransmitEvent.TheVariants.{LateEnded}
 use Rattle.station_spec.specs.declared.Stepped.{Stepped}
 use Rattle.station_spec.specs.Count.{added, added_if, count_sent, count_transmit, count_receive, counted}
@@ -34,7 +33,6 @@ use Rattle.bus_spec.specs.InPlace.{Kept, stored_keeps, counted_keeps}
 use Rattle.bus_spec.specs.InPlace.{length_placed, length_counted, length_stored}
 use Rattle.area.specs.Offsets.{area_size, from, the_counters}
 use Rattle.sheet_layout.specs.Limits.{max_stations}
-use Rattle.station_tally.specs.Words.{is_transmit, is_receive}
 use Rattle.station_state.specs.State.{counter_count}
 
 -- ---- counters stay so many words
@@ -66,61 +64,61 @@ sent_words : (cs : List ℕ) (n z : ℕ) (d : Bool) → Words cs → Words (coun
 unfolding count_sent
 sent_words cs n z d w = if_words _ _ 8 (if_words _ _ 6 (if_words _ _ 5 (added_words _ 7 _ (added_words cs 4 1 w))))
 
-transmit_words : (cs : List ℕ) (e : TransmitEvent) (z : ℕ) (d : Bool) → Words cs → Words (count_transmit cs e z d)
+transmit_words : (cs : List ℕ) (e : Option TransmitEvent) (z : ℕ) (d : Bool) → Words cs → Words (count_transmit cs e z d)
 unfolding count_transmit
-transmit_words cs NoTransmit z d w = w
-transmit_words cs (Collision k) z d w = added_words cs 2 1 w
-transmit_words cs (Late k closes) z d w = added_words _ 3 1 (added_words cs 2 1 w)
-transmit_words cs (Sent n) z d w = sent_words cs n z d w
-transmit_words cs (GivenUp n) z d w = added_words cs 9 1 w
-transmit_words cs (LateEnded n) z d w = added_words cs 16 1 w
+transmit_words cs None z d w = w
+transmit_words cs (Some (Collision k)) z d w = added_words cs 2 1 w
+transmit_words cs (Some (Late k closes)) z d w = added_words _ 3 1 (added_words cs 2 1 w)
+transmit_words cs (Some (Sent n)) z d w = sent_words cs n z d w
+transmit_words cs (Some (GivenUp n)) z d w = added_words cs 9 1 w
+transmit_words cs (Some (LateEnded n)) z d w = added_words cs 16 1 w
 
-receive_words : (cs : List ℕ) (e : ReceiveEvent) (z : ℕ) → Words cs → Words (count_receive cs e z)
+receive_words : (cs : List ℕ) (e : Option ReceiveEvent) (z : ℕ) → Words cs → Words (count_receive cs e z)
 unfolding count_receive
-receive_words cs NoReceive z w = w
-receive_words cs (GotOk n) z w = added_words _ 11 _ (added_words cs 10 1 w)
-receive_words cs (GotTooLong n) z w = added_words cs 12 1 w
-receive_words cs (GotAlignment n) z w = added_words cs 14 1 w
-receive_words cs (GotCheck n) z w = added_words cs 13 1 w
-receive_words cs (GotLength n) z w = added_words cs 15 1 w
+receive_words cs None z w = w
+receive_words cs (Some (GotOk n)) z w = added_words _ 11 _ (added_words cs 10 1 w)
+receive_words cs (Some (GotTooLong n)) z w = added_words cs 12 1 w
+receive_words cs (Some (GotAlignment n)) z w = added_words cs 14 1 w
+receive_words cs (Some (GotCheck n)) z w = added_words cs 13 1 w
+receive_words cs (Some (GotLength n)) z w = added_words cs 15 1 w
 
 pub counted_words : (cs : List ℕ) (o : Stepped) → Words cs → Words (counted cs o)
 unfolding counted
 counted_words cs o w = receive_words _ o.got _ (transmit_words _ o.sent _ _ (if_words cs o.start 1 w))
 
 -- a step with nothing to count counts nothing
-nothing_sent : (cs : List ℕ) (e : TransmitEvent) (z : ℕ) (d : Bool) → is_transmit e ≡ false → count_transmit cs e z d ≡ cs
+nothing_sent : (cs : List ℕ) (e : Option TransmitEvent) (z : ℕ) (d : Bool) → is_some e ≡ false → count_transmit cs e z d ≡ cs
 unfolding count_transmit
-nothing_sent cs NoTransmit z d h = refl
-nothing_sent cs (Collision k) z d h = absurd (true≢false h)
-nothing_sent cs (Late k closes) z d h = absurd (true≢false h)
-nothing_sent cs (Sent n) z d h = absurd (true≢false h)
-nothing_sent cs (GivenUp n) z d h = absurd (true≢false h)
-nothing_sent cs (LateEnded n) z d h = absurd (true≢false h)
+nothing_sent cs None z d h = refl
+nothing_sent cs (Some (Collision k)) z d h = absurd (true≢false h)
+nothing_sent cs (Some (Late k closes)) z d h = absurd (true≢false h)
+nothing_sent cs (Some (Sent n)) z d h = absurd (true≢false h)
+nothing_sent cs (Some (GivenUp n)) z d h = absurd (true≢false h)
+nothing_sent cs (Some (LateEnded n)) z d h = absurd (true≢false h)
 
-nothing_got : (cs : List ℕ) (e : ReceiveEvent) (z : ℕ) → is_receive e ≡ false → count_receive cs e z ≡ cs
+nothing_got : (cs : List ℕ) (e : Option ReceiveEvent) (z : ℕ) → is_some e ≡ false → count_receive cs e z ≡ cs
 unfolding count_receive
-nothing_got cs NoReceive z h = refl
-nothing_got cs (GotOk n) z h = absurd (true≢false h)
-nothing_got cs (GotTooLong n) z h = absurd (true≢false h)
-nothing_got cs (GotAlignment n) z h = absurd (true≢false h)
-nothing_got cs (GotCheck n) z h = absurd (true≢false h)
-nothing_got cs (GotLength n) z h = absurd (true≢false h)
+nothing_got cs None z h = refl
+nothing_got cs (Some (GotOk n)) z h = absurd (true≢false h)
+nothing_got cs (Some (GotTooLong n)) z h = absurd (true≢false h)
+nothing_got cs (Some (GotAlignment n)) z h = absurd (true≢false h)
+nothing_got cs (Some (GotCheck n)) z h = absurd (true≢false h)
+nothing_got cs (Some (GotLength n)) z h = absurd (true≢false h)
 
 nothing_counted : (cs : List ℕ) (o : Stepped) → happened o ≡ false → counted cs o ≡ cs
 unfolding happened counted added_if
 nothing_counted cs o h =
-    let p = neither o.start (is_transmit o.sent || is_receive o.got) h in
-    let q = neither (is_transmit o.sent) (is_receive o.got) p.1 in
+    let p = neither o.start (is_some o.sent || is_some o.got) h in
+    let q = neither (is_some o.sent) (is_some o.got) p.1 in
     nothing_got _ o.got _ q.1 ∙ nothing_sent _ o.sent _ _ q.0
     ∙ ap (λ (b : Bool). pick b (added cs 1 1) cs) p.0
 
 -- ---- one station's turn, seen from its own parts
 
 -- a buffer with the bit that was collected
-abbrev pub stored_in : List ℕ → Stored → List ℕ
-stored_in b NoStore = b
-stored_in b (Store k v) = set b (k / 8) (octet_with (get_or b (k / 8) 0) (k % 8) v)
+abbrev pub stored_in : List ℕ → Option Stored → List ℕ
+stored_in b None = b
+stored_in b (Some s) = set b (s.bit / 8) (octet_with (get_or b (s.bit / 8) 0) (s.bit % 8) s.one)
 
 module _ (t i : ℕ) (o : Stepped) (x : List ℕ) (hi : i < max_stations) (room : area_size ≤ length x)
     (kept : Kept o.stored) where
@@ -165,10 +163,10 @@ module _ (t i : ℕ) (o : Stepped) (x : List ℕ) (hi : i < max_stations) (room 
       ∙ record_same x room i o.station hi f
 
   -- the bit that it collected is in its buffer
-  stored_there : (s : Stored) → Kept s → buffer_at (with_stored i s x₂) i ≡ stored_in (buffer_at x₂ i) s
+  stored_there : (s : Option Stored) → Kept s → buffer_at (with_stored i s x₂) i ≡ stored_in (buffer_at x₂ i) s
   unfolding x₂
-  stored_there NoStore k = refl
-  stored_there (Store m b) k = bit_same x₂ (omega (arith, length_counted i o x₁, first_length)) i m b hi k
+  stored_there None k = refl
+  stored_there (Some s) k = bit_same x₂ (omega (arith, length_counted i o x₁, first_length)) i s.bit s.one hi k
 
   pub placed_buffer : buffer_at (placed t i o x) i ≡ stored_in (buffer_at x i) o.stored
   unfolding placed x₃ x₂ x₁

@@ -1,25 +1,15 @@
 -- One bit time of the whole pair, on the octets of the work area (document 01, "One bit time").
 -- "In step t all stations work from what they hear at t and emitted at t−1; none sees another's step t." The laws are
 -- in InPlace and CodeLaws. Assumes nothing.
-use Rattle.std.specs.Prelude.{ℕ, ◌+◌, Bool, true, false, ◌||◌, List, get_or}
+use Rattle.std.specs.Prelude.{ℕ, ◌+◌, Bool, ◌||◌, List, get_or, Option, None, is_some, Some}
 use Rattle.octets.specs.Base.{pick}
 use Rattle.octets.specs.Turns.{turns}
 use Rattle.octets.specs.Filled.{filled}
 use Rattle.sheet_layout.specs.declared.Figures.{Figures}
-use Rattle.station_symbols.specs.declared.Heard.{Heard}
 use Rattle.station_symbols.specs.declared.Heard.TheVariants.{Nothing}
-use Rattle.station_symbols.specs.declared.Symbol.{Symbol}
 use Rattle.station_symbols.specs.Packet.{symbol_of}
-use Rattle.station_spec.specs.declared.ReceiveEvent.{ReceiveEvent}
-use Rattle.station_spec.specs.declared.ReceiveEvent.TheVariants.{NoReceive, GotOk, GotTooLong, GotAlignment}
-use Rattle.station_spec.specs.declared.ReceiveEvent.TheVariants.{GotCheck, GotLength}
 use Rattle.station_spec.specs.declared.Stored.{Stored}
-use Rattle.station_spec.specs.declared.Stored.TheVariants.{NoStore, Store}
-use Rattle.station_spec.specs.declared.TransmitEvent.{TransmitEvent}
-use Rattle.station_spec.specs.declared.TransmitEvent.TheVariants.{NoTransmit, Collision, Late, Sent, GivenUp}
-use Rattle.station_spec.specs.declared.TransmitEvent.TheVariants.{LateEnded}
 use Rattle.station_spec.specs.Transmit.{octets_held}
-use Rattle.station_state.specs.declared.Station.{Station}
 use Rattle.station_spec.specs.declared.Stepped.{Stepped}
 use Rattle.station_spec.specs.Step.{stepped}
 use Rattle.station_spec.specs.Count.{counted}
@@ -28,7 +18,6 @@ use Rattle.area.specs.Area.{station_at, with_station, frame_at, buffer_at, with_
 use Rattle.bus_spec.specs.Medium.{pushed}
 use Rattle.bus_spec.specs.declared.Events.{Events}
 use Rattle.bus_spec.specs.declared.Act.{Act}
-use Rattle.station_tally.specs.Words.{is_transmit, is_receive}
 
 -- ---- what a station does
 
@@ -53,13 +42,13 @@ act_at a i = act_in (figures_at a) (depth_at a) (clock_at a) a i
 -- ---- what it leaves in area x
 
 -- the bit that it collected
-abbrev pub with_stored : ℕ → Stored → List ℕ → List ℕ
-with_stored i NoStore x = x
-with_stored i (Store k b) x = with_bit x i k b
+abbrev pub with_stored : ℕ → Option Stored → List ℕ → List ℕ
+with_stored i None x = x
+with_stored i (Some s) x = with_bit x i s.bit s.one
 
 -- its counters, where there is anything to count
 unfoldable pub happened : Stepped → Bool
-happened o = o.start || (is_transmit o.sent || is_receive o.got)
+happened o = o.start || (is_some o.sent || is_some o.got)
 
 unfoldable pub with_counted : ℕ → Stepped → List ℕ → List ℕ
 with_counted i o x = pick (happened o) (with_counters x i (counted (counters_at x i) o)) x
@@ -83,7 +72,7 @@ abbrev pub events_of : Act → Events
 events_of r = record { sent = r.outcome.sent; got = r.outcome.got }
 
 abbrev pub no_events : Events
-no_events = record { sent = NoTransmit; got = NoReceive }
+no_events = record { sent = None; got = None }
 
 -- those of station i
 abbrev pub event_at : List Events → ℕ → Events

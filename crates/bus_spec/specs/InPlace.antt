@@ -1,13 +1,12 @@
 -- In place is the same as all at once: nobody reads what the same step wrote. The turns are in proofs/InPlace. Assumes
 -- nothing.
-use Rattle.std.specs.Prelude.{ℕ, ◌≤◌, ◌<◌, ◌≡◌, refl, List, length}
+use Rattle.std.specs.Prelude.{ℕ, ◌≤◌, ◌<◌, ◌≡◌, refl, List, length, Option, None, Some}
 use Rattle.std.proofs.Common.{◌∙◌, arith}
 use Rattle.octets.specs.BaseLaws.{by_test}
 use Rattle.octets.specs.Turns.{length_turns}
 use Rattle.sheet_layout.specs.declared.Figures.{Figures}
 use Rattle.station_symbols.specs.declared.Heard.TheVariants.{Nothing}
 use Rattle.station_spec.specs.declared.Stored.{Stored}
-use Rattle.station_spec.specs.declared.Stored.TheVariants.{NoStore, Store}
 use Rattle.station_spec.specs.Transmit.{octets_held}
 use Rattle.station_spec.specs.declared.Stepped.{Stepped}
 use Rattle.area.specs.Places.{Part, clock, depth, layout, draws, counters, station, frame, buffer, place, Off, Keeps}
@@ -24,15 +23,15 @@ use Rattle.frame_build.specs.Limits.{buffer_bits}
 use Rattle.sheet_layout.specs.Limits.{max_stations, max_draws}
 
 -- a bit that the receive buffer holds
-abbrev pub Kept : Stored → Type 0
-Kept NoStore = Unit {0}
-Kept (Store k b) = k < buffer_bits
+abbrev pub Kept : Option Stored → Type 0
+Kept None = Unit {0}
+Kept (Some s) = s.bit < buffer_bits
 
 -- ---- lengths
 
-pub length_stored : (i : ℕ) (o : Stored) (x : List ℕ) → length (with_stored i o x) ≡ length x
-length_stored i NoStore x = refl
-length_stored i (Store k b) x = length_bit x i k b
+pub length_stored : (i : ℕ) (o : Option Stored) (x : List ℕ) → length (with_stored i o x) ≡ length x
+length_stored i None x = refl
+length_stored i (Some s) x = length_bit x i s.bit s.one
 
 pub length_counted : (i : ℕ) (o : Stepped) (x : List ℕ) → length (with_counted i o x) ≡ length x
 unfolding with_counted
@@ -65,10 +64,10 @@ pub record Foreign (p : Part) (t i : ℕ) : Type 0 where
   pub buffer : Off p (buffer i)
   pub place : Off p (place i t)
 
-pub stored_keeps : (p : Part) (i : ℕ) (o : Stored) (x : List ℕ) → Kept o → Off p (buffer i)
+pub stored_keeps : (p : Part) (i : ℕ) (o : Option Stored) (x : List ℕ) → Kept o → Off p (buffer i)
     → Keeps p (with_stored i o x) x
-stored_keeps p i NoStore x k q = keeps_refl p x
-stored_keeps p i (Store k b) x h q = bit_keeps p x i k b h q
+stored_keeps p i None x k q = keeps_refl p x
+stored_keeps p i (Some s) x h q = bit_keeps p x i s.bit s.one h q
 
 pub counted_keeps : (p : Part) (i : ℕ) (o : Stepped) (x : List ℕ) → Off p (counters i) → Keeps p (with_counted i o x) x
 unfolding with_counted

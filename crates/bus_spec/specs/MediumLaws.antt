@@ -2,15 +2,14 @@
 -- sends them so, is in proofs/MediumLaws. Assumes nothing.
 use Prim.Native.Nat.{ℕ, ◌+◌}
 use Rattle.std.specs.Prelude.{◌≡◌, true, false, List, eqb, length}
-use Rattle.std.proofs.Math.Path.{refl, ap}
-use Rattle.std.proofs.Common.{sym, ◌∙◌, arith, eq-eqb, ne_eqb}
+use Rattle.std.proofs.Math.Path.{refl}
+use Rattle.std.proofs.Common.{sym, ◌∙◌, arith}
 use Rattle.octets.specs.BaseLaws.{by_test}
 use Rattle.octets.specs.Turns.{turns, turns_more, length_turns}
 use Rattle.station_symbols.specs.declared.Symbol.{Symbol}
 use Rattle.station_symbols.specs.declared.Symbol.TheVariants.{Silence, Bit, Jam}
-use Rattle.area.specs.Area.{position_at, distance, space_at, heard_code, alone, with_symbol}
+use Rattle.area.specs.Area.{heard_code, alone}
 use Rattle.area.specs.AreaLaws.{length_arrival}
-use Rattle.area.specs.CodeLaws.{space_is}
 use Rattle.bus_spec.specs.Medium.{send_to, is_silence, pushed, code_to}
 
 -- ---- lengths
@@ -27,20 +26,6 @@ unfolding pushed
 length_pushed n t i s x = by_test (is_silence s) (λ e. rw e) (λ e. rw e (length_sends t i s n x))
 
 -- ---- the code
-
-module _ (t i c j : ℕ) (a : List ℕ) where
-  pub send_own : j ≡ i → a ≡ code_to t i c j a
-  unfolding code_to
-  send_own p = rw (eq-eqb j i p)
-
-  -- the distance by both positions
-  pub send_apart : (b : List ℕ) (u d p q : ℕ) → b ≡ with_symbol a j u c → u ≡ t + d → d ≡ distance p q
-      → q ≡ position_at a j → p ≡ position_at a i → (j ≡ i → ⊥)
-      → b ≡ code_to t i c j a
-  unfolding code_to
-  send_apart b u d p q eb eu ed eq ep ne =
-      let w : u ≡ t + space_at a i j = eu ∙ ap (λ (x : ℕ). t + x) (space_is a i j d p q ed eq ep) in
-      eb ∙ rw (ne_eqb j i ne, w)
 
 code_silence : (s : Symbol) → heard_code (alone s) ≡ 0 → is_silence s ≡ true
 code_silence Silence h = refl

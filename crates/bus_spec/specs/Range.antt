@@ -1,6 +1,6 @@
 -- The ranges of a station's fields, as check 2 lists them: kept by every step, and small enough for the code's sums and
 -- for the words of a record. Assumes nothing.
-use Prim.Native.Nat.{ℕ, suc, ◌+◌, ◌-◌, ◌*◌, ◌/◌, ◌%◌, ◌^◌, ◌≤◌, ◌<◌, min}
+use Prim.Native.Nat.{ℕ, suc, ◌+◌, ◌*◌, ◌/◌, ◌%◌, ◌^◌, ◌≤◌, ◌<◌, min}
 use Rattle.std.specs.Prelude.{◌≡◌, refl, Bool, ◌||◌, List, ltb, leb, eqb, get_or, take}
 use Rattle.std.proofs.Common.{sym, ◌∙◌, ap, true≢false, pow_pos}
 use Rattle.std.proofs.Math.Bool.{true, false}
@@ -8,7 +8,7 @@ use Rattle.std.proofs.Math.Nat.{mod-lt, mul-le-mul_left}
 use native.Mathlib.Omega.{arith}
 use Rattle.std.proofs.Math.Pow.{pow_mono}
 use borrow.Author.Tests.{ltb-true, ltb-false, leb-false, eqb-true, eqb-false}
-use Rattle.octets.specs.Base.{Answer, values_of}
+use Rattle.octets.specs.Base.{values_of}
 use Rattle.octets.specs.BaseLaws.{by_test}
 use Rattle.octets.specs.Bits.{digit}
 use Rattle.frame_open.specs.Open.{opened}
@@ -30,7 +30,6 @@ use Rattle.station_spec.specs.Transmit.{backoff_range, back_off, last_jam, jam_b
 use Rattle.station_state.specs.State.{number_in}
 use Rattle.station_state.specs.declared.Receiver.{Receiver}
 use Rattle.station_state.specs.declared.Receiver.TheVariants.{Listening, Readable, Seeking, Collecting}
-use Rattle.station_spec.specs.declared.Received.{Received}
 use Rattle.station_spec.specs.Receive.{next_row, seek_bit, collect_bit, seek, collect, hear, addressed, open_answer}
 use Rattle.station_spec.specs.Receive.{readable_after, opening, decide, ended, receive, row_in, bits_in, row_limit}
 use Rattle.station_state.specs.declared.Station.{Station}
@@ -39,7 +38,7 @@ use Rattle.station_spec.specs.StepLaws.{tries_more, tries_same}
 use Rattle.area_record.specs.Codec.{deference_count, receiver_number}
 use Rattle.area_record.specs.CodecLaws.{Fit}
 use Rattle.frame_build.specs.Limits.{buffer_octets, shortest_frame}
-use Rattle.sheet_layout.specs.Limits.{max_stations, max_draws, max_attempts}
+use Rattle.sheet_layout.specs.Limits.{max_draws, max_attempts}
 
 -- ---- the ranges
 

@@ -159,3 +159,5 @@ pub step_events : (f : Figures) (d n t : ℕ) (a : List ℕ) (es : List Events) 
     → es ≡ events_at a
 unfolding events_in events_at act_at
 step_events f d n t a es p en et ed ef = p ∙ rw (en, et, ed, ef)
+
+pub ruleset stepping = (ready_few, ready_able, step_events)

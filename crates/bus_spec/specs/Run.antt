@@ -1,16 +1,16 @@
 -- A run of n bit times (document 01: "A run of n bit times ends early after the first step in which any station has a
 -- late collision. .. a run answers the steps made and how many events of each word came"; refusals 1, 2, 13). The laws
 -- are in RunLaws. Assumes nothing.
-use Rattle.std.specs.Prelude.{ℕ, zero, suc, ◌+◌, Bool, List, [], ltb, eqb, replicate}
-use Rattle.octets.specs.Base.{pick, some, Answer, refused, accepted, done_answer}
+use Rattle.std.specs.Prelude.{ℕ, zero, suc, ◌+◌, Bool, List, [], ltb, eqb, replicate, Option, Some, None, Result, Ok, Err}
+use Rattle.octets.specs.Base.{pick, some, Answer, refused, accepted, refusal_number}
+use Rattle.octets.specs.declared.Refusal.{Refusal}
 use Rattle.octets.specs.Turns.{turns}
 use Rattle.station_tally.specs.Tally.{sent_counted, got_counted}
 use Rattle.area.specs.Area.{clock_at}
 use Rattle.area_check.specs.Valid.{area_refusal}
 use Rattle.bus_spec.specs.declared.Events.{Events}
 use Rattle.bus_spec.specs.BitTime.{event_at, events_at, step_area}
-use Rattle.bus_spec.specs.declared.course.Ended.{Ended}
-use Rattle.bus_spec.specs.declared.course.Ended.TheVariants as how
+use Rattle.bus_spec.specs.declared.course.LateEnd.{LateEnd}
 use Rattle.bus_spec.specs.declared.course.Course.{Course}
 use Rattle.bus_spec.specs.declared.course.RunAnswer.{RunAnswer}
 use Rattle.sheet_layout.specs.Limits.{last_clock}
@@ -38,38 +38,42 @@ first t (suc n) = pick (some t n) (first t n) n
 
 -- ---- the run
 
--- what a run leaves: its answer, the steps made, the words, how it ended, the area
+-- a late collision of this station in this step
+abbrev pub late_in : ℕ → ℕ → LateEnd
+late_in m i = record { step = m; station = i }
+
+-- what a run leaves: its answer, the steps made, the words, the late collision that ended it, if one did, the area
 pub record Ran : Type 0 where
   pub answer : Answer
   pub steps : ℕ
   pub words : List ℕ
-  pub ended : Ended
+  pub ended : Option LateEnd
   pub octets : List ℕ
 
 -- At most k steps more, one after the other, where m have been made already: each counted, the one with a late
 -- collision among them.
 unfoldable pub run_of : ℕ → (m : ℕ) (ws : List ℕ) (a : List ℕ) → Ran
-run_of zero m ws a = record { answer = accepted []; steps = m; words = ws; ended = how.All; octets = a }
+run_of zero m ws a = record { answer = accepted []; steps = m; words = ws; ended = None; octets = a }
 run_of (suc k) m ws a =
     pick (stops (events_at a))
     (record {
       answer = accepted [];
       steps = m + 1;
       words = tallied (events_at a) 16 ws;
-      ended = how.Late m (first (late_at (events_at a)) 16);
+      ended = Some (late_in m (first (late_at (events_at a)) 16));
       octets = step_area a;
     })
     (run_of k (m + 1) (tallied (events_at a) 16 ws) (step_area a))
 
 abbrev pub course_of : Course → (ws a : List ℕ) → Ran
-course_of r ws a = record { answer = accepted []; steps = r.steps; words = ws; ended = r.ended; octets = a }
-
-abbrev pub run_outcome : RunAnswer → List ℕ → Ran
-run_outcome r a =
-    record { answer = done_answer r.done; steps = r.steps; words = r.words; ended = r.ended; octets = a }
+course_of r ws a = record { answer = accepted []; steps = r.steps; words = ws; ended = r.late; octets = a }
 
 abbrev pub unrun : ℕ → List ℕ → Ran
-unrun k a = record { answer = refused k; steps = 0; words = replicate word_count 0; ended = how.All; octets = a }
+unrun k a = record { answer = refused k; steps = 0; words = replicate word_count 0; ended = None; octets = a }
+
+abbrev pub run_outcome : Result RunAnswer Refusal → List ℕ → Ran
+run_outcome (Ok r) a = record { answer = accepted []; steps = r.steps; words = r.words; ended = r.late; octets = a }
+run_outcome (Err e) a = unrun (refusal_number e) a
 
 -- "13. Clock plus the bit times asked exceeds 16,777,216."
 unfoldable pub ran : List ℕ → ℕ → Ran

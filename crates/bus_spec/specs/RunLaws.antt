@@ -1,12 +1,13 @@
 -- A law for each way through the code of a run; that the run can go on (run_next) is in proofs/RunLaws. Assumes nothing.
 use Prim.Native.Nat.{ℕ, zero, suc, ◌+◌, ◌-◌, ◌*◌, ◌≤◌, ◌<◌}
-use Rattle.std.specs.Prelude.{◌≡◌, refl, Bool, true, false, List, [], replicate}
+use Rattle.std.specs.Prelude.{◌≡◌, refl, Bool, true, false, List, [], replicate, Option, Some, None, Result, Err}
 use Rattle.std.proofs.Common.{sym, ◌∙◌, subst, add-one}
 use Rattle.std.proofs.Math.Path.{ap}
 use native.Mathlib.Omega.{arith}
-use borrow.Author.Tests.{eq-eqb, ne_eqb, lt-ltb, le-ltb}
-use Rattle.octets.specs.Base.{pick, some, refused, accepted, done_answer}
-use Rattle.octets.specs.BaseLaws.{by_test, by_eq, none_below, some_none, some_more, some_hit}
+use borrow.Author.Tests.{ne_eqb, lt-ltb, le-ltb}
+use Rattle.octets.specs.Base.{pick, some, accepted, refusal_number}
+use Rattle.octets.specs.declared.Refusal.{Refusal}
+use Rattle.octets.specs.BaseLaws.{refusal_numbered, by_test, by_eq, none_below, some_none, some_more, some_hit}
 use Rattle.octets.specs.NumberLaws.{Octets}
 use Rattle.octets.specs.Turns.{turns}
 use Rattle.station_tally.specs.TallyLaws.{Bounded, counted_bounded, start_bounded}
@@ -16,11 +17,10 @@ use Rattle.bus_spec.specs.declared.Events.{Events}
 use Rattle.bus_spec.specs.BitTime.{events_at, step_area, event_at}
 use Rattle.bus_spec.specs.Ready.{Ready, Readiness}
 use Rattle.bus_spec.specs.Passes.{passes_ready}
-use Rattle.bus_spec.specs.declared.course.Ended.{Ended}
-use Rattle.bus_spec.specs.declared.course.Ended.TheVariants as how
+use Rattle.bus_spec.specs.declared.course.LateEnd.{LateEnd}
 use Rattle.bus_spec.specs.declared.course.RunAnswer.{RunAnswer}
 use Rattle.station_tally.specs.Tally.{sent_counted, got_counted}
-use Rattle.bus_spec.specs.Run.{tallied, late_at, first, Ran, run_of, run_outcome, ran, stops}
+use Rattle.bus_spec.specs.Run.{tallied, late_at, first, Ran, run_of, run_outcome, ran, stops, late_in, unrun}
 use Rattle.sheet_layout.specs.Limits.{last_clock, max_stations}
 use Rattle.station_tally.specs.Words.{ends_run, word_count, transmit_word, receive_word}
 
@@ -92,8 +92,7 @@ module _ (n t : ℕ) (ws : List ℕ) (a : List ℕ) (R : Ran) where
         answer = accepted [];
         steps = t + 1;
         words = tallied (events_at a) 16 ws;
-        ended = how.Late t
-            (first (late_at (events_at a)) 16);
+        ended = Some (late_in t (first (late_at (events_at a)) 16));
         octets = step_area a;
       })
       (run_of (n - (t + 1)) (t + 1) (tallied (events_at a) 16 ws) (step_area a)) ≡ R
@@ -113,7 +112,7 @@ module _ (n t : ℕ) (ws : List ℕ) (a : List ℕ) (R : Ran) where
   pub run_late : (es : List Events) (vs b : List ℕ) (i : ℕ) (c : Bool) → b ≡ step_area a → es ≡ events_at a
       → vs ≡ tallied es 16 ws → c ≡ late_at es i → c ≡ true
       → some (late_at es) i ≡ false → i < max_stations → t < n → run_of (n - t) t ws a ≡ R
-      → record { answer = accepted []; steps = t + 1; words = vs; ended = how.Late (t + 1 - 1) i; octets = b } ≡ R
+      → record { answer = accepted []; steps = t + 1; words = vs; ended = Some (late_in (t + 1 - 1) i); octets = b } ≡ R
   run_late es vs b i c eb ee ev ec et s hi h p =
       let z : t + 1 - 1 ≡ t = omega arith in
       let hit : stops (events_at a) ≡ true = sym
@@ -121,7 +120,7 @@ module _ (n t : ℕ) (ws : List ℕ) (a : List ℕ) (R : Ran) where
       let at : first (late_at es) 16 ≡ i = first_hit (late_at es) 16 i c ec et s hi in
       rw (z, eb, ev, ← at, ee) (rw hit at (turn (n - t) refl h p))
 
-  pub run_end_lem : (e : Ended) → e ≡ how.All → n ≤ t → run_of (n - t) t ws a ≡ R
+  pub run_end_lem : (e : Option LateEnd) → e ≡ None → n ≤ t → run_of (n - t) t ws a ≡ R
       → record { answer = accepted []; steps = t; words = ws; ended = e; octets = a } ≡ R
   unfolding run_of
   run_end_lem e q h p = let z : n - t ≡ 0 = omega arith in rw q (rw z at p)
@@ -144,7 +143,7 @@ module _ (es : List Events) (i : ℕ) (e : Events) (b : Bool) (p : b ≡ ends_ru
   none_late_more r h = some_more (late_at es) i b late_is r h
 
   -- it has one: the run ends
-  pub run_found : (n t : ℕ) (ws a vs y : List ℕ) (R : Ran) (w : Ended) → b ≡ true → w ≡ how.Late (t + 1 - 1) i
+  pub run_found : (n t : ℕ) (ws a vs y : List ℕ) (R : Ran) (w : Option LateEnd) → b ≡ true → w ≡ Some (late_in (t + 1 - 1) i)
       → y ≡ step_area a → es ≡ events_at a → vs ≡ tallied es 16 ws → NoneLate es i → i < max_stations → t < n
       → run_of (n - t) t ws a ≡ R
       → record { answer = accepted []; steps = t + 1; words = vs; ended = w; octets = y } ≡ R
@@ -174,37 +173,29 @@ run_clock n t a h g = omega (arith, h.1)
 
 -- ---- the call
 
-module _ (a : List ℕ) (k n : ℕ) where
-  pub ran_area : (r : RunAnswer) → done_answer r.done ≡ refused k → r.steps ≡ 0 → r.words ≡ replicate word_count 0
-      → r.ended ≡ how.All → k ≡ area_refusal a → (k ≡ 0 → ⊥)
-      → run_outcome r a ≡ ran a n
+module _ (a : List ℕ) (n : ℕ) where
+  pub ran_area : (e : Refusal) → refusal_number e ≡ area_refusal a → run_outcome (Err e) a ≡ ran a n
   unfolding ran
-  ran_area r p q s t e h =
-      (λ i. record { answer = p i; steps = q i; words = s i; ended = t i; octets = a }) ∙ rw (← e, ne_eqb k 0 h)
+  ran_area e p = rw (← p, ne_eqb (refusal_number e) 0 (refusal_numbered e))
 
-  pub ran_over : (r : RunAnswer) (c : ℕ) → done_answer r.done ≡ refused 13 → r.steps ≡ 0
-      → r.words ≡ replicate word_count 0
-      → r.ended ≡ how.All → k ≡ area_refusal a → k ≡ 0
-      → c ≡ clock_at a → last_clock - c < n → run_outcome r a ≡ ran a n
+  pub ran_over : (c : ℕ) → 0 ≡ area_refusal a → c ≡ clock_at a → last_clock - c < n → unrun 13 a ≡ ran a n
   unfolding ran
-  ran_over r c p q s t e h ec g =
-      (λ i. record { answer = p i; steps = q i; words = s i; ended = t i; octets = a })
-      ∙ rw (← e, eq-eqb k 0 h, ← ec, lt-ltb last_clock (c + n) (omega arith))
+  ran_over c p ec g = rw (← p, ← ec, lt-ltb last_clock (c + n) (omega arith))
 
-  pub ran_made : (R : Ran) (c : ℕ) → R ≡ run_of n 0 (replicate word_count 0) a → k ≡ area_refusal a → k ≡ 0 → c ≡ clock_at a
+  pub ran_made : (R : Ran) (c : ℕ) → R ≡ run_of n 0 (replicate word_count 0) a → 0 ≡ area_refusal a → c ≡ clock_at a
       → c ≤ last_clock → n ≤ last_clock - c → R ≡ ran a n
   unfolding ran
-  ran_made R c p e h ec l g = p ∙ rw (← e, eq-eqb k 0 h, ← ec, le-ltb last_clock (c + n) (omega arith))
+  ran_made R c p e ec l g = p ∙ rw (← e, ← ec, le-ltb last_clock (c + n) (omega arith))
 
-pub run_allowed : (a : List ℕ) (k n c : ℕ) → k ≡ area_refusal a → k ≡ 0 → Octets a → c ≡ clock_at a → n ≤ last_clock - c
-    → Runnable n a
+pub run_allowed : (a : List ℕ) (n c : ℕ) → 0 ≡ area_refusal a → Octets a → c ≡ clock_at a → n ≤ last_clock - c → Runnable n a
 unfolding Runnable
-run_allowed a k n c e h o ec g = let r = (passes_ready a o (sym e ∙ h)).ready in (r, omega (arith, r.clock))
+run_allowed a n c e o ec g = let r = (passes_ready a o (sym e)).ready in (r, omega (arith, r.clock))
 
-pub clock_within : (a : List ℕ) (k c : ℕ) → k ≡ area_refusal a → k ≡ 0 → Octets a → c ≡ clock_at a → c ≤ last_clock
-clock_within a k c e h o ec = let r = (passes_ready a o (sym e ∙ h)).ready in omega (arith, r.clock)
+pub clock_within : (a : List ℕ) (c : ℕ) → 0 ≡ area_refusal a → Octets a → c ≡ clock_at a → c ≤ last_clock
+clock_within a c e o ec = let r = (passes_ready a o (sym e)).ready in omega (arith, r.clock)
 
 -- Two engines that promise `ran` agree, in what they answer and in every octet.
-pub engines_agree : (a b c : List ℕ) (n : ℕ) (r s : RunAnswer) → run_outcome r b ≡ ran a n → run_outcome s c ≡ ran a n
+pub engines_agree : (a b c : List ℕ) (n : ℕ) (r s : Result RunAnswer Refusal) → run_outcome r b ≡ ran a n
+    → run_outcome s c ≡ ran a n
     → run_outcome r b ≡ run_outcome s c
 engines_agree a b c n r s p q = p ∙ sym q

@@ -1,6 +1,6 @@
 -- The sizes that check 2 looks at by value (N3): a frame that is held, and one that can be read, is no longer than the
 -- value in its octets allows; and a step keeps it so. Assumes nothing.
-use Rattle.std.specs.Prelude.{ℕ, ◌+◌, ◌/◌, ◌%◌, ◌≤◌, ◌<◌, ◌≡◌, refl, Bool, true, false, ◌||◌, List, ltb, leb, eqb, length, get_or, take}
+use Rattle.std.specs.Prelude.{ℕ, ◌+◌, ◌/◌, ◌%◌, ◌≤◌, ◌≡◌, refl, Bool, true, false, ◌||◌, List, ltb, eqb, length, get_or, take}
 use Rattle.std.proofs.Common.{sym, ◌∙◌, true≢false, get_or-take}
 use native.Mathlib.Omega.{arith}
 use borrow.Author.Tests.{ltb-false, le-ltb, eqb-true, ne_eqb}
@@ -9,7 +9,7 @@ use Rattle.octets.specs.Base.{pick, values_of}
 use Rattle.octets.specs.BaseLaws.{by_test}
 use Rattle.octets.specs.NumberLaws.{get_by}
 use Rattle.frame_build.specs.Limits.{min_frame, max_frame, buffer_octets, shortest_frame}
-use Rattle.frame_open.specs.Open.{value_of, check_wrong, opened}
+use Rattle.frame_open.specs.Open.{value_of, opened}
 use Rattle.station_symbols.specs.declared.Heard.{Heard}
 use Rattle.station_symbols.specs.declared.Heard.TheVariants.{Nothing, Clean, Spoiled}
 use Rattle.sheet_layout.specs.declared.Figures.{Figures}

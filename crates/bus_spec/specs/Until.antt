@@ -1,14 +1,13 @@
 -- Steps until an event: at most n, the last one is the first that has an event. The laws are in UntilLaws. Assumes
 -- nothing.
-use Rattle.std.specs.Prelude.{ℕ, zero, suc, ◌+◌, Bool, ◌||◌, List, replicate}
+use Rattle.std.specs.Prelude.{ℕ, zero, suc, ◌+◌, Bool, ◌||◌, List, replicate, is_some}
 use Rattle.octets.specs.Base.{pick, some}
 use Rattle.bus_spec.specs.declared.Events.{Events}
 use Rattle.bus_spec.specs.BitTime.{no_events, event_at, events_at, step_area}
 use Rattle.bus_spec.specs.declared.course.Stretch.{Stretch}
-use Rattle.station_tally.specs.Words.{is_transmit, is_receive}
 
 unfoldable pub has_event : Events → Bool
-has_event e = is_transmit e.sent || is_receive e.got
+has_event e = is_some e.sent || is_some e.got
 
 -- whether some station has an event
 unfoldable pub eventful : List Events → Bool

@@ -1,7 +1,7 @@
 -- Laws of steps until an event, and one for each way through the code that makes them; what they leave is in
 -- proofs/UntilLaws. Assumes nothing.
 use Prim.Native.Nat.{ℕ, zero, suc, ◌+◌, ◌-◌, ◌≤◌, ◌<◌}
-use Rattle.std.specs.Prelude.{◌≡◌, refl, Bool, true, false, ◌||◌, List, replicate}
+use Rattle.std.specs.Prelude.{◌≡◌, refl, Bool, true, false, ◌||◌, List, replicate, is_some}
 use Rattle.std.proofs.Common.{sym, ◌∙◌}
 use Rattle.std.proofs.Math.Path.{ap}
 use native.Mathlib.Omega.{arith}
@@ -11,7 +11,6 @@ use Rattle.bus_spec.specs.declared.Events.{Events}
 use Rattle.bus_spec.specs.BitTime.{no_events, event_at, events_at, step_area}
 use Rattle.bus_spec.specs.Until.{has_event, eventful, Stretched, one_more, until_event}
 use Rattle.sheet_layout.specs.Limits.{max_stations}
-use Rattle.station_tally.specs.Words.{is_transmit, is_receive}
 
 -- ---- whether some station has an event
 
@@ -19,7 +18,7 @@ use Rattle.station_tally.specs.Words.{is_transmit, is_receive}
 unfoldable pub Calm : List Events → ℕ → Type 0
 Calm es i = some (λ k. has_event (event_at es k)) i ≡ false
 
-pub event_is : (e : Events) (s g b : Bool) → s ≡ is_transmit e.sent → g ≡ is_receive e.got → b ≡ (s || g)
+pub event_is : (e : Events) (s g b : Bool) → s ≡ is_some e.sent → g ≡ is_some e.got → b ≡ (s || g)
     → b ≡ has_event e
 unfolding has_event
 event_is e s g b p q r = r ∙ rw (p, q)

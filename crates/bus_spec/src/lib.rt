@@ -12,9 +12,15 @@ use station_symbols::Symbol;
 // A station's events in a step: at most one transmit and one receive event.
 #[derive(Clone, Copy)]
 pub struct Events {
-    pub sent: TransmitEvent,
-    pub got: ReceiveEvent,
+    pub sent: Option<TransmitEvent>,
+    pub got: Option<ReceiveEvent>,
 }
+
+// What a station has in a step in which nothing comes to an end.
+pub const NO_EVENTS: Events = Events {
+    sent: None,
+    got: None,
+};
 
 // What a station does in a step: the step's outcome, and the symbol that it emits.
 #[derive(Clone, Copy)]

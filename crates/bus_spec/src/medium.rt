@@ -9,6 +9,7 @@ ghost use Rattle.sheet_layout.specs.Limits.{max_stations};
 use station_symbols::Symbol;
 
 // The symbol with this code that station i, at p, emits in step t is on its way to station j.
+#[tactic(auto, using(std::proofs::lemmas::Bool::Decides::nat_tests), unfolding(crate::specs::Medium::code_to, area::specs::Area::space_at))]
 fn send_to(area: &mut [u8], t: usize, i: usize, p: u32, code: u8, j: usize)
     requires { (i < max_stations) × (j < max_stations) × (t < 4294967296) × (area_size ≤ length area.old)
         × (p ≡ position_at area.old i) }
@@ -32,9 +33,7 @@ pub fn push(area: &mut [u8], n: usize, t: usize, i: usize, s: Symbol)
         return;
     }
     let p = area::read_position(area, i);
-    let mut j: usize = 0;
-    while j < n {
+    for j in 0..n {
         send_to(area, t, i, p, code, j);
-        j += 1;
     }
 }

@@ -1,7 +1,7 @@
 -- A fresh start (document 01: "A fresh start has clock 0, every station quiet, nothing emitted, heard or held, first
 -- draws next, counters 0"). A record, counters and a line of zeros stand for that. The laws are in FreshLaws. Assumes
 -- nothing.
-use Rattle.std.specs.Prelude.{ℕ, ◌+◌, ◌*◌, List, [], ◌∷◌, get_or}
+use Rattle.std.specs.Prelude.{ℕ, List, [], ◌∷◌, get_or}
 use Rattle.std.proofs.lemmas.List.Edits.{sets}
 use Rattle.octets.specs.Number.{put}
 use Rattle.octets.specs.Turns.{turns, blanked}

@@ -1,5 +1,5 @@
 -- A law for each way through the code of a fresh start, and what is read of the area that it leaves. Assumes nothing.
-use Rattle.std.specs.Prelude.{ℕ, zero, suc, ◌+◌, ◌*◌, ◌-◌, ◌^◌, ◌≤◌, ◌<◌, ◌≡◌, get_or}
+use Rattle.std.specs.Prelude.{ℕ, zero, suc, ◌+◌, ◌*◌, ◌^◌, ◌≤◌, ◌<◌, ◌≡◌, get_or}
 use Rattle.std.proofs.Math.Path.{refl, ap}
 use Rattle.std.proofs.Common.{sym, ◌∙◌, ap₂, not-suc-le-zero, arith}
 use mathlib.Core.List.{List, [], ◌∷◌, ◌++◌}
@@ -13,12 +13,11 @@ use Rattle.octets.specs.Store.{part, part_same, Apart}
 use Rattle.octets.specs.Region.{Same, same_refl, same_part, same_trans, sets_leaves, put_leaves, words_leave}
 use Rattle.octets.specs.Region.{get_goes_by, part_goes_by}
 use Rattle.octets.specs.Turns.{turns, turns_none, turns_more, length_turns, blanked, blanked_same, length_blanked}
-use Rattle.octets.specs.Words.{words_at, put_words}
+use Rattle.octets.specs.Words.{words_at}
 use Rattle.octets.specs.WordsLaws.{length_put_words, get_words_same}
 use Rattle.sheet_layout.specs.declared.Figures.{Figures}
 use Rattle.sheet_layout.specs.declared.Tap.{Tap}
 use Rattle.sheet_layout.specs.declared.Layout.{Layout}
-use Rattle.sheet_layout.specs.Layout as lay
 use Rattle.sheet_layout.specs.CheckLaws.{Figured}
 use Rattle.station_symbols.specs.declared.Heard.TheVariants.{Nothing}
 use Rattle.area.specs.AreaLaws.{symbol_zero}
@@ -46,63 +45,22 @@ pub draws_none : (ds : List (List ℕ)) (d : ℕ) (a : List ℕ) → a ≡ with_
 unfolding with_draws
 draws_none ds d a = turns_none (λ j z. with_row (get_or ds j []) j d z) a
 
-module _ (a b : List ℕ) where
-  pub figures_written_lem : (f : Figures) (n : ℕ)
-      → b ≡ put_words 8 a (from the_layout)
-      (f.slot ∷ f.gap1 ∷ f.gap2 ∷ f.jam ∷ f.limit ∷ f.backoff ∷ n ∷ f.ends ∷ [])
-      → b ≡ with_figures f n a
-  unfolding with_figures
-  figures_written_lem f n p = p
+-- one more
+pub taps_more : (ts : List Tap) (i : ℕ) (a : List ℕ)
+    → with_taps ts (i + 1) a ≡ with_tap (tap_in ts i).position (tap_in ts i).address i (with_taps ts i a)
+unfolding with_taps
+taps_more ts i a =
+    sym (turns_more (λ j z. with_tap (tap_in ts j).position (tap_in ts j).address j z) i a (with_taps ts i a) _ refl refl)
 
-  pub tap_written_lem : (x : List ℕ) (p : ℕ) (d : List ℕ) (i : ℕ) → b ≡ sets x (address_from i) d → x ≡ put 4 a (tap_from i) p
-      → b ≡ with_tap p d i a
-  unfolding with_tap
-  tap_written_lem x p d i e q = rw q at e
+pub row_more : (row : List ℕ) (i k : ℕ) (a : List ℕ)
+    → with_row row i (k + 1) a ≡ with_draw i k (get_or row k 0) (with_row row i k a)
+unfolding with_row
+row_more row i k a = sym (turns_more (λ j z. with_draw i j (get_or row j 0) z) k a (with_row row i k a) _ refl refl)
 
-  pub taps_more : (ts : List Tap) (i p : ℕ) (d x : List ℕ) (t : Tap) → b ≡ with_tap t.position t.address i x
-      → t ≡ tap_in ts i → x ≡ with_taps ts i a → b ≡ with_taps ts (i + 1) a
-  unfolding with_taps
-  taps_more ts i p d x t e q r =
-      turns_more (λ j z. with_tap (tap_in ts j).position (tap_in ts j).address j z) i a x b
-      (e ∙ ap (λ (u : Tap). with_tap u.position u.address i x) q) r
-
-  pub taps_end : (ts : List Tap) (n i : ℕ) → i ≤ n → n ≤ i → b ≡ with_taps ts i a → b ≡ with_taps ts n a
-  taps_end ts n i h g p = let e : i ≡ n = omega arith in rw e at p
-
-  pub depth_written : (d : ℕ) → b ≡ put 4 a (from the_depth) d → b ≡ with_depth d a
-  unfolding with_depth
-  depth_written d p = p
-
-  pub draw_written : (i k v : ℕ) → b ≡ put 2 a (draw_from i k) v → b ≡ with_draw i k v a
-  unfolding with_draw
-  draw_written i k v p = p
-
-  pub row_more : (row : List ℕ) (i k v : ℕ) (x : List ℕ) → b ≡ with_draw i k v x → v ≡ get_or row k 0
-      → x ≡ with_row row i k a → b ≡ with_row row i (k + 1) a
-  unfolding with_row
-  row_more row i k v x p e q = turns_more (λ j z. with_draw i j (get_or row j 0) z) k a x b (p ∙ rw e) q
-
-  pub row_end : (row : List ℕ) (i d k : ℕ) → k ≤ d → d ≤ k → b ≡ with_row row i k a → b ≡ with_row row i d a
-  row_end row i d k h g p = let e : k ≡ d = omega arith in rw e at p
-
-  pub draws_more : (ds : List (List ℕ)) (i d : ℕ) (x row : List ℕ) → b ≡ with_row row i d x → row ≡ get_or ds i []
-      → x ≡ with_draws ds i d a → b ≡ with_draws ds (i + 1) d a
-  unfolding with_draws
-  draws_more ds i d x row p e q = turns_more (λ j z. with_row (get_or ds j []) j d z) i a x b (p ∙ rw e) q
-
-  pub draws_end : (ds : List (List ℕ)) (n d i : ℕ) → i ≤ n → n ≤ i → b ≡ with_draws ds i d a → b ≡ with_draws ds n d a
-  draws_end ds n d i h g p = let e : i ≡ n = omega arith in rw e at p
-
-  pub plan_written : (y : Layout) (d n : ℕ) (ds : List (List ℕ)) (x₁ x₂ x₃ : List ℕ) → b ≡ with_draws ds n d x₃
-      → x₃ ≡ with_depth d x₂ → x₂ ≡ with_taps y.stations n x₁
-      → x₁ ≡ with_figures y.figures y.count a → n ≡ y.count → b ≡ with_plan y d ds a
-  unfolding with_plan
-  plan_written y d n ds x₁ x₂ x₃ p q e f en = p ∙ rw (q, e, f, en)
-
-  pub fresh_written : (y : Layout) (d : ℕ) (ds : List (List ℕ)) (x : List ℕ) → b ≡ with_plan y d ds x
-      → x ≡ blanked area_size a → b ≡ fresh y d ds a
-  unfolding fresh
-  fresh_written y d ds x p q = p ∙ rw q
+pub draws_more : (ds : List (List ℕ)) (i d : ℕ) (a : List ℕ)
+    → with_draws ds (i + 1) d a ≡ with_row (get_or ds i []) i d (with_draws ds i d a)
+unfolding with_draws
+draws_more ds i d a = sym (turns_more (λ j z. with_row (get_or ds j []) j d z) i a (with_draws ds i d a) _ refl refl)
 
 -- ---- what each writer leaves as it was
 

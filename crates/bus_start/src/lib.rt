@@ -10,10 +10,11 @@ ghost use Rattle.bus_start.specs.Start.{started};
 ghost use Rattle.area.specs.Offsets.{area_size};
 ghost use Rattle.sheet_layout.specs.Limits.{max_stations, max_draws};
 
-use octets::Done;
+use octets::Refusal;
 use sheet_layout::{Figures, Layout, Tap};
 
 // The figures, N among them.
+#[tactic(auto, unfolding(crate::specs::Fresh::with_figures))]
 fn write_figures(area: &mut [u8], f: Figures, count: u32)
     requires { area_size ≤ length area.old }
     ensures { area.new ≡ with_figures f count area.old }
@@ -24,28 +25,27 @@ fn write_figures(area: &mut [u8], f: Figures, count: u32)
     octets_words::store_words(area, area::LAYOUT_AT, &words);
 }
 
-fn write_tap(area: &mut [u8], i: usize, position: u32, address: [u8; 6])
+#[tactic(auto, unfolding(crate::specs::Fresh::with_tap))]
+fn write_tap(area: &mut [u8], i: usize, t: Tap)
     requires { (i < max_stations) × (area_size ≤ length area.old) }
-    ensures { area.new ≡ with_tap position address i area.old }
+    ensures { area.new ≡ with_tap t.position t.address i area.old }
 {
-    octets_words::put32(area, area::TAPS_AT + 16 * i, position);
-    octets_copies::store(area, area::ADDRESSES_AT + 16 * i, &address);
+    octets_words::put32(area, area::TAPS_AT + 16 * i, t.position);
+    octets_copies::store(area, area::ADDRESSES_AT + 16 * i, &t.address);
 }
 
 // The first n stations.
+#[tactic(auto, using(crate::specs::FreshLaws::taps_none, crate::specs::FreshLaws::taps_more))]
 fn write_taps(area: &mut [u8], taps: [Tap; 16], n: usize)
     requires { (n ≤ max_stations) × (area_size ≤ length area.old) }
     ensures { area.new ≡ with_taps taps n area.old }
 {
-    let mut i: usize = 0;
-    while i < n {
-        let t = taps[i];
-        let address = t.address;
-        write_tap(area, i, t.position, address);
-        i += 1;
+    for i in 0..n {
+        write_tap(area, i, taps[i]);
     }
 }
 
+#[tactic(auto, unfolding(crate::specs::Fresh::with_depth))]
 fn write_depth(area: &mut [u8], depth: u32)
     requires { area_size ≤ length area.old }
     ensures { area.new ≡ with_depth depth area.old }
@@ -53,6 +53,7 @@ fn write_depth(area: &mut [u8], depth: u32)
     octets_words::put32(area, area::DEPTH_AT, depth);
 }
 
+#[tactic(auto, unfolding(crate::specs::Fresh::with_draw))]
 fn write_draw(area: &mut [u8], i: usize, k: usize, v: u16)
     requires { (i < max_stations) × (k < max_draws) × (area_size ≤ length area.old) }
     ensures { area.new ≡ with_draw i k v area.old }
@@ -61,29 +62,27 @@ fn write_draw(area: &mut [u8], i: usize, k: usize, v: u16)
 }
 
 // The first draws of station i, as many as there are.
+#[tactic(auto, using(crate::specs::FreshLaws::row_none, crate::specs::FreshLaws::row_more))]
 fn write_row(area: &mut [u8], i: usize, depth: usize, row: [u16; 16])
     requires { (i < max_stations) × (depth ≤ max_draws) × (area_size ≤ length area.old) }
     ensures { area.new ≡ with_row row i depth area.old }
 {
-    let mut k: usize = 0;
-    while k < depth {
+    for k in 0..depth {
         write_draw(area, i, k, row[k]);
-        k += 1;
     }
 }
 
+#[tactic(auto, using(crate::specs::FreshLaws::draws_none, crate::specs::FreshLaws::draws_more))]
 fn write_draws(area: &mut [u8], n: usize, depth: usize, draws: [[u16; 16]; 16])
     requires { (n ≤ max_stations) × (depth ≤ max_draws) × (area_size ≤ length area.old) }
     ensures { area.new ≡ with_draws draws n depth area.old }
 {
-    let mut i: usize = 0;
-    while i < n {
-        let row = draws[i];
-        write_row(area, i, depth, row);
-        i += 1;
+    for i in 0..n {
+        write_row(area, i, depth, draws[i]);
     }
 }
 
+#[tactic(auto, unfolding(crate::specs::Fresh::with_plan))]
 fn write_plan(area: &mut [u8], y: Layout, depth: u32, draws: [[u16; 16]; 16])
     requires { (y.count ≤ max_stations) × (depth ≤ max_draws) × (area_size ≤ length area.old) }
     ensures { area.new ≡ with_plan y depth draws area.old }
@@ -98,6 +97,7 @@ fn write_plan(area: &mut [u8], y: Layout, depth: u32, draws: [[u16; 16]; 16])
 }
 
 // A fresh start on this layout, with D and the draws of each station.
+#[tactic(auto, unfolding(crate::specs::Fresh::fresh))]
 pub fn write_fresh(area: &mut [u8], y: Layout, depth: u32, draws: [[u16; 16]; 16])
     requires { (y.count ≤ max_stations) × (depth ≤ max_draws) × (area_size ≤ length area.old) }
     ensures { area.new ≡ fresh y depth draws area.old }
@@ -107,19 +107,17 @@ pub fn write_fresh(area: &mut [u8], y: Layout, depth: u32, draws: [[u16; 16]; 16
 }
 
 // A fresh start on this layout, with D and the draws of each station. Refusals 1, 5 to 9.
-pub fn start(area: &mut [u8], y: Layout, depth: u32, draws: [[u16; 16]; 16]) -> Done
+#[tactic(auto, using(crate::specs::StartLaws::starting), unfolding(crate::specs::Start::started))]
+pub fn start(area: &mut [u8], y: Layout, depth: u32, draws: [[u16; 16]; 16]) -> Result<(), Refusal>
     ensures { outcome (done_answer result) area.new ≡ started area.old y depth draws }
 {
     if area.len() < area::AREA {
-        return Done::Refused(1);
+        return Err(Refusal::AreaShort);
     }
-    let number = sheet_check::refusal(y);
-    if number != 0 {
-        return Done::Refused(number);
-    }
+    sheet_check::check(y)?;
     if octets::out_of(depth, 1, 16) {
-        return Done::Refused(9);
+        return Err(Refusal::Draws);
     }
     write_fresh(area, y, depth, draws);
-    Done::Made
+    Ok(())
 }

@@ -1,3 +1,4 @@
 pub mod Counters
 pub mod Step
 pub mod StepLaws
+pub mod Front

@@ -8,58 +8,48 @@ pub mod step;
 ghost use Rattle.std.specs.Prelude.{◌≡◌, ◌+◌, ◌*◌, ◌<◌, ◌≤◌, length};
 ghost use Rattle.area.specs.Area.{station_at, with_station};
 ghost use Rattle.bus_spec.specs.BitTime.{happened, with_stored, with_counted, placed, settled, act_in, turn_in, events_of};
-ghost use Rattle.bus_spec.specs.BitTime.{no_events};
 ghost use Rattle.bus_spec.specs.InPlace.{Kept};
 ghost use Rattle.bus_spec.specs.Ready.{Able};
 ghost use Rattle.area.specs.Offsets.{area_size};
 ghost use Rattle.sheet_layout.specs.Limits.{max_stations};
-ghost use Rattle.station_tally.specs.Words.{is_transmit, is_receive};
 
 use bus_spec::{Act, Events};
 use sheet_layout::Figures;
-use station_spec::{ReceiveEvent, Stepped, Stored, TransmitEvent};
+use station_spec::{Stepped, Stored};
 use station_state::{Deference, Receiver, Station, Transmitter};
 use station_symbols::Heard;
 
-// A collected bit is kept.
-pub fn keep_bit(area: &mut [u8], i: usize, stored: Stored)
+// A collected bit is kept, if there is one.
+#[tactic(auto, using(bus_spec::specs::CodeLaws::bit_room), unfolding(bus_spec::specs::BitTime::with_stored))]
+pub fn keep_bit(area: &mut [u8], i: usize, stored: Option<Stored>)
     requires { (i < max_stations) × (area_size ≤ length area.old) × Kept stored }
     ensures { area.new ≡ with_stored i stored area.old }
 {
-    match stored {
-        Stored::NoStore => {}
-        Stored::Store { bit, one } => {
-            area_buffers::store_bit(area, i, bit as usize, one);
-        }
+    if let Some(s) = stored {
+        area_buffers::store_bit(area, i, s.bit as usize, s.one);
     }
 }
 
 // Whether a step has anything to count.
+#[tactic(auto, unfolding(bus_spec::specs::BitTime::happened))]
 fn has_happened(o: Stepped) -> bool
     ensures { result ≡ happened o }
 {
-    let sent = o.sent;
-    let got = o.got;
-    octets::either(
-        o.start,
-        octets::either(
-            station_tally::is_transmit(sent),
-            station_tally::is_receive(got),
-        ),
-    )
+    o.start | (o.sent.is_some() | o.got.is_some())
 }
 
+#[tactic(auto, unfolding(bus_spec::specs::BitTime::with_counted))]
 pub fn count_step(area: &mut [u8], i: usize, o: Stepped)
     requires { (i < max_stations) × (area_size ≤ length area.old) }
     ensures { area.new ≡ with_counted i o area.old }
 {
     if has_happened(o) {
         let c = area::read_counters(area, i);
-        let next = station_count::count(c, o);
-        area::write_counters(area, i, next);
+        area::write_counters(area, i, station_count::count(c, o));
     }
 }
 
+#[tactic(auto, unfolding(area::specs::Area::station_at, area_record::specs::Codec::decoded))]
 fn load_deference(area: &[u8], i: usize) -> Deference
     requires { (i < max_stations) × (area_size ≤ length area.now) }
     ensures { result ≡ (station_at area.now i).deference }
@@ -70,6 +60,7 @@ fn load_deference(area: &[u8], i: usize) -> Deference
     area_record::deference_of(code, own == 1, count)
 }
 
+#[tactic(auto, unfolding(area::specs::Area::station_at, area_record::specs::Codec::decoded))]
 fn load_transmitter(area: &[u8], i: usize) -> Transmitter
     requires { (i < max_stations) × (area_size ≤ length area.now) }
     ensures { result ≡ (station_at area.now i).transmitter }
@@ -79,6 +70,7 @@ fn load_transmitter(area: &[u8], i: usize) -> Transmitter
     area_record::transmitter_of(code, number)
 }
 
+#[tactic(auto, unfolding(area::specs::Area::station_at, area_record::specs::Codec::decoded))]
 fn load_receiver(area: &[u8], i: usize) -> Receiver
     requires { (i < max_stations) × (area_size ≤ length area.now) }
     ensures { result ≡ (station_at area.now i).receiver }
@@ -92,6 +84,7 @@ fn load_receiver(area: &[u8], i: usize) -> Receiver
 
 // Station i. It is `area::read_station`, here once more: called from one place it is put in there, and no word goes
 // through memory.
+#[tactic(auto, unfolding(area::specs::Area::station_at, area_record::specs::Codec::decoded))]
 fn load(area: &[u8], i: usize) -> Station
     requires { (i < max_stations) × (area_size ≤ length area.now) }
     ensures { result ≡ station_at area.now i }
@@ -114,6 +107,7 @@ fn load(area: &[u8], i: usize) -> Station
 }
 
 // Writes station i, as `area::write_station` does.
+#[tactic(auto, unfolding(area::specs::Area::with_station, area_record::specs::Codec::encoded))]
 fn store(area: &mut [u8], i: usize, s: Station)
     requires { (i < max_stations) × (area_size ≤ length area.old) }
     ensures { area.new ≡ with_station area.old i s }
@@ -124,30 +118,29 @@ fn store(area: &mut [u8], i: usize, s: Station)
 
 // Station i is what its step t made of it: its record, its counters, the bit it collected; what reached it is taken
 // from its line.
+#[tactic(auto, unfolding(bus_spec::specs::BitTime::placed))]
 fn place(area: &mut [u8], t: usize, i: usize, o: Stepped)
     requires { (i < max_stations) × (area_size ≤ length area.old) × Kept o.stored }
     ensures { area.new ≡ placed t i o area.old }
 {
-    let next = o.station;
-    let stored = o.stored;
-    store(area, i, next);
+    store(area, i, o.station);
     count_step(area, i, o);
-    keep_bit(area, i, stored);
+    keep_bit(area, i, o.stored);
     area_line::put_arrival(area, i, t, Heard::Nothing);
 }
 
+#[tactic(auto, unfolding(bus_spec::specs::BitTime::settled))]
 fn settle(area: &mut [u8], n: usize, t: usize, i: usize, a: Act)
     requires { (i < max_stations) × (n ≤ max_stations) × (t < 4294967296) × (area_size ≤ length area.old)
         × Kept a.outcome.stored }
     ensures { area.new ≡ settled n t i a area.old }
 {
-    let o = a.outcome;
-    let s = a.symbol;
-    place(area, t, i, o);
-    bus_spec::medium::push(area, n, t, i, s);
+    place(area, t, i, a.outcome);
+    bus_spec::medium::push(area, n, t, i, a.symbol);
 }
 
 // What station i does in step t, from the area as it stands.
+#[tactic(auto, using(bus_spec::specs::Ready::able_draw, bus_spec::specs::Ready::able_held, bus_spec::specs::Ready::able_room), unfolding(bus_spec::specs::BitTime::act_in, bus_spec::specs::BitTime::outcome_in))]
 fn acts(area: &[u8], depth: u32, t: usize, f: Figures, i: usize) -> Act
     requires { (i < max_stations) × (area_size ≤ length area.now) × Able f area.now i }
     ensures { result ≡ act_in f depth t area.now i }
@@ -155,15 +148,14 @@ fn acts(area: &[u8], depth: u32, t: usize, f: Figures, i: usize) -> Act
     let s = load(area, i);
     let h = area_line::arrival(area, i, t);
     let draw = area::read_draw(area, i, s.draw as usize);
-    let transmitter = s.transmitter;
-    let size = station_transmit::octets_held(transmitter, s.frame) as usize;
+    let size = station_transmit::octets_held(s.transmitter, s.frame) as usize;
     let outcome = station_step::step(f, s, depth, draw, area_buffers::buffer(area, i), h);
-    let emission = outcome.emission;
-    let symbol = area_buffers::symbol(area, i, size, emission);
+    let symbol = area_buffers::symbol(area, i, size, outcome.emission);
     Act { outcome, symbol }
 }
 
 // Any turn of station i in step t.
+#[tactic(auto, using(bus_spec::specs::Ready::acts_kept), unfolding(bus_spec::specs::BitTime::turn_in))]
 fn general(area: &mut [u8], n: usize, depth: u32, t: usize, f: Figures, i: usize) -> Events
     requires { (i < max_stations) × (n ≤ max_stations) × (t < 4294967296) × (area_size ≤ length area.old)
         × Able f area.old i }
@@ -171,19 +163,10 @@ fn general(area: &mut [u8], n: usize, depth: u32, t: usize, f: Figures, i: usize
     ensures events { result ≡ events_of (act_in f depth t area.old i) }
 {
     let a = acts(area, depth, t, f, i);
-    let o = a.outcome;
     settle(area, n, t, i, a);
-    let sent = o.sent;
-    let got = o.got;
-    Events { sent, got }
-}
-
-fn no_events() -> Events
-    ensures { result ≡ no_events }
-{
     Events {
-        sent: TransmitEvent::NoTransmit,
-        got: ReceiveEvent::NoReceive,
+        sent: a.outcome.sent,
+        got: a.outcome.got,
     }
 }
 
@@ -198,7 +181,7 @@ fn work(area: &mut [u8], n: usize, depth: u32, t: usize, f: Figures, i: usize) -
 {
     if area_line::read_symbol(area, i, t) == 0 {
         if bus_quick::easy::waits(area, n, depth, t, f, i) {
-            return no_events();
+            return bus_spec::NO_EVENTS;
         }
         return general(area, n, depth, t, f, i);
     }
@@ -215,12 +198,12 @@ pub fn turn(area: &mut [u8], n: usize, depth: u32, t: usize, f: Figures, i: usiz
 {
     if area_line::read_symbol(area, i, t) == 0 {
         if bus_quick::easy::rests(area, i) {
-            return no_events();
+            return bus_spec::NO_EVENTS;
         }
         return work(area, n, depth, t, f, i);
     }
     if bus_quick::easy::hearing(area, n, depth, t, f, i) {
-        return no_events();
+        return bus_spec::NO_EVENTS;
     }
     work(area, n, depth, t, f, i)
 }

@@ -9,7 +9,6 @@ ghost use Rattle.area.specs.Offsets.{area_size};
 
 use bus_spec::Events;
 use sheet_layout::Figures;
-use station_spec::{ReceiveEvent, TransmitEvent};
 
 // The turns of n stations, and the events of each.
 fn turn_all(area: &mut [u8], n: usize, depth: u32, t: usize, f: Figures) -> [Events; 16]
@@ -17,21 +16,15 @@ fn turn_all(area: &mut [u8], n: usize, depth: u32, t: usize, f: Figures) -> [Eve
     ensures area { area.new ≡ turned_in f depth n t area.old n }
     ensures events { result ≡ events_in f depth t area.old n }
 {
-    let none = Events {
-        sent: TransmitEvent::NoTransmit,
-        got: ReceiveEvent::NoReceive,
-    };
-    let mut all = [none; 16];
-    let mut i: usize = 0;
-    while i < n {
-        let e = crate::turn(area, n, depth, t, f, i);
-        all[i] = e;
-        i += 1;
+    let mut all = [bus_spec::NO_EVENTS; 16];
+    for i in 0..n {
+        all[i] = crate::turn(area, n, depth, t, f, i);
     }
     all
 }
 
 // All turns, and the clock.
+#[tactic(auto, unfolding(bus_spec::specs::BitTime::advanced_in))]
 fn advance(area: &mut [u8], n: usize, depth: u32, t: u32, f: Figures) -> [Events; 16]
     requires { (n ≤ max_stations) × (t < 4294967295) × (area_size ≤ length area.old) × AllAble n f area.old }
     ensures area { area.new ≡ advanced_in f depth n t area.old }
@@ -43,6 +36,7 @@ fn advance(area: &mut [u8], n: usize, depth: u32, t: u32, f: Figures) -> [Events
 }
 
 // One bit time: the events of each station.
+#[tactic(auto, using(bus_spec::specs::Ready::stepping))]
 pub fn step(area: &mut [u8]) -> [Events; 16]
     requires { (area_size ≤ length area.old) × (clock_at area.old < last_clock) × Ready area.old }
     ensures area { area.new ≡ step_area area.old }

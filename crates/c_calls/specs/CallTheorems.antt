@@ -1,7 +1,7 @@
 -- What a caller may rely on: a reply with bit 31 is a refusal, and what was lent is then as it was. So no answer
 -- reaches that bit. Assumes nothing.
-use Rattle.std.specs.Prelude.{ℕ, zero, suc, ◌+◌, ◌-◌, ◌≤◌, ◌<◌, ◌≡◌, refl, true, false, List, ltb, leb, eqb, length, replicate}
-use Rattle.std.proofs.Common.{arith, eq-eqb, ltb-false, leb-false, eqb-true}
+use Rattle.std.specs.Prelude.{ℕ, zero, suc, ◌+◌, ◌≤◌, ◌<◌, ◌≡◌, refl, true, false, List, ltb, leb, eqb, length, replicate}
+use Rattle.std.proofs.Common.{sym, arith, eq-eqb, ltb-false, leb-false, eqb-true}
 use Rattle.octets.specs.Base.{pick, outside, Outcome, number_of}
 use Rattle.octets.specs.BaseLaws.{by_test, by_eq}
 use Rattle.octets.specs.NumberLaws.{Octets, length_spelled}
@@ -26,7 +26,7 @@ use Rattle.bus_step.specs.Counters.{counters_read}
 use Rattle.bus_spec.specs.Run.{tallied, run_of, ran, stops}
 use Rattle.bus_read.specs.Read.{is_readable, frame_read}
 use Rattle.bus_read.specs.ReadLaws.{read_room}
-use Rattle.c_words.specs.Answers.{refusal_bit, replied, value_of, layout_put, client_words, events_put}
+use Rattle.c_words.specs.Answers.{refusal_bit, value_of, layout_put, client_words, events_put}
 use Rattle.c_words.specs.Answers.{counters_out, run_out, sheet_out}
 use Rattle.c_tables.specs.RunWords.{run_put}
 use Rattle.c_calls.specs.Calls.{Given, given, Left, left, code_given, unless, kept, both_kept, short, sheet_given}
@@ -65,7 +65,6 @@ abbrev pub Told : List ℕ → Outcome → Type 0
 Told l o = (value_of o.answer < refusal_bit) × ((number_of o.answer ≡ 0 → ⊥) → o.octets ≡ l)
 
 pub coded : (l : List ℕ) (o : Outcome) → Told l o → Keeps l (code_given o)
-unfolding replied
 coded l o t h =
     by_eq (number_of o.answer) 0
     (λ e. let z : refusal_bit ≤ value_of o.answer = rw (eq-eqb (number_of o.answer) 0 e) at h
@@ -207,8 +206,8 @@ frame_told a i out o =
   where
     size : eqb (area_refusal a) 0 ≡ true → leb (count_at a) i ≡ false → octets_in (station_at a i).receiver ≤ buffer_octets
     size p q =
-        read_room a (area_refusal a) (count_at a) i (octets_in (station_at a i).receiver) (station_at a i) refl
-        (eqb-true (area_refusal a) 0 p) o refl (leb-false (count_at a) i q) refl refl
+        read_room a (count_at a) i (octets_in (station_at a i).receiver) (station_at a i)
+        (sym (eqb-true (area_refusal a) 0 p)) o refl (leb-false (count_at a) i q) refl refl
 
 -- the area holds octets, as every lent slice of them does
 pub frame_keeps : (a : List ℕ) (i : ℕ) (out : List ℕ) → Octets a → Keeps out (frame_given a i out)

@@ -3,7 +3,7 @@
 -- output stands here in words of four octets, high octet first; those words, and the numbers of answers, are in
 -- `c_words`. The laws are in CallLaws. Assumes nothing.
 use Rattle.std.specs.Prelude.{ℕ, ◌+◌, ◌*◌, false, List, ltb, eqb, length}
-use Rattle.octets.specs.Base.{pick, outside, Answer, Outcome, number_of}
+use Rattle.octets.specs.Base.{pick, outside, Outcome, number_of}
 use Rattle.octets.specs.Number.{spelled}
 use Rattle.octets.specs.Words.{put_words}
 use Rattle.sheet_layout.specs.declared.Layout.{Layout}
@@ -21,16 +21,11 @@ use Rattle.bus_step.specs.Step.{stepped_once}
 use Rattle.bus_step.specs.Counters.{counters_read}
 use Rattle.bus_spec.specs.Run.{ran}
 use Rattle.bus_read.specs.Read.{frame_read}
-use Rattle.c_words.specs.Answers.{replied, value_of, layout_put, client_words, events_put, counters_out, run_out, sheet_out}
+use Rattle.c_words.specs.Answers.{replied, value_of, code_of, layout_put, client_words, events_put}
+use Rattle.c_words.specs.Answers.{counters_out, run_out, sheet_out}
 use Rattle.c_tables.specs.RunWords.{run_put}
 use Rattle.sheet_layout.specs.Limits.{last_clock}
 use Rattle.station_state.specs.State.{counter_count}
-
--- ---- the number that a call returns
-
--- what a call returns for an answer
-abbrev pub code_of : Answer → ℕ
-code_of r = replied (number_of r) (value_of r)
 
 -- ---- what a call gives: the number, and the octets lent to it
 

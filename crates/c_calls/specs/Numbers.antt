@@ -1,63 +1,24 @@
--- Every refusal of the calls below has a number of at most 16, and the sizes that are handed out fit a word. Assumes
--- nothing.
-use Rattle.std.specs.Prelude.{ℕ, zero, suc, ◌+◌, ◌-◌, ◌*◌, ◌≤◌, ◌<◌, min, ◌≡◌, Bool, false, ◌||◌, List, ltb, leb, eqb, length, get_or, drop}
-use Rattle.std.proofs.Common.{ap, arith, ltb-false, leb-true, eqb-true, length-take, length-drop}
-use Rattle.octets.specs.Base.{some, outside, number_of, values_of}
+-- The sizes that are handed out fit a word. Assumes nothing.
+use Rattle.std.specs.Prelude.{ℕ, zero, suc, ◌+◌, ◌-◌, ◌*◌, ◌≤◌, ◌<◌, ◌≡◌, Bool, false, List, ltb, leb, eqb, length, get_or, drop}
+use Rattle.std.proofs.Common.{arith, ltb-false, leb-true, eqb-true, length-take, length-drop}
+use Rattle.octets.specs.Base.{values_of}
 use Rattle.octets.specs.BaseLaws.{by_test}
 use Rattle.octets.specs.NumberLaws.{length_spelled}
 use Rattle.octets.specs.Number.{spelled}
-use Rattle.sheet_layout.specs.declared.Layout.{Layout}
-use Rattle.sheet_layout.specs.Check.{figures_out, position_out, falls, address_wrong, refusal_of}
-use Rattle.sheet_layout.specs.Layout.{fits_well}
+use Rattle.sheet_layout.specs.Check.{refusal_of}
 use Rattle.sheet_layout.specs.CheckLaws.{sound}
-use Rattle.sheet_layout.specs.Fit.{fit_of}
-use Rattle.sheet_read.specs.declared.Sheet.{Sheet}
-use Rattle.sheet_read.specs.Sheet.{map_of, stands, width, field_at, count_in, layout_in, sheet_size, Reading, read_sheet}
-use Rattle.sheet_read.specs.Sheet.{sheet_answer, sheet_reading, field_count}
+use Rattle.sheet_read.specs.Sheet.{map_of, stands, field_at, count_in, layout_in, sheet_size, read_sheet}
+use Rattle.sheet_read.specs.Sheet.{field_count}
 use Rattle.sheet_read.specs.SheetLaws.{width_most}
 use Rattle.frame_build.specs.Limits.{max_frame, refuses_data, buffer_octets}
 use Rattle.frame_build.specs.Build.{frame_of, built}
 use Rattle.frame_open.specs.Open.{value_of as lengthType, data_field, check_wrong, check_error, length_wrong, client_size}
 use Rattle.frame_open.specs.Open.{unpadded, opened}
 use Rattle.frame_build.specs.BuildLaws.{frame_size, frame_most, data_within}
-use Rattle.area.specs.Area.{clock_at, count_at, station_at}
-use Rattle.station_spec.specs.Count.{octets_in}
-use Rattle.area_check.specs.Valid.{area_wrong, area_refusal}
-use Rattle.bus_start.specs.Start.{started}
-use Rattle.bus_offer.specs.Offer.{holds, offered}
-use Rattle.bus_step.specs.Counters.{counters_read}
-use Rattle.bus_read.specs.Read.{is_readable, frame_read}
-use Rattle.c_words.specs.Answers.{value_of, max_refusal}
-use Rattle.c_calls.specs.Calls.{time_refusal}
-use Rattle.sheet_layout.specs.Limits.{last_clock, max_stations}
-use Rattle.area.specs.Offsets.{area_size}
+use Rattle.c_words.specs.Answers.{value_of}
+use Rattle.sheet_layout.specs.Limits.{max_stations}
 
 -- ---- sheets
-
-pub layout_low : (y : Layout) → refusal_of y ≤ max_refusal
-unfolding refusal_of
-layout_low y =
-    by_test (figures_out y.figures) (λ p. rw p (omega arith))
-    (λ p. by_test (some (position_out y) (min y.count 16)) (λ q. rw (p, q) (omega arith))
-    (λ q. by_test (outside y.count 2 16) (λ r. rw (p, q, r) (omega arith))
-    (λ r. by_test (some (falls y) (y.count - 1)) (λ s. rw (p, q, r, s) (omega arith))
-    (λ s. by_test (some (address_wrong y) y.count) (λ t. rw (p, q, r, s, t) (omega arith))
-    (λ t. rw (p, q, r, s, t) (omega arith))))))
-
-pub fit_low : (y : Layout) → number_of (fit_of y) ≤ max_refusal
-unfolding fit_of
-fit_low y =
-    by_test (eqb (refusal_of y) 0)
-    (λ p. by_test (fits_well y) (λ q. rw (p, q) (omega arith)) (λ q. rw (p, q) (omega arith)))
-    (λ p. rw p (layout_low y))
-
-pub sheet_low : (l : List ℕ) → number_of (read_sheet l).answer ≤ max_refusal
-unfolding read_sheet
-sheet_low l =
-    by_test (ltb (length l) (sheet_size l)) (λ p. rw p (omega arith))
-    (λ p. by_test (stands (map_of l) 7) (λ q. rw (p, q) (omega arith))
-    (λ q. by_test (eqb (refusal_of (layout_in l)) 0) (λ r. rw (p, q, r) (omega arith))
-    (λ r. rw (p, q, r) (layout_low (layout_in l)))))
 
 -- a layout that is handed on has at most 16 stations
 pub sheet_few : (l : List ℕ) → (read_sheet l).layout.count ≤ max_stations
@@ -94,30 +55,7 @@ sheet_small l =
     (λ r. rw (p, q, r) (size_within l (sound (layout_in l) (eqb-true (refusal_of (layout_in l)) 0 r)).count.1))
     (λ r. rw (p, q, r) (omega arith))))
 
-pub sheet_value : (l : List ℕ) (f : Sheet) → sheet_reading f ≡ read_sheet l → value_of (sheet_answer f.read) < 4294967296
-sheet_value l f p =
-    let e : value_of (sheet_answer f.read) ≡ value_of
-    (read_sheet l).answer = ap (λ (r : Reading). value_of r.answer) p in
-    omega (arith, sheet_small l)
-
 -- ---- frames
-
-check_low : (e : ℕ) → number_of (check_error e) ≤ max_refusal
-unfolding check_error
-check_low e = by_test (eqb e 0) (λ p. rw p (omega arith)) (λ p. rw p (omega arith))
-
-rules_low : (v : ℕ) (l : List ℕ) → number_of (unpadded v l).status ≤ max_refusal
-unfolding unpadded
-rules_low v l = by_test (length_wrong v (length l)) (λ p. rw p (omega arith)) (λ p. rw p (omega arith))
-
-pub open_low : (s : Bool) (f : List ℕ) (e : ℕ) → number_of (opened s f e).status ≤ max_refusal
-unfolding opened
-open_low b f e =
-    by_test (ltb 7 e) (λ p. rw p (omega arith))
-    (λ p. by_test (ltb (length f) 64) (λ q. rw (p, q) (omega arith))
-    (λ q. by_test (ltb (max_frame (lengthType f)) (length f)) (λ r. rw (p, q, r) (omega arith))
-    (λ r. by_test (check_wrong b f) (λ s. rw (p, q, r, s) (check_low e))
-    (λ s. rw (p, q, r, s) (rules_low (lengthType f) (data_field f))))))
 
 -- the octets of client data
 check_small : (e : ℕ) → get_or (values_of (check_error e)) 1 0 < 4294967296
@@ -150,13 +88,6 @@ open_small b f e =
     (λ s. rw (p, q, r, s) (rules_small (lengthType f) (data_field f)
     (field_small f (frame_small (lengthType f) (length f) r)))))))
 
-pub build_low : (l d s : List ℕ) (v : ℕ) (x : List ℕ) → number_of (built l d s v x).answer ≤ max_refusal
-unfolding built
-build_low l d s v x =
-    by_test (refuses_data v (length x)) (λ p. rw p (omega arith))
-    (λ p. by_test (ltb (length l) (length (frame_of d s v x))) (λ q. rw (p, q) (omega arith))
-    (λ q. rw (p, q) (omega arith)))
-
 pub build_size : (l d s : List ℕ) (v : ℕ) (x : List ℕ) → length d ≡ 6 → length s ≡ 6
     → value_of (built l d s v x).answer ≤ buffer_octets
 unfolding built
@@ -169,57 +100,3 @@ pub build_small : (l : List ℕ) (d s v : ℕ) (x : List ℕ)
     → value_of (built l (spelled 6 d) (spelled 6 s) v x).answer < 4294967296
 build_small l d s v x =
     omega (arith, build_size l (spelled 6 d) (spelled 6 s) v x (length_spelled 6 d) (length_spelled 6 s))
-
--- ---- work areas
-
-pub area_low : (a : List ℕ) → area_refusal a ≤ max_refusal
-unfolding area_refusal
-area_low a =
-    by_test (ltb (length a) area_size) (λ p. rw p (omega arith))
-    (λ p. by_test (area_wrong a) (λ q. rw (p, q) (omega arith))
-    (λ q. rw (p, q) (omega arith)))
-
-pub start_low : (a : List ℕ) (y : Layout) (d : ℕ) (ds : List (List ℕ))
-    → number_of (started a y d ds).answer ≤ max_refusal
-unfolding started
-start_low a y d ds =
-    by_test (ltb (length a) area_size) (λ p. rw p (omega arith))
-    (λ p. by_test (eqb (refusal_of y) 0)
-    (λ q. by_test (outside d 1 16) (λ r. rw (p, q, r) (omega arith)) (λ r. rw (p, q, r) (omega arith)))
-    (λ q. rw (p, q) (layout_low y)))
-
-pub offer_low : (a : List ℕ) (i : ℕ) (d : List ℕ) (v : ℕ) (x : List ℕ)
-    → number_of (offered a i d v x).answer ≤ max_refusal
-unfolding offered
-offer_low a i d v x =
-    by_test (eqb (area_refusal a) 0)
-    (λ p. by_test (leb (count_at a) i) (λ q. rw (p, q) (omega arith))
-    (λ q. by_test (refuses_data v (length x)) (λ r. rw (p, q, r) (omega arith))
-    (λ r. by_test (holds (station_at a i).transmitter) (λ s. rw (p, q, r, s) (omega arith))
-    (λ s. rw (p, q, r, s) (omega arith)))))
-    (λ p. rw p (area_low a))
-
-pub time_low : (a : List ℕ) (n : ℕ) → time_refusal a n ≤ max_refusal
-unfolding time_refusal
-time_low a n =
-    by_test (eqb (area_refusal a) 0)
-    (λ p. by_test (ltb last_clock (clock_at a + n)) (λ q. rw (p, q) (omega arith)) (λ q. rw (p, q) (omega arith)))
-    (λ p. rw p (area_low a))
-
-pub frame_low : (a : List ℕ) (i : ℕ) (out : List ℕ) → number_of (frame_read a i out).answer ≤ max_refusal
-unfolding frame_read
-frame_low a i out =
-    by_test (eqb (area_refusal a) 0)
-    (λ p. by_test (leb (count_at a) i) (λ q. rw (p, q) (omega arith))
-    (λ q. by_test (is_readable (station_at a i).receiver)
-    (λ r. by_test (ltb (length out) (octets_in (station_at a i).receiver)) (λ s. rw (p, q, r, s) (omega arith))
-    (λ s. rw (p, q, r, s) (omega arith)))
-    (λ r. rw (p, q, r) (omega arith))))
-    (λ p. rw p (area_low a))
-
-pub counters_low : (a : List ℕ) (i : ℕ) → number_of (counters_read a i).answer ≤ max_refusal
-unfolding counters_read
-counters_low a i =
-    by_test (eqb (area_refusal a) 0)
-    (λ p. by_test (leb (count_at a) i) (λ q. rw (p, q) (omega arith)) (λ q. rw (p, q) (omega arith)))
-    (λ p. rw p (area_low a))

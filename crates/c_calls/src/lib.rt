@@ -1,232 +1,207 @@
-// Each call of the model on numbers and lent octets, as the C interface hands it out: it answers one 32-bit number.
-// 0x80000000 + n is refusal n, anything below is the answer. With a refusal every lent slice keeps what it held. What
-// is written into `out` is said at each function of wisavulome.h, in words of four octets, high octet first; octets
-// past what is written stay.
+// Each call of the model on numbers and lent octets, as the C interface hands it out, but for the number that it
+// replies: `c_words::numbers::reply` makes that of the answer or the refusal. With a refusal every lent slice keeps what
+// it held. What is written into `out` is said at each function of wisavulome.h, in words of four octets, high octet
+// first; octets past what is written stay.
 
 #![tactic(auto)]
 
-ghost use Rattle.std.specs.Prelude.{◌≡◌, ◌*◌, ◌<◌, ◌≤◌, eqb};
-ghost use Rattle.octets.specs.Base.{pick, number_of};
-ghost use Rattle.c_words.specs.Answers.{replied, value_of};
-ghost use Rattle.bus_read.specs.Read.{read_answer};
-ghost use Rattle.c_calls.specs.Calls.{given, left, sheet_given, fits_given, build_given, status_given, client_given};
-ghost use Rattle.c_calls.specs.Calls.{drawn_given, start_given, offer_given, step_left, time_refusal, frame_given};
-ghost use Rattle.c_calls.specs.Calls.{counters_given};
+ghost use Rattle.std.specs.Prelude.{◌≡◌, ◌<◌, ◌≤◌};
+ghost use Rattle.octets.specs.Base.{refusal_in};
+ghost use Rattle.bus_spec.specs.Run.{ran, run_outcome};
+ghost use Rattle.c_words.specs.Answers.{reply_of};
+ghost use Rattle.c_calls.specs.Calls.{given, left, short, sheet_given, fits_given, build_given, status_given};
+ghost use Rattle.c_calls.specs.Calls.{client_given, drawn_given, start_given, offer_given, step_left, time_refusal};
+ghost use Rattle.c_calls.specs.Calls.{run_left, frame_given, counters_given};
 ghost use Rattle.sheet_layout.specs.Limits.{max_stations};
 
-use bus_read::Reading;
+use bus_spec::course::RunAnswer;
+use c_words::numbers;
+use octets::Refusal;
 use sheet_layout::Layout;
 
+// Refusal 15 where an output has fewer octets than are written.
+pub fn check_room(out: &[u8], octets: usize) -> Result<(), Refusal>
+    ensures { refusal_in result ≡ short octets out.now }
+{
+    if out.len() < octets {
+        return Err(Refusal::OutputShort);
+    }
+    Ok(())
+}
+
 // A fresh start on a layout, with the octets of its draws.
-fn start_drawn(area: &mut [u8], y: Layout, depth: u32, draws: &[u8]) -> u32
+#[tactic(auto, using(crate::specs::CallLaws::starts), unfolding(crate::specs::Calls::drawn_given, crate::specs::Calls::draws_refusal))]
+fn start_drawn(area: &mut [u8], y: Layout, depth: u32, draws: &[u8]) -> Result<u32, Refusal>
     requires { y.count ≤ max_stations }
-    ensures { given result area.new ≡ drawn_given area.old y depth draws.now }
+    ensures { given (reply_of result) area.new ≡ drawn_given area.old y depth draws.now }
 {
     if octets::out_of(depth, 1, 16) {
-        return c_words::numbers::reply(9, 0);
+        return Err(Refusal::Draws);
     }
     let n = y.count as usize;
     let d = depth as usize;
     if draws.len() != 2 * (n * d) {
-        return c_words::numbers::reply(9, 0);
+        return Err(Refusal::Draws);
     }
     let rows = plan_draws::read_draws(draws, 0, n, d);
-    let done = bus_start::start(area, y, depth, rows);
-    c_words::numbers::reply(c_words::numbers::done_number(done), 0)
+    bus_start::start(area, y, depth, rows)?;
+    Ok(0)
 }
 
-// The refusal of n bit times, 1, 2 or 13, or 0.
-fn time_refusal(area: &[u8], n: u32) -> u32
-    ensures { result ≡ time_refusal area.now n }
+// The refusals of n bit times: 1, 2, 13.
+#[tactic(auto, using(crate::specs::CallLaws::times), unfolding(crate::specs::Calls::time_refusal))]
+pub fn check_time(area: &[u8], n: u32) -> Result<(), Refusal>
+    ensures { refusal_in result ≡ time_refusal area.now n }
 {
-    let number = bus_spec::ready::refusal(area);
-    if number != 0 {
-        return number;
-    }
+    bus_spec::ready::check(area)?;
     let t = area::read_clock(area);
     if sheet_layout::LAST_CLOCK - t < n {
-        return 13;
+        return Err(Refusal::ClockTop);
     }
-    0
-}
-
-// What n bit times answer where the output is too short: their own refusal first, then 15.
-pub fn refuse_short(area: &[u8], n: u32) -> u32
-    ensures { result ≡ replied
-        (pick (eqb (time_refusal area.now n) 0) 15 (time_refusal area.now n)) 0 }
-{
-    let number = time_refusal(area, n);
-    if number != 0 {
-        return c_words::numbers::reply(number, 0);
-    }
-    c_words::numbers::reply(15, 0)
-}
-
-fn read_number(g: Reading) -> u32
-    ensures { result ≡ number_of (read_answer g) }
-{
-    match g {
-        Reading::Refused(n) => n,
-        Reading::Frame(_) => 0,
-    }
-}
-
-// The octets of the frame.
-fn read_size(g: Reading) -> u32
-    ensures { result ≡ value_of (read_answer g) }
-{
-    match g {
-        Reading::Refused(_) => 0,
-        Reading::Frame(n) => n,
-    }
+    Ok(())
 }
 
 // Reads a sheet: the octets used. Refusals 3 to 8, 15.
-pub fn read_sheet(sheet: &[u8], out: &mut [u8]) -> u32
-    ensures { given result out.new ≡ sheet_given sheet.now out.old }
+#[tactic(auto, using(c_words::specs::AnswersLaws::replies), unfolding(crate::specs::Calls::sheet_given))]
+pub fn read_sheet(sheet: &[u8], out: &mut [u8]) -> Result<u32, Refusal>
+    ensures { given (reply_of result) out.new ≡ sheet_given sheet.now out.old }
 {
-    let front = sheet_read::read_sheet(sheet);
-    let read = front.read;
-    let number = c_words::numbers::sheet_number(read);
-    if number != 0 {
-        return c_words::numbers::reply(number, 0);
-    }
-    if out.len() < c_words::SHEET_OUT {
-        return c_words::numbers::reply(15, 0);
-    }
-    let y = front.layout;
-    c_tables::write_layout(out, y);
-    c_words::numbers::sheet_size(read)
+    let read = sheet_read::read_sheet(sheet)?;
+    check_room(out, c_words::SHEET_OUT)?;
+    c_tables::write_layout(out, read.layout);
+    Ok(read.used as u32)
 }
 
 // Whether the layout of a sheet fits: 1 or 0. Refusals 3 to 8.
-pub fn fits(sheet: &[u8]) -> u32
-    ensures { result ≡ fits_given sheet.now }
+#[tactic(auto, using(c_words::specs::AnswersLaws::replies), unfolding(crate::specs::Calls::fits_given))]
+pub fn fits(sheet: &[u8]) -> Result<u32, Refusal>
+    ensures { reply_of result ≡ fits_given sheet.now }
 {
-    let front = sheet_read::read_sheet(sheet);
-    let read = front.read;
-    let number = c_words::numbers::sheet_number(read);
-    if number != 0 {
-        return c_words::numbers::reply(number, 0);
-    }
-    let y = front.layout;
-    let fit = sheet_fit::fits(y);
-    c_words::numbers::reply(
-        c_words::numbers::fit_number(fit),
-        c_words::numbers::fit_value(fit),
-    )
+    let read = sheet_read::read_sheet(sheet)?;
+    let fit = sheet_fit::fits(read.layout)?;
+    Ok(u32::from(fit))
 }
 
 // Builds a frame: its octets. Refusals 11, 15.
-pub fn build(destination: u64, source: u64, value: u16, payload: &[u8], out: &mut [u8]) -> u32
-    ensures { given result out.new
+#[tactic(auto, using(c_words::specs::AnswersLaws::replies), unfolding(crate::specs::Calls::build_given))]
+pub fn build(
+    destination: u64,
+    source: u64,
+    value: u16,
+    payload: &[u8],
+    out: &mut [u8],
+) -> Result<u32, Refusal>
+    ensures { given (reply_of result) out.new
         ≡ build_given destination source value payload.now out.old }
 {
-    let d = c_words::numbers::address(destination);
-    let s = c_words::numbers::address(source);
-    let b = frame_build::builder::build(out, d, s, value, payload);
-    c_words::numbers::reply(
-        c_words::numbers::built_number(b),
-        c_words::numbers::built_size(b),
-    )
+    let d = numbers::low_octets::<6>(destination);
+    let s = numbers::low_octets::<6>(source);
+    let size = frame_build::builder::build(out, d, s, value, payload)?;
+    Ok(size as u32)
 }
 
 // The status of a frame's octets and excess bits: 0 to 5. Refusal 5.
-pub fn status(frame: &[u8], excess: u32) -> u32
-    ensures { result ≡ status_given frame.now excess }
+#[tactic(auto, using(c_words::specs::AnswersLaws::replies), unfolding(crate::specs::Calls::status_given))]
+pub fn status(frame: &[u8], excess: u32) -> Result<u32, Refusal>
+    ensures { reply_of result ≡ status_given frame.now excess }
 {
-    let s = frame_open::status(frame, excess);
-    c_words::numbers::reply(
-        c_words::numbers::status_number(s),
-        c_words::numbers::status_value(s),
-    )
+    let s = frame_open::status(frame, excess)?;
+    Ok(numbers::status_code(s))
 }
 
 // The status, and where the client data lie. Refusals 5, 15.
-pub fn client_data(frame: &[u8], excess: u32, out: &mut [u8]) -> u32
-    ensures { given result out.new ≡ client_given frame.now excess out.old }
+#[tactic(auto, using(c_words::specs::AnswersLaws::replies), unfolding(crate::specs::Calls::client_given))]
+pub fn client_data(frame: &[u8], excess: u32, out: &mut [u8]) -> Result<u32, Refusal>
+    ensures { given (reply_of result) out.new ≡ client_given frame.now excess out.old }
 {
-    let s = frame_open::status(frame, excess);
-    let number = c_words::numbers::status_number(s);
-    if number != 0 {
-        return c_words::numbers::reply(number, 0);
-    }
-    if out.len() < 8 {
-        return c_words::numbers::reply(15, 0);
-    }
-    let words = c_words::numbers::status_words(s);
+    let s = frame_open::status(frame, excess)?;
+    check_room(out, 8)?;
+    let words = numbers::client_words(s);
     octets_words::store_words(out, 0, &words);
-    c_words::numbers::status_value(s)
+    Ok(numbers::status_code(s))
 }
 
 // A fresh start: 0. Refusals 1, 3 to 8, 9.
-pub fn start(area: &mut [u8], sheet: &[u8], depth: u32, draws: &[u8]) -> u32
-    ensures { given result area.new
+#[tactic(auto, using(c_words::specs::AnswersLaws::replies), unfolding(crate::specs::Calls::start_given))]
+pub fn start(area: &mut [u8], sheet: &[u8], depth: u32, draws: &[u8]) -> Result<u32, Refusal>
+    ensures { given (reply_of result) area.new
         ≡ start_given area.old sheet.now depth draws.now }
 {
     if area.len() < area::AREA {
-        return c_words::numbers::reply(1, 0);
+        return Err(Refusal::AreaShort);
     }
-    let front = sheet_read::read_sheet(sheet);
-    let read = front.read;
-    let number = c_words::numbers::sheet_number(read);
-    if number != 0 {
-        return c_words::numbers::reply(number, 0);
-    }
-    let y = front.layout;
-    start_drawn(area, y, depth, draws)
+    let read = sheet_read::read_sheet(sheet)?;
+    start_drawn(area, read.layout, depth, draws)
 }
 
 // Offers a frame to a station: 0. Refusals 1, 2, 10, 11, 12.
-pub fn offer(area: &mut [u8], station: u32, destination: u64, value: u16, payload: &[u8]) -> u32
-    ensures { given result area.new
+#[tactic(auto, using(c_words::specs::AnswersLaws::replies), unfolding(crate::specs::Calls::offer_given))]
+pub fn offer(
+    area: &mut [u8],
+    station: u32,
+    destination: u64,
+    value: u16,
+    payload: &[u8],
+) -> Result<u32, Refusal>
+    ensures { given (reply_of result) area.new
         ≡ offer_given area.old station destination value payload.now }
 {
-    let d = c_words::numbers::address(destination);
-    let done = bus_offer::offer(area, station as usize, d, value, payload);
-    c_words::numbers::reply(c_words::numbers::done_number(done), 0)
+    let d = numbers::low_octets::<6>(destination);
+    bus_offer::offer(area, station as usize, d, value, payload)?;
+    Ok(0)
 }
 
 // One bit time: 0, and the events of each station. Refusals 1, 2, 13, 15.
-pub fn step(area: &mut [u8], out: &mut [u8]) -> u32
-    ensures { left result area.new out.new ≡ step_left area.old out.old }
+#[tactic(auto, using(c_words::specs::AnswersLaws::replies), unfolding(crate::specs::Calls::step_left, crate::specs::Calls::time_refusal, bus_step::specs::Step::stepped_once))]
+pub fn step(area: &mut [u8], out: &mut [u8]) -> Result<u32, Refusal>
+    ensures { left (reply_of result) area.new out.new ≡ step_left area.old out.old }
 {
     if out.len() < 256 {
-        return refuse_short(area, 1);
+        check_time(area, 1)?;
+        return Err(Refusal::OutputShort);
     }
-    let b = bus_step::step(area);
-    let done = b.done;
-    let number = c_words::numbers::done_number(done);
-    if number != 0 {
-        return c_words::numbers::reply(number, 0);
-    }
-    let events = b.events;
+    let events = bus_step::step(area)?;
     c_tables::write_events(out, events);
-    0
+    Ok(0)
+}
+
+// A run of n bit times by an engine: the steps made, and how many events of each word came. Refusals 1, 2, 13, 15.
+#[tactic(auto, using(crate::specs::CallLaws::runs), unfolding(crate::specs::Calls::run_left))]
+pub fn run<F: FnOnce(&mut [u8], u32) -> Result<RunAnswer, Refusal>>(
+    engine: F,
+    area: &mut [u8],
+    n: u32,
+    out: &mut [u8],
+) -> Result<u32, Refusal>
+    requires called { F.IsAlwaysCallable engine }
+    requires runs { (s : _) (r : _) (t : _) → F.post engine s n r t
+        → run_outcome r t.now ≡ ran s.now n }
+    ensures { left (reply_of result) area.new out.new ≡ run_left area.old n out.old }
+{
+    if out.len() < c_words::RUN_OUT {
+        check_time(area, n)?;
+        return Err(Refusal::OutputShort);
+    }
+    let answer = engine(area, n)?;
+    c_tables::write_run(out, answer);
+    Ok(answer.steps)
 }
 
 // Reads the frame that a station received: its octets. Refusals 1, 2, 10, 14, 15.
-pub fn read_frame(area: &[u8], station: u32, out: &mut [u8]) -> u32
-    ensures { given result out.new ≡ frame_given area.now station out.old }
+#[tactic(auto, unfolding(crate::specs::Calls::frame_given))]
+pub fn read_frame(area: &[u8], station: u32, out: &mut [u8]) -> Result<u32, Refusal>
+    ensures { given (reply_of result) out.new ≡ frame_given area.now station out.old }
 {
-    let g = bus_read::read_frame(area, station as usize, out);
-    c_words::numbers::reply(read_number(g), read_size(g))
+    bus_read::read_frame(area, station as usize, out)
 }
 
 // The counters of a station: 0. Refusals 1, 2, 10, 15.
-pub fn counters(area: &[u8], station: u32, out: &mut [u8]) -> u32
-    ensures { given result out.new ≡ counters_given area.now station out.old }
+#[tactic(auto, using(c_words::specs::AnswersLaws::replies), unfolding(crate::specs::Calls::counters_given))]
+pub fn counters(area: &[u8], station: u32, out: &mut [u8]) -> Result<u32, Refusal>
+    ensures { given (reply_of result) out.new ≡ counters_given area.now station out.old }
 {
-    let c = bus_step::read_counters(area, station as usize);
-    let done = c.done;
-    let number = c_words::numbers::done_number(done);
-    if number != 0 {
-        return c_words::numbers::reply(number, 0);
-    }
-    if out.len() < c_words::COUNTERS_OUT {
-        return c_words::numbers::reply(15, 0);
-    }
-    let words = c.words;
+    let words = bus_step::read_counters(area, station as usize)?;
+    check_room(out, c_words::COUNTERS_OUT)?;
     c_tables::write_counters(out, words);
-    0
+    Ok(0)
 }

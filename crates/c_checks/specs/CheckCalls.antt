@@ -15,8 +15,8 @@ use Rattle.area_check.specs.Valid.{area_refusal}
 use Rattle.sheet_read.specs.Sheet.{read_sheet}
 use Rattle.sheet_write.specs.Write.{sheet_written}
 use Rattle.plan_read.specs.Plan.{Planned, plan_as_read}
-use Rattle.c_words.specs.Answers.{replied, layout_put, plan_out, sheet_out}
-use Rattle.c_calls.specs.Calls.{code_of, code_given, Given, given, unless, kept, short}
+use Rattle.c_words.specs.Answers.{replied, code_of, layout_put, plan_out, sheet_out}
+use Rattle.c_calls.specs.Calls.{code_given, Given, given, unless, kept, short}
 
 -- ---- a reception
 

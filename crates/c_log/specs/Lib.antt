@@ -1,3 +1,2 @@
 pub mod LogCalls
-pub mod LogCallLaws
 pub mod LogCallTheorems

@@ -1,4 +1,4 @@
--- The C interface: many windows over one log. The laws are in LogCallLaws. Assumes nothing.
+-- The C interface: many windows over one log. Assumes nothing.
 use Rattle.std.specs.Prelude.{ℕ, List}
 use Rattle.log_octets.specs.Octets.{octets_looked_up}
 use Rattle.c_calls.specs.Calls.{Given, code_given}

@@ -1,3 +1,2 @@
 pub mod MarkCalls
-pub mod MarkCallLaws
 pub mod MarkCallTheorems

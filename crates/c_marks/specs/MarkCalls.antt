@@ -1,5 +1,4 @@
--- The C interface: the marks. A name is a number of 64 bits, its eight octets high octet first. The laws are in
--- MarkCallLaws. Assumes nothing.
+-- The C interface: the marks. A name is a number of 64 bits, its eight octets high octet first. Assumes nothing.
 use Rattle.std.specs.Prelude.{ℕ, List}
 use Rattle.octets.specs.Number.{spelled}
 use Rattle.marks.specs.Marks.{name_size, marked, returned, dropped}

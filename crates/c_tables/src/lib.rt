@@ -11,16 +11,16 @@ ghost use Rattle.sheet_layout.specs.Limits.{max_stations};
 ghost use Rattle.station_state.specs.State.{counter_count};
 
 use bus_spec::Events;
-use bus_spec::course::Ended;
+use bus_spec::course::{LateEnd, RunAnswer};
 use c_words::numbers;
 use sheet_layout::{Layout, Tap};
 
 // Slot, gap1, gap2, jam, attempt limit, backoff limit, N, and whether the layout fits.
+#[tactic(auto, unfolding(c_words::specs::Answers::layout_words))]
 fn layout_words(y: Layout) -> [u32; 8]
     ensures { result ≡ layout_words y }
 {
     let f = y.figures;
-    let fit = sheet_fit::fits(y);
     [
         f.slot,
         f.gap1,
@@ -29,54 +29,50 @@ fn layout_words(y: Layout) -> [u32; 8]
         f.limit,
         f.backoff,
         y.count,
-        numbers::fit_value(fit),
+        u32::from(sheet_fit::fits(y).unwrap_or(false)),
     ]
 }
 
-fn write_tap(out: &mut [u8], i: usize, position: u32, address: [u8; 6])
+#[tactic(auto, unfolding(c_words::specs::Answers::tap_put))]
+fn write_tap(out: &mut [u8], i: usize, tap: Tap)
     requires { (i < max_stations) × (sheet_out ≤ length out.old) }
-    ensures { out.new ≡ tap_put position address i out.old }
+    ensures { out.new ≡ tap_put tap.position tap.address i out.old }
 {
-    octets_words::put32(out, 32 + 10 * i, position);
-    octets_copies::store(out, 36 + 10 * i, &address);
+    octets_words::put32(out, 32 + 10 * i, tap.position);
+    octets_copies::store(out, 36 + 10 * i, &tap.address);
 }
 
 // All sixteen places.
+#[tactic(auto, unfolding(c_words::specs::Answers::taps_put, octets::specs::Turns::turns))]
 fn write_taps(out: &mut [u8], taps: [Tap; 16])
     requires { sheet_out ≤ length out.old }
     ensures { out.new ≡ taps_put taps 16 out.old }
 {
-    let mut i: usize = 0;
-    while i < sheet_layout::MAX_STATIONS {
-        let t = taps[i];
-        let address = t.address;
-        write_tap(out, i, t.position, address);
-        i += 1;
+    for i in 0..sheet_layout::MAX_STATIONS {
+        write_tap(out, i, taps[i]);
     }
 }
 
+#[tactic(auto, unfolding(c_words::specs::Answers::layout_put))]
 pub fn write_layout(out: &mut [u8], y: Layout)
     requires { sheet_out ≤ length out.old }
     ensures { out.new ≡ layout_put y out.old }
 {
     let words = layout_words(y);
-    let taps = y.stations;
     octets_words::store_words(out, 0, &words);
-    write_taps(out, taps);
+    write_taps(out, y.stations);
     octets_words::put32(out, 192, y.figures.ends);
 }
 
 // Four words for each of the sixteen stations.
+#[tactic(auto, unfolding(c_words::specs::Answers::events_put, octets::specs::Turns::turns))]
 pub fn write_events(out: &mut [u8], events: [Events; 16])
     requires { 256 ≤ length out.old }
     ensures { out.new ≡ events_put events 16 out.old }
 {
-    let mut i: usize = 0;
-    while i < sheet_layout::MAX_STATIONS {
-        let e = events[i];
-        let words = numbers::event_words(e);
+    for i in 0..sheet_layout::MAX_STATIONS {
+        let words = numbers::event_words(events[i]);
         octets_words::store_words(out, 16 * i, &words);
-        i += 1;
     }
 }
 
@@ -89,21 +85,22 @@ pub fn write_counters(out: &mut [u8], words: [u32; station_state::COUNTERS])
 }
 
 // How a run ended as three words: whether early, and the step and station of the late collision.
-fn ended_words(e: Ended) -> [u32; 3]
-    ensures { result ≡ ended_words e }
+fn ended_words(late: Option<LateEnd>) -> [u32; 3]
+    ensures { result ≡ ended_words late }
 {
-    match e {
-        Ended::All => [0, 0, 0],
-        Ended::Late { step, station } => [1, step, station],
+    match late {
+        None => [0, 0, 0],
+        Some(end) => [1, end.step, end.station],
     }
 }
 
 // The event words of a run, and how it ended.
-pub fn write_run(out: &mut [u8], words: [u32; station_tally::WORDS], ended: Ended)
+#[tactic(auto, unfolding(crate::specs::RunWords::run_put))]
+pub fn write_run(out: &mut [u8], answer: RunAnswer)
     requires { run_out ≤ length out.old }
-    ensures { out.new ≡ run_put words ended out.old }
+    ensures { out.new ≡ run_put answer.words answer.late out.old }
 {
-    let last = ended_words(ended);
-    octets_words::store_words(out, 0, &words);
+    let last = ended_words(answer.late);
+    octets_words::store_words(out, 0, &answer.words);
     octets_words::store_words(out, 4 * station_tally::WORDS, &last);
 }

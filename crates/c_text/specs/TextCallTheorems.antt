@@ -9,7 +9,7 @@ use Rattle.report_spec.specs.declared.Progress.{Progress}
 use Rattle.report_spec.specs.Printed.{printed}
 use Rattle.report_spec.specs.Pieces.{Hand, move_refusal, advanced_on, advanced, begun}
 use Rattle.report_whole.specs.Print.{printed_into}
-use Rattle.c_words.specs.Answers.{refusal_bit, replied, value_of}
+use Rattle.c_words.specs.Answers.{refusal_bit, value_of}
 use Rattle.c_calls.specs.CallTheorems.{BothKept}
 use Rattle.c_text.specs.TextCalls.{progress_words, progress_in, progress_put, Lent, hand_lent, begun_lent}
 use Rattle.c_text.specs.TextCalls.{advanced_lent, print_front, print_left}
@@ -24,11 +24,11 @@ abbrev Same : (a o : List ℕ) → Hand → Type 0
 Same a o y = (number_of y.answer ≡ 0 → ⊥) → (y.octets ≡ a) × (y.out ≡ o)
 
 hand_kept : (a p o : List ℕ) (y : Hand) → Small y.answer → Same a o y → AllKept a p o (hand_lent y p)
-unfolding replied progress_put
+unfolding progress_put
 hand_kept a p o y s k h =
     by_eq (number_of y.answer) 0
     (λ e. let z : refusal_bit ≤ value_of y.answer = rw (eq-eqb (number_of y.answer) 0 e) at h
-    in absurd (omega (arith, s.1)))
+    in absurd (omega (arith, s)))
     (λ e. let w = k e in
     let q : pick (eqb (number_of y.answer) 0) (put_words 4 p 0 (progress_words y.progress)) p
     ≡ p = rw (ne_eqb (number_of y.answer) 0 e) in
@@ -67,7 +67,7 @@ advance_keeps l a p o =
 
 front_keeps : (l a x o : List ℕ) → length x ≤ 2147483647 → x ++ drop 2147483647 o ≡ o
     → BothKept a o (print_front o (printed_into l a x))
-unfolding printed_into replied
+unfolding printed_into
 front_keeps l a x o m e =
     by_test (ltb (length a) area_size) (λ p. rw p (λ h. (refl, e)))
     (λ p. by_test (ltb (length x) (length (printed l))) (λ q. rw (p, q) (λ h. (refl, e)))

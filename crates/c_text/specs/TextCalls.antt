@@ -10,8 +10,8 @@ use Rattle.area_check.specs.Valid.{area_refusal}
 use Rattle.report_spec.specs.declared.Progress.{Progress}
 use Rattle.report_spec.specs.Pieces.{standing, Hand, begun, advanced}
 use Rattle.report_whole.specs.Print.{Print, printed_into}
-use Rattle.c_words.specs.Answers.{replied}
-use Rattle.c_calls.specs.Calls.{code_of, Left, left}
+use Rattle.c_words.specs.Answers.{replied, code_of}
+use Rattle.c_calls.specs.Calls.{Left, left}
 
 -- ---- where a run stands
 

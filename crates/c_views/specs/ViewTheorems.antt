@@ -2,15 +2,14 @@
 -- sheet that is read is below 255, and the layout fits exactly up to there with its last tap moved outward; or it is
 -- 256, and the layout fits with no such move. Assumes nothing.
 use Prim.Native.Nat.{ℕ, zero, suc, ◌-◌, ◌≤◌, ◌<◌}
-use Rattle.std.specs.Prelude.{◌≡◌, refl, Bool, true, false, List, [], ◌∷◌, ◌⊎◌, ltb, eqb, length, get_or}
-use Rattle.std.proofs.Common.{sym, inl, inr, arith, eqb-true, ltb-true, ltb-false}
+use Rattle.std.specs.Prelude.{◌≡◌, refl, true, false, List, [], ◌∷◌, ◌⊎◌, ltb, length, get_or}
+use Rattle.std.proofs.Common.{sym, inl, inr, arith, ltb-true, ltb-false}
 use Rattle.std.proofs.Math.Path.{ap}
-use Rattle.octets.specs.Base.{pick, accepted}
-use Rattle.octets.specs.BaseLaws.{by_test, refused_none}
+use Rattle.octets.specs.Base.{accepted}
+use Rattle.octets.specs.BaseLaws.{by_test}
 use Rattle.sheet_layout.specs.declared.Tap.{Tap}
 use Rattle.sheet_layout.specs.Layout.{position_at, fits_well}
 use Rattle.sheet_layout.specs.Fit.{fit_of}
-use Rattle.sheet_layout.specs.Check.{refusal_of}
 use Rattle.sheet_layout.specs.CheckLaws.{sound}
 use Rattle.sheet_layout.specs.Limits.{max_position}
 use Rattle.sheet_read.specs.Sheet.{read_sheet}
@@ -18,7 +17,6 @@ use Rattle.sheet_read.specs.SheetTheorems.{read_passes, read_formed}
 use Rattle.sheet_fit.specs.Margin.{moved_out, outward_of, margin_of}
 use Rattle.sheet_fit.specs.MarginLaws.{margin_made, margin_no}
 use Rattle.sheet_fit.specs.MarginTheorems.{margin_exact, margin_none}
-use Rattle.c_words.specs.Answers.{replied}
 use Rattle.c_calls.specs.Calls.{short}
 use Rattle.c_calls.specs.CallTheorems.{Keeps, checks, answers}
 use Rattle.c_views.specs.Views.{station_out, station_refusal, station_put, station_given, no_margin, margin_given}
@@ -52,19 +50,19 @@ module _ (l : List ℕ) (n : ℕ) (read : (read_sheet l).answer ≡ accepted (n 
 
   -- what the call returns where there is a margin, and where there is none
   given_some : (k : ℕ) → margin_of (read_sheet l).layout ≡ accepted (k ∷ []) → margin_given l ≡ k
-  unfolding margin_given replied
+  unfolding margin_given
   given_some k e = rw (read, e)
 
   given_none : margin_of (read_sheet l).layout ≡ accepted [] → margin_given l ≡ no_margin
-  unfolding margin_given replied
+  unfolding margin_given
   given_none e = rw (read, e)
 
   fits_so : fits_well (read_sheet l).layout ≡ true
       → margin_of (read_sheet l).layout ≡ accepted (outward_of (read_sheet l).layout ∷ [])
-  fits_so h = sym (margin_made (read_sheet l).layout 0 true _ (sym (read_passes l n read)) refl (sym h) refl refl)
+  fits_so h = sym (margin_made (read_sheet l).layout true _ (sym (read_passes l n read)) (sym h) refl refl)
 
   not_so : fits_well (read_sheet l).layout ≡ false → margin_of (read_sheet l).layout ≡ accepted []
-  not_so h = sym (margin_no (read_sheet l).layout 0 false (sym (read_passes l n read)) refl (sym h) refl)
+  not_so h = sym (margin_no (read_sheet l).layout false (sym (read_passes l n read)) (sym h) refl)
 
   -- the last of two or more taps is not at 0
   outward_low : outward_of (read_sheet l).layout < max_position

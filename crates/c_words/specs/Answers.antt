@@ -1,8 +1,9 @@
 -- The answers of the calls as numbers, and the words that are written into a lent output: of four octets, high octet
 -- first. The laws are in AnswersLaws. Assumes nothing.
-use Rattle.std.specs.Prelude.{ℕ, ◌+◌, ◌*◌, ◌-◌, List, [], ◌∷◌, eqb, get_or}
+use Rattle.std.specs.Prelude.{ℕ, ◌+◌, ◌*◌, ◌-◌, List, [], ◌∷◌, eqb, get_or, Option, Result}
 use Rattle.std.proofs.lemmas.List.Edits.{sets}
-use Rattle.octets.specs.Base.{pick, Answer, values_of}
+use Rattle.octets.specs.Base.{pick, Answer, number_of, values_of, size_answer}
+use Rattle.octets.specs.declared.Refusal.{Refusal}
 use Rattle.octets.specs.Number.{put}
 use Rattle.octets.specs.Words.{put_words}
 use Rattle.octets.specs.Turns.{turns}
@@ -10,11 +11,6 @@ use Rattle.sheet_layout.specs.declared.Layout.{Layout}
 use Rattle.sheet_layout.specs.declared.Tap.{Tap}
 use Rattle.sheet_layout.specs.Fit.{fit_of}
 use Rattle.station_spec.specs.declared.ReceiveEvent.{ReceiveEvent}
-use Rattle.station_spec.specs.declared.ReceiveEvent.TheVariants.{NoReceive, GotOk, GotTooLong, GotAlignment}
-use Rattle.station_spec.specs.declared.ReceiveEvent.TheVariants.{GotCheck, GotLength}
-use Rattle.station_spec.specs.declared.TransmitEvent.{TransmitEvent}
-use Rattle.station_spec.specs.declared.TransmitEvent.TheVariants.{NoTransmit, Collision, Late, Sent, GivenUp}
-use Rattle.station_spec.specs.declared.TransmitEvent.TheVariants.{LateEnded}
 use Rattle.bus_start.specs.Fresh.{tap_in}
 use Rattle.bus_spec.specs.declared.Events.{Events}
 use Rattle.bus_spec.specs.BitTime.{event_at}
@@ -45,17 +41,21 @@ counters_out = 4 * counter_count
 abbrev pub refusal_bit : ℕ
 refusal_bit = 2147483648
 
--- the highest number of a refusal
-abbrev pub max_refusal : ℕ
-max_refusal = 21
-
 -- refusal n, or where n is 0 the value
-unfoldable pub replied : (n value : ℕ) → ℕ
+abbrev pub replied : (n value : ℕ) → ℕ
 replied n v = pick (eqb n 0) v (refusal_bit + n)
 
 -- the first value of an answer, 0 where it has none
 abbrev pub value_of : Answer → ℕ
 value_of r = get_or (values_of r) 0 0
+
+-- what a call returns for an answer
+abbrev pub code_of : Answer → ℕ
+code_of r = replied (number_of r) (value_of r)
+
+-- what it returns for the code's answer
+abbrev pub reply_of : Result ℕ Refusal → ℕ
+reply_of r = code_of (size_answer r)
 
 -- ---- a layout
 
@@ -93,7 +93,7 @@ client_words r = pick (eqb (value_of r) 5) 14 0 ∷ get_or (values_of r) 1 0 ∷
 -- ---- events
 
 -- the code of a receive event: its place among theirs
-abbrev pub got_code : ReceiveEvent → ℕ
+abbrev pub got_code : Option ReceiveEvent → ℕ
 got_code e = receive_word e - last_transmit
 
 -- "transmit comes before receive"

@@ -15,12 +15,14 @@ ghost use Rattle.c_views.specs.Views.{station_given, margin_given};
 ghost use Rattle.c_marks.specs.MarkCalls.{mark_given, return_given, drop_given};
 ghost use Rattle.c_text.specs.TextCalls.{lent, begun_lent, advanced_lent, print_left};
 
+use c_words::numbers::reply;
+
 // Reads a sheet: the octets used. Refusals 3 to 8, 15.
 #[unsafe(no_mangle)]
 pub extern "C" fn wisavulome_read_sheet(sheet: &[u8], out: &mut [u8]) -> u32
     ensures { given result out.new ≡ sheet_given sheet.now out.old }
 {
-    c_calls::read_sheet(sheet, out)
+    reply(c_calls::read_sheet(sheet, out))
 }
 
 // Whether the layout of a sheet fits: 1 or 0. Refusals 3 to 8.
@@ -28,7 +30,7 @@ pub extern "C" fn wisavulome_read_sheet(sheet: &[u8], out: &mut [u8]) -> u32
 pub extern "C" fn wisavulome_fits(sheet: &[u8]) -> u32
     ensures { result ≡ fits_given sheet.now }
 {
-    c_calls::fits(sheet)
+    reply(c_calls::fits(sheet))
 }
 
 // How far the last tap of a sheet may move outward so that its layout still fits: so many bit times, or 256 where it
@@ -37,7 +39,7 @@ pub extern "C" fn wisavulome_fits(sheet: &[u8]) -> u32
 pub extern "C" fn wisavulome_margin(sheet: &[u8]) -> u32
     ensures { result ≡ margin_given sheet.now }
 {
-    c_views::margin(sheet)
+    reply(c_views::margin(sheet))
 }
 
 // Checks a layout, as `wisavulome_read_sheet` writes one: 0. Refusals 3, 5 to 8.
@@ -45,7 +47,7 @@ pub extern "C" fn wisavulome_margin(sheet: &[u8]) -> u32
 pub extern "C" fn wisavulome_check_layout(layout: &[u8]) -> u32
     ensures { result ≡ layout_given layout.now }
 {
-    c_checks::check_layout(layout)
+    reply(c_checks::check_layout(layout))
 }
 
 // Reads a run input: 0. Refusals 3 to 9, 13, 15, 16.
@@ -53,7 +55,7 @@ pub extern "C" fn wisavulome_check_layout(layout: &[u8]) -> u32
 pub extern "C" fn wisavulome_read_plan(input: &[u8], out: &mut [u8]) -> u32
     ensures { given result out.new ≡ plan_given input.now out.old }
 {
-    c_checks::read_plan(input, out)
+    reply(c_checks::read_plan(input, out))
 }
 
 // Writes the shortest sheet that reads as this one: its octets. Refusals 3 to 8, 15.
@@ -61,7 +63,7 @@ pub extern "C" fn wisavulome_read_plan(input: &[u8], out: &mut [u8]) -> u32
 pub extern "C" fn wisavulome_write_sheet(sheet: &[u8], out: &mut [u8]) -> u32
     ensures { given result out.new ≡ write_given sheet.now out.old }
 {
-    c_checks::write_sheet(sheet, out)
+    reply(c_checks::write_sheet(sheet, out))
 }
 
 // Builds a frame: its octets. Refusals 11, 15.
@@ -76,7 +78,7 @@ pub extern "C" fn wisavulome_build(
     ensures { given result out.new
         ≡ build_given destination source value payload.now out.old }
 {
-    c_calls::build(destination, source, value, payload, out)
+    reply(c_calls::build(destination, source, value, payload, out))
 }
 
 // The status of a frame's octets and excess bits: 0 to 5. Refusal 5.
@@ -84,7 +86,7 @@ pub extern "C" fn wisavulome_build(
 pub extern "C" fn wisavulome_status(frame: &[u8], excess: u32) -> u32
     ensures { result ≡ status_given frame.now excess }
 {
-    c_calls::status(frame, excess)
+    reply(c_calls::status(frame, excess))
 }
 
 // The status of a reception, spoiled (not 0) or not: 0 to 5. Refusal 5.
@@ -92,7 +94,7 @@ pub extern "C" fn wisavulome_status(frame: &[u8], excess: u32) -> u32
 pub extern "C" fn wisavulome_reception_status(frame: &[u8], excess: u32, spoiled: u32) -> u32
     ensures { result ≡ reception_given frame.now excess spoiled }
 {
-    c_checks::reception_status(frame, excess, spoiled)
+    reply(c_checks::reception_status(frame, excess, spoiled))
 }
 
 // The status, and where the client data lie. Refusals 5, 15.
@@ -100,7 +102,7 @@ pub extern "C" fn wisavulome_reception_status(frame: &[u8], excess: u32, spoiled
 pub extern "C" fn wisavulome_client_data(frame: &[u8], excess: u32, out: &mut [u8]) -> u32
     ensures { given result out.new ≡ client_given frame.now excess out.old }
 {
-    c_calls::client_data(frame, excess, out)
+    reply(c_calls::client_data(frame, excess, out))
 }
 
 // A fresh start: 0. Refusals 1, 3 to 8, 9.
@@ -109,7 +111,7 @@ pub extern "C" fn wisavulome_start(area: &mut [u8], sheet: &[u8], depth: u32, dr
     ensures { given result area.new
         ≡ start_given area.old sheet.now depth draws.now }
 {
-    c_calls::start(area, sheet, depth, draws)
+    reply(c_calls::start(area, sheet, depth, draws))
 }
 
 // Checks a work area: 0. Refusals 1, 2.
@@ -117,7 +119,7 @@ pub extern "C" fn wisavulome_start(area: &mut [u8], sheet: &[u8], depth: u32, dr
 pub extern "C" fn wisavulome_check_area(area: &[u8]) -> u32
     ensures { result ≡ area_given area.now }
 {
-    c_checks::check_area(area)
+    reply(c_checks::check_area(area))
 }
 
 // Offers a frame to a station: 0. Refusals 1, 2, 10, 11, 12.
@@ -132,7 +134,7 @@ pub extern "C" fn wisavulome_offer(
     ensures { given result area.new
         ≡ offer_given area.old station destination value payload.now }
 {
-    c_calls::offer(area, station, destination, value, payload)
+    reply(c_calls::offer(area, station, destination, value, payload))
 }
 
 // One bit time: 0, and the events of each station. Refusals 1, 2, 13, 15.
@@ -140,7 +142,7 @@ pub extern "C" fn wisavulome_offer(
 pub extern "C" fn wisavulome_step(area: &mut [u8], out: &mut [u8]) -> u32
     ensures { left result area.new out.new ≡ step_left area.old out.old }
 {
-    c_calls::step(area, out)
+    reply(c_calls::step(area, out))
 }
 
 // A run of n bit times: the steps made, and how many events of each word came. Refusals 1, 2, 13, 15.
@@ -148,19 +150,7 @@ pub extern "C" fn wisavulome_step(area: &mut [u8], out: &mut [u8]) -> u32
 pub extern "C" fn wisavulome_run(area: &mut [u8], n: u32, out: &mut [u8]) -> u32
     ensures { left result area.new out.new ≡ run_left area.old n out.old }
 {
-    if out.len() < c_words::RUN_OUT {
-        return c_calls::refuse_short(area, n);
-    }
-    let a = fast_run::run(area, n);
-    let done = a.done;
-    let number = c_words::numbers::done_number(done);
-    if number != 0 {
-        return c_words::numbers::reply(number, 0);
-    }
-    let words = a.words;
-    let ended = a.ended;
-    c_tables::write_run(out, words, ended);
-    a.steps
+    reply(c_calls::run(fast_run::run, area, n, out))
 }
 
 // The same run, made step by step: the reference.
@@ -168,19 +158,7 @@ pub extern "C" fn wisavulome_run(area: &mut [u8], n: u32, out: &mut [u8]) -> u32
 pub extern "C" fn wisavulome_run_stepwise(area: &mut [u8], n: u32, out: &mut [u8]) -> u32
     ensures { left result area.new out.new ≡ run_left area.old n out.old }
 {
-    if out.len() < c_words::RUN_OUT {
-        return c_calls::refuse_short(area, n);
-    }
-    let a = bus_run::run(area, n);
-    let done = a.done;
-    let number = c_words::numbers::done_number(done);
-    if number != 0 {
-        return c_words::numbers::reply(number, 0);
-    }
-    let words = a.words;
-    let ended = a.ended;
-    c_tables::write_run(out, words, ended);
-    a.steps
+    reply(c_calls::run(bus_run::run, area, n, out))
 }
 
 // Reads the frame that a station received: its octets. Refusals 1, 2, 10, 14, 15.
@@ -188,7 +166,7 @@ pub extern "C" fn wisavulome_run_stepwise(area: &mut [u8], n: u32, out: &mut [u8
 pub extern "C" fn wisavulome_read_frame(area: &[u8], station: u32, out: &mut [u8]) -> u32
     ensures { given result out.new ≡ frame_given area.now station out.old }
 {
-    c_calls::read_frame(area, station, out)
+    reply(c_calls::read_frame(area, station, out))
 }
 
 // The counters of a station: 0. Refusals 1, 2, 10, 15.
@@ -196,7 +174,7 @@ pub extern "C" fn wisavulome_read_frame(area: &[u8], station: u32, out: &mut [u8
 pub extern "C" fn wisavulome_counters(area: &[u8], station: u32, out: &mut [u8]) -> u32
     ensures { given result out.new ≡ counters_given area.now station out.old }
 {
-    c_calls::counters(area, station, out)
+    reply(c_calls::counters(area, station, out))
 }
 
 // The state of a station: 0. Refusals 1, 2, 10, 15.
@@ -204,7 +182,7 @@ pub extern "C" fn wisavulome_counters(area: &[u8], station: u32, out: &mut [u8])
 pub extern "C" fn wisavulome_station(area: &[u8], station: u32, out: &mut [u8]) -> u32
     ensures { given result out.new ≡ station_given area.now station out.old }
 {
-    c_views::station(area, station, out)
+    reply(c_views::station(area, station, out))
 }
 
 // Marks a work area under a name, in a store: 0. Refusals 1, 2, 15, 18.
@@ -212,7 +190,7 @@ pub extern "C" fn wisavulome_station(area: &[u8], station: u32, out: &mut [u8]) 
 pub extern "C" fn wisavulome_mark(area: &[u8], store: &mut [u8], name: u64) -> u32
     ensures { given result store.new ≡ mark_given area.now store.old name }
 {
-    c_marks::mark(area, store, name)
+    reply(c_marks::mark(area, store, name))
 }
 
 // Puts back the work area that is marked under a name: 0. Refusals 1, 15, 17, 2.
@@ -220,7 +198,7 @@ pub extern "C" fn wisavulome_mark(area: &[u8], store: &mut [u8], name: u64) -> u
 pub extern "C" fn wisavulome_return(area: &mut [u8], store: &[u8], name: u64) -> u32
     ensures { given result area.new ≡ return_given area.old store.now name }
 {
-    c_marks::go_back(area, store, name)
+    reply(c_marks::go_back(area, store, name))
 }
 
 // Drops the mark of a name: 0. Refusals 15, 17.
@@ -228,7 +206,7 @@ pub extern "C" fn wisavulome_return(area: &mut [u8], store: &[u8], name: u64) ->
 pub extern "C" fn wisavulome_drop(store: &mut [u8], name: u64) -> u32
     ensures { given result store.new ≡ drop_given store.old name }
 {
-    c_marks::drop_mark(store, name)
+    reply(c_marks::drop_mark(store, name))
 }
 
 // The first piece of what is printed for a run input: its octets, and where the run stands. Refusals 1, 15.
@@ -242,7 +220,7 @@ pub extern "C" fn wisavulome_begin(
     ensures { lent result area.new progress.new out.new
         ≡ begun_lent input.now area.old progress.old out.old }
 {
-    c_text::begin(input, area, progress, out)
+    reply(c_text::begin(input, area, progress, out))
 }
 
 // The next piece: its octets, and where the run stands after it. Refusals 1, 2, 13, 15, 16.
@@ -256,7 +234,7 @@ pub extern "C" fn wisavulome_advance(
     ensures { lent result area.new progress.new out.new
         ≡ advanced_lent input.now area.old progress.old out.old }
 {
-    c_text::advance(input, area, progress, out)
+    reply(c_text::advance(input, area, progress, out))
 }
 
 // All that is printed for a run input: its octets. Refusals 1, 15.
@@ -265,7 +243,7 @@ pub extern "C" fn wisavulome_print(input: &[u8], area: &mut [u8], out: &mut [u8]
     ensures { left result area.new out.new
         ≡ print_left input.now area.old out.old }
 {
-    c_text::print(input, area, out)
+    reply(c_text::print(input, area, out))
 }
 
 // Many windows over one log: 0, and the counts of each window. Refusals 5, 10, 16, 20, 21, 15.
@@ -279,7 +257,7 @@ pub extern "C" fn wisavulome_windows(
     ensures { given result out.new
         ≡ windows_given log.now stations windows.now out.old }
 {
-    c_log::windows(log, stations, windows, out)
+    reply(c_log::windows(log, stations, windows, out))
 }
 
 // The CRC-32 of the octets.

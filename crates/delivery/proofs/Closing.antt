@@ -1,6 +1,6 @@
 -- N1: "With 1, a run no longer ends early": where late collisions close frames, a run that is not refused makes all its
 -- steps, on any layout and from any area that passes. Assumes nothing.
-use Rattle.std.specs.Prelude.{ℕ, zero, suc, ◌+◌, ◌≤◌, ◌≡◌, refl, Bool, true, false, not, List, [], ltb, leb, eqb, replicate}
+use Rattle.std.specs.Prelude.{ℕ, zero, suc, ◌+◌, ◌≤◌, ◌≡◌, refl, Bool, true, false, not, List, [], ltb, leb, eqb, replicate, None}
 use Rattle.std.proofs.Common.{◌∙◌, ap, arith, eqb-true, ltb-false, eq-eqb}
 use Rattle.octets.specs.Base.{accepted}
 use Rattle.octets.specs.BaseLaws.{by_test, below_none, refused_none}
@@ -18,7 +18,6 @@ use Rattle.area.specs.Area.{clock_at, figures_at, count_at, station_at}
 use Rattle.area.specs.AreaLaws.{figures_by}
 use Rattle.area_check.specs.Valid.{area_refusal}
 use Rattle.bus_spec.specs.declared.Events.{Events}
-use Rattle.bus_spec.specs.declared.course.Ended.TheVariants as how
 use Rattle.bus_spec.specs.BitTime.{act_at, act_in, outcome_in, events_of, events_at, step_area}
 use Rattle.bus_spec.specs.Ready.{Readiness}
 use Rattle.bus_spec.specs.Passes.{passes_ready}
@@ -70,7 +69,7 @@ never_stops a e =
 -- ---- a run
 
 run_all : (k m : ℕ) (ws a : List ℕ) → Readiness a → clock_at a + k ≤ last_clock → (figures_at a).ends ≡ 1
-    → ((run_of k m ws a).ended ≡ how.All) × ((run_of k m ws a).steps ≡ m + k)
+    → ((run_of k m ws a).ended ≡ None) × ((run_of k m ws a).steps ≡ m + k)
 unfolding run_of
 run_all zero m ws a r h e = (refl, omega arith)
 run_all (suc k) m ws a r h e =
@@ -82,7 +81,7 @@ run_all (suc k) m ws a r h e =
 
 -- A run that is not refused makes all its steps.
 pub ran_all : (a : List ℕ) (n : ℕ) → Octets a → (figures_at a).ends ≡ 1 → (ran a n).answer ≡ accepted []
-    → ((ran a n).ended ≡ how.All) × ((ran a n).steps ≡ n)
+    → ((ran a n).ended ≡ None) × ((ran a n).steps ≡ n)
 unfolding ran
 ran_all a n o e h =
     by_test (eqb (area_refusal a) 0)

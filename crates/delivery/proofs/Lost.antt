@@ -1,6 +1,6 @@
 -- On a sheet that fits no frame is lost, over every list of calls from a fresh start: a corollary of demand 3. Which
 -- frames are lost is said in the specs' Lost. Assumes nothing.
-use Rattle.std.specs.Prelude.{ℕ, ◌≡◌, List, [], ◌∷◌}
+use Rattle.std.specs.Prelude.{ℕ, ◌≡◌, List, [], ◌∷◌, Some}
 use Rattle.std.proofs.Common.{arith}
 use Rattle.octets.specs.Base.{accepted}
 use Rattle.octets.specs.NumberLaws.{Octets}
@@ -29,7 +29,7 @@ module _ (y : Layout) (T : List Moment) (m : Moment) (holds : Demand3 y T m) (t 
       }
 
   -- a frame that is due was got, and in that step no other station's
-  pub always_got : ((k : ℕ) × (got_at T (due_at y t i j) j ≡ GotOk k))
+  pub always_got : ((k : ℕ) × (got_at T (due_at y t i j) j ≡ Some (GotOk k)))
       × ((s : Sender y T (due_at y t i j) j) → s.from ≡ i)
   unfolding from_sender
   always_got = (

@@ -1,7 +1,7 @@
 -- Demand 3 holds over every list of calls, on every layout with 2·S ≤ slot, 2·S ≤ 576 and G ≤ 64 + jam; a layout that
 -- fits is one. Assumes nothing.
 use Prim.Native.Nat.{ℕ, zero, suc, ◌+◌, ◌*◌, ◌-◌, ◌≤◌, ◌<◌, max}
-use Rattle.std.specs.Prelude.{◌≡◌, refl, Bool, true, false, ◌&&◌, ◌⊎◌, ltb, leb, eqb, get_or, replicate}
+use Rattle.std.specs.Prelude.{◌≡◌, refl, Bool, true, false, ◌&&◌, ◌⊎◌, ltb, leb, eqb, get_or, replicate, Option, None, Some}
 use Rattle.std.proofs.Math.Path.{sym, ap, ap₂, subst}
 use Rattle.std.proofs.Common.{◌∙◌, true≢false, inl, inr}
 use mathlib.Core.List.{List, [], ◌∷◌, ◌++◌}
@@ -23,7 +23,7 @@ use Rattle.sheet_layout.specs.Check.{refusal_of}
 use Rattle.sheet_layout.specs.CheckLaws.{sound}
 use Rattle.station_symbols.specs.declared.Heard.TheVariants.{Nothing}
 use Rattle.station_spec.specs.declared.TransmitEvent.{TransmitEvent}
-use Rattle.station_spec.specs.declared.TransmitEvent.TheVariants.{NoTransmit, Collision, Late, Sent, GivenUp}
+use Rattle.station_spec.specs.declared.TransmitEvent.TheVariants.{Collision, Late, Sent, GivenUp}
 use Rattle.station_spec.specs.declared.TransmitEvent.TheVariants.{LateEnded}
 use Rattle.station_state.specs.declared.Receiver.{Receiver}
 use Rattle.station_state.specs.declared.Receiver.TheVariants.{Listening, Readable, Seeking, Collecting}
@@ -40,7 +40,6 @@ use Rattle.bus_spec.specs.Passes.{Passing, ready_passes}
 use Rattle.bus_offer.specs.Offer.{holds, offered}
 use Rattle.bus_start.specs.Start.{started}
 use Rattle.bus_step.specs.Step.{stepped_once}
-use Rattle.bus_spec.specs.declared.course.Ended.TheVariants as how
 use Rattle.bus_spec.specs.Run.{tallied, late_at, run_of, ran, stops}
 use Rattle.sheet_read.specs.Sheet.{read_sheet}
 use Rattle.sheet_read.specs.SheetTheorems.{read_formed, read_octets}
@@ -113,25 +112,25 @@ module _ (P : Net) (span : ℕ) (L : exec.Sound P span) (m : Moment) (T : List M
   -- ---- no late collision, attempts
 
   module _ (g : lay.gap_of P.fig ≤ 64 + P.fig.jam) (slot : 2 * span ≤ P.fig.slot) where
-    pub not_late : (u i k : ℕ) (closes : Bool) → u < length T → i < P.n → sent_at T u i ≡ Late k closes → ⊥
+    pub not_late : (u i k : ℕ) (closes : Bool) → u < length T → i < P.n → sent_at T u i ≡ Some (Late k closes) → ⊥
     not_late u i k closes hu hi e =
         collisions.never_late P v.inp span L g slot i u k closes hi (sym (sent_is u i hu hi) ∙ e)
 
-    pub not_ended : (u i n : ℕ) → u < length T → i < P.n → sent_at T u i ≡ LateEnded n → ⊥
+    pub not_ended : (u i n : ℕ) → u < length T → i < P.n → sent_at T u i ≡ Some (LateEnded n) → ⊥
     not_ended u i n hu hi e = closings.never_ended P v.inp span L g slot i hi u n (sym (sent_is u i hu hi) ∙ e)
 
   -- "the largest collision bit is at most 2·S": one collision, late or not
   module _ (g : lay.gap_of P.fig ≤ 64 + P.fig.jam) where
     pub collision_bit : (u i k : ℕ) (closes : Bool) → u < length T → i < P.n
-        → (sent_at T u i ≡ Collision k) ⊎ (sent_at T u i ≡ Late k closes) → k ≤ max 1 (2 * span)
+        → (sent_at T u i ≡ Some (Collision k)) ⊎ (sent_at T u i ≡ Some (Late k closes)) → k ≤ max 1 (2 * span)
     collision_bit u i k closes hu hi (inl e) =
         collisions.collides_within P v.inp span L g i u k closes hi (inl (sym (sent_is u i hu hi) ∙ e))
     collision_bit u i k closes hu hi (inr e) =
         collisions.collides_within P v.inp span L g i u k closes hi (inr (sym (sent_is u i hu hi) ∙ e))
 
   -- "receiveOK means sent", on every layout, fitting or not
-  pub ok_sent : (u j k : ℕ) → u < length T → j < P.n → got_at T u j ≡ GotOk k
-      → (i : ℕ) × (e : ℕ) × (n : ℕ) × (i < P.n) × ((i ≡ j → ⊥) × (u ≡ suc (e + P.d i j)) × (sent_at T e i ≡ Sent n))
+  pub ok_sent : (u j k : ℕ) → u < length T → j < P.n → got_at T u j ≡ Some (GotOk k)
+      → (i : ℕ) × (e : ℕ) × (n : ℕ) × (i < P.n) × ((i ≡ j → ⊥) × (u ≡ suc (e + P.d i j)) × (sent_at T e i ≡ Some (Sent n)))
   ok_sent u j k hu hj e =
       let c = reports.got_came P v.inp span L j u k hj (sym (got_is u j hu hj) ∙ e) in (
         c.from,
@@ -141,7 +140,7 @@ module _ (P : Net) (span : ℕ) (L : exec.Sound P span) (m : Moment) (T : List M
         (c.other, c.delay, sent_is c.at c.from (omega (arith, c.delay)) c.station ∙ c.whole.sent),
       )
 
-  ends_is : (w x : TransmitEvent) (n : ℕ) → w ≡ x → Ends w n → sends.Ends x n
+  ends_is : (w x : Option TransmitEvent) (n : ℕ) → w ≡ x → Ends w n → sends.Ends x n
   ends_is w x n e (inl p) = inl (sym e ∙ p)
   ends_is w x n e (inr (inl p)) = inr (inl (sym e ∙ p))
   ends_is w x n e (inr (inr p)) = inr (inr (sym e ∙ p))
@@ -181,8 +180,8 @@ module _ (P : Net) (span : ℕ) (L : exec.Sound P span) (m : Moment) (T : List M
       either (v.overs x hx u i n l hi e) (λ h. h) (λ h. clash (held_then x i k hx hi f) h.1)
 
   -- two steps in which station i reports sent, of the same offer, are one
-  pub sent_once : (i u x n k : ℕ) → i < P.n → u < length T → x < length T → sent_at T u i ≡ Sent n
-      → sent_at T x i ≡ Sent k
+  pub sent_once : (i u x n k : ℕ) → i < P.n → u < length T → x < length T → sent_at T u i ≡ Some (Sent n)
+      → sent_at T x i ≡ Some (Sent k)
       → (moment_at T u).offers i ≡ (moment_at T x).offers i → u ≡ x
   sent_once i u x n k hi hu hx e f o =
       by_eq u x (λ z. z)
@@ -200,7 +199,7 @@ module _ (P : Net) (span : ℕ) (L : exec.Sound P span) (m : Moment) (T : List M
       station : from < P.n
       other : from ≡ j → ⊥
       delay : u ≡ suc (at + P.d from j)
-      sent : sent_at T at from ≡ Sent attempts
+      sent : sent_at T at from ≡ Some (Sent attempts)
       for : addressed (P.address j) ((moment_at T at).frame from) ≡ true
 
     frame_is : (u i : ℕ) → u < length T → i < P.n → (moment_at T u).frame i ≡ frame_in P v.inp i u
@@ -234,11 +233,11 @@ module _ (P : Net) (span : ℕ) (L : exec.Sound P span) (m : Moment) (T : List M
           for = sym (ap (addressed (P.address j)) (frame_is s.at s.from h s.station)) ∙ s.for;
         }
 
-    received_from : (u j k : ℕ) → u < length T → j < P.n → got_at T u j ≡ GotOk k → From u j
+    received_from : (u j k : ℕ) → u < length T → j < P.n → got_at T u j ≡ Some (GotOk k) → From u j
     received_from u j k hu hj e =
         from_sender u j hu (gets.received P v.inp span L g fits j u k hj (sym (got_is u j hu hj) ∙ e)).0
 
-    delivered_to : (u j : ℕ) → u < length T → j < P.n → From u j → (k : ℕ) × (got_at T u j ≡ GotOk k)
+    delivered_to : (u j : ℕ) → u < length T → j < P.n → From u j → (k : ℕ) × (got_at T u j ≡ Some (GotOk k))
     delivered_to u j hu hj s =
         (_, got_is u j hu hj ∙ gets.delivered P v.inp span L g fits j u hj (to_sender u j hu s))
 
@@ -248,17 +247,17 @@ module _ (P : Net) (span : ℕ) (L : exec.Sound P span) (m : Moment) (T : List M
 
     -- ---- readings
 
-    silent_then : (u j k : ℕ) → u < length T → j < P.n → got_at T u j ≡ GotOk k → sees P v.inp j u ≡ Nothing
+    silent_then : (u j k : ℕ) → u < length T → j < P.n → got_at T u j ≡ Some (GotOk k) → sees P v.inp j u ≡ Nothing
     silent_then u j k hu hj e = reports.got_silent P v.inp span L j u k hj (sym (got_is u j hu hj) ∙ e)
 
     -- a station that reports receiveOK hears nothing in that step
-    quiet_from : (u j k : ℕ) → u < length T → j < P.n → got_at T u j ≡ GotOk k → QuietSince T u j
+    quiet_from : (u j k : ℕ) → u < length T → j < P.n → got_at T u j ≡ Some (GotOk k) → QuietSince T u j
         → (x : ℕ) → u ≤ x → x < length T → sees P v.inp j x ≡ Nothing
     quiet_from u j k hu hj e quiet x lo up =
         by_eq x u (λ z. rw z (silent_then u j k hu hj e))
         (λ ne. sym (hears_is x j up hj) ∙ quiet x (omega (arith, ne)) up)
 
-    readable_now : (u j k : ℕ) → u < length T → j < P.n → got_at T u j ≡ GotOk k → (s : From u j) → QuietSince T u j
+    readable_now : (u j k : ℕ) → u < length T → j < P.n → got_at T u j ≡ Some (GotOk k) → (s : From u j) → QuietSince T u j
         → ((station_at m.area j).receiver ≡ Readable (length ((moment_at T s.at).frame s.from)))
         × (take (length ((moment_at T s.at).frame s.from)) (buffer_at m.area j) ≡ (moment_at T s.at).frame
         s.from)
@@ -280,7 +279,7 @@ module _ (P : Net) (span : ℕ) (L : exec.Sound P span) (m : Moment) (T : List M
     unfolding frame_read
     read_is a j F out ok hj e t = rw (eq-eqb (area_refusal a) 0 ok, lt-leb (count_at a) j hj, e, t)
 
-    reading_is : (u j k : ℕ) → u < length T → j < P.n → got_at T u j ≡ GotOk k → (s : From u j) → QuietSince T u j
+    reading_is : (u j k : ℕ) → u < length T → j < P.n → got_at T u j ≡ Some (GotOk k) → (s : From u j) → QuietSince T u j
         → (out : List ℕ)
         → frame_read m.area j out ≡ read_as ((moment_at T s.at).frame s.from) out
     reading_is u j k hu hj e s quiet out =
@@ -293,7 +292,7 @@ module _ (P : Net) (span : ℕ) (L : exec.Sound P span) (m : Moment) (T : List M
       at : ℕ
       size : ℕ
       step : at < length T
-      got : got_at T at j ≡ GotOk size
+      got : got_at T at j ≡ Some (GotOk size)
       quiet : QuietSince T at j
       sender : From at j
       gives : frame_read m.area j out ≡ outcome
@@ -428,13 +427,13 @@ module _ (m : Moment) (n : ℕ) (ok : area_refusal m.area ≡ 0) where
 -- ---- no run ends early
 
 -- an event that is no late collision
-not_late_event : (w : TransmitEvent) → ((k : ℕ) (closes : Bool) → w ≡ Late k closes → ⊥) → ends_run w ≡ false
-not_late_event NoTransmit h = refl
-not_late_event (Collision k) h = refl
-not_late_event (Late k closes) h = absurd (h k closes refl)
-not_late_event (Sent n) h = refl
-not_late_event (GivenUp n) h = refl
-not_late_event (LateEnded n) h = refl
+not_late_event : (w : Option TransmitEvent) → ((k : ℕ) (closes : Bool) → w ≡ Some (Late k closes) → ⊥) → ends_run w ≡ false
+not_late_event None h = refl
+not_late_event (Some (Collision k)) h = refl
+not_late_event (Some (Late k closes)) h = absurd (h k closes refl)
+not_late_event (Some (Sent n)) h = refl
+not_late_event (Some (GivenUp n)) h = refl
+not_late_event (Some (LateEnded n)) h = refl
 
 pub no_station : (a : List ℕ) (i : ℕ) → count_at a ≤ i → event_at (events_at a) i ≡ no_events
 unfolding events_at
@@ -462,7 +461,7 @@ module _ (P : Net) (span : ℕ) (L : exec.Sound P span) (g : lay.gap_of P.fig �
       (omega (arith, length-append T (m ∷ []))) (omega arith) (last_moment T m i ∙ e))))
 
   run_ends : (k t : ℕ) (ws : List ℕ) (m : Moment) (T : List Moment) → Traced P m T → length T + k ≤ last_clock
-      → ((run_of k t ws m.area).ended ≡ how.All) × ((run_of k t ws m.area).steps ≡ t + k)
+      → ((run_of k t ws m.area).ended ≡ None) × ((run_of k t ws m.area).steps ≡ t + k)
   unfolding run_of late next
   run_ends zero t ws m T v h = (refl, omega arith)
   run_ends (suc k) t ws m T v h =
@@ -472,7 +471,7 @@ module _ (P : Net) (span : ℕ) (L : exec.Sound P span) (g : lay.gap_of P.fig �
       rw (timely m T v early) (r.0, r.1 ∙ omega arith)
 
   ran_ends : (m : Moment) (T : List Moment) → Traced P m T → (n : ℕ)
-      → ((ran m.area n).ended ≡ how.All) × ((ran m.area n).answer ≡ accepted [] → (ran m.area n).steps ≡ n)
+      → ((ran m.area n).ended ≡ None) × ((ran m.area n).answer ≡ accepted [] → (ran m.area n).steps ≡ n)
   unfolding ran
   ran_ends m T v n =
       let ok = ready_passes m.area v.here.passing in
@@ -622,7 +621,7 @@ module _ (y : Layout) (b : List ℕ) (f : Fresh y b) (cs : List Call) (fair : Al
   module _ (gap : lay.gap_of (figures_at b) ≤ 64 + (figures_at b).jam) where
     -- "the largest collision bit is at most 2·S" (S is at least 1: no two stations stand at one place)
     pub collisions_within : (u i k : ℕ) (closes : Bool) → u < length (log cs (begin b)) → i < y.count
-        → (sent_at (log cs (begin b)) u i ≡ Collision k) ⊎ (sent_at (log cs (begin b)) u i ≡ Late k closes)
+        → (sent_at (log cs (begin b)) u i ≡ Some (Collision k)) ⊎ (sent_at (log cs (begin b)) u i ≡ Some (Late k closes))
         → k ≤ max 1 (2 * lay.span_of y)
     unfolding m T
     collisions_within u i k closes hu hi h =

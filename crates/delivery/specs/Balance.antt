@@ -1,6 +1,6 @@
 -- "From a fresh start, offered equals sent plus excessive plus frames still held." On any layout, fitting or not.
 -- Assumes nothing.
-use Rattle.std.specs.Prelude.{ℕ, ◌+◌, ◌*◌, ◌%◌, ◌≤◌, ◌<◌, min, ◌≡◌, Bool, true, false, List, [], ltb, leb, eqb, length, get_or}
+use Rattle.std.specs.Prelude.{ℕ, ◌+◌, ◌*◌, ◌%◌, ◌≤◌, ◌<◌, min, ◌≡◌, Bool, true, false, List, [], ltb, leb, eqb, length, get_or, Option, None, Some}
 use Rattle.std.proofs.Math.Path.{refl}
 use Rattle.std.proofs.Common.{◌∙◌, ap, eq-eqb, leb-false, length-set, get_or-set_same, get_or-set_other}
 use native.Mathlib.Omega.{arith}
@@ -20,13 +20,13 @@ use Rattle.station_state.specs.declared.Transmitter.{Transmitter}
 use Rattle.station_state.specs.declared.Transmitter.TheVariants.{NoFrame, Waiting, BackingOff, Sending, Heading}
 use Rattle.station_state.specs.declared.Transmitter.TheVariants.{Jamming}
 use Rattle.station_spec.specs.declared.TransmitEvent.{TransmitEvent}
-use Rattle.station_spec.specs.declared.TransmitEvent.TheVariants.{NoTransmit, Collision, Late, Sent, GivenUp}
+use Rattle.station_spec.specs.declared.TransmitEvent.TheVariants.{Collision, Late, Sent, GivenUp}
 use Rattle.station_spec.specs.declared.TransmitEvent.TheVariants.{LateEnded}
 use Rattle.station_spec.specs.Transmit.{after_bit, collision, send_bit, head_bit, backoff_range, back_off, last_jam}
 use Rattle.station_spec.specs.Transmit.{closes_frame}
 use Rattle.station_spec.specs.Transmit.{jam_bit, backoff_bit, wait_bit, packet_length, transmit}
 use Rattle.station_spec.specs.declared.ReceiveEvent.{ReceiveEvent}
-use Rattle.station_spec.specs.declared.ReceiveEvent.TheVariants.{NoReceive, GotOk, GotTooLong, GotAlignment}
+use Rattle.station_spec.specs.declared.ReceiveEvent.TheVariants.{GotOk, GotTooLong, GotAlignment}
 use Rattle.station_spec.specs.declared.ReceiveEvent.TheVariants.{GotCheck, GotLength}
 use Rattle.station_state.specs.declared.Station.{Station}
 use Rattle.station_spec.specs.declared.Stepped.{Stepped}
@@ -59,29 +59,29 @@ held : Transmitter → ℕ
 held t = digit (offers.holds t)
 
 -- what an event ends
-sent_in : TransmitEvent → ℕ
-sent_in NoTransmit = 0
-sent_in (Collision k) = 0
-sent_in (Late k closes) = 0
-sent_in (Sent n) = 1
-sent_in (GivenUp n) = 0
-sent_in (LateEnded n) = 0
+sent_in : Option TransmitEvent → ℕ
+sent_in None = 0
+sent_in (Some (Collision k)) = 0
+sent_in (Some (Late k closes)) = 0
+sent_in (Some (Sent n)) = 1
+sent_in (Some (GivenUp n)) = 0
+sent_in (Some (LateEnded n)) = 0
 
-given_in : TransmitEvent → ℕ
-given_in NoTransmit = 0
-given_in (Collision k) = 0
-given_in (Late k closes) = 0
-given_in (Sent n) = 0
-given_in (GivenUp n) = 1
-given_in (LateEnded n) = 0
+given_in : Option TransmitEvent → ℕ
+given_in None = 0
+given_in (Some (Collision k)) = 0
+given_in (Some (Late k closes)) = 0
+given_in (Some (Sent n)) = 0
+given_in (Some (GivenUp n)) = 1
+given_in (Some (LateEnded n)) = 0
 
-closed_in : TransmitEvent → ℕ
-closed_in NoTransmit = 0
-closed_in (Collision k) = 0
-closed_in (Late k closes) = 0
-closed_in (Sent n) = 0
-closed_in (GivenUp n) = 0
-closed_in (LateEnded n) = 1
+closed_in : Option TransmitEvent → ℕ
+closed_in None = 0
+closed_in (Some (Collision k)) = 0
+closed_in (Some (Late k closes)) = 0
+closed_in (Some (Sent n)) = 0
+closed_in (Some (GivenUp n)) = 0
+closed_in (Some (LateEnded n)) = 1
 
 -- ---- a step of the transmitter ends a frame just where it reports so
 
@@ -152,16 +152,16 @@ unfolding added
 one_more_lem cs k h g = get_or-set_same cs k (min (get_or cs k 0 + 1) 4294967295) 0 h ∙ omega arith
 
 -- a counter that is not one of those that a receive event adds to
-received_none : (cs : List ℕ) (e : ReceiveEvent) (z j : ℕ)
+received_none : (cs : List ℕ) (e : Option ReceiveEvent) (z j : ℕ)
     → ((k : ℕ) → 10 ≤ k → k ≤ 15 → j ≡ k → ⊥) → get_or (count_receive cs e z) j 0 ≡ get_or cs j 0
 unfolding count_receive
-received_none cs NoReceive z j h = refl
-received_none cs (GotOk n) z j h =
+received_none cs None z j h = refl
+received_none cs (Some (GotOk n)) z j h =
     untouched _ 11 _ j (h 11 (omega arith) (omega arith)) ∙ untouched cs 10 1 j (h 10 (omega arith) (omega arith))
-received_none cs (GotTooLong n) z j h = untouched cs 12 1 j (h 12 (omega arith) (omega arith))
-received_none cs (GotAlignment n) z j h = untouched cs 14 1 j (h 14 (omega arith) (omega arith))
-received_none cs (GotCheck n) z j h = untouched cs 13 1 j (h 13 (omega arith) (omega arith))
-received_none cs (GotLength n) z j h = untouched cs 15 1 j (h 15 (omega arith) (omega arith))
+received_none cs (Some (GotTooLong n)) z j h = untouched cs 12 1 j (h 12 (omega arith) (omega arith))
+received_none cs (Some (GotAlignment n)) z j h = untouched cs 14 1 j (h 14 (omega arith) (omega arith))
+received_none cs (Some (GotCheck n)) z j h = untouched cs 13 1 j (h 13 (omega arith) (omega arith))
+received_none cs (Some (GotLength n)) z j h = untouched cs 15 1 j (h 15 (omega arith) (omega arith))
 
 -- a sent frame moves none of 0 and 9, and one of 4
 sent_none : (cs : List ℕ) (n z : ℕ) (d : Bool) (j : ℕ) → ((k : ℕ) → 4 ≤ k → k ≤ 8 → j ≡ k → ⊥)
@@ -181,54 +181,54 @@ sent_one cs n z d h g =
     ∙ untouched _ 7 _ 4 (λ e. omega arith) ∙ one_more_lem cs 4 h g
 
 module _ (cs : List ℕ) (z : ℕ) (d : Bool) (n : length cs ≡ counter_count) where
-  counts_offered : (e : TransmitEvent) → get_or (count_transmit cs e z d) 0 0 ≡ get_or cs 0 0
+  counts_offered : (e : Option TransmitEvent) → get_or (count_transmit cs e z d) 0 0 ≡ get_or cs 0 0
   unfolding count_transmit
-  counts_offered NoTransmit = refl
-  counts_offered (Collision k) = untouched cs 2 1 0 (λ e. omega arith)
-  counts_offered (Late k closes) = untouched _ 3 1 0 (λ e. omega arith) ∙ untouched cs 2 1 0 (λ e. omega arith)
-  counts_offered (Sent m) = sent_none cs m z d 0 (λ k p q e. omega arith)
-  counts_offered (GivenUp m) = untouched cs 9 1 0 (λ e. omega arith)
-  counts_offered (LateEnded m) = untouched cs 16 1 0 (λ e. omega arith)
+  counts_offered None = refl
+  counts_offered (Some (Collision k)) = untouched cs 2 1 0 (λ e. omega arith)
+  counts_offered (Some (Late k closes)) = untouched _ 3 1 0 (λ e. omega arith) ∙ untouched cs 2 1 0 (λ e. omega arith)
+  counts_offered (Some (Sent m)) = sent_none cs m z d 0 (λ k p q e. omega arith)
+  counts_offered (Some (GivenUp m)) = untouched cs 9 1 0 (λ e. omega arith)
+  counts_offered (Some (LateEnded m)) = untouched cs 16 1 0 (λ e. omega arith)
 
-  counts_sent : (e : TransmitEvent) → get_or cs 4 0 < 4294967295
+  counts_sent : (e : Option TransmitEvent) → get_or cs 4 0 < 4294967295
       → get_or (count_transmit cs e z d) 4 0 ≡ get_or cs 4 0 + sent_in e
   unfolding count_transmit sent_in
-  counts_sent NoTransmit g = omega arith
-  counts_sent (Collision k) g = untouched cs 2 1 4 (λ e. omega arith) ∙ omega arith
-  counts_sent (Late k closes) g =
+  counts_sent None g = omega arith
+  counts_sent (Some (Collision k)) g = untouched cs 2 1 4 (λ e. omega arith) ∙ omega arith
+  counts_sent (Some (Late k closes)) g =
       untouched _ 3 1 4 (λ e. omega arith) ∙ untouched cs 2 1 4 (λ e. omega arith) ∙ omega arith
-  counts_sent (Sent m) g = sent_one cs m z d (omega arith) g
-  counts_sent (GivenUp m) g = untouched cs 9 1 4 (λ e. omega arith) ∙ omega arith
-  counts_sent (LateEnded m) g = untouched cs 16 1 4 (λ e. omega arith) ∙ omega arith
+  counts_sent (Some (Sent m)) g = sent_one cs m z d (omega arith) g
+  counts_sent (Some (GivenUp m)) g = untouched cs 9 1 4 (λ e. omega arith) ∙ omega arith
+  counts_sent (Some (LateEnded m)) g = untouched cs 16 1 4 (λ e. omega arith) ∙ omega arith
 
-  counts_given : (e : TransmitEvent) → get_or cs 9 0 < 4294967295
+  counts_given : (e : Option TransmitEvent) → get_or cs 9 0 < 4294967295
       → get_or (count_transmit cs e z d) 9 0 ≡ get_or cs 9 0 + given_in e
   unfolding count_transmit given_in
-  counts_given NoTransmit g = omega arith
-  counts_given (Collision k) g = untouched cs 2 1 9 (λ e. omega arith) ∙ omega arith
-  counts_given (Late k closes) g =
+  counts_given None g = omega arith
+  counts_given (Some (Collision k)) g = untouched cs 2 1 9 (λ e. omega arith) ∙ omega arith
+  counts_given (Some (Late k closes)) g =
       untouched _ 3 1 9 (λ e. omega arith) ∙ untouched cs 2 1 9 (λ e. omega arith) ∙ omega arith
-  counts_given (Sent m) g = sent_none cs m z d 9 (λ k p q e. omega arith) ∙ omega arith
-  counts_given (GivenUp m) g = one_more_lem cs 9 (omega arith) g
-  counts_given (LateEnded m) g = untouched cs 16 1 9 (λ e. omega arith) ∙ omega arith
+  counts_given (Some (Sent m)) g = sent_none cs m z d 9 (λ k p q e. omega arith) ∙ omega arith
+  counts_given (Some (GivenUp m)) g = one_more_lem cs 9 (omega arith) g
+  counts_given (Some (LateEnded m)) g = untouched cs 16 1 9 (λ e. omega arith) ∙ omega arith
 
-  counts_closed : (e : TransmitEvent) → get_or cs 16 0 < 4294967295
+  counts_closed : (e : Option TransmitEvent) → get_or cs 16 0 < 4294967295
       → get_or (count_transmit cs e z d) 16 0 ≡ get_or cs 16 0 + closed_in e
   unfolding count_transmit closed_in
-  counts_closed NoTransmit g = omega arith
-  counts_closed (Collision k) g = untouched cs 2 1 16 (λ e. omega arith) ∙ omega arith
-  counts_closed (Late k closes) g =
+  counts_closed None g = omega arith
+  counts_closed (Some (Collision k)) g = untouched cs 2 1 16 (λ e. omega arith) ∙ omega arith
+  counts_closed (Some (Late k closes)) g =
       untouched _ 3 1 16 (λ e. omega arith) ∙ untouched cs 2 1 16 (λ e. omega arith) ∙ omega arith
-  counts_closed (Sent m) g = sent_none cs m z d 16 (λ k p q e. omega arith) ∙ omega arith
-  counts_closed (GivenUp m) g = untouched cs 9 1 16 (λ e. omega arith) ∙ omega arith
-  counts_closed (LateEnded m) g = one_more_lem cs 16 (omega arith) g
+  counts_closed (Some (Sent m)) g = sent_none cs m z d 16 (λ k p q e. omega arith) ∙ omega arith
+  counts_closed (Some (GivenUp m)) g = untouched cs 9 1 16 (λ e. omega arith) ∙ omega arith
+  counts_closed (Some (LateEnded m)) g = one_more_lem cs 16 (omega arith) g
 
 if_length : (cs : List ℕ) (b : Bool) (k : ℕ) → length (added_if b cs k) ≡ length cs
 unfolding added_if added
 if_length cs true k = length-set cs k _
 if_length cs false k = refl
 
-record Counts (cs ds : List ℕ) (e : TransmitEvent) : Type 0 where
+record Counts (cs ds : List ℕ) (e : Option TransmitEvent) : Type 0 where
   all : get_or ds offered 0 ≡ get_or cs offered 0
   gone : get_or ds sent 0 ≡ get_or cs sent 0 + sent_in e
   lost : get_or ds excessive 0 ≡ get_or cs excessive 0 + given_in e
@@ -271,14 +271,14 @@ pub record Balanced (a : List ℕ) (i : ℕ) : Type 0 where
 abbrev pub AllBalanced : List ℕ → Type 0
 AllBalanced a = (i : ℕ) → i < count_at a → Balanced a i
 
-event_one : (e : TransmitEvent) → sent_in e + given_in e + closed_in e ≤ 1
+event_one : (e : Option TransmitEvent) → sent_in e + given_in e + closed_in e ≤ 1
 unfolding sent_in given_in closed_in
-event_one NoTransmit = omega arith
-event_one (Collision k) = omega arith
-event_one (Late k closes) = omega arith
-event_one (Sent n) = omega arith
-event_one (GivenUp n) = omega arith
-event_one (LateEnded n) = omega arith
+event_one None = omega arith
+event_one (Some (Collision k)) = omega arith
+event_one (Some (Late k closes)) = omega arith
+event_one (Some (Sent n)) = omega arith
+event_one (Some (GivenUp n)) = omega arith
+event_one (Some (LateEnded n)) = omega arith
 
 act_ends : (a : List ℕ) (i : ℕ)
     → digit (offers.holds (act_at a i).outcome.station.transmitter) + sent_in (act_at a i).outcome.sent

@@ -1,7 +1,7 @@
 -- Lists of calls on one work area (document 01, "Demand 3, word by word"): "The list holds, in any order and number,
 -- offers, single steps, runs and readings of a received frame, all on one work area, refused ones among them. .. Each
 -- call gets the area as the call before left it, and nobody else writes there". Assumes nothing.
-use Rattle.std.specs.Prelude.{ℕ, zero, suc, ◌+◌, ◌<◌, ◌≡◌, Bool, List, [], ◌∷◌, ◌++◌, ◌⊎◌, eqb, length, get_or}
+use Rattle.std.specs.Prelude.{ℕ, zero, suc, ◌+◌, ◌<◌, ◌≡◌, Bool, List, [], ◌∷◌, ◌++◌, ◌⊎◌, eqb, length, get_or, Option, Some}
 use Rattle.octets.specs.Base.{pick, number_of}
 use Rattle.octets.specs.NumberLaws.{Octets}
 use Rattle.frame_build.specs.Build.{frame_of}
@@ -121,15 +121,15 @@ begin b = record { area = b; offers = λ i. 0; frame = λ i. []; starts = λ i. 
 abbrev pub moment_at : List Moment → ℕ → Moment
 moment_at T u = get_or T u (begin [])
 
-abbrev pub sent_at : List Moment → (u i : ℕ) → TransmitEvent
+abbrev pub sent_at : List Moment → (u i : ℕ) → Option TransmitEvent
 sent_at T u i = (event_at (events_at (moment_at T u).area) i).sent
 
-abbrev pub got_at : List Moment → (u j : ℕ) → ReceiveEvent
+abbrev pub got_at : List Moment → (u j : ℕ) → Option ReceiveEvent
 got_at T u j = (event_at (events_at (moment_at T u).area) j).got
 
 -- an event that ends a frame, with the attempts that it carries
-abbrev pub Ends : TransmitEvent → ℕ → Type 0
-Ends v n = (v ≡ Sent n) ⊎ ((v ≡ GivenUp n) ⊎ (v ≡ LateEnded n))
+abbrev pub Ends : Option TransmitEvent → ℕ → Type 0
+Ends v n = (v ≡ Some (Sent n)) ⊎ ((v ≡ Some (GivenUp n)) ⊎ (v ≡ Some (LateEnded n)))
 
 -- what station j hears in it
 abbrev pub hears_at : List Moment → (u j : ℕ) → Heard

@@ -1,6 +1,6 @@
 -- Demand 3, word by word (document 01). The theorem that it holds is in proofs/Theorem; nothing here is proved, and
 -- nothing else need be read to judge it but Calls and the definitions that the calls' promises cite. Assumes nothing.
-use Rattle.std.specs.Prelude.{ℕ, suc, ◌+◌, ◌≤◌, ◌<◌, ◌≡◌, Bool, true, List, [], ◌∷◌, ltb, length, get_or, replicate}
+use Rattle.std.specs.Prelude.{ℕ, suc, ◌+◌, ◌≤◌, ◌<◌, ◌≡◌, Bool, true, List, [], ◌∷◌, ltb, length, get_or, replicate, None, Some}
 use Rattle.std.proofs.lemmas.List.Edits.{sets}
 use Rattle.octets.specs.Base.{pick, refused, accepted, Outcome, outcome}
 use Rattle.octets.specs.Bits.{digit}
@@ -15,7 +15,6 @@ use Rattle.area_check.specs.Valid.{area_refusal}
 use Rattle.bus_spec.specs.BitTime.{act_at, events_at}
 use Rattle.bus_offer.specs.Offer.{holds, offered}
 use Rattle.bus_step.specs.Step.{stepped_once}
-use Rattle.bus_spec.specs.declared.course.Ended.TheVariants.{All}
 use Rattle.bus_spec.specs.Run.{tallied, ran}
 use Rattle.bus_read.specs.Read.{frame_read}
 use Rattle.delivery.specs.Calls.{Call, offer, step, run, read, Moment, made, leaves, log, end, begin, moment_at}
@@ -46,7 +45,7 @@ pub record Sender (y : Layout) (T : List Moment) (u j : ℕ) : Type 0 where
   pub station : from < y.count
   pub other : from ≡ j → ⊥
   pub delay : u ≡ suc (at + apart y from j)
-  pub sent : sent_at T at from ≡ Sent attempts
+  pub sent : sent_at T at from ≡ Some (Sent attempts)
   -- "A frame of station i is addressed to every j≠i whose address, or broadcast, is its destination."
   pub for : addressed (address_at y j) ((moment_at T at).frame from) ≡ true
 
@@ -69,7 +68,7 @@ pub record ReadFrom (y : Layout) (T : List Moment) (m : Moment) (j : ℕ) (out :
   pub at : ℕ
   pub step : at < length T
   pub size : ℕ
-  pub got : got_at T at j ≡ GotOk size
+  pub got : got_at T at j ≡ Some (GotOk size)
   pub quiet : QuietSince T at j
   pub sender : Sender y T at j
   pub gives : frame_read m.area j out ≡ outcome (accepted (length (frame_sent T sender) ∷ []))
@@ -88,12 +87,12 @@ pub record Demand3 (y : Layout) (T : List Moment) (m : Moment) : Type 0 where
   -- "A run stands for the steps it makes, and its answer counts their events." None ends early.
   pub runs : (n : ℕ) → ((ran m.area n).steps ≡ length (made (run n) m))
       × ((ran m.area n).words ≡ counted (made (run n) m) (replicate word_count 0))
-  pub ends : (n : ℕ) → ((ran m.area n).ended ≡ All)
+  pub ends : (n : ℕ) → ((ran m.area n).ended ≡ None)
       × ((ran m.area n).answer ≡ accepted [] → (ran m.area n).steps ≡ n)
   -- "no late collision"
-  pub never_late : (u i k : ℕ) (closes : Bool) → u < length T → i < y.count → sent_at T u i ≡ Late k closes → ⊥
+  pub never_late : (u i k : ℕ) (closes : Bool) → u < length T → i < y.count → sent_at T u i ≡ Some (Late k closes) → ⊥
   -- N1: so no frame ends after one
-  pub never_ended : (u i n : ℕ) → u < length T → i < y.count → sent_at T u i ≡ LateEnded n → ⊥
+  pub never_ended : (u i n : ℕ) → u < length T → i < y.count → sent_at T u i ≡ Some (LateEnded n) → ⊥
   -- "no frame attempted more often than the limit": at every moment, and where it ends. "A frame's attempts are the
   -- steps in which it starts; the event that ends it carries their number."
   pub tries : (i : ℕ) → i < y.count → m.starts i ≤ y.figures.limit
@@ -106,17 +105,17 @@ pub record Demand3 (y : Layout) (T : List Moment) (m : Moment) : Type 0 where
   pub apiece : (u v i n k : ℕ) → u < v → v < length T → i < y.count → Ends (sent_at T u i) n → Ends (sent_at T v i) k
       → (moment_at T u).offers i < (moment_at T v).offers i
   -- "j reports receiveOK in u exactly when some i reported sent, in step u − 1 − |p(i)−p(j)|, a frame addressed to j."
-  pub received : (u j k : ℕ) → u < length T → j < y.count → got_at T u j ≡ GotOk k → Sender y T u j
-  pub delivered : (u j : ℕ) → u < length T → j < y.count → Sender y T u j → (k : ℕ) × (got_at T u j ≡ GotOk k)
+  pub received : (u j k : ℕ) → u < length T → j < y.count → got_at T u j ≡ Some (GotOk k) → Sender y T u j
+  pub delivered : (u j : ℕ) → u < length T → j < y.count → Sender y T u j → (k : ℕ) × (got_at T u j ≡ Some (GotOk k))
   -- "There is then one such i"
   pub one : (u j : ℕ) → u < length T → j < y.count → (s r : Sender y T u j) → s.from ≡ r.from
   -- "no other step reports it there": of one offer, at one station, at most one step reports receiveOK
-  pub once : (u v j k l : ℕ) → u < length T → v < length T → j < y.count → got_at T u j ≡ GotOk k
-      → got_at T v j ≡ GotOk l
+  pub once : (u v j k l : ℕ) → u < length T → v < length T → j < y.count → got_at T u j ≡ Some (GotOk k)
+      → got_at T v j ≡ Some (GotOk l)
       → (s : Sender y T u j) (r : Sender y T v j) → s.from ≡ r.from → offer_sent T s ≡ offer_sent T r → u ≡ v
   -- "a reading at j after u and before j next hears another gives that frame octet for octet, or is refused under 15
   -- alone"
-  pub reading : (u j k : ℕ) → u < length T → j < y.count → got_at T u j ≡ GotOk k → QuietSince T u j
+  pub reading : (u j k : ℕ) → u < length T → j < y.count → got_at T u j ≡ Some (GotOk k) → QuietSince T u j
       → (s : Sender y T u j) (out : List ℕ) → frame_read m.area j out ≡ read_as (frame_sent T s) out
   -- "what is read is, octet for octet, what was built": every reading that is accepted
   pub readings : (j : ℕ) (out vs : List ℕ) → (frame_read m.area j out).answer ≡ accepted vs → ReadFrom y T m j out

@@ -1,7 +1,7 @@
 -- Lost frames. A frame reported sent is due at each addressee one bit time and the distance after that step; it is lost
 -- where the step was made and the addressee did not report it intact. That on a sheet that fits none is lost is in
 -- proofs/Lost. Assumes nothing.
-use Rattle.std.specs.Prelude.{ℕ, suc, ◌+◌, ◌<◌, ◌≡◌, true, List, length}
+use Rattle.std.specs.Prelude.{ℕ, suc, ◌+◌, ◌<◌, ◌≡◌, true, List, length, Some}
 use Rattle.sheet_layout.specs.declared.Layout.{Layout}
 use Rattle.sheet_layout.specs.Layout.{address_at}
 use Rattle.station_spec.specs.declared.TransmitEvent.TheVariants.{Sent}
@@ -21,11 +21,11 @@ pub record Due (y : Layout) (T : List Moment) (t i j : ℕ) : Type 0 where
   pub sender : i < y.count
   pub addressee : j < y.count
   pub other : i ≡ j → ⊥
-  pub sent : sent_at T t i ≡ Sent attempts
+  pub sent : sent_at T t i ≡ Some (Sent attempts)
   pub for : addressed (address_at y j) ((moment_at T t).frame i) ≡ true
   pub made : due_at y t i j < length T
 
 -- and j did not report it intact
 pub record Lost (y : Layout) (T : List Moment) (t i j : ℕ) : Type 0 where
   pub due : Due y T t i j
-  pub missed : (k : ℕ) → got_at T (due_at y t i j) j ≡ GotOk k → ⊥
+  pub missed : (k : ℕ) → got_at T (due_at y t i j) j ≡ Some (GotOk k) → ⊥

@@ -1,7 +1,7 @@
 -- "Each call gets the area as the call before left it, and nobody else writes there; so none of them is refused under 1
 -- or 2." A fresh start leaves an area that passes checks 1 and 2; an offer and a step leave one of one. Assumes
 -- nothing.
-use Rattle.std.specs.Prelude.{ℕ, ◌+◌, ◌*◌, ◌≤◌, ◌<◌, ◌≡◌, refl, false, ltb, leb, eqb, length, drop}
+use Rattle.std.specs.Prelude.{ℕ, ◌+◌, ◌≤◌, ◌<◌, ◌≡◌, refl, false, ltb, leb, eqb, length, drop}
 use Rattle.std.proofs.Common.{sym, ◌∙◌, arith, eq-eqb, eqb-true, ltb-false, leb-false}
 use Rattle.std.proofs.Math.Path.{ap, ap₂, subst}
 use mathlib.Core.List.{List, []}
@@ -46,7 +46,8 @@ use Rattle.frame_open.specs.RoundTrip.{stored_within}
 use Rattle.station_spec.specs.Transmit.{octets_held}
 use Rattle.station_spec.specs.Count.{octets_in}
 use Rattle.bus_spec.specs.Passes.{Passing, tap_in_lem, layout_figures, layout_spread, record_right, ready_passes}
-use Rattle.bus_spec.proofs.Stays.{layout_by, spread_by, step_passing}
+use Rattle.area.specs.Front.{layout_by}
+use Rattle.bus_spec.proofs.Stays.{spread_by, step_passing}
 use Rattle.bus_offer.specs.Offer.{holds, offered_station, with_held, with_offered, with_offer, offered}
 use Rattle.bus_offer.specs.OfferLaws.{address_six}
 use Rattle.bus_start.specs.Start.{started}

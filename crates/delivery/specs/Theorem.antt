@@ -1,7 +1,7 @@
 -- What holds over every list of calls on any layout, fitting or not, and what is known of the area that a fresh start
 -- leaves. The theorems are in proofs/Theorem. Assumes nothing.
 use Prim.Native.Nat.{ℕ, suc, ◌+◌, ◌<◌}
-use Rattle.std.specs.Prelude.{◌≡◌}
+use Rattle.std.specs.Prelude.{◌≡◌, Some}
 use mathlib.Core.List.{List}
 use Rattle.std.proofs.Math.ListN.{length}
 use Rattle.octets.specs.NumberLaws.{Octets}
@@ -25,9 +25,9 @@ use Rattle.delivery.specs.Demand3.{apart}
 pub record Always (y : Layout) (b : List ℕ) (cs : List Call) : Type 0 where
   pub passes : area_refusal (end cs (begin b)).area ≡ 0
   pub balance : AllBalanced (end cs (begin b)).area
-  pub sent : (u j k : ℕ) → u < length (log cs (begin b)) → j < y.count → got_at (log cs (begin b)) u j ≡ GotOk k
+  pub sent : (u j k : ℕ) → u < length (log cs (begin b)) → j < y.count → got_at (log cs (begin b)) u j ≡ Some (GotOk k)
       → (i : ℕ) × (e : ℕ) × (n : ℕ) × (i < y.count)
-      × ((i ≡ j → ⊥) × (u ≡ suc (e + apart y i j)) × (sent_at (log cs (begin b)) e i ≡ Sent n))
+      × ((i ≡ j → ⊥) × (u ≡ suc (e + apart y i j)) × (sent_at (log cs (begin b)) e i ≡ Some (Sent n)))
 
 -- What is known of the area b that a fresh start on the layout y leaves.
 pub record Fresh (y : Layout) (b : List ℕ) : Type 0 where

@@ -1,6 +1,6 @@
 -- A list of calls made the steps of an execution: each area is the encoding of its world. Assumes nothing.
 use Prim.Native.Nat.{ℕ, zero, suc, ◌+◌, ◌-◌, ◌≤◌, ◌<◌}
-use Rattle.std.specs.Prelude.{◌≡◌, Bool, true, false, ◌⊎◌, ltb, leb, eqb, length}
+use Rattle.std.specs.Prelude.{◌≡◌, Bool, true, false, ◌⊎◌, ltb, leb, eqb, length, Option}
 use Rattle.std.proofs.Math.Path.{refl, ap, ap₂, subst}
 use Rattle.std.proofs.Common.{sym, ◌∙◌, inl, inr, add-one, arith, eq-eqb, ne_eqb, eqb-true, ltb-false, leb-false, length-append}
 use mathlib.Core.List.{List, [], ◌∷◌, ◌++◌, append_assoc, append-nil}
@@ -170,7 +170,7 @@ over_now : (P : Net) (m : Moment) (w : World) → Row P m w → (i n : ℕ) → 
     → Over (m.offers i) (next m) (world.step P w) i
 unfolding next world.step
 over_now P m w r i n hi e =
-    inr (refl, ended_free P w i n (subst (λ (v : TransmitEvent). Ends v n) (sent_in_lem P m w r i hi) e))
+    inr (refl, ended_free P w i n (subst (λ (v : Option TransmitEvent). Ends v n) (sent_in_lem P m w r i hi) e))
 
 over_step : (P : Net) (m : Moment) (w : World) (c i : ℕ) → Over c m w i → Over c (next m) (world.step P w) i
 unfolding next world.step

@@ -7,12 +7,12 @@ pub mod until;
 ghost use Rattle.std.specs.Prelude.{◌≡◌, ◌<◌, ◌≤◌, length, replicate};
 ghost use Rattle.bus_spec.specs.BitTime.{no_events};
 ghost use Rattle.bus_spec.specs.RunLaws.{Runnable};
-ghost use Rattle.fast_advance.specs.Advance.{Leapt, Advanced};
+ghost use Rattle.bus_run.specs.Advance.{Advanced};
+ghost use Rattle.fast_advance.specs.Advance.{Leapt};
 ghost use Rattle.area.specs.Offsets.{area_size};
 
 use bus_spec::Events;
 use bus_spec::course::Stretch;
-use station_spec::{ReceiveEvent, TransmitEvent};
 
 // Fewer steps than these are made singly.
 const LEAST: u32 = 4;
@@ -23,8 +23,8 @@ pub fn eventless(steps: u32) -> Stretch
     ensures events { result.events ≡ replicate 16 no_events }
 {
     let none = Events {
-        sent: TransmitEvent::NoTransmit,
-        got: ReceiveEvent::NoReceive,
+        sent: None,
+        got: None,
     };
     Stretch {
         steps,
@@ -33,17 +33,16 @@ pub fn eventless(steps: u32) -> Stretch
 }
 
 // Steps of silence at once, or of a window, at most so many as are left; none where neither can be.
-fn leap(area: &mut [u8], left: u32) -> u32
+fn leap(area: &mut [u8], left: u32) -> Option<u32>
     requires { Runnable left area.old × (area_size ≤ length area.old) × (0 < left) }
-    ensures made { Leapt left result area.old area.new }
-    ensures bound { result ≤ left }
+    ensures { Leapt left result area.old area.new }
 {
     if left < LEAST {
-        return 0;
+        return None;
     }
     let steps = fast_jump::skip(area, left);
     if steps != 0 {
-        return steps;
+        return Some(steps);
     }
     fast_window::pass(area, left)
 }
@@ -54,10 +53,11 @@ pub fn advance(area: &mut [u8], left: u32) -> Stretch
     ensures made { Advanced result.steps result.events area.old area.new }
     ensures bound { (0 < result.steps) × (result.steps ≤ left) }
 {
-    let steps = leap(area, left);
-    if steps != 0 {
+    if let Some(steps) = leap(area, left) {
         return eventless(steps);
     }
-    let events = bus_turn::step::step(area);
-    Stretch { steps: 1, events }
+    Stretch {
+        steps: 1,
+        events: bus_turn::step::step(area),
+    }
 }

@@ -8,30 +8,18 @@ ghost use Rattle.area.specs.Offsets.{area_size};
 use bus_spec::Events;
 use bus_spec::course::Stretch;
 
+#[tactic(auto, unfolding(bus_spec::specs::Until::has_event))]
 fn has_event(e: Events) -> bool
     ensures { result ≡ has_event e }
 {
-    let sent = e.sent;
-    let got = e.got;
-    octets::either(
-        station_tally::is_transmit(sent),
-        station_tally::is_receive(got),
-    )
+    e.sent.is_some() | e.got.is_some()
 }
 
 // Whether some station has an event.
 fn is_eventful(events: [Events; 16]) -> bool
     ensures { result ≡ eventful events }
 {
-    let mut i: usize = 0;
-    while i < sheet_layout::MAX_STATIONS {
-        let e = events[i];
-        if has_event(e) {
-            return true;
-        }
-        i += 1;
-    }
-    false
+    events.iter().any(|e| has_event(*e))
 }
 
 // At most n steps, until one has an event.
@@ -40,6 +28,7 @@ pub fn until_event(area: &mut [u8], n: u32) -> Stretch
     ensures { stretch_of result area.new ≡ until_event n area.old }
 {
     let mut t: u32 = 0;
+    // No range: `advance` says how many steps were made.
     while t < n {
         let s = crate::advance(area, n - t);
         let events = s.events;

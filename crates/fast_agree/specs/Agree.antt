@@ -17,7 +17,8 @@ use Rattle.bus_spec.specs.Run.{run_of}
 use Rattle.fast_plan.specs.Plan.{Plan, line_now, Holds}
 use Rattle.fast_plan.specs.Prefix.{Unhurt}
 use Rattle.fast_plan.specs.Turned.{turned_of}
-use Rattle.fast_list.specs.Stretches.{Stretch, end_of, symbol_in, over, plan_in, sounds_any}
+use Rattle.fast_list.specs.declared.Stretch.{Stretch}
+use Rattle.fast_list.specs.Stretches.{end_of, symbol_in, over, plan_in, sounds_any}
 use Rattle.fast_list.specs.Sounding.{Within, hears_any_lem}
 use Rattle.fast_list.specs.Grown.{holds_more}
 use Rattle.fast_list.specs.Course.{words_all, run_by_plan}

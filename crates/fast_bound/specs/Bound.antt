@@ -1,15 +1,11 @@
 -- How long a window may be: of a run of steps of one kind those in which a station starts nothing and reports nothing,
 -- or goes on emitting. Assumes nothing.
-use Rattle.std.specs.Prelude.{ℕ, ◌+◌, ◌≤◌, ◌<◌, min, ◌≡◌, Bool, true, false, not, ◌||◌, ◌&&◌, List, ltb}
+use Rattle.std.specs.Prelude.{ℕ, ◌+◌, ◌≤◌, ◌<◌, min, ◌≡◌, Bool, true, false, ◌||◌, List, ltb, length, get_or}
 use Rattle.octets.specs.Base.{pick}
 use Rattle.sheet_layout.specs.declared.Figures.{Figures}
 use Rattle.station_symbols.specs.Packet.{hears_any}
 use Rattle.station_state.specs.declared.Deference.{Deference}
-use Rattle.station_state.specs.declared.Deference.TheVariants.{Quiet, Busy, Gap}
 use Rattle.station_state.specs.declared.Transmitter.{Transmitter}
-use Rattle.station_state.specs.declared.Transmitter.TheVariants.{NoFrame, Waiting, BackingOff, Sending, Heading}
-use Rattle.station_state.specs.declared.Transmitter.TheVariants.{Jamming}
-use Rattle.station_state.specs.declared.Receiver.{Receiver}
 use Rattle.station_state.specs.declared.Station.{Station}
 use Rattle.station_spec.specs.Receive.{bits_in}
 use Rattle.area.specs.Area.{clock_at, depth_at, figures_at, count_at, station_at}
@@ -18,11 +14,13 @@ use Rattle.fast_plan.specs.Plan.{hears}
 use Rattle.fast_plan.specs.Calm.{Calm}
 use Rattle.fast_silence.specs.Rested.{rested_deference, rested_transmitter}
 use Rattle.fast_silence.specs.Bound.{frames_rest, idle}
-use Rattle.fast_station.specs.Forms.{heard_deference, heard_rest, emits_for}
+use Rattle.fast_station.specs.Forms.{heard_deference, heard_rest, emits_for, keeps_emitting}
 use Rattle.fast_heard.specs.declared.Near.{Near}
 use Rattle.fast_heard.specs.declared.Kind.{Kind}
 use Rattle.fast_heard.specs.declared.Kind.TheVariants.{Silent, Line, From, Mixed}
+use Rattle.fast_heard.specs.declared.Sight.{Sight}
 use Rattle.fast_heard.specs.Hearing.{plan_of, emits_at, nearest_of, near_bit}
+use Rattle.fast_heard.specs.Sights.{sight_of}
 use Rattle.fast_bound.specs.declared.Ahead.{Ahead}
 use Rattle.fast_bound.specs.Foresee.{Foreseen}
 use Rattle.frame_build.specs.Limits.{shortest_frame}
@@ -84,44 +82,15 @@ ahead_of s b =
 
 -- ---- a station that emits
 
--- busy, in a stretch in which it emitted
-unfoldable pub own_busy : Deference → Bool
-own_busy Quiet = false
-own_busy (Busy own) = own
-own_busy (Gap n own) = false
-
-unfoldable pub sends : Transmitter → Bool
-sends NoFrame = false
-sends Waiting = false
-sends (BackingOff w) = false
-sends (Sending k) = true
-sends (Heading k) = false
-sends (Jamming n ends) = false
-
--- nothing heard ends no reception of it, where q; others heard make no collision
-unfoldable pub unhurt : (q : Bool) → Receiver → Transmitter → Bool
-unhurt q r x = pick q (idle r) (not (sends x))
-
--- it emits as in the step before, and goes on
-unfoldable pub emits_with : (q : Bool) → Station → Bool
-emits_with q s = s.emitted && (own_busy s.deference && unhurt q s.receiver s.transmitter)
-
--- the steps through which it does while it hears nothing, where q, or others
-unfoldable pub emit_steps : (q : Bool) → Station → ℕ
-emit_steps q s = pick (emits_with q s) (emits_for s.frame s.transmitter) 0
-
--- in steps of a kind nothing is heard, where q, or others are
-unfoldable pub is_like : Kind → (q : Bool) → Bool
-is_like Silent q = q
-is_like Line q = not q
-is_like From q = not q
-is_like Mixed q = not q
+-- the steps through which it goes on emitting while it hears others, where h, or nothing
+unfoldable pub emit_steps : (h : Bool) → Station → ℕ
+emit_steps h s = pick (keeps_emitting h s) (emits_for s.frame s.transmitter) 0
 
 -- ---- on the area
 
--- in each of m steps it hears nothing, where q, or others
-unfoldable pub Alike : List ℕ → (j : ℕ) → (q : Bool) → (m : ℕ) → Type 0
-Alike a j q m = (v : ℕ) → v < m → hears_any (hears a (plan_of a) j v) ≡ not q
+-- in each of m steps it hears others, where h, or nothing
+unfoldable pub Alike : List ℕ → (j : ℕ) → (h : Bool) → (m : ℕ) → Type 0
+Alike a j h m = (v : ℕ) → v < m → hears_any (hears a (plan_of a) j v) ≡ h
 
 -- for k steps station j emits what the plan says, and has no event; if it emits, it does through all of them
 pub record GoesOn (a : List ℕ) (j k : ℕ) : Type 0 where
@@ -164,6 +133,10 @@ ReadFrom a f n t = Read a f n t
 
 unfoldable pub NearTo : List ℕ → Figures → (j t : ℕ) → Near → (k : ℕ) → Type 0
 NearTo a f j t w k = Seen a f j t w k
+
+-- what each of the stations hears of
+unfoldable pub Sighted : List ℕ → List Sight → Type 0
+Sighted a ws = (j : ℕ) (d : Sight) → j < length ws → get_or ws j d ≡ sight_of a (length ws) j
 
 -- a silent station after s of m steps, as it was foreseen
 unfoldable pub Underway : List ℕ → (j m s : ℕ) → Ahead → Type 0

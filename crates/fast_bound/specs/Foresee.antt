@@ -1,7 +1,7 @@
 -- What is foreseen of a station in a window: that it goes on emitting, or starts nothing, and reports nothing, as long
 -- as its deference, its wait and its reception allow. Assumes nothing.
 use Prim.Native.Nat.{ℕ, zero, suc, ◌+◌, ◌-◌, ◌^◌, ◌≤◌, ◌<◌}
-use Rattle.std.specs.Prelude.{◌≡◌, Bool, ◌||◌, ltb}
+use Rattle.std.specs.Prelude.{◌≡◌, Bool, ◌||◌, ltb, Option, None}
 use Rattle.std.proofs.Math.Path.{refl, ap, subst}
 use Rattle.std.proofs.Common.{sym, ◌∙◌, true≢false, ltb-true, ne_eqb}
 use Rattle.std.proofs.Math.Bool.{true, false}
@@ -24,8 +24,6 @@ use Rattle.station_state.specs.declared.Receiver.TheVariants.{Listening, Readabl
 use Rattle.station_state.specs.declared.Station.{Station}
 use Rattle.station_spec.specs.Transmit.{octets_held}
 use Rattle.station_spec.specs.declared.Stored.{Stored}
-use Rattle.station_spec.specs.declared.Stored.TheVariants.{NoStore}
-use Rattle.station_spec.specs.declared.ReceiveEvent.TheVariants.{NoReceive}
 use Rattle.station_spec.specs.Receive.{bits_in, row_in, hearing, deciding, receive, ended, row_limit}
 use Rattle.area_record.specs.Codec.{receiver_number}
 use Rattle.area.specs.Area.{clock_at, depth_at, figures_at, count_at, station_at, frame_at, buffer_at, with_station}
@@ -45,7 +43,7 @@ use Rattle.fast_receive.specs.ReceivedLaws.{received_none, received_step, kept_b
 use Rattle.fast_receive.specs.EndLaws.{may_few, silent_ends, silent_still}
 use Rattle.fast_segment.specs.Alone.{Moves, itself_moves}
 use Rattle.fast_segment.specs.Segments.{Segment, heard_segment, emit_segment, rest_segment}
-use Rattle.fast_heard.specs.Hearing.{plan_of, emits, emits_at, held_at, goes_on}
+use Rattle.fast_heard.specs.Hearing.{plan_of, emits_at, held_at, goes_on}
 use Rattle.fast_heard.specs.NearLaws.{silent_off}
 use Rattle.sheet_layout.specs.Limits.{last_clock}
 use Rattle.area.specs.Offsets.{area_size}
@@ -172,7 +170,7 @@ module _ (a : List ℕ) (r : Readiness a) (j : ℕ) (hj : j < count_at a) where
     silence : (k : ℕ) → Silence ≡ plan_of a j (s + k)
     silence k = sym (silent_off a j (s + k) off)
 
-    calm_on : (q : Station) (st : ℕ → Stored) → Calm (figures_at a) (depth_at a) j (hears a (plan_of a) j) (plan_of a j) s a
+    calm_on : (q : Station) (st : ℕ → Option Stored) → Calm (figures_at a) (depth_at a) j (hears a (plan_of a) j) (plan_of a j) s a
         → Segment (figures_at a) (depth_at a) j H (λ k. Silence) m (after s) st q
         → Calm (figures_at a) (depth_at a) j (hears a (plan_of a) j) (plan_of a j) (s + m) a
     unfolding H
@@ -180,7 +178,7 @@ module _ (a : List ℕ) (r : Readiness a) (j : ℕ) (hj : j < count_at a) where
         calm_then (figures_at a) (depth_at a) j (hears a (plan_of a) j) (plan_of a j) a s m c
         (record { emits = λ k h. g.calm.emits k h ∙ silence k; quiet = g.calm.quiet })
 
-    then_is : (q : Station) (st : ℕ → Stored) → Segment (figures_at a) (depth_at a) j H (λ k. Silence) m (after s) st q
+    then_is : (q : Station) (st : ℕ → Option Stored) → Segment (figures_at a) (depth_at a) j H (λ k. Silence) m (after s) st q
         → station_at (after (s + m)) j ≡ q
     unfolding H
     then_is q st g = ap (λ (x : List ℕ). station_at x j) (split s m) ∙ g.there
@@ -215,7 +213,7 @@ module _ (a : List ℕ) (r : Readiness a) (j : ℕ) (hj : j < count_at a) where
       foreseen_heard n all lasts within =
           let u = station_at (after s) j in
           let rs : ℕ → Receiver = λ k. received_by false H k u.receiver in
-          let st : ℕ → Stored = kept_by false H u.receiver in
+          let st : ℕ → Option Stored = kept_by false H u.receiver in
           let g : Segment (figures_at a) (depth_at a) j H (λ k. Silence) m (after s) st
           (hear_on (figures_at a) m (rs m) u) =
           heard_segment (figures_at a) (depth_at a) j (clock_at a + s) (after s) (moves s (omega arith)) m pos
@@ -257,7 +255,7 @@ module _ (a : List ℕ) (r : Readiness a) (j : ℕ) (hj : j < count_at a) where
       -- the reception ends and reports nothing: it may not, or what was collected is too little
       ends_silent : (b || ltb q shortest_frame) ≡ true
           → ended (station_at (after s) j).address (buffer_at (after s) j) (station_at (after s) j).receiver ≡ deciding
-          (calmed 1 (station_at (after s) j).receiver) NoReceive
+          (calmed 1 (station_at (after s) j).receiver) None
       ends_silent h =
           let u = station_at (after s) j in
           by_test b
@@ -273,7 +271,7 @@ module _ (a : List ℕ) (r : Readiness a) (j : ℕ) (hj : j < count_at a) where
       unfolding H
       foreseen_rest none lasts few =
           let u = station_at (after s) j in
-          let g : Segment (figures_at a) (depth_at a) j H (λ k. Silence) m (after s) (λ k. NoStore)
+          let g : Segment (figures_at a) (depth_at a) j H (λ k. Silence) m (after s) (λ k. None)
           (rest_on (figures_at a) m u) =
           rest_segment (figures_at a) (depth_at a) j (clock_at a + s) (after s) (moves s (omega arith)) m pos
           (omega arith) H none v.silent
@@ -281,9 +279,9 @@ module _ (a : List ℕ) (r : Readiness a) (j : ℕ) (hj : j < count_at a) where
           (subst (λ (y : Transmitter). Lasts (figures_at a) m d y) (sym v.transmitter) lasts))
           (ends_silent few) in
           let e : station_at (after (s + m)) j ≡ rest_on (figures_at a) m u = then_is (rest_on (figures_at a) m u)
-          (λ k. NoStore) g in
+          (λ k. None) g in
           record {
-            calm = calm_on (rest_on (figures_at a) m u) (λ k. NoStore) v.calm g;
+            calm = calm_on (rest_on (figures_at a) m u) (λ k. None) v.calm g;
             deference = ap (λ (y : Station). y.deference) e ∙ rest_deference (figures_at a) m u.receiver u
                 ∙ ap (rested_deference (figures_at a) m) v.deference;
             transmitter = ap (λ (y : Station). y.transmitter) e ∙ rest_transmitter (figures_at a) m u.receiver u
@@ -298,7 +296,7 @@ module _ (a : List ℕ) (r : Readiness a) (j : ℕ) (hj : j < count_at a) where
   -- ---- a station that emits
 
   idle_hears : (address buf : List ℕ) (x : Receiver) (e : Bool) → Idle x
-      → receive address buf x Nothing e ≡ hearing x NoStore
+      → receive address buf x Nothing e ≡ hearing x None
   unfolding receive ended
   idle_hears address buf Listening e h = refl
   idle_hears address buf (Readable n) e h = refl
@@ -336,7 +334,7 @@ module _ (a : List ℕ) (r : Readiness a) (j : ℕ) (hj : j < count_at a) where
         ∙ plan_emitted (frame_at a j (octets_held (station_at a j).transmitter (station_at a j).frame))
         (station_at a j).transmitter k
 
-    calm_by : (st : ℕ → Stored) (q : Station)
+    calm_by : (st : ℕ → Option Stored) (q : Station)
         → Segment (figures_at a) (depth_at a) j (hears a (plan_of a) j)
         (λ k. symbol_of (frame_at a j (station_at a j).frame) (emitted_at k (station_at a j).transmitter)) m a st q
         → Calm (figures_at a) (depth_at a) j (hears a (plan_of a) j) (plan_of a j) m a
@@ -347,9 +345,9 @@ module _ (a : List ℕ) (r : Readiness a) (j : ℕ) (hj : j < count_at a) where
         → Calm (figures_at a) (depth_at a) j (hears a (plan_of a) j) (plan_of a j) m a
     emits_unheard none idle =
         let u = station_at a j in
-        calm_by (λ k. NoStore) (emit_on (figures_at a) m u.receiver u)
+        calm_by (λ k. None) (emit_on (figures_at a) m u.receiver u)
         (emit_segment (figures_at a) (depth_at a) j (clock_at a) a starts_moving m pos (omega arith)
-        (hears a (plan_of a) j) true (λ k. u.receiver) (λ k. NoStore) refl (λ k. tt)
+        (hears a (plan_of a) j) true (λ k. u.receiver) (λ k. None) refl (λ k. tt)
         (λ k h. (fine_fit (figures_at a) r.figures (depth_at a) (clock_at a) u r.depth.1 (omega arith)
         (r.fine j hj)).received)
         (λ k buf h. ap (λ (y : Heard). receive u.address buf u.receiver y true) (none k h) ∙ idle_hears

@@ -1,4 +1,3 @@
 pub mod Foresee
 pub mod Bound
-pub mod BoundLaws
 pub mod WindowLaws

@@ -1,12 +1,13 @@
 -- How long a window may be, on the area: what is foreseen run by run of what a station hears, and of all stations.
 -- Assumes nothing.
-use Rattle.std.specs.Prelude.{ℕ, ◌+◌, ◌-◌, ◌≤◌, ◌<◌, min, ◌≡◌, Bool, ◌||◌, ◌&&◌, ltb, get_or}
+use Rattle.std.specs.Prelude.{ℕ, ◌+◌, ◌-◌, ◌≤◌, ◌<◌, min, ◌≡◌, Bool, ◌||◌, ◌&&◌, ltb, leb, get_or, length}
 use Rattle.std.proofs.Math.Path.{refl, sym, ap, subst}
 use Rattle.std.proofs.Common.{◌∙◌, true≢false}
 use Rattle.std.proofs.Math.Bool.{true, false, not}
+use mathlib.Core.Bool.{beq}
 use mathlib.Core.List.{List}
 use native.Mathlib.Omega.{arith}
-use borrow.Author.Tests.{ltb-true, ltb-false, not-true, not-false}
+use borrow.Author.Tests.{ltb-true, ltb-false, leb-true, leb-false, not-true, not-false}
 use Rattle.octets.specs.BaseLaws.{by_test, by_eq}
 use Rattle.sheet_layout.specs.declared.Figures.{Figures}
 use Rattle.station_symbols.specs.declared.Heard.{Heard}
@@ -28,7 +29,8 @@ use Rattle.fast_plan.specs.Plan.{hears}
 use Rattle.fast_plan.specs.Calm.{AllCalm, calm_none, calm_less}
 use Rattle.fast_silence.specs.Bound.{frames_rest, is_idle}
 use Rattle.fast_silence.proofs.Bound.{frames_last}
-use Rattle.fast_station.specs.Forms.{heard_rest, emits_for}
+use Rattle.fast_station.specs.Forms.{heard_rest, emits_for, own_busy, unhurt, keeps_emitting}
+use Rattle.fast_station.specs.FormLaws.{busy_own, not_sending}
 use Rattle.fast_receive.specs.Received.{may_report}
 use Rattle.fast_segment.specs.Alone.{address_in}
 use Rattle.fast_line.specs.LineLaws.{by_clean, heard_spoiled}
@@ -36,21 +38,34 @@ use Rattle.fast_heard.specs.declared.Near.{Near}
 use Rattle.fast_heard.specs.declared.Kind.{Kind}
 use Rattle.fast_heard.specs.declared.Kind.TheVariants.{Silent, Line, From, Mixed}
 use Rattle.fast_heard.specs.declared.Segment.{Segment}
-use Rattle.fast_heard.specs.Hearing.{plan_of, held_at, emits, emits_at, nearest_of, near_bit, Says, Segmented}
-use Rattle.fast_heard.specs.NearLaws.{silent_by_code, emits_by_code}
+use Rattle.fast_heard.specs.Hearing.{is_heard, plan_of, held_at, emits, emits_at, nearest_of, near_bit, Says, Segmented}
 use Rattle.fast_heard.specs.declared.Sight.{Sight}
-use Rattle.fast_heard.specs.Sights.{sight_by, sight_of, blank_sight, sights_of}
-use Rattle.fast_heard.specs.SightLaws.{sight_at}
+use Rattle.fast_heard.specs.NearLaws.{silent_by_code, emits_by_code}
+use Rattle.fast_heard.specs.Sights.{sight_by, sight_of}
 use Rattle.fast_heard.specs.HearingLaws.{segment_hears}
 use Rattle.fast_bound.specs.declared.Ahead.{Ahead}
 use Rattle.fast_bound.specs.Foresee.{Foreseen, bits_clock, foreseen_start, foreseen_heard, foreseen_rest}
 use Rattle.fast_bound.specs.Foresee.{emits_unheard, emits_heard}
 use Rattle.fast_bound.specs.Bound.{rest_steps, hear_steps, rested_to, heard_to, rest_ahead, hear_ahead, ahead, ahead_of}
-use Rattle.fast_bound.specs.Bound.{own_busy, sends, unhurt, emits_with, emit_steps, is_like, Alike, CalmFor, CalmIf}
+use Rattle.fast_bound.specs.Bound.{emit_steps, Alike, CalmFor, CalmIf, Sighted}
 use Rattle.fast_bound.specs.Bound.{CalmAmong, AllLast, ReadFrom, NearTo, Underway}
 use Rattle.sheet_layout.specs.Limits.{last_clock}
 use Rattle.frame_build.specs.Limits.{buffer_octets, shortest_frame}
 use Rattle.area_record.specs.Words.{phase_word}
+
+-- ---- two answers, equal or not
+
+equal : (b c : Bool) → not (beq b c) ≡ false → b ≡ c
+equal true true h = refl
+equal true false h = absurd (true≢false h)
+equal false true h = absurd (true≢false h)
+equal false false h = refl
+
+unequal : (b c : Bool) → not (beq b c) ≡ true → b ≡ c → ⊥
+unequal true true h e = true≢false (sym h)
+unequal true false h e = true≢false e
+unequal false true h e = true≢false (sym e)
+unequal false false h e = true≢false (sym h)
 
 -- ---- in a run of any kind but silence others are heard
 
@@ -183,7 +198,7 @@ module _ (a : List ℕ) (f : Figures) (j t : ℕ) (w : Near) (k : ℕ) (v : Near
 
   module _ (off : emits_at a j ≡ false) (m s : ℕ) (run : Segment) (h : Segmented a j t w k s run) (g next : Ahead)
       (u : Underway a j m s g) (e : next ≡ ahead f run.kind run.len g)
-      (hs : s < m) (len : run.len ≤ m - s) (early : t + m ≤ last_clock) where
+      (hs : s < m) (len : s + run.len ≤ m) (early : t + m ≤ last_clock) where
     under_on : 0 < next.len → Underway a j m (s + next.len) next
     unfolding NearTo Underway Next
     under_on pos =
@@ -206,16 +221,6 @@ module _ (a : List ℕ) (f : Figures) (j t : ℕ) (w : Near) (k : ℕ) (v : Near
 
 -- ---- a station that emits
 
-is_own : (d : Deference) → own_busy d ≡ true → d ≡ Busy true
-unfolding own_busy
-is_own Quiet h = absurd (true≢false (sym h))
-is_own (Busy own) h = ap Busy h
-is_own (Gap n own) h = absurd (true≢false (sym h))
-
-not_sending : (x : Transmitter) → not (sends x) ≡ true → (i : ℕ) → x ≡ Sending i → ⊥
-unfolding sends
-not_sending x h i e = true≢false (ap sends (sym e) ∙ not-true (sends x) h)
-
 frame_held : (x : Transmitter) (z : ℕ) → emits x ≡ true → FrameIn x z → z ≤ buffer_octets
 frame_held NoFrame z e h = absurd (true≢false (sym e))
 frame_held Waiting z e h = h.1
@@ -229,11 +234,11 @@ frame_most : (a : List ℕ) (r : Readiness a) (j : ℕ) → j < count_at a → e
 unfolding emits_at
 frame_most a r j hj on = frame_held (station_at a j).transmitter (station_at a j).frame on (r.fine j hj).frame
 
-emit_within : (q : Bool) (s : Station) (k : ℕ) → 0 < k → k ≤ emit_steps q s
-    → (emits_with q s ≡ true) × (k ≤ emits_for s.frame s.transmitter)
+emit_within : (h : Bool) (s : Station) (k : ℕ) → 0 < k → k ≤ emit_steps h s
+    → (keeps_emitting h s ≡ true) × (k ≤ emits_for s.frame s.transmitter)
 unfolding emit_steps
 emit_within q s k p h =
-    by_test (emits_with q s)
+    by_test (keeps_emitting q s)
     (λ e. (e, rw e at h))
     (λ e. let y : k ≤ 0 = rw e at h in absurd (omega arith))
 
@@ -243,47 +248,44 @@ hears_none (Clean b) e = absurd (true≢false e)
 hears_none Spoiled e = absurd (true≢false e)
 
 -- what a run says of whether others are heard
-run_any : (H L : ℕ → Heard) (F : List ℕ) (k d s m : ℕ) (c : Kind) (q : Bool) → Says H L F k d s c m → is_like c q ≡ true
-    → (v : ℕ) → v < m → hears_any (H (s + v)) ≡ not q
-unfolding is_like
-run_any H L F k d s m Silent q h e v l = ap hears_any (h v l) ∙ sym (ap not e)
-run_any H L F k d s m Line q h e v l = line_any H L F k d s m h v l ∙ sym e
-run_any H L F k d s m From q h e v l = from_any H L F k d s m h v l ∙ sym e
-run_any H L F k d s m Mixed q h e v l = spoiled_any H L F k d s m h v l ∙ sym e
+run_any : (H L : ℕ → Heard) (F : List ℕ) (k d s m : ℕ) (c : Kind) → Says H L F k d s c m → (v : ℕ) → v < m
+    → hears_any (H (s + v)) ≡ is_heard c
+run_any H L F k d s m Silent h v l = ap hears_any (h v l)
+run_any H L F k d s m Line h v l = line_any H L F k d s m h v l
+run_any H L F k d s m From h v l = from_any H L F k d s m h v l
+run_any H L F k d s m Mixed h v l = spoiled_any H L F k d s m h v l
 
 module _ (a : List ℕ) (j : ℕ) (q : Bool) where
   pub alike_none : Alike a j q 0
   unfolding Alike
   alike_none = λ v l. absurd (omega arith)
 
-  pub alike_more : (t : ℕ) (w : Near) (k : ℕ) → NearTo a (figures_at a) j t w k → (s : ℕ) (run : Segment) (b : Bool)
-      → Segmented a j t w k s run → b ≡ is_like run.kind q → not b ≡ false → Alike a j q s
-      → Alike a j q (s + run.len)
+  pub alike_more : (f : Figures) (t : ℕ) (w : Near) (k : ℕ) → NearTo a f j t w k → (s : ℕ) (run : Segment) (b : Bool)
+      → Segmented a j t w k s run → b ≡ is_heard run.kind → not (beq b q) ≡ false → Alike a j q s → Alike a j q (s + run.len)
   unfolding Alike
-  alike_more t w k n s run b h e p al =
+  alike_more f t w k n s run b h e p al =
       λ v l. by_test (ltb v s)
       (λ c. al v (ltb-true v s c))
       (λ c. let g = ltb-false v s c in
       let z : s + (v - s) ≡ v = omega arith in
-      subst (λ (y : ℕ). hears_any (hears a (plan_of a) j y) ≡ not q) z
+      subst (λ (y : ℕ). hears_any (hears a (plan_of a) j y) ≡ q) z
       (run_any (hears a (plan_of a) j) (λ u. arrival_at a j (clock_at a + u)) (held_at a w.from) k w.d1 s run.len
-      run.kind q
-      (run_says a (figures_at a) j t w k n s run h) (sym e ∙ not-false b p) (v - s) (omega arith)))
+      run.kind (run_says a f j t w k n s run h) (v - s) (omega arith) ∙ sym e ∙ equal b q p))
 
 module _ (a : List ℕ) (r : Readiness a) (j : ℕ) (hj : j < count_at a) (on : emits_at a j ≡ true) (k : ℕ) (pos : 0 < k)
     (early : clock_at a + k ≤ last_clock) (emitted : (station_at a j).emitted ≡ true)
     (busy : (station_at a j).deference ≡ Busy true)
     (lasts : k ≤ emits_for (station_at a j).frame (station_at a j).transmitter) where
-  emit_goes : (q : Bool) → ((v : ℕ) → v < k → hears_any (hears a (plan_of a) j v) ≡ not q)
-      → unhurt q (station_at a j).receiver (station_at a j).transmitter ≡ true → CalmFor a j k
+  emit_goes : (h : Bool) → ((v : ℕ) → v < k → hears_any (hears a (plan_of a) j v) ≡ h)
+      → unhurt h (station_at a j).receiver (station_at a j).transmitter ≡ true → CalmFor a j k
   unfolding CalmFor unhurt
-  emit_goes true al e =
+  emit_goes false al e =
       record {
         calm = emits_unheard a r j hj k pos early busy emitted lasts (frame_most a r j hj on)
             (λ v l. hears_none (hears a (plan_of a) j v) (al v l)) (is_idle (station_at a j).receiver e);
         lasts = λ w. lasts;
       }
-  emit_goes false al e =
+  emit_goes true al e =
       record {
         calm =
             emits_heard a r j hj k pos early busy emitted lasts (frame_most a r j hj on) al
@@ -291,24 +293,24 @@ module _ (a : List ℕ) (r : Readiness a) (j : ℕ) (hj : j < count_at a) (on : 
         lasts = λ w. lasts;
       }
 
-module _ (a : List ℕ) (j t : ℕ) (w : Near) (b : ℕ) (v : NearTo a (figures_at a) j t w b) (on : emits_at a j ≡ true)
+module _ (a : List ℕ) (f : Figures) (j t : ℕ) (w : Near) (b : ℕ) (v : NearTo a f j t w b) (on : emits_at a j ≡ true)
     (s : Station) (es : s ≡ station_at a j) where
   pub frame_small : s.frame < 65536
   unfolding NearTo
   frame_small = omega (arith, ap (λ (y : Station). y.frame) es, frame_most a v.read.ready j v.station on)
 
-  pub emit_calm : (q : Bool) (m n y k : ℕ) → Alike a j q n → n ≤ m → t + m ≤ last_clock → y ≡ emit_steps q s → k ≡ min n y
+  pub emit_calm : (h : Bool) (m n y k : ℕ) → Alike a j h n → n ≤ m → t + m ≤ last_clock → y ≡ emit_steps h s → k ≡ min n y
       → CalmFor a j k
-  unfolding NearTo emits_with Alike
-  emit_calm q m n y k al len early ey ek =
+  unfolding NearTo keeps_emitting Alike
+  emit_calm h m n y k al len early ey ek =
       by_eq k 0
       (λ z. subst (CalmFor a j) (sym z) (calm_zero a j))
       (λ z. let x = station_at a j in
-      let u = emit_within q x k (omega (arith, z)) (omega (arith, ey ∙ ap (emit_steps q) es)) in
-      let p = both_true x.emitted (own_busy x.deference && unhurt q x.receiver x.transmitter) u.0 in
-      let o = both_true (own_busy x.deference) (unhurt q x.receiver x.transmitter) p.1 in
+      let u = emit_within h x k (omega (arith, z)) (omega (arith, ey ∙ ap (emit_steps h) es)) in
+      let p = both_true x.emitted (own_busy x.deference && unhurt h x.receiver x.transmitter) u.0 in
+      let o = both_true (own_busy x.deference) (unhurt h x.receiver x.transmitter) p.1 in
       emit_goes a v.read.ready j v.station on k (omega (arith, z)) (omega (arith, v.read.clock)) p.0
-      (is_own x.deference o.0) u.1 q (λ i l. al i (omega arith)) o.1)
+      (busy_own x.deference o.0) u.1 h (λ i l. al i (omega arith)) o.1)
 
 -- ---- all stations
 
@@ -316,10 +318,6 @@ module _ (a : List ℕ) (f : Figures) (n t : ℕ) where
   pub read_from : Ready a → f ≡ figures_at a → n ≡ count_at a → t ≡ clock_at a → ReadFrom a f n t
   unfolding ReadFrom Ready
   read_from r p q e = record { ready = r; figures = p; count = q; clock = e }
-
-  pub read_here : ReadFrom a f n t → ReadFrom a (figures_at a) n t
-  unfolding ReadFrom
-  read_here v = record { ready = v.ready; figures = refl; count = v.count; clock = v.clock }
 
   pub read_gap : ReadFrom a f n t → f.gap1 + f.gap2 < 65536
   unfolding ReadFrom
@@ -338,25 +336,24 @@ module _ (a : List ℕ) (f : Figures) (n t : ℕ) where
         bit = ek;
       }
 
-  pub near_here : (j : ℕ) (w : Near) (k : ℕ) → ReadFrom a f n t → j < n → w ≡ nearest_of a n j → k ≡ near_bit a w
-      → NearTo a (figures_at a) j t w k
-  unfolding ReadFrom NearTo
-  near_here j w k v hj ew ek =
-      let y = near_to j w k v hj ew ek in
-      record {
-        read = record { ready = v.ready; figures = refl; count = refl; clock = v.clock };
-        station = y.station;
-        nearest = y.nearest;
-        bit = ek;
-      }
+-- whether station j emits, by the word of its phase
+pub emitter_is : (a : List ℕ) (j c : ℕ) → c ≡ get_or (record_at a j) phase_word 0 → leb 3 c ≡ emits_at a j
+emitter_is a j c e =
+    by_test (leb 3 c)
+    (λ y. y ∙ sym (emits_by_code a j c e (leb-true 3 c y)))
+    (λ y. y ∙ sym (silent_by_code a j c e (leb-false 3 c y)))
 
 -- what station j hears of
-module _ (a : List ℕ) (f : Figures) (n t j : ℕ) (ws : List Sight) (w : Sight) (v : ReadFrom a f n t)
-    (es : ws ≡ sights_of a n) (ew : w ≡ get_or ws j blank_sight) (hj : j < n) where
-  is_sight : w ≡ sight_of a n j
-  is_sight = sight_at a n j ws w hj es ew
+module _ (a : List ℕ) (f : Figures) (t j : ℕ) (ws : List Sight) (d : Sight) (v : ReadFrom a f (length ws) t)
+    (es : Sighted a ws) (hj : j < length ws) where
+  w : Sight
+  w = get_or ws j d
 
-  near_is : w.near ≡ nearest_of a n j
+  is_sight : w ≡ sight_of a (length ws) j
+  unfolding Sighted w
+  is_sight = es j d hj
+
+  near_is : w.near ≡ nearest_of a (length ws) j
   unfolding sight_of sight_by
   near_is = ap (λ (q : Sight). q.near) is_sight
 
@@ -364,21 +361,22 @@ module _ (a : List ℕ) (f : Figures) (n t j : ℕ) (ws : List Sight) (w : Sight
   unfolding sight_of sight_by
   bit_is = ap (λ (q : Sight). q.bit) is_sight ∙ ap (near_bit a) (sym near_is)
 
-  pub near_seen : NearTo a f j t w.near w.bit
-  near_seen = near_to a f n t j w.near w.bit v hj near_is bit_is
-
-  pub near_seen_here : NearTo a (figures_at a) j t w.near w.bit
-  near_seen_here = near_here a f n t j w.near w.bit v hj near_is bit_is
+  pub near_seen : NearTo a f j t (get_or ws j d).near (get_or ws j d).bit
+  unfolding w
+  near_seen = near_to a f (length ws) t j w.near w.bit v hj near_is bit_is
 
 module _ (a : List ℕ) where
   -- one that is of the other sort
-  pub if_silent : (j r c : ℕ) → c ≡ get_or (record_at a j) phase_word 0 → c < 3 → CalmIf a true j r
+  pub if_other : (q b : Bool) (j r : ℕ) → b ≡ emits_at a j → not (beq b q) ≡ true → CalmIf a q j r
   unfolding CalmIf
-  if_silent j r c e h on = absurd (true≢false (sym on ∙ silent_by_code a j c e h))
+  if_other q b j r e n h = absurd (unequal b q n (e ∙ h))
 
-  pub if_emits : (j r c : ℕ) → c ≡ get_or (record_at a j) phase_word 0 → 3 ≤ c → CalmIf a false j r
-  unfolding CalmIf
-  if_emits j r c e h off = absurd (true≢false (sym (emits_by_code a j c e h) ∙ off))
+  -- or of this one
+  pub emits_same : (q b : Bool) (j : ℕ) → b ≡ emits_at a j → not (beq b q) ≡ false → q ≡ true → emits_at a j ≡ true
+  emits_same q b j e n h = sym e ∙ equal b q n ∙ h
+
+  pub silent_same : (q b : Bool) (j : ℕ) → b ≡ emits_at a j → not (beq b q) ≡ false → q ≡ false → emits_at a j ≡ false
+  silent_same q b j e n h = sym e ∙ equal b q n ∙ h
 
   pub if_calm : (q : Bool) (j r : ℕ) → CalmFor a j r → CalmIf a q j r
   unfolding CalmIf

@@ -6,15 +6,13 @@ ghost use Rattle.std.specs.Prelude.{◌≡◌, true, false, ◌+◌, ◌<◌, �
 ghost use Rattle.station_spec.specs.Receive.{bits_in};
 ghost use Rattle.area.specs.Area.{figures_at};
 ghost use Rattle.fast_plan.specs.Calm.{AllCalm};
-ghost use Rattle.fast_heard.specs.Hearing.{plan_of, emits_at};
-ghost use Rattle.fast_heard.specs.Sights.{sights_of};
-ghost use Rattle.fast_bound.specs.Bound.{rest_steps, hear_steps, rest_ahead, hear_ahead, ahead, ahead_of, own_busy};
-ghost use Rattle.fast_bound.specs.Bound.{sends, unhurt, emit_steps, is_like, Alike, CalmFor, CalmIf, CalmAmong};
-ghost use Rattle.fast_bound.specs.Bound.{AllLast, ReadFrom, NearTo, Underway};
+ghost use Rattle.fast_heard.specs.Hearing.{plan_of, emits_at, Segmented};
+ghost use Rattle.fast_bound.specs.Bound.{rest_steps, hear_steps, rest_ahead, hear_ahead, ahead, ahead_of, emit_steps};
+ghost use Rattle.fast_bound.specs.Bound.{Alike, CalmFor, CalmIf, CalmAmong, AllLast, ReadFrom, NearTo, Sighted, Underway};
 ghost use Rattle.sheet_layout.specs.Limits.{last_clock, max_stations};
 ghost use Rattle.area.specs.Offsets.{area_size};
 
-use fast_heard::{Kind, Near, Sight};
+use fast_heard::{Kind, Segment, Sight};
 use sheet_layout::Figures;
 use station_state::{Deference, Receiver, Station, Transmitter};
 
@@ -36,65 +34,62 @@ pub struct Ahead {
 
 // Of m steps in which nothing is heard those in which no frame starts; none where the reception that they end may be
 // reported.
+#[tactic(auto, unfolding(crate::specs::Bound::rest_steps))]
 fn rest_steps(f: Figures, m: u32, d: Deference, x: Transmitter, q: u32, harmless: bool) -> u32
     requires { f.gap1 + f.gap2 < 65536 }
     ensures same { result ≡ rest_steps f m d x q harmless }
     ensures bound { result ≤ m }
 {
-    if octets::either(harmless, q < frame_build::limits::SHORTEST_FRAME) {
-        return fast_rest::smaller(m, fast_rest::frames_rest(f, m, d, x));
+    if harmless | (q < frame_build::limits::SHORTEST_FRAME) {
+        return m.min(fast_rest::frames_rest(f, m, d, x));
     }
     0
 }
 
 // Of m steps in which others are heard those in which no frame starts.
+#[tactic(auto, unfolding(crate::specs::Bound::hear_steps))]
 fn hear_steps(f: Figures, m: u32, d: Deference, x: Transmitter) -> u32
     requires { f.gap1 + f.gap2 < 65536 }
     ensures same { result ≡ hear_steps f m d x }
     ensures bound { result ≤ m }
 {
-    fast_rest::smaller(m, fast_station::heard_rest(f, m, d, x))
+    m.min(fast_station::heard_rest(f, m, d, x))
 }
 
+#[tactic(auto, unfolding(crate::specs::Bound::rest_ahead, crate::specs::Bound::rested_to))]
 fn rest_ahead(f: Figures, m: u32, at: Ahead) -> Ahead
     requires { f.gap1 + f.gap2 < 65536 }
     ensures same { result ≡ rest_ahead f m at }
     ensures bound { (result.len ≤ m) × (result.bits ≤ at.bits + result.len) }
 {
-    let d = at.deference;
-    let x = at.transmitter;
-    let len = rest_steps(f, m, d, x, at.bits, at.harmless);
-    let deference = fast_rest::rest_deference(f, len, d);
-    let transmitter = fast_rest::rest_transmitter(len, x);
+    let len = rest_steps(f, m, at.deference, at.transmitter, at.bits, at.harmless);
     Ahead {
         len,
-        deference,
-        transmitter,
+        deference: fast_rest::rest_deference(f, len, at.deference),
+        transmitter: fast_rest::rest_transmitter(len, at.transmitter),
         bits: 0,
         harmless: false,
     }
 }
 
+#[tactic(auto, unfolding(crate::specs::Bound::hear_ahead, crate::specs::Bound::heard_to))]
 fn hear_ahead(f: Figures, m: u32, at: Ahead) -> Ahead
     requires { (f.gap1 + f.gap2 < 65536) × (at.bits + m < 4294967296) }
     ensures same { result ≡ hear_ahead f m at }
     ensures bound { (result.len ≤ m) × (result.bits ≤ at.bits + result.len) }
 {
-    let d = at.deference;
-    let x = at.transmitter;
-    let len = hear_steps(f, m, d, x);
-    let deference = fast_station::hear_deference(f, len, d);
-    let transmitter = fast_rest::rest_transmitter(len, x);
+    let len = hear_steps(f, m, at.deference, at.transmitter);
     Ahead {
         len,
-        deference,
-        transmitter,
+        deference: fast_station::hear_deference(f, len, at.deference),
+        transmitter: fast_rest::rest_transmitter(len, at.transmitter),
         bits: at.bits + len,
         harmless: at.harmless,
     }
 }
 
 // Of m steps of a kind those in which no frame starts and nothing is reported.
+#[tactic(auto, unfolding(crate::specs::Bound::ahead))]
 fn foresee(f: Figures, kind: Kind, m: u32, at: Ahead) -> Ahead
     requires { (f.gap1 + f.gap2 < 65536) × (at.bits + m < 4294967296) }
     ensures same { result ≡ ahead f kind m at }
@@ -102,134 +97,84 @@ fn foresee(f: Figures, kind: Kind, m: u32, at: Ahead) -> Ahead
 {
     match kind {
         Kind::Silent => rest_ahead(f, m, at),
-        Kind::Line => hear_ahead(f, m, at),
-        Kind::From => hear_ahead(f, m, at),
-        Kind::Mixed => hear_ahead(f, m, at),
+        Kind::Line | Kind::From | Kind::Mixed => hear_ahead(f, m, at),
     }
 }
 
 // The bits that a receiver has collected.
+#[tactic(auto, unfolding(station_spec::specs::Receive::bits_in))]
 fn bits_in(r: Receiver) -> u32
     ensures { result ≡ bits_in r }
 {
     match r {
-        Receiver::Listening => 0,
-        Receiver::Readable(_) => 0,
-        Receiver::Seeking {
-            row: _,
-            spoiled: _,
-            own: _,
-        } => 0,
-        Receiver::Collecting {
-            bits,
-            spoiled: _,
-            own: _,
-        } => bits,
+        Receiver::Collecting { bits, .. } => bits,
+        Receiver::Listening | Receiver::Readable(_) | Receiver::Seeking { .. } => 0,
+    }
+}
+
+// A station as it is: no step ahead.
+#[tactic(auto, unfolding(crate::specs::Bound::ahead_of))]
+fn ahead_of(s: Station, harmless: bool) -> Ahead
+    ensures { result ≡ ahead_of s harmless }
+{
+    Ahead {
+        len: 0,
+        deference: s.deference,
+        transmitter: s.transmitter,
+        bits: bits_in(s.receiver),
+        harmless,
     }
 }
 
 // ---- a station that emits, by value
 
-fn own_busy(d: Deference) -> bool
-    ensures { result ≡ own_busy d }
-{
-    match d {
-        Deference::Quiet => false,
-        Deference::Busy(own) => own,
-        Deference::Gap { count: _, own: _ } => false,
-    }
-}
-
-fn is_sending(x: Transmitter) -> bool
-    ensures { result ≡ sends x }
-{
-    match x {
-        Transmitter::NoFrame => false,
-        Transmitter::Waiting => false,
-        Transmitter::BackingOff(_) => false,
-        Transmitter::Sending(_) => true,
-        Transmitter::Heading(_) => false,
-        Transmitter::Jamming { left: _, ends: _ } => false,
-    }
-}
-
-// Whether nothing heard, or others heard, ends no reception and makes no collision.
-fn is_unhurt(quiet: bool, r: Receiver, x: Transmitter) -> bool
-    ensures { result ≡ unhurt quiet r x }
-{
-    if quiet {
-        return fast_rest::is_idle(r);
-    }
-    !is_sending(x)
-}
-
-// The steps through which a station goes on emitting while it hears nothing, or while it hears others.
-fn emit_steps(quiet: bool, s: Station) -> u32
+// The steps through which a station goes on emitting while it hears others, where `heard`, or hears nothing.
+#[tactic(auto, unfolding(crate::specs::Bound::emit_steps))]
+fn emit_steps(heard: bool, s: Station) -> u32
     requires { s.frame < 65536 }
-    ensures { result ≡ emit_steps quiet s }
+    ensures { result ≡ emit_steps heard s }
 {
-    let d = s.deference;
-    let r = s.receiver;
-    let x = s.transmitter;
-    let goes = octets::both(own_busy(d), is_unhurt(quiet, r, x));
-    if octets::both(s.emitted, goes) {
-        return fast_station::emits_for(s.frame, x);
+    if fast_station::keeps_emitting(heard, s) {
+        return fast_station::emits_for(s.frame, s.transmitter);
     }
     0
 }
 
 // ---- on the area
 
-// A station as it is: no step ahead.
-fn ahead_of(s: Station, harmless: bool) -> Ahead
-    ensures { result ≡ ahead_of s harmless }
+// What station j hears from step s of m on, counted from clock t: a run of steps of one kind.
+pub fn run_at(area: &[u8], j: usize, t: u32, w: &Sight, s: u32, m: u32) -> Segment
+    requires { (j < max_stations) × (area_size ≤ length area.now) × (t + m ≤ last_clock) × (s < m) }
+    ensures says { Segmented area.now j t w.now.near w.now.bit s result }
+    ensures bound { (0 < result.len) × (s + result.len ≤ m) }
 {
-    let deference = s.deference;
-    let transmitter = s.transmitter;
-    let receiver = s.receiver;
-    let bits = bits_in(receiver);
-    Ahead {
-        len: 0,
-        deference,
-        transmitter,
-        bits,
-        harmless,
-    }
+    fast_heard::heard_run(
+        area,
+        j,
+        t as usize,
+        w.near,
+        w.bit,
+        s as usize,
+        (m - s) as usize,
+    )
 }
 
 // A station that emits nothing, run by run of what it hears, from where it begins: at most m steps in which it starts
 // nothing and has no event.
-fn silent_runs(
-    area: &[u8],
-    f: Figures,
-    j: usize,
-    t: u32,
-    near: Near,
-    bit: u32,
-    first: Ahead,
-    m: u32,
-) -> u32
+fn silent_runs(area: &[u8], f: Figures, j: usize, t: u32, w: &Sight, first: Ahead, m: u32) -> u32
     requires { (j < max_stations) × (area_size ≤ length area.now) × (t + m ≤ last_clock) × (f.gap1 + f.gap2 < 65536)
-        × NearTo area.now f j t near bit × (emits_at area.now j ≡ false) × (first.bits ≤ t + 0)
+        × NearTo area.now f j t w.now.near w.now.bit × (emits_at area.now j ≡ false) × (first.bits ≤ t + 0)
         × Underway area.now j m 0 first }
     ensures calm { CalmFor area.now j result }
     ensures bound { result ≤ m }
 {
     let mut at = first;
     let mut s: u32 = 0;
+    // No range: a run says how many steps it has.
     while s < m {
-        let run = fast_heard::heard_run(
-            area,
-            j,
-            t as usize,
-            near,
-            bit,
-            s as usize,
-            (m - s) as usize,
-        );
+        let run = run_at(area, j, t, w, s, m);
         let len = run.len as u32;
-        let kind = run.kind;
-        let next = foresee(f, kind, len, at);
+        let next = foresee(f, run.kind, len, at);
         s += next.len;
         if next.len < len {
             return s;
@@ -240,9 +185,9 @@ fn silent_runs(
 }
 
 // A station that emits nothing: at most m steps in which it starts nothing and has no event.
-fn silent_bound(area: &[u8], f: Figures, j: usize, t: u32, near: Near, bit: u32, m: u32) -> u32
+fn silent_bound(area: &[u8], f: Figures, j: usize, t: u32, w: &Sight, m: u32) -> u32
     requires { (j < max_stations) × (area_size ≤ length area.now) × (t + m ≤ last_clock) × (f.gap1 + f.gap2 < 65536)
-        × NearTo area.now f j t near bit × (emits_at area.now j ≡ false) }
+        × NearTo area.now f j t w.now.near w.now.bit × (emits_at area.now j ≡ false) }
     ensures calm { CalmFor area.now j result }
     ensures bound { result ≤ m }
 {
@@ -250,44 +195,23 @@ fn silent_bound(area: &[u8], f: Figures, j: usize, t: u32, near: Near, bit: u32,
     if station.emitted {
         return 0;
     }
-    let receiver = station.receiver;
-    let reports = fast_receive::may_report(area, j, receiver, m);
+    let reports = fast_receive::may_report(area, j, station.receiver, m);
     let first = ahead_of(station, !reports);
-    silent_runs(area, f, j, t, near, bit, first, m)
+    silent_runs(area, f, j, t, w, first, m)
 }
 
-// Whether in steps of this kind nothing is heard, where `quiet`, or others are.
-fn is_like(kind: Kind, quiet: bool) -> bool
-    ensures { result ≡ is_like kind quiet }
-{
-    match kind {
-        Kind::Silent => quiet,
-        Kind::Line => !quiet,
-        Kind::From => !quiet,
-        Kind::Mixed => !quiet,
-    }
-}
-
-// Of m steps those before station j hears something, where `quiet`, or before it hears nothing.
-fn alike_for(area: &[u8], j: usize, t: u32, near: Near, bit: u32, quiet: bool, m: u32) -> u32
+// Of m steps those before station j hears nothing, where `heard`, or before it hears others.
+fn alike_for(area: &[u8], f: Figures, j: usize, t: u32, w: &Sight, heard: bool, m: u32) -> u32
     requires { (j < max_stations) × (area_size ≤ length area.now) × (t + m ≤ last_clock)
-        × NearTo area.now (figures_at area.now) j t near bit }
-    ensures alike { Alike area.now j quiet result }
+        × NearTo area.now f j t w.now.near w.now.bit }
+    ensures alike { Alike area.now j heard result }
     ensures bound { result ≤ m }
 {
     let mut s: u32 = 0;
+    // No range: a run says how many steps it has.
     while s < m {
-        let run = fast_heard::heard_run(
-            area,
-            j,
-            t as usize,
-            near,
-            bit,
-            s as usize,
-            (m - s) as usize,
-        );
-        let kind = run.kind;
-        if !is_like(kind, quiet) {
+        let run = run_at(area, j, t, w, s, m);
+        if run.kind.is_heard() != heard {
             return s;
         }
         s += run.len as u32;
@@ -296,100 +220,72 @@ fn alike_for(area: &[u8], j: usize, t: u32, near: Near, bit: u32, quiet: bool, m
 }
 
 // A station that emits: at most m steps through which it goes on and has no event.
-fn emit_bound(area: &[u8], j: usize, t: u32, near: Near, bit: u32, m: u32) -> u32
+fn emit_bound(area: &[u8], f: Figures, j: usize, t: u32, w: &Sight, m: u32) -> u32
     requires { (j < max_stations) × (area_size ≤ length area.now) × (t + m ≤ last_clock)
-        × NearTo area.now (figures_at area.now) j t near bit × (emits_at area.now j ≡ true) }
+        × NearTo area.now f j t w.now.near w.now.bit × (emits_at area.now j ≡ true) }
     ensures calm { CalmFor area.now j result }
     ensures bound { result ≤ m }
 {
     let station = area::read_station(area, j);
-    let quiet = alike_for(area, j, t, near, bit, true, m);
-    if 0 < quiet {
-        return fast_rest::smaller(quiet, emit_steps(true, station));
+    let silent = alike_for(area, f, j, t, w, false, m);
+    if 0 < silent {
+        return silent.min(emit_steps(false, station));
     }
-    let heard = alike_for(area, j, t, near, bit, false, m);
-    fast_rest::smaller(heard, emit_steps(false, station))
+    let heard = alike_for(area, f, j, t, w, true, m);
+    heard.min(emit_steps(true, station))
 }
 
-// Station j, if it emits: at most m steps through which it goes on and has no event.
-fn emitter_bound(area: &[u8], j: usize, t: u32, w: Sight, m: u32) -> u32
-    requires { (j < max_stations) × (area_size ≤ length area.now) × (t + m ≤ last_clock)
-        × NearTo area.now (figures_at area.now) j t w.near w.bit }
-    ensures calm { CalmIf area.now true j result }
+// Whether station j emits.
+fn is_emitter(area: &[u8], j: usize) -> bool
+    requires { (j < max_stations) × (area_size ≤ length area.now) }
+    ensures { result ≡ emits_at area.now j }
+{
+    3 <= area::read_word(area, j, area_record::words::PHASE)
+}
+
+// Station j, if it emits, where `emits`, or if it emits nothing: at most m steps through which it goes on, or in which
+// it starts nothing, and has no event.
+fn station_bound(area: &[u8], f: Figures, emits: bool, j: usize, t: u32, w: &Sight, m: u32) -> u32
+    requires { (j < max_stations) × (area_size ≤ length area.now) × (t + m ≤ last_clock) × (f.gap1 + f.gap2 < 65536)
+        × NearTo area.now f j t w.now.near w.now.bit }
+    ensures calm { CalmIf area.now emits j result }
     ensures bound { result ≤ m }
 {
-    let phase = area::read_word(area, j, area_record::words::PHASE);
-    if phase < 3 {
+    if is_emitter(area, j) != emits {
         return m;
     }
-    let near = w.near;
-    emit_bound(area, j, t, near, w.bit, m)
-}
-
-// Station j, if it emits nothing: at most m steps in which it starts nothing and has no event.
-fn listener_bound(area: &[u8], f: Figures, j: usize, t: u32, w: Sight, m: u32) -> u32
-    requires { (j < max_stations) × (area_size ≤ length area.now) × (t + m ≤ last_clock) × (f.gap1 + f.gap2 < 65536)
-        × NearTo area.now f j t w.near w.bit }
-    ensures calm { CalmIf area.now false j result }
-    ensures bound { result ≤ m }
-{
-    if area::read_word(area, j, area_record::words::PHASE) < 3 {
-        let near = w.near;
-        return silent_bound(area, f, j, t, near, w.bit, m);
+    if emits {
+        return emit_bound(area, f, j, t, w, m);
     }
-    m
+    silent_bound(area, f, j, t, w, m)
 }
 
-// Of m steps those through which each of n stations that emits goes on and has no event; none where they are few.
-fn emitters_bound(area: &[u8], n: usize, t: u32, seen: [Sight; 16], m: u32) -> u32
-    requires { (n ≤ max_stations) × (area_size ≤ length area.now) × (t + m ≤ last_clock)
-        × ReadFrom area.now (figures_at area.now) n t × (seen ≡ sights_of area.now n) }
-    ensures calm { CalmAmong area.now true n result }
+// The same of all stations, or none where the steps are few.
+fn bound_among(area: &[u8], f: Figures, emits: bool, t: u32, seen: &[Sight], m: u32) -> u32
+    requires { (length seen.now ≤ max_stations) × (area_size ≤ length area.now) × (t + m ≤ last_clock)
+        × (f.gap1 + f.gap2 < 65536) × ReadFrom area.now f (length seen.now) t × Sighted area.now seen.now }
+    ensures calm { CalmAmong area.now emits (length seen.now) result }
     ensures bound { result ≤ m }
 {
     let mut left = m;
-    let mut j: usize = 0;
-    while j < n {
+    for (j, w) in seen.iter().enumerate() {
         if left < LEAST {
             return 0;
         }
-        let w = seen[j];
-        left = emitter_bound(area, j, t, w, left);
-        j += 1;
+        left = station_bound(area, f, emits, j, t, w, left);
     }
     left
 }
 
-// Of m steps those in which each of n stations that emits nothing starts nothing and has no event; none where they are
-// few.
-fn listeners_bound(area: &[u8], f: Figures, n: usize, t: u32, seen: [Sight; 16], m: u32) -> u32
-    requires { (n ≤ max_stations) × (area_size ≤ length area.now) × (t + m ≤ last_clock) × (f.gap1 + f.gap2 < 65536)
-        × ReadFrom area.now f n t × (seen ≡ sights_of area.now n) }
-    ensures calm { CalmAmong area.now false n result }
-    ensures bound { result ≤ m }
-{
-    let mut left = m;
-    let mut j: usize = 0;
-    while j < n {
-        if left < LEAST {
-            return 0;
-        }
-        let w = seen[j];
-        left = listener_bound(area, f, j, t, w, left);
-        j += 1;
-    }
-    left
-}
-
-// How long a window of n stations may be, of m steps from clock t on. Emitters are looked at first: they allow the
-// fewest steps, and the others need not be looked at past those.
-pub fn bound(area: &[u8], f: Figures, n: usize, t: u32, seen: [Sight; 16], m: u32) -> u32
-    requires { (n ≤ max_stations) × (area_size ≤ length area.now) × (t + m ≤ last_clock) × ReadFrom area.now f n t
-        × (seen ≡ sights_of area.now n) }
+// How long a window of m steps from clock t on may be, by what each station hears of. Emitters are looked at first: they
+// allow the fewest steps, and the others need not be looked at past those.
+pub fn bound(area: &[u8], f: Figures, t: u32, seen: &[Sight], m: u32) -> u32
+    requires { (length seen.now ≤ max_stations) × (area_size ≤ length area.now) × (t + m ≤ last_clock)
+        × ReadFrom area.now f (length seen.now) t × Sighted area.now seen.now }
     ensures calm { AllCalm area.now (plan_of area.now) result }
     ensures last { AllLast area.now result }
     ensures bound { result ≤ m }
 {
-    let most = emitters_bound(area, n, t, seen, m);
-    listeners_bound(area, f, n, t, seen, most)
+    let most = bound_among(area, f, true, t, seen, m);
+    bound_among(area, f, false, t, seen, most)
 }

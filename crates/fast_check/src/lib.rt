@@ -2,24 +2,23 @@
 
 #![tactic(auto)]
 
-ghost use Rattle.std.specs.Prelude.{◌≡◌, ◌+◌, ◌*◌, ◌<◌, ◌≤◌, length};
+ghost use Rattle.std.specs.Prelude.{◌≡◌, ◌<◌, ◌≤◌, length};
 ghost use Rattle.fast_check.specs.Frameless.{NoneOf, is_none, Frameless, Tells};
 ghost use Rattle.area.specs.Offsets.{area_size};
 ghost use Rattle.sheet_layout.specs.Limits.{max_stations};
 
+use fast_list::Stretch;
 use station_state::Transmitter;
 
-// Whether none of n stretches is of station j.
-fn none_of(list: &[u32], n: usize, j: u32) -> bool
-    requires { (5 * n ≤ length list.now) × (n ≤ 64) }
-    ensures { Tells result (NoneOf list.now n j) }
+// Whether none of the stretches is of station j.
+#[tactic(auto, using(crate::specs::Frameless::none_first, crate::specs::Frameless::none_more, crate::specs::Frameless::none_end, crate::specs::Frameless::tells_not))]
+fn none_of(list: &[Stretch], j: usize) -> bool
+    ensures { Tells result (NoneOf list.now (length list.now) j) }
 {
-    let mut k: usize = 0;
-    while k < n {
-        if list[5 * k] == j {
+    for stretch in list {
+        if stretch.who == j {
             return false;
         }
-        k += 1;
     }
     true
 }
@@ -27,26 +26,16 @@ fn none_of(list: &[u32], n: usize, j: u32) -> bool
 fn is_none(x: Transmitter) -> bool
     ensures { result ≡ is_none x }
 {
-    match x {
-        Transmitter::NoFrame => true,
-        Transmitter::Waiting => false,
-        Transmitter::BackingOff(_) => false,
-        Transmitter::Sending(_) => false,
-        Transmitter::Heading(_) => false,
-        Transmitter::Jamming { left: _, ends: _ } => false,
-    }
+    matches!(x, Transmitter::NoFrame)
 }
 
 // Whether station j holds no frame and the list has no stretch of it: then it agrees with the list for any number of
 // steps.
-pub fn is_frameless(area: &[u8], list: &[u32], n: usize, j: usize) -> bool
-    requires { (area_size ≤ length area.now) × (j < max_stations) × (5 * n ≤ length list.now) × (n ≤ 64) }
-    ensures { Tells result (Frameless area.now list.now n j) }
+#[tactic(auto, using(crate::specs::Frameless::frameless_is, crate::specs::Frameless::tells_not))]
+pub fn is_frameless(area: &[u8], list: &[Stretch], j: usize) -> bool
+    requires { (area_size ≤ length area.now) × (j < max_stations) }
+    ensures { Tells result (Frameless area.now list.now j) }
 {
     let s = area::read_station(area, j);
-    let x = s.transmitter;
-    if is_none(x) {
-        return none_of(list, n, j as u32);
-    }
-    false
+    is_none(s.transmitter) && none_of(list, j)
 }

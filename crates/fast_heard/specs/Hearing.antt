@@ -17,12 +17,21 @@ use Rattle.station_spec.specs.Transmit.{octets_held}
 use Rattle.area.specs.Area.{space_at, station_at, frame_at, arrival_at, alone, met}
 use Rattle.fast_plan.specs.Plan.{Plan}
 use Rattle.fast_line.specs.declared.LineRun.{LineRun}
-use Rattle.fast_line.specs.Line.{kind_of}
+use Rattle.fast_line.specs.Line.{kind_of, kind_number}
 use Rattle.fast_heard.specs.declared.Near.{Near}
 use Rattle.fast_heard.specs.declared.Kind.{Kind}
 use Rattle.fast_heard.specs.declared.Kind.TheVariants.{Silent, Line, From, Mixed}
 use Rattle.fast_heard.specs.declared.Segment.{Segment}
 use Rattle.area.specs.Offsets.{ring}
+
+-- ---- steps of one kind
+
+-- whether anything is heard in them
+abbrev pub is_heard : Kind → Bool
+is_heard Silent = false
+is_heard Line = true
+is_heard From = true
+is_heard Mixed = true
 
 -- ---- the plan: each goes on as it is
 
@@ -128,7 +137,7 @@ before d s m = pick (leb d s) m (pick (ltb (d - s) m) (d - s) m)
 
 -- what the run says of a line L: it is of one kind
 unfoldable pub RunOf : (ℕ → Heard) → ℕ → LineRun → Type 0
-RunOf L s r = (v : ℕ) → v < r.len → kind_of (L (s + v)) ≡ r.kind
+RunOf L s r = (v : ℕ) → v < r.len → kind_of (L (s + v)) ≡ kind_number r.kind
 
 -- the kind of what is heard, by the kind of the line: where the nearest emitter is heard, with its next packet bit; and
 -- where it may not be

@@ -1,6 +1,6 @@
 -- Laws of what is heard in runs of one kind: what a segment says of the plan, and one law for each way through the
 -- code. Assumes nothing.
-use Rattle.std.specs.Prelude.{ℕ, ◌+◌, ◌-◌, ◌≤◌, ◌<◌, min, ◌≡◌, refl, Bool, ◌&&◌, List, [], eqb, ltb, leb}
+use Rattle.std.specs.Prelude.{ℕ, ◌+◌, ◌-◌, ◌≤◌, ◌<◌, min, ◌≡◌, refl, Bool, List, [], eqb, ltb, leb}
 use Rattle.std.proofs.Math.Path.{sym, ap, ap₂, subst}
 use Rattle.std.proofs.Common.{◌∙◌, true≢false}
 use Rattle.std.proofs.Math.Bool.{true, false}
@@ -22,8 +22,9 @@ use Rattle.bus_spec.specs.Ready.{Readiness}
 use Rattle.bus_meeting.specs.Meet.{met_none}
 use Rattle.fast_plan.specs.Plan.{line_now, hears}
 use Rattle.fast_line.specs.declared.LineRun.{LineRun}
-use Rattle.fast_line.specs.Line.{kind_of, kind_at, lasts, run_at, is_clear}
-use Rattle.fast_line.specs.LineLaws.{kind_nothing, lasts_each, clear_line}
+use Rattle.fast_line.specs.declared.LineKind.TheVariants.{Empty}
+use Rattle.fast_line.specs.Line.{kind_of, kind_number, kind_at, lasts, run_at, is_clear}
+use Rattle.fast_line.specs.LineLaws.{kind_nothing, kind_numbered, lasts_each, clear_line}
 use Rattle.fast_heard.specs.declared.Near.{Near}
 use Rattle.fast_heard.specs.declared.Kind.{Kind}
 use Rattle.fast_heard.specs.declared.Kind.TheVariants.{Silent, Line, From, Mixed}
@@ -112,23 +113,7 @@ segment_from x j t w k s g h e =
 
 -- ---- the code: when an emitter is heard
 
-pub begun_is : (d s : ℕ) (b : Bool) → b ≡ (ltb d ring && leb d s) → b ≡ begun d s
-unfolding begun
-begun_is d s b e = e
-
 module _ (d s m : ℕ) where
-  pub before_all : d ≤ s → m ≡ before d s m
-  unfolding before
-  before_all h = rw (le-leb d s h)
-
-  pub before_some : s < d → d - s < m → d - s ≡ before d s m
-  unfolding before
-  before_some h g = rw (lt-leb d s h, lt-ltb (d - s) m g)
-
-  pub before_most : s < d → m ≤ d - s → m ≡ before d s m
-  unfolding before
-  before_most h g = rw (lt-leb d s h, le-ltb (d - s) m g)
-
   before_long : before d s m ≤ m
   unfolding before
   before_long =
@@ -158,11 +143,11 @@ begun_later d s v e =
 -- ---- the code: the line
 
 module _ (x : List ℕ) (j t s m : ℕ) where
-  pub ahead_none : ring ≤ s → RunOf (line_from x j t) s (record { kind = 0; len = m })
+  pub ahead_none : ring ≤ s → RunOf (line_from x j t) s (record { kind = Empty; len = m })
   unfolding RunOf line_from
   ahead_none h v l = rw (le-ltb (s + v) ring (omega arith))
 
-  pub ahead_clear : (b : Bool) → b ≡ is_clear x j → b ≡ true → RunOf (line_from x j t) s (record { kind = 0; len = m })
+  pub ahead_clear : (b : Bool) → b ≡ is_clear x j → b ≡ true → RunOf (line_from x j t) s (record { kind = Empty; len = m })
   unfolding RunOf line_from
   ahead_clear b e h v l =
       by_test (ltb (s + v) ring) (λ c. rw c (ap kind_of (clear_line x j (sym e ∙ h) (t + (s + v))))) (λ c. rw c)
@@ -171,43 +156,12 @@ module _ (x : List ℕ) (j t s m : ℕ) where
       → RunOf (line_from x j t) s r
   unfolding RunOf line_from run_at kind_at
   ahead_run r n e en h g v l =
-      let c : kind_at x j (t + s) ≡ r.kind = ap (λ (q : LineRun). q.kind) (sym e) in
+      let c : kind_at x j (t + s) ≡ kind_number r.kind =
+      sym (kind_numbered (arrival_at x j (t + s))) ∙ ap (λ (q : LineRun). kind_number q.kind) (sym e) in
       let y : r.len ≡ lasts x j (t + s) (kind_at x j (t + s)) n = ap (λ (q : LineRun). q.len) e in
       let z : t + (s + v) ≡ t + s + v = omega arith in
       rw (lt-ltb (s + v) ring (omega arith))
       (ap (kind_at x j) z ∙ lasts_each x j (t + s) (kind_at x j (t + s)) n v (omega arith) ∙ c)
-
--- ---- the code: the kind
-
-module _ (c k : ℕ) where
-  pub near_spoiled : (c ≡ 0 → ⊥) → Mixed ≡ kind_near c k
-  unfolding kind_near
-  near_spoiled p = rw (ne_eqb c 0 p)
-
-  pub near_jam : k ≡ 0 → Mixed ≡ kind_near c k
-  unfolding kind_near
-  near_jam q = by_test (eqb c 0) (λ p. rw (p, eq-eqb k 0 q)) (λ p. rw p)
-
-  pub near_from : c ≡ 0 → (k ≡ 0 → ⊥) → From ≡ kind_near c k
-  unfolding kind_near
-  near_from p q = rw (eq-eqb c 0 p, ne_eqb k 0 q)
-
-  module _ (near : Bool) where
-    pub heard_near : (r : Kind) → r ≡ kind_near c k → near ≡ true → r ≡ kind_heard c near k
-    unfolding kind_heard
-    heard_near r e b = rw b e
-
-    pub heard_silent : near ≡ false → c ≡ 0 → Silent ≡ kind_heard c near k
-    unfolding kind_heard
-    heard_silent b p = rw (b, eq-eqb c 0 p)
-
-    pub heard_line : near ≡ false → (c ≡ 0 → ⊥) → c ≡ 1 → Line ≡ kind_heard c near k
-    unfolding kind_heard
-    heard_line b p q = rw (b, ne_eqb c 0 p, eq-eqb c 1 q)
-
-    pub heard_spoiled : near ≡ false → (c ≡ 0 → ⊥) → (c ≡ 1 → ⊥) → Mixed ≡ kind_heard c near k
-    unfolding kind_heard
-    heard_spoiled b p q = rw (b, ne_eqb c 0 p, ne_eqb c 1 q)
 
 -- ---- the code: a segment
 
@@ -324,7 +278,7 @@ module _ (x : List ℕ) (j t : ℕ) (w : Near) (k s m : ℕ) (b : Bool) (eb : b 
   segment_several h F v l = mixed_several (line_from x j t) w (sends F k) (s + v) (begun_later w.d2 s v (sym eb ∙ h))
 
   pub segment_one : b ≡ false → (few most : ℕ) (run : LineRun) (near : Bool) (K : Kind)
-      → K ≡ kind_heard run.kind near k → near ≡ begun w.d1 s → RunOf (line_from x j t) s run → run.len ≤ most
+      → K ≡ kind_heard (kind_number run.kind) near k → near ≡ begun w.d1 s → RunOf (line_from x j t) s run → run.len ≤ most
       → most ≡ before w.d2 s few → few ≡ before w.d1 s m
       → Segmented x j t w k s (record { kind = K; len = run.len })
   unfolding Segmented RunOf H M
@@ -332,6 +286,6 @@ module _ (x : List ℕ) (j t : ℕ) (w : Near) (k s m : ℕ) (b : Bool) (eb : b 
       let long = before_long w.d2 s few in
       subst (λ (q : Kind). Says (mixed (line_from x j t) w (sends F k)) (λ v. arrival_at x j (t + v)) F k w.d1 s q
       run.len) (sym eK)
-      (says_heard x j t w k s run.len run.kind F r
+      (says_heard x j t w k s run.len (kind_number run.kind) F r
       (λ v l. before_same w.d2 s few v (omega arith) ∙ sym eb ∙ h) near en
       (λ v l. before_same w.d1 s m v (omega arith)))

@@ -1,13 +1,12 @@
 -- Laws of the nearest emitters: what they are, what they bring, and one law for each way through the code that finds
 -- them. Assumes nothing.
 use Prim.Native.Nat.{ℕ, zero, suc, ◌+◌, ◌-◌, ◌≤◌, ◌<◌}
-use Rattle.std.specs.Prelude.{◌≡◌, Bool, true, false, not, List, eqb, ltb, leb, length, get_or, set}
+use Rattle.std.specs.Prelude.{◌≡◌, Bool, true, false, List, eqb, ltb, leb, length, get_or, set}
 use Rattle.std.proofs.Math.Path.{refl, sym, ap, ap₂}
-use Rattle.std.proofs.Common.{◌∙◌, subst, add-one, leb-true, leb-false, get_or-set_other}
+use Rattle.std.proofs.Common.{◌∙◌, subst, add-one, leb-true, leb-false, get_or-set_other, get_or-take, length-take-le, take}
 use Rattle.std.proofs.Math.Bool.{true≢false}
 use native.Mathlib.Omega.{arith}
-use borrow.Author.Tests.{eq-eqb, ne_eqb, eqb-true, eqb-false, lt-ltb, le-ltb, ltb-true, ltb-false, le-leb, lt-leb}
-use Rattle.std.proofs.lemmas.Bool.{not-true, not-false}
+use borrow.Author.Tests.{eq-eqb, ne_eqb, eqb-true, eqb-false, lt-ltb, le-ltb, ltb-true, ltb-false}
 use Rattle.std.proofs.Math.Seq.{get_or-set_same}
 use Rattle.octets.specs.Base.{pick}
 use Rattle.octets.specs.BaseLaws.{by_test, by_eq}
@@ -327,19 +326,6 @@ module _ (a : List ℕ) (j s : ℕ) (sp : Spread (count_at a) a) (hj : j < count
 
 -- ---- the code
 
-module _ (w : Near) (i d : ℕ) where
-  pub nearer_first : d < w.d1 → record { from = i; d1 = d; d2 = w.d1 } ≡ nearer w i d
-  unfolding nearer
-  nearer_first h = rw (lt-ltb d w.d1 h)
-
-  pub nearer_second : w.d1 ≤ d → d < w.d2 → record { from = w.from; d1 = w.d1; d2 = d } ≡ nearer w i d
-  unfolding nearer
-  nearer_second g h = rw (le-ltb d w.d1 g, lt-ltb d w.d2 h)
-
-  pub nearer_not : w.d1 ≤ d → w.d2 ≤ d → w ≡ nearer w i d
-  unfolding nearer
-  nearer_not g h = rw (le-ltb d w.d1 g, le-ltb d w.d2 h)
-
 -- an emitter by its code
 emits_code : (c m : ℕ) → 3 ≤ c → emits (transmitter_of c m) ≡ true
 unfolding transmitter_of
@@ -420,12 +406,6 @@ module _ (a : List ℕ) (j i : ℕ) (w : Near) where
 
 -- ---- the list of those that emit
 
-pub count_more : (c k : ℕ) → 3 ≤ k → c + 1 ≡ pick (leb 3 k) (c + 1) c
-count_more c k h = rw (le-leb 3 k h)
-
-pub count_same : (c k : ℕ) → k < 3 → c ≡ pick (leb 3 k) (c + 1) c
-count_same c k h = rw (lt-leb 3 k h)
-
 module _ (a : List ℕ) where
   abbrev by_list : List ℕ → (j c : ℕ) → Near
   by_list l j c = turns (λ k w. noted (emits_at a) (space_to a j) j (get_or l k 0) w) c no_near
@@ -484,6 +464,16 @@ module _ (a : List ℕ) where
 
   pub lists_end : (n i c : ℕ) (l : List ℕ) → i ≤ n → n ≤ i → Lists a i l c → Lists a n l c
   lists_end n i c l p q v = let z : i ≡ n = omega arith in subst (λ (k : ℕ). Lists a k l c) z v
+
+  -- the part of a list that counts
+  pub lists_front : (n c : ℕ) (l : List ℕ) → c ≤ length l → Lists a n l c → Lists a n (take c l) (length (take c l))
+  unfolding Lists
+  lists_front n c l h v =
+      let front : (k : ℕ) → k < c → get_or (take c l) k 0 ≡ get_or l k 0 = λ k g. get_or-take c l k 0 g in
+      rw (length-take-le c l h) (
+        λ k g. rw (front k g) (v.0 k g),
+        λ j. list_same (take c l) l j c front ∙ v.1 j,
+      )
 
   module _ (n c : ℕ) (l : List ℕ) (v : Lists a n l c) where
     pub listed_few : (k : ℕ) → k < c → n ≤ max_stations → get_or l k 0 < max_stations

@@ -1,20 +1,18 @@
 -- Laws for the code of a jump. Assumes nothing.
 use Rattle.std.specs.Prelude.{ℕ, ◌+◌, ◌≤◌, ◌<◌, ◌≡◌, length}
-use Rattle.std.proofs.Math.Path.{refl, ap}
-use Rattle.std.proofs.Common.{sym, ◌∙◌, arith, ne_eqb}
+use Rattle.std.proofs.Math.Path.{ap}
+use Rattle.std.proofs.Common.{◌∙◌, arith}
 use mathlib.Core.List.{List}
 use Rattle.octets.specs.Turns.{turns_none, turns_more, turns_end}
 use Rattle.sheet_layout.specs.declared.Figures.{Figures}
 use Rattle.station_state.specs.declared.Station.{Station}
 use Rattle.area.specs.Places.{layout, station}
-use Rattle.area.specs.Area.{clock_at, with_clock, figures_at, count_at, station_at, with_station}
+use Rattle.area.specs.Area.{figures_at, station_at, with_station}
 use Rattle.area.specs.AreaLaws.{station_by}
 use Rattle.fast_silence.specs.Rested.{rested}
-use Rattle.fast_silence.specs.Jump.{rested_all, jumped}
+use Rattle.fast_silence.specs.Jump.{rested_all}
 use Rattle.fast_silence.proofs.Jump.{rested_length, rested_keeps}
-use Rattle.fast_silence.specs.Bound.{silent_for, skipped}
-use Rattle.fast_silence.proofs.Bound.{silent_most}
-use Rattle.sheet_layout.specs.Limits.{last_clock, max_stations}
+use Rattle.sheet_layout.specs.Limits.{max_stations}
 use Rattle.area.specs.Offsets.{area_size}
 
 module _ (a : List ℕ) (m : ℕ) where
@@ -41,24 +39,3 @@ module _ (a : List ℕ) (m : ℕ) where
   pub all_end : (n k : ℕ) (x : List ℕ) → k ≤ n → n ≤ k → x ≡ rested_all a m k a → x ≡ rested_all a m n a
   unfolding rested_all
   all_end n k x h g e = turns_end _ n k a x h g e
-
-  pub jump_is : (n t : ℕ) (x b : List ℕ) → n ≡ count_at a → t ≡ clock_at a → x ≡ rested_all a m n a
-      → b ≡ with_clock x (t + m) → b ≡ jumped m a
-  unfolding jumped
-  jump_is n t x b en et ex eb = eb ∙ rw (ex, en, et)
-
-  -- ---- a jump where it is worth it
-
-  pub skip_none : (r : ℕ) → r ≡ silent_for m a → r ≡ 0 → 0 ≡ silent_for m a
-  skip_none r p e = sym e ∙ p
-
-  pub skipped_none : a ≡ skipped 0 a
-  unfolding skipped
-  skipped_none = refl
-
-  pub skipped_some : (r : ℕ) (b : List ℕ) → (r ≡ 0 → ⊥) → b ≡ jumped r a → b ≡ skipped r a
-  unfolding skipped
-  skipped_some r b ne e = rw (ne_eqb r 0 ne) e
-
-  pub skip_room : (r : ℕ) → r ≡ silent_for m a → clock_at a + m ≤ last_clock → clock_at a + r ≤ last_clock
-  skip_room r p h = omega (arith, silent_most a m)

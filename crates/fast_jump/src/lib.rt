@@ -18,16 +18,14 @@ fn rest_all(area: &mut [u8], n: usize, m: u32, f: Figures)
         × (f ≡ figures_at area.old) }
     ensures { area.new ≡ rested_all area.old m n area.old }
 {
-    let mut i: usize = 0;
-    while i < n {
+    for i in 0..n {
         let s = area::read_station(area, i);
-        let next = fast_rest::rest(f, m, s);
-        area::write_station(area, i, next);
-        i += 1;
+        area::write_station(area, i, fast_rest::rest(f, m, s));
     }
 }
 
 // m steps of a silence that lasts so long.
+#[tactic(auto, using(bus_spec::specs::Ready::ready_few, fast_search::specs::SearchLaws::ready_gap), unfolding(fast_silence::specs::Jump::jumped))]
 fn jump(area: &mut [u8], m: u32)
     requires { (area_size ≤ length area.old) × (clock_at area.old + m ≤ last_clock) × Ready area.old }
     ensures { area.new ≡ jumped m area.old }
@@ -40,6 +38,7 @@ fn jump(area: &mut [u8], m: u32)
 }
 
 // Of the next m steps those that are silence, where they are worth a jump: says how many.
+#[tactic(auto, using(fast_silence::proofs::Bound::silent_most), unfolding(fast_silence::specs::Bound::skipped))]
 pub fn skip(area: &mut [u8], m: u32) -> u32
     requires { (area_size ≤ length area.old) × (clock_at area.old + m ≤ last_clock) × Ready area.old }
     ensures steps { result ≡ silent_for m area.old }

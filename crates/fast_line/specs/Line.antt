@@ -9,6 +9,8 @@ use Rattle.station_symbols.specs.declared.Symbol.{Symbol}
 use Rattle.station_symbols.specs.declared.Symbol.TheVariants.{Bit, Jam}
 use Rattle.station_symbols.specs.Packet.{hears_any, packet_bit}
 use Rattle.area.specs.Area.{arrival_at, heard_code, alone, with_symbol}
+use Rattle.fast_line.specs.declared.LineKind.{LineKind}
+use Rattle.fast_line.specs.declared.LineKind.TheVariants.{Empty, Bits, Noise}
 use Rattle.fast_line.specs.declared.LineRun.{LineRun}
 use Rattle.area.specs.Offsets.{ring}
 
@@ -19,6 +21,17 @@ abbrev pub kind_of : Heard → ℕ
 kind_of Nothing = 0
 kind_of (Clean b) = 1
 kind_of Spoiled = 2
+
+-- the kind as the code names it, and its number
+abbrev pub line_kind : Heard → LineKind
+line_kind Nothing = Empty
+line_kind (Clean b) = Bits
+line_kind Spoiled = Noise
+
+abbrev pub kind_number : LineKind → ℕ
+kind_number Empty = 0
+kind_number Bits = 1
+kind_number Noise = 2
 
 unfoldable pub kind_at : List ℕ → (j u : ℕ) → ℕ
 kind_at a j u = kind_of (arrival_at a j u)
@@ -38,7 +51,7 @@ lasts a j u k m = first_of (other_kind a j u k) m
 
 -- the kind of place u, and how many of the m places from there on have it
 unfoldable pub run_at : List ℕ → (j u m : ℕ) → LineRun
-run_at a j u m = record { kind = kind_at a j u; len = lasts a j u (kind_at a j u) m }
+run_at a j u m = record { kind = line_kind (arrival_at a j u); len = lasts a j u (kind_at a j u) m }
 
 -- n places from u on are of kind k. Shut, so that a search does not enter it
 unfoldable pub AllOf : List ℕ → (j u k n : ℕ) → Type 0

@@ -1,9 +1,9 @@
 -- Laws of a line over many places: what a kind that lasts says of each place, and one law for each way through the
 -- code. Assumes nothing.
 use Prim.Native.Nat.{ℕ, zero, suc, ◌+◌, ◌-◌, ◌*◌, ◌/◌, ◌%◌, ◌^◌, ◌≤◌, ◌<◌, min}
-use Rattle.std.specs.Prelude.{◌≡◌, Bool, ◌||◌, ◌&&◌, eqb, leb, ltb, length, get_or}
+use Rattle.std.specs.Prelude.{◌≡◌, Bool, ◌||◌, eqb, leb, ltb, length, get_or}
 use Rattle.std.proofs.Math.Path.{refl, sym, ap, ap₂, subst}
-use Rattle.std.proofs.Common.{◌∙◌, true≢false, mod-lt, add-one, get_or-set_same, get_or-set_other}
+use Rattle.std.proofs.Common.{◌∙◌, true≢false, mod-lt, add-one, get_or-set_same, get_or-set_other, replicate, take, drop, get_or-take, get_or-drop}
 use Rattle.std.proofs.Math.Bool.{true, false, not}
 use mathlib.Core.List.{List}
 use native.Mathlib.Omega.{arith}
@@ -12,10 +12,15 @@ use borrow.Author.Tests.{ltb-false}
 use Rattle.std.specs.Int.Bits.{bit_or, bit_xor, or_add_and, xor_add_and}
 use Rattle.std.proofs.lemmas.Nat.{and_le_l, and_le_r}
 use Rattle.std.proofs.Math.ListN.{set}
-use Rattle.std.proofs.lemmas.List.{set-get_or}
+use Rattle.std.proofs.lemmas.List.{set-get_or, length-replicate, get_or-replicate}
+use Rattle.std.proofs.lemmas.List.Edits.{paste_none, fill_from_more, sets}
+use Rattle.std.proofs.lemmas.Slice.{put_mid-paste}
+use borrow.Rule.Slice.PartMut.{put_mid}
+use lib.Seq.{paste}
 use Rattle.octets.specs.Base.{pick, some}
 use Rattle.octets.specs.BaseLaws.{by_test, by_eq, neither, none_below, some_hit}
-use Rattle.octets.specs.Store.{length_part}
+use Rattle.octets.specs.Store.{length_part, octet_same, octet_other}
+use Rattle.octets.specs.Lent.{put_all}
 use Rattle.octets.specs.Turns.{turns, turns_none, turns_more, turns_end}
 use Rattle.station_symbols.specs.declared.Heard.{Heard}
 use Rattle.station_symbols.specs.declared.Heard.TheVariants.{Nothing, Clean, Spoiled}
@@ -23,14 +28,14 @@ use Rattle.station_symbols.specs.declared.Symbol.{Symbol}
 use Rattle.station_symbols.specs.declared.Symbol.TheVariants.{Silence, Bit}
 use Rattle.station_symbols.specs.Packet.{hears_any, packet_bit}
 use Rattle.station_symbols.specs.PacketLaws.{frame_bit_lem, bit_alternates, bit_delimits, bit_of_frame}
-use Rattle.area.specs.Places.{frame}
 use Rattle.area.specs.Area.{frame_at, heard_of, heard_code, symbol_at, arrival_at, with_arrival, alone, with_symbol, max_code}
-use Rattle.area.specs.AreaLaws.{frame_by, arrival_turn}
+use Rattle.area.specs.AreaLaws.{arrival_turn}
 use Rattle.area.specs.CodeLaws.{heard_nothing, heard_zero, heard_one, heard_spoiled as code-spoiled, joined_code}
 use Rattle.bus_meeting.specs.Gather.{joined_none}
 use Rattle.fast_plan.specs.Push.{cleared, joined_at, on_way}
-use Rattle.fast_plan.specs.Placed.{way_only}
-use Rattle.fast_line.specs.Line.{kind_of, kind_at, first_of, other_kind, lasts, run_at, AllOf, in_use, is_clear}
+use Rattle.fast_line.specs.declared.LineKind.{LineKind}
+use Rattle.fast_line.specs.declared.LineKind.TheVariants.{Empty, Bits, Noise}
+use Rattle.fast_line.specs.Line.{kind_of, line_kind, kind_number, kind_at, first_of, other_kind, lasts, run_at, AllOf, in_use, is_clear}
 use Rattle.fast_line.specs.Line.{bits_from, jams, Coded, Below, codes_put}
 use Rattle.area.specs.Offsets.{area_size, ring, from, the_line, the_frame, frame_room}
 use Rattle.sheet_layout.specs.Limits.{max_stations}
@@ -98,6 +103,27 @@ module _ (c : ℕ) where
       let d : (c ≡ 2 → ⊥) = λ e. omega arith in
       ap kind_of (code-spoiled c a b d)
 
+pub kind_numbered : (h : Heard) → kind_number (line_kind h) ≡ kind_of h
+kind_numbered Nothing = refl
+kind_numbered (Clean b) = refl
+kind_numbered Spoiled = refl
+
+number_low : (k : LineKind) → kind_number k ≤ 2
+number_low Empty = omega arith
+number_low Bits = omega arith
+number_low Noise = omega arith
+
+abbrev kind_named : ℕ → LineKind
+kind_named v = pick (eqb v 0) Empty (pick (eqb v 1) Bits Noise)
+
+named_back : (k : LineKind) → kind_named (kind_number k) ≡ k
+named_back Empty = refl
+named_back Bits = refl
+named_back Noise = refl
+
+number_same : (x y : LineKind) → kind_number x ≡ kind_number y → x ≡ y
+number_same x y e = sym (named_back x) ∙ ap kind_named e ∙ named_back y
+
 pub kind_nothing : (h : Heard) → kind_of h ≡ 0 → h ≡ Nothing
 kind_nothing Nothing e = refl
 kind_nothing (Clean b) e = absurd (omega (arith, e))
@@ -125,51 +151,54 @@ module _ (a : List ℕ) (j u : ℕ) where
   unfolding lasts other_kind
   lasts_other k m h = eqb-false (kind_at a j (u + lasts a j u k m)) k (not-true _ (first_at (other_kind a j u k) m h))
 
-  read_kind : (x c s : ℕ) → x ≡ kind_of (heard_of c) → c ≡ symbol_at a j (u + s) → kind_at a j (u + s) ≡ x
+  read_kind : (x : LineKind) (c s : ℕ) → x ≡ line_kind (heard_of c) → c ≡ symbol_at a j (u + s)
+      → kind_at a j (u + s) ≡ kind_number x
   unfolding kind_at arrival_at
-  read_kind x c s ex ec = sym (ex ∙ ap (λ (y : ℕ). kind_of (heard_of y)) ec)
+  read_kind x c s ex ec =
+      sym (ap kind_number ex ∙ kind_numbered (heard_of c) ∙ ap (λ (y : ℕ). kind_of (heard_of y)) ec)
 
-  pub lasts_more : (k s x c : ℕ) → x ≡ kind_of (heard_of c) → c ≡ symbol_at a j (u + s) → x ≡ k
-      → some (other_kind a j u k) s ≡ false → some (other_kind a j u k) (s + 1) ≡ false
+  pub lasts_more : (k x : LineKind) (s c : ℕ) → x ≡ line_kind (heard_of c) → c ≡ symbol_at a j (u + s) → x ≡ k
+      → some (other_kind a j u (kind_number k)) s ≡ false → some (other_kind a j u (kind_number k)) (s + 1) ≡ false
   unfolding some other_kind
-  lasts_more k s x c ex ec ek n = rw (add-one s, n, eq-eqb (kind_at a j (u + s)) k (read_kind x c s ex ec ∙ ek))
+  lasts_more k x s c ex ec ek n =
+      rw (add-one s, n, eq-eqb (kind_at a j (u + s)) (kind_number k) (read_kind x c s ex ec ∙ ap kind_number ek))
 
-  pub lasts_hit : (k m s x c : ℕ) → x ≡ kind_of (heard_of c) → c ≡ symbol_at a j (u + s) → (x ≡ k → ⊥) → s < m
-      → some (other_kind a j u k) s ≡ false → s ≡ lasts a j u k m
+  pub lasts_hit : (k x : LineKind) (m s c : ℕ) → x ≡ line_kind (heard_of c) → c ≡ symbol_at a j (u + s) → (x ≡ k → ⊥)
+      → s < m → some (other_kind a j u (kind_number k)) s ≡ false → s ≡ lasts a j u (kind_number k) m
   unfolding lasts other_kind
-  lasts_hit k m s x c ex ec ne h n =
-      first_hit (other_kind a j u k) m s h n
-      (ap not (ne_eqb (kind_at a j (u + s)) k (λ z. ne (sym (read_kind x c s ex ec) ∙ z))))
+  lasts_hit k x m s c ex ec ne h n =
+      first_hit (other_kind a j u (kind_number k)) m s h n
+      (ap not (ne_eqb (kind_at a j (u + s)) (kind_number k)
+      (λ z. ne (number_same x k (sym (read_kind x c s ex ec) ∙ z)))))
 
-  pub lasts_end : (k m s : ℕ) → s ≤ m → m ≤ s → some (other_kind a j u k) s ≡ false → s ≡ lasts a j u k m
+  pub lasts_end : (k m s : ℕ) → s ≤ m → m ≤ s → some (other_kind a j u k) s ≡ false → m ≡ lasts a j u k m
   unfolding lasts
-  lasts_end k m s p q n = first_end (other_kind a j u k) m s p q n
+  lasts_end k m s p q n = let e : m ≡ s = omega arith in e ∙ first_end (other_kind a j u k) m s p q n
 
-  here : (x c : ℕ) → x ≡ kind_of (heard_of c) → c ≡ symbol_at a j u → x ≡ kind_at a j u
-  unfolding kind_at arrival_at
-  here x c ex ec = ex ∙ ap (λ (y : ℕ). kind_of (heard_of y)) ec
+  here : (x : LineKind) (c : ℕ) → x ≡ line_kind (heard_of c) → c ≡ symbol_at a j u → x ≡ line_kind (arrival_at a j u)
+  unfolding arrival_at
+  here x c ex ec = ex ∙ ap (λ (y : ℕ). line_kind (heard_of y)) ec
 
-  pub run_is : (m x c l : ℕ) → l ≡ lasts a j u x m → x ≡ kind_of (heard_of c) → c ≡ symbol_at a j u
-      → record { kind = x; len = l } ≡ run_at a j u m
+  here_number : (x : LineKind) (c : ℕ) → x ≡ line_kind (heard_of c) → c ≡ symbol_at a j u → kind_number x ≡ kind_at a j u
+  unfolding kind_at
+  here_number x c ex ec = ap kind_number (here x c ex ec) ∙ kind_numbered (arrival_at a j u)
+
+  pub run_is : (m c l : ℕ) (x : LineKind) → l ≡ lasts a j u (kind_number x) m → x ≡ line_kind (heard_of c)
+      → c ≡ symbol_at a j u → record { kind = x; len = l } ≡ run_at a j u m
   unfolding run_at
-  run_is m x c l el ex ec =
-      let e : x ≡ kind_at a j u = here x c ex ec in
-      λ i. record { kind = e i; len = (el ∙ ap (λ (k : ℕ). lasts a j u k m) e) i }
+  run_is m c l x el ex ec =
+      λ i. record {
+        kind = here x c ex ec i;
+        len = (el ∙ ap (λ (k : ℕ). lasts a j u k m) (here_number x c ex ec)) i;
+      }
 
-  pub kind_low : (x c : ℕ) → x ≡ kind_of (heard_of c) → x ≤ 2
-  kind_low x c e = subst (λ (k : ℕ). k ≤ 2) (sym e) (low (heard_of c))
-    where
-      low : (h : Heard) → kind_of h ≤ 2
-      low Nothing = omega arith
-      low (Clean b) = omega arith
-      low Spoiled = omega arith
-
-  pub run_some : (m x c l : ℕ) → l ≡ lasts a j u x m → x ≡ kind_of (heard_of c) → c ≡ symbol_at a j u → 0 < m → 0 < l
-  run_some m x c l el ex ec h =
+  pub run_some : (m c l : ℕ) (x : LineKind) → l ≡ lasts a j u (kind_number x) m → x ≡ line_kind (heard_of c)
+      → c ≡ symbol_at a j u → 0 < m → 0 < l
+  run_some m c l x el ex ec h =
       by_eq l 0
-      (λ z. let o : lasts a j u x m ≡ 0 = sym el ∙ z in
-      let w : u + lasts a j u x m ≡ u = omega arith in
-      absurd (lasts_other x m (omega arith) (ap (kind_at a j) w ∙ sym (here x c ex ec))))
+      (λ z. let o : lasts a j u (kind_number x) m ≡ 0 = sym el ∙ z in
+      let w : u + lasts a j u (kind_number x) m ≡ u = omega arith in
+      absurd (lasts_other (kind_number x) m (omega arith) (ap (kind_at a j) w ∙ sym (here_number x c ex ec))))
       (λ z. omega (arith, z))
 
 -- ---- sixteen places at once
@@ -210,10 +239,10 @@ module _ (a : List ℕ) (j p k : ℕ) where
   unfolding AllOf
   differ_none e = λ i h. absurd (omega arith)
 
-  pub differ_more : (n other c next : ℕ) → k ≤ 2 → c ≡ symbol_at a j (p + n)
+  differ_more_lem : (n other c next : ℕ) → k ≤ 2 → c ≡ symbol_at a j (p + n)
       → next ≡ bit_or other (bit_xor (c / 2 + c % 2) k) → Differ a j p k n other → Differ a j p k (n + 1) next
   unfolding AllOf kind_at arrival_at
-  differ_more n other c next h ec en d e =
+  differ_more_lem n other c next h ec en d e =
       let q = or_none other (bit_xor (c / 2 + c % 2) k) (sym en ∙ e) in
       let w = kind_half c k h (xor_same (c / 2 + c % 2) k q.1) in
       λ i l. by_eq i n
@@ -222,6 +251,14 @@ module _ (a : List ℕ) (j p k : ℕ) where
 
   pub differ_end : (m n other : ℕ) → n ≤ m → m ≤ n → Differ a j p k n other → eqb other 0 ≡ true → AllOf a j p k m
   differ_end m n other lo up d e = let z : n ≡ m = omega arith in subst (AllOf a j p k) z (d (eqb-true other 0 e))
+
+-- the same of a kind by its number
+pub differ_more : (a : List ℕ) (j p : ℕ) (k : LineKind) (n other c v next : ℕ) → v ≡ kind_number k
+    → c ≡ symbol_at a j (p + n) → next ≡ bit_or other (bit_xor (c / 2 + c % 2) v)
+    → Differ a j p (kind_number k) n other → Differ a j p (kind_number k) (n + 1) next
+differ_more a j p k n other c v next ev ec en d =
+    differ_more_lem a j p (kind_number k) n other c next (number_low k) ec
+    (en ∙ ap (λ (w : ℕ). bit_or other (bit_xor (c / 2 + c % 2) w)) ev) d
 
 -- ---- places in a row
 
@@ -361,13 +398,34 @@ module _ (t j : ℕ) (x : List ℕ) where
   cleared_end m s y p q r = turns_end _ m s x y p q r
 
 -- a place of a row
-pub cleared_row : (u j : ℕ) (x : List ℕ) (s n p : ℕ) (y : List ℕ) → p ≡ from (the_line j) + u % ring
+place_cleared : (u j : ℕ) (x : List ℕ) (s n p : ℕ) (y : List ℕ) → p ≡ from (the_line j) + u % ring
     → u % ring + n ≤ ring → s < n → y ≡ cleared u j s x
     → set y (p + s) 0 ≡ cleared u j (s + 1) x
 unfolding with_arrival
-cleared_row u j x s n p y ep h hs ey =
+place_cleared u j x s n p y ep h hs ey =
     let e : p + s ≡ from (the_line j) + (u + s) % ring = omega arith in
     cleared_more u j x s y (set y (p + s) 0) (ap (λ (k : ℕ). set y k 0) e) ey
+
+row_long : (x : List ℕ) (p n k : ℕ) → p + n ≤ length x → k ≡ n → length (take k (drop p x)) ≡ n
+row_long x p n k room ek = ap (λ (i : ℕ). length (take i (drop p x))) ek ∙ length_part x p n room
+
+-- a row, as the library's `fill` leaves it
+row_filled : (u j : ℕ) (x : List ℕ) (p m n : ℕ) → p ≡ from (the_line j) + u % ring → u % ring + m ≤ ring → n ≤ m
+    → p + m ≤ length x → paste x p (replicate n 0) n ≡ cleared u j n x
+row_filled u j x p m zero ep h le room = sym (paste_none x p (replicate 0 0)) ∙ cleared_none u j x
+row_filled u j x p m (suc n) ep h le room =
+    let e : set (paste x p (replicate n 0) n) (p + n) 0 ≡ paste x p (replicate (n + 1) 0) (n + 1) =
+    fill_from_more x p n 0 (omega arith) in
+    subst (λ (k : ℕ). paste x p (replicate k 0) k ≡ cleared u j k x) (add-one n)
+    (sym e ∙ place_cleared u j x n m p (paste x p (replicate n 0) n) ep h (omega arith)
+    (row_filled u j x p m n ep h (omega arith) room))
+
+pub cleared_row : (u j n p k : ℕ) (x z : List ℕ) → p ≡ from (the_line j) + u % ring → u % ring + n ≤ ring
+    → p + n ≤ length x → k ≡ n → z ≡ replicate (length (take k (drop p x))) 0 → put_mid p k x z ≡ cleared u j n x
+cleared_row u j n p k x z ep h room ek ez =
+    put_mid-paste p k x z (replicate n 0) n (ez ∙ ap (λ (i : ℕ). replicate i 0) (row_long x p n k room ek)) (sym ek)
+    (sym (length-replicate n 0))
+    ∙ row_filled u j x p n n ep h (omega arith) room
 
 -- one row after the other
 cleared_after : (t j s n : ℕ) (x : List ℕ) → cleared (t + s) j n (cleared t j s x) ≡ cleared t j (s + n) x
@@ -440,13 +498,6 @@ bits_noted cs ds F at p m f K k n c e ef l room ep em hn h =
     noted_more cs p m K (bits_from F k) n c (note_fits cs ds at p m K n l room ep em hn)
     (e ∙ ap (λ (g : ℕ). heard_code (alone (Bit (packet_bit F (k + (g + n)))))) ef) h
 
-pub jam_noted : (cs ds : List ℕ) (at p m K n : ℕ) → length cs ≡ length ds → at + ring ≤ length ds → p ≡ at + (ring - m)
-    → m ≡ min ring K → n < m → Noted cs p m K jams n
-    → Noted (set cs (p + n) 3) p m K jams (n + 1)
-unfolding jams
-jam_noted cs ds at p m K n l room ep em hn h =
-    noted_more cs p m K jams n 3 (note_fits cs ds at p m K n l room ep em hn) refl h
-
 coded_by : (cs : List ℕ) (at p m K : ℕ) (Q : ℕ → Symbol) (n : ℕ) → m ≡ min ring K → p ≡ at + (ring - m) → m ≤ n
     → ((s : ℕ) → heard_code (alone (Q s)) ≡ 0 → ⊥)
     → Noted cs p m K Q n → Coded cs at K Q
@@ -465,20 +516,45 @@ unfolding bits_from
 bits_coded cs F G at p m K k n em ep hn e h =
     coded_by cs at p m K (bits_from G k) n em ep hn (λ s. bit_sounds (packet_bit G (k + s))) (rw e at h)
 
-pub jam_coded : (cs : List ℕ) (at p m K n : ℕ) → m ≡ min ring K → p ≡ at + (ring - m) → m ≤ n → Noted cs p m K jams n
-    → Coded cs at K jams
-unfolding jams
-jam_coded cs at p m K n em ep hn h = coded_by cs at p m K jams n em ep hn (λ s z. omega (arith, z)) h
-
 -- what lies before is kept
 pub below_same : (at : ℕ) (cs : List ℕ) → Below at cs cs
 unfolding Below
 below_same at cs p h = refl
 
-pub below_more : (at p n c m : ℕ) (ds cs : List ℕ) → p ≡ at + (ring - m) → Below at ds cs
-    → Below at ds (set cs (p + n) c)
+pub below_more : (at b n c : ℕ) (ds cs : List ℕ) → Below at ds cs → Below at ds (set cs (at + b + n) c)
 unfolding Below
-below_more at p n c m ds cs ep h q hq = get_or-set_other cs (p + n) q c 0 (λ w. omega arith) ∙ h q hq
+below_more at b n c ds cs h q hq = get_or-set_other cs (at + b + n) q c 0 (λ w. omega arith) ∙ h q hq
+
+-- jam, as the library's `fill` leaves it
+module _ (ds zs : List ℕ) (at p m k K : ℕ) (em : m ≡ min ring K) (ep : p ≡ at + (ring - m)) (room : at + ring ≤ length ds)
+    (ek : k ≡ m) (ez : zs ≡ replicate (length (take k (drop p ds))) 3) where
+  threes : List ℕ
+  threes = replicate m 3
+
+  threes_long : length threes ≡ m
+  unfolding threes
+  threes_long = length-replicate m 3
+
+  jam_put : put_mid p k ds zs ≡ sets ds p threes
+  unfolding threes
+  jam_put =
+      let e : zs ≡ threes = ez ∙ ap (λ (i : ℕ). replicate i 3) (row_long ds p m k (omega arith) ek) in
+      ap₂ (λ (i : ℕ) (l : List ℕ). put_mid p i ds l) ek e
+      ∙ put_all threes ds p m (sym threes_long) (omega (arith, threes_long))
+
+  jam_noted : Noted (sets ds p threes) p m K jams m
+  unfolding jams threes
+  jam_noted v h =
+      octet_same threes ds p v (omega (arith, threes_long)) (omega (arith, threes_long)) ∙ get_or-replicate m v 3 0 h
+
+  pub jam_coded : Coded (put_mid p k ds zs) at K jams
+  unfolding jams
+  jam_coded =
+      rw jam_put (coded_by (sets ds p threes) at p m K jams m em ep (omega arith) (λ s z. omega (arith, z)) jam_noted)
+
+  pub jam_below : Below at ds (put_mid p k ds zs)
+  unfolding Below
+  jam_below q hq = rw jam_put (octet_other threes ds p q (λ a b. omega arith))
 
 pub below_coded : (at b K : ℕ) (Q : ℕ → Symbol) (ds cs : List ℕ) → Below b ds cs → at + ring ≤ b → Coded ds at K Q
     → Coded cs at K Q
@@ -497,12 +573,12 @@ note_room x F i n k K m f s e hi hn room em ef hs hk =
 -- ---- symbols put
 
 module _ (j u : ℕ) (cs : List ℕ) (at : ℕ) (x : List ℕ) where
-  pub codes_none : x ≡ codes_put j u cs at 0 x
+  codes_none : x ≡ codes_put j u cs at 0 x
   unfolding codes_put
   codes_none = turns_none _ x
 
   -- a place of a row
-  pub codes_row : (s n p c v : ℕ) (y : List ℕ) → p ≡ from (the_line j) + u % ring → u % ring + n ≤ ring → s < n
+  codes_row : (s n p c v : ℕ) (y : List ℕ) → p ≡ from (the_line j) + u % ring → u % ring + n ≤ ring → s < n
       → v ≡ pick (eqb (get_or y (p + s) 0) 0) c max_code → c ≡ get_or cs (at + s) 0 → y ≡ codes_put j u cs at s x
       → set y (p + s) v ≡ codes_put j u cs at (s + 1) x
   unfolding codes_put with_symbol symbol_at
@@ -512,10 +588,6 @@ module _ (j u : ℕ) (cs : List ℕ) (at : ℕ) (x : List ℕ) where
       (ap (set y (p + s)) (ev ∙ ap (pick (eqb (get_or y (p + s) 0) 0) _) refl)
       ∙ ap₂ (λ (k d : ℕ). set y k (pick (eqb (get_or y k 0) 0) d max_code)) e ec)
       ey
-
-  pub codes_end : (n s : ℕ) (y : List ℕ) → s ≤ n → n ≤ s → y ≡ codes_put j u cs at s x → y ≡ codes_put j u cs at n x
-  unfolding codes_put
-  codes_end n s y p q h = turns_end _ n s x y p q h
 
   codes_after : (n k : ℕ) → codes_put j (u + n) cs (at + n) k (codes_put j u cs at n x) ≡ codes_put j u cs at (n + k) x
   unfolding codes_put turns
@@ -529,6 +601,39 @@ module _ (j u : ℕ) (cs : List ℕ) (at : ℕ) (x : List ℕ) where
       ∙ turns_more (λ (i : ℕ) (z : List ℕ). with_symbol z j (u + i) (get_or cs (at + i) 0)) (n + k) x
       (codes_put j u cs at (n + k) x) _ refl refl
       ∙ ap (λ (i : ℕ). codes_put j u cs at i x) g
+
+pub row_room : (u n p k : ℕ) (cs : List ℕ) → p + n ≤ length cs → k ≡ n → u % ring + n ≤ ring
+    → u % ring + length (take k (drop p cs)) ≤ ring
+row_room u n p k cs room ek h = omega (arith, row_long cs p n k room ek)
+
+-- a row of its own
+module _ (j u : ℕ) (cs x : List ℕ) where
+  pub row_none : x ≡ codes_put j u cs 0 0 x
+  row_none = codes_none j u cs 0 x
+
+  pub row_more : (s p v : ℕ) (y : List ℕ) → p ≡ from (the_line j) + u % ring → u % ring + length cs ≤ ring → s < length cs
+      → v ≡ pick (eqb (get_or y (p + s) 0) 0) (get_or cs s 0) max_code → y ≡ codes_put j u cs 0 s x
+      → set y (p + s) v ≡ codes_put j u cs 0 (s + 1) x
+  row_more s p v y ep h hs ev ey =
+      let z : s ≡ 0 + s = omega arith in
+      codes_row j u cs 0 x s (length cs) p (get_or cs s 0) v y ep h hs ev (ap (λ (i : ℕ). get_or cs i 0) z) ey
+
+-- a part of the codes
+module _ (j u : ℕ) (cs : List ℕ) (k n : ℕ) (x : List ℕ) (room : k + n ≤ length cs) where
+  codes_part : (m : ℕ) → m ≤ n → codes_put j u (take n (drop k cs)) 0 m x ≡ codes_put j u cs k m x
+  unfolding codes_put turns
+  codes_part zero h = refl
+  codes_part (suc m) h =
+      let z : 0 + m ≡ m = omega arith in
+      ap₂ (λ (c : ℕ) (y : List ℕ). with_symbol y j (u + m) c)
+      (ap (λ (i : ℕ). get_or (take n (drop k cs)) i 0) z ∙ get_or-take n (drop k cs) m 0 (omega arith) ∙ get_or-drop k cs m 0)
+      (codes_part m (omega arith))
+
+  pub row_put : (i : ℕ) (y : List ℕ) → i ≡ n
+      → y ≡ codes_put j u (take i (drop k cs)) 0 (length (take i (drop k cs))) x → y ≡ codes_put j u cs k n x
+  row_put i y ei ey =
+      ey ∙ ap₂ (λ (v w : ℕ). codes_put j u (take v (drop k cs)) 0 w x) ei (row_long cs k n i room ei)
+      ∙ codes_part n (omega arith)
 
 both_rows : (m w n : ℕ) → n ≡ min w m → n + (m - n) ≡ m
 both_rows m w n e = omega arith

@@ -9,47 +9,55 @@ ghost use Rattle.station_symbols.specs.declared.Symbol.TheVariants.{Bit};
 ghost use Rattle.station_symbols.specs.Packet.{packet_bit};
 ghost use Rattle.area.specs.Area.{heard_of, heard_code, symbol_at, alone, frame_at};
 ghost use Rattle.fast_plan.specs.Push.{cleared};
-ghost use Rattle.fast_line.specs.Line.{kind_of, lasts, run_at, AllOf, is_clear, bits_from, jams, Coded, Below};
+ghost use Rattle.fast_line.specs.Line.{line_kind, kind_number, lasts, run_at, AllOf, is_clear, bits_from, jams, Coded, Below};
 ghost use Rattle.fast_line.specs.Line.{codes_put};
 ghost use Rattle.area.specs.Offsets.{area_size, ring, frame_room};
 ghost use Rattle.sheet_layout.specs.Limits.{max_stations};
 
 use station_symbols::Heard;
 
-// Places of one kind, and how many: 0 nothing, 1 clean bits, 2 spoiled.
+// What places of a line hold: nothing, clean bits, or spoiled symbols.
+#[derive(Clone, Copy, PartialEq, Eq)]
+pub enum LineKind {
+    Empty,
+    Bits,
+    Noise,
+}
+
+// Places of one kind, and how many.
 #[derive(Clone, Copy)]
 pub struct LineRun {
-    pub kind: u8,
+    pub kind: LineKind,
     pub len: usize,
 }
 
 // Whether nothing is on its way to station j. The codes are put together without a branch: many are looked at at once.
+#[tactic(auto, using(crate::specs::LineLaws::clear_none, crate::specs::LineLaws::clear_more, crate::specs::LineLaws::clear_end))]
 pub fn is_clear(area: &[u8], j: usize) -> bool
     requires { (j < max_stations) × (area_size ≤ length area.now) }
     ensures { result ≡ is_clear area.now j }
 {
     let mut all: u8 = 0;
-    let mut u: usize = 0;
-    while u < area::RING {
-        all = all | area_line::read_symbol(area, j, u);
-        u += 1;
+    for u in 0..area::RING {
+        all |= area_line::read_symbol(area, j, u);
     }
     all == 0
 }
 
-fn kind_of(code: u8) -> u8
-    ensures { result ≡ kind_of (heard_of code) }
+// What a place holds, by its code: how the area keeps a line.
+#[tactic(auto, unfolding(area::specs::Area::heard_of))]
+fn kind_of(code: u8) -> LineKind
+    ensures { result ≡ line_kind (heard_of code) }
 {
-    if code == 0 {
-        return 0;
+    match code {
+        0 => LineKind::Empty,
+        1 | 2 => LineKind::Bits,
+        _ => LineKind::Noise,
     }
-    if code <= 2 {
-        return 1;
-    }
-    2
 }
 
 // The code at place p of the line of station j.
+#[tactic(auto, using(crate::specs::LineLaws::code_is))]
 fn code_at(area: &[u8], j: usize, p: usize) -> u8
     requires { (j < max_stations) × (area_size ≤ length area.now) × (p < ring) }
     ensures { result ≡ symbol_at area.now j p }
@@ -58,26 +66,26 @@ fn code_at(area: &[u8], j: usize, p: usize) -> u8
 }
 
 // Whether the n places from p on are of this kind. Without a branch: they are looked at at once. Half of a code,
-// rounded up, is its kind.
-fn are_alike(area: &[u8], j: usize, p: usize, kind: u8, n: usize) -> bool
-    requires { (j < max_stations) × (area_size ≤ length area.now) × (p + n ≤ ring) × (kind ≤ 2) }
-    ensures { result ≡ true → AllOf area.now j p kind n }
+// rounded up, is the number of its kind.
+fn are_alike(area: &[u8], j: usize, p: usize, kind: LineKind, n: usize) -> bool
+    requires { (j < max_stations) × (area_size ≤ length area.now) × (p + n ≤ ring) }
+    ensures { result ≡ true → AllOf area.now j p (kind_number kind) n }
 {
+    let number = kind as u8;
     let mut other: u8 = 0;
-    let mut i: usize = 0;
-    while i < n {
+    for i in 0..n {
         let code = code_at(area, j, p + i);
-        other = other | ((code / 2 + code % 2) ^ kind);
-        i += 1;
+        other |= (code / 2 + code % 2) ^ number;
     }
     other == 0
 }
 
-// Of the m places from p on, the first s of which are of this kind, n more at a time as long as all of them are.
-fn go_on(area: &[u8], j: usize, p: usize, kind: u8, m: usize, s: usize, n: usize) -> usize
-    requires { (j < max_stations) × (area_size ≤ length area.now) × (p + m ≤ ring) × (kind ≤ 2) × (s ≤ m) × (0 < n)
-        × (n ≤ 16) × AllOf area.now j p kind s }
-    ensures alike { AllOf area.now j p kind result }
+// Of the m places from p on, the first s of which are of this kind, n more at a time as long as all of them are. A
+// `while`: `(s..m + 1 - n).step_by(n)` would leave to be reckoned again where it ended.
+fn go_on(area: &[u8], j: usize, p: usize, kind: LineKind, m: usize, s: usize, n: usize) -> usize
+    requires { (j < max_stations) × (area_size ≤ length area.now) × (p + m ≤ ring) × (s ≤ m) × (0 < n)
+        × (n ≤ 16) × AllOf area.now j p (kind_number kind) s }
+    ensures alike { AllOf area.now j p (kind_number kind) result }
     ensures bound { result ≤ m }
 {
     let mut k = s;
@@ -91,28 +99,26 @@ fn go_on(area: &[u8], j: usize, p: usize, kind: u8, m: usize, s: usize, n: usize
 }
 
 // How many of the m places from p on, which lie in a row, are of this kind, up to the first that is not.
-fn lasting_row(area: &[u8], j: usize, p: usize, kind: u8, m: usize) -> usize
-    requires { (j < max_stations) × (area_size ≤ length area.now) × (p + m ≤ ring) × (kind ≤ 2) }
-    ensures same { result ≡ lasts area.now j p kind m }
+fn lasting_row(area: &[u8], j: usize, p: usize, kind: LineKind, m: usize) -> usize
+    requires { (j < max_stations) × (area_size ≤ length area.now) × (p + m ≤ ring) }
+    ensures same { result ≡ lasts area.now j p (kind_number kind) m }
     ensures bound { result ≤ m }
 {
     let many = go_on(area, j, p, kind, m, 0, 16);
     let few = go_on(area, j, p, kind, m, many, 4);
-    let mut s = few;
-    while s < m {
-        let k = kind_of(code_at(area, j, p + s));
-        if k != kind {
+    for s in few..m {
+        if kind_of(code_at(area, j, p + s)) != kind {
             return s;
         }
-        s += 1;
     }
-    s
+    m
 }
 
 // How many of the m places from u on are of this kind, up to the first that is not.
-fn lasting(area: &[u8], j: usize, u: usize, kind: u8, m: usize) -> usize
-    requires { (j < max_stations) × (area_size ≤ length area.now) × (m ≤ ring) × (kind ≤ 2) }
-    ensures same { result ≡ lasts area.now j u kind m }
+#[tactic(auto, using(crate::specs::LineLaws::row_stop, crate::specs::LineLaws::row_again))]
+fn lasting(area: &[u8], j: usize, u: usize, kind: LineKind, m: usize) -> usize
+    requires { (j < max_stations) × (area_size ≤ length area.now) × (m ≤ ring) }
+    ensures same { result ≡ lasts area.now j u (kind_number kind) m }
     ensures bound { result ≤ m }
 {
     let p = u % area::RING;
@@ -125,6 +131,7 @@ fn lasting(area: &[u8], j: usize, u: usize, kind: u8, m: usize) -> usize
 }
 
 // The kind of place u, and how many of the m places from there on have it.
+#[tactic(auto, using(crate::specs::LineLaws::run_is, crate::specs::LineLaws::run_some))]
 pub fn line_run(area: &[u8], j: usize, u: usize, m: usize) -> LineRun
     requires { (j < max_stations) × (area_size ≤ length area.now) × (m ≤ ring) × (0 < m) }
     ensures run { result ≡ run_at area.now j u m }
@@ -141,14 +148,10 @@ fn clear_row(area: &mut [u8], j: usize, u: usize, n: usize)
     ensures { area.new ≡ cleared u j n area.old }
 {
     let first = area::LINES_AT + area::RING * j + u % area::RING;
-    let mut s: usize = 0;
-    while s < n {
-        area[first + s] = 0;
-        s += 1;
-    }
+    area[first..first + n].fill(0);
 }
 
-// The m places of station j from step t on become nothing.
+// The m places of station j from step t on become nothing, row by row: a `while`, since a row's length is found at each.
 pub fn clear(area: &mut [u8], j: usize, t: usize, m: usize)
     requires { (j < max_stations) × (area_size ≤ length area.old) × (t + m < 4294967296) }
     ensures { area.new ≡ cleared t j m area.old }
@@ -164,6 +167,7 @@ pub fn clear(area: &mut [u8], j: usize, t: usize, m: usize)
 
 // The code of bit k of the packet that carries a frame. Reckoned and not chosen: a choice by a frame's bits is foreseen
 // wrong half the time.
+#[tactic(auto, using(crate::specs::LineLaws::code_alternates, crate::specs::LineLaws::code_delimits, crate::specs::LineLaws::code_of_frame))]
 fn bit_code(frame: &[u8], k: usize) -> u8
     requires { k < 65 + 8 * length frame.now }
     ensures { result ≡ heard_code (alone (Bit (packet_bit frame.now k))) }
@@ -202,10 +206,8 @@ pub fn note_bits(
     let m = bus_quick::capped(area::RING, steps);
     let from = steps - m;
     let first = at + (area::RING - m);
-    let mut put: usize = 0;
-    while put < m {
+    for put in 0..m {
         codes[first + put] = bit_code(frame, k + (from + put));
-        put += 1;
     }
 }
 
@@ -217,24 +219,18 @@ pub fn note_jam(steps: usize, codes: &mut [u8], at: usize)
 {
     let m = bus_quick::capped(area::RING, steps);
     let first = at + (area::RING - m);
-    let mut s: usize = 0;
-    while s < m {
-        codes[first + s] = 3;
-        s += 1;
-    }
+    codes[first..first + m].fill(area::SPOILED);
 }
 
-// Puts n codes, from the one at `at` on, on the line of station j from step u on; the places lie in a row.
-fn put_row(area: &mut [u8], j: usize, u: usize, codes: &[u8], at: usize, n: usize)
-    requires { (j < max_stations) × (area_size ≤ length area.old) × (u % ring + n ≤ ring)
-        × (at + n ≤ length codes.now) }
-    ensures { area.new ≡ codes_put j u codes.now at n area.old }
+// Puts the codes on the line of station j from step u on; the places lie in a row.
+#[tactic(auto, using(crate::specs::LineLaws::row_none, crate::specs::LineLaws::row_more))]
+fn put_row(area: &mut [u8], j: usize, u: usize, codes: &[u8])
+    requires { (j < max_stations) × (area_size ≤ length area.old) × (u % ring + length codes.now ≤ ring) }
+    ensures { area.new ≡ codes_put j u codes.now 0 (length codes.now) area.old }
 {
     let first = area::LINES_AT + area::RING * j + u % area::RING;
-    let mut s: usize = 0;
-    while s < n {
-        area[first + s] = area_line::mixed(area[first + s], codes[at + s]);
-        s += 1;
+    for s in 0..codes.len() {
+        area[first + s] = area_line::mixed(area[first + s], codes[s]);
     }
 }
 
@@ -259,6 +255,6 @@ pub fn push_codes(
     let u = t + (steps - m + d);
     let k = at + (area::RING - m);
     let n = bus_quick::capped(area::RING - u % area::RING, m);
-    put_row(area, j, u, codes, k, n);
-    put_row(area, j, u + n, codes, k + n, m - n);
+    put_row(area, j, u, &codes[k..k + n]);
+    put_row(area, j, u + n, &codes[k + n..k + m]);
 }

@@ -3,7 +3,7 @@
 use Prim.Native.Nat.{ℕ, zero, suc, ◌+◌, ◌-◌, ◌*◌, ◌≤◌, ◌<◌, min}
 use Rattle.std.specs.Prelude.{◌≡◌, Bool, true, false, eqb, length}
 use Rattle.std.proofs.Math.Path.{refl, sym, ap, ap₂, subst}
-use Rattle.std.proofs.Common.{◌∙◌, arith}
+use Rattle.std.proofs.Common.{◌∙◌, true≢false, arith}
 use mathlib.Core.List.{List}
 use borrow.Author.Tests.{eq-eqb, ne_eqb, eqb-true, eqb-false}
 use Rattle.std.proofs.Math.ListN.{get_or}
@@ -19,7 +19,7 @@ use Rattle.station_state.specs.declared.Transmitter.TheVariants.{NoFrame, Waitin
 use Rattle.station_state.specs.declared.Transmitter.TheVariants.{Jamming}
 use Rattle.station_spec.specs.Transmit.{octets_held}
 use Rattle.area_record.specs.Codec.{transmitter_of, decoded}
-use Rattle.area.specs.Places.{Part, clock, layout, frame, place, Keeps}
+use Rattle.area.specs.Places.{Part, clock, layout, frame, Keeps}
 use Rattle.area.specs.Area.{clock_at, figures_at, count_at, position_at, distance, space_at, record_at, station_at, frame_at}
 use Rattle.area.specs.Area.{symbol_at, max_code}
 use Rattle.area.specs.AreaLaws.{clock_by, count_by, space_by, symbol_by, frame_by}
@@ -38,7 +38,8 @@ use Rattle.fast_line.specs.LineLaws.{clear_line, way_same, way_silent, way_coded
 use Rattle.fast_station.specs.Forms.{emits_for}
 use Rattle.fast_heard.specs.Hearing.{goes_on, held_at, plan_of, emits}
 use Rattle.fast_lines.specs.declared.Emitter.{Emitter}
-use Rattle.fast_lines.specs.Lines.{silent, emitter_of, emitter_at, emitters_of, silence, emitted, plan_by, Enough}
+use Rattle.fast_lines.specs.declared.Emitter.TheVariants.{Silent, Sender, Jammer}
+use Rattle.fast_lines.specs.Lines.{octets_in, bit_in, emitter_of, emitter_at, emitters_of, silence, emitted, plan_by, Enough}
 use Rattle.fast_lines.specs.Lines.{AllEnough, CodedFrom, AllCoded, Pushes, pushed_from, Settles}
 use Rattle.sheet_layout.specs.Limits.{last_clock, max_stations}
 use Rattle.area.specs.Offsets.{ring, frame_room}
@@ -46,7 +47,7 @@ use Rattle.area_record.specs.Words.{phase_word, phase_number_word, frame_word}
 
 -- ---- the code: what a station is about to emit
 
-code_silent : (c m z : ℕ) → c < 3 → silent ≡ emitter_of (transmitter_of c m) z
+code_silent : (c m z : ℕ) → c < 3 → Silent ≡ emitter_of (transmitter_of c m) z
 unfolding transmitter_of
 code_silent c m z h =
     by_test (eqb c 0)
@@ -55,7 +56,7 @@ code_silent c m z h =
     (λ q. rw (p, q))
     (λ q. let r : eqb c 2 ≡ true = eq-eqb c 2 (omega (arith, eqb-false c 0 p, eqb-false c 1 q)) in rw (p, q, r)))
 
-code_jams : (c m z : ℕ) → 4 < c → record { kind = 2; bit = 0; octets = 0 } ≡ emitter_of (transmitter_of c m) z
+code_jams : (c m z : ℕ) → 4 < c → Jammer ≡ emitter_of (transmitter_of c m) z
 unfolding transmitter_of
 code_jams c m z h =
     rw (
@@ -67,7 +68,7 @@ code_jams c m z h =
       ne_eqb c 4 (λ y. omega arith),
     )
 
-code_sends : (c m z : ℕ) → 3 ≤ c → c ≤ 4 → record { kind = 1; bit = m; octets = z } ≡ emitter_of (transmitter_of c m) z
+code_sends : (c m z : ℕ) → 3 ≤ c → c ≤ 4 → Sender m z ≡ emitter_of (transmitter_of c m) z
 unfolding transmitter_of
 code_sends c m z h g =
     let p : eqb c 0 ≡ false = ne_eqb c 0 (λ y. omega arith) in
@@ -85,50 +86,32 @@ module _ (a : List ℕ) (i : ℕ) where
   by_words = refl
 
   pub emitter_silent : (c : ℕ) → c ≡ get_or (record_at a i) phase_word 0 → c < 3
-      → record { kind = 0; bit = 0; octets = 0 } ≡ emitter_at a i
+      → Silent ≡ emitter_at a i
   emitter_silent c e h =
       code_silent (get_or (record_at a i) phase_word 0) (get_or (record_at a i) phase_number_word 0)
       (get_or (record_at a i) frame_word 0) (omega arith) ∙ by_words
 
   pub emitter_jams : (c : ℕ) → c ≡ get_or (record_at a i) phase_word 0 → 4 < c
-      → record { kind = 2; bit = 0; octets = 0 } ≡ emitter_at a i
+      → Jammer ≡ emitter_at a i
   emitter_jams c e h =
       code_jams (get_or (record_at a i) phase_word 0) (get_or (record_at a i) phase_number_word 0)
       (get_or (record_at a i) frame_word 0) (omega arith) ∙ by_words
 
   pub emitter_sends : (c m z : ℕ) → z ≡ get_or (record_at a i) frame_word 0 → m ≡ get_or (record_at a i) phase_number_word 0
-      → c ≡ get_or (record_at a i) phase_word 0 → 3 ≤ c → c ≤ 4 → record { kind = 1; bit = m; octets = z } ≡ emitter_at a i
+      → c ≡ get_or (record_at a i) phase_word 0 → 3 ≤ c → c ≤ 4 → Sender m z ≡ emitter_at a i
   emitter_sends c m z ez em e lo up =
-      (λ k. record { kind = 1; bit = em k; octets = ez k })
+      (λ k. Sender (em k) (ez k))
       ∙ code_sends (get_or (record_at a i) phase_word 0) (get_or (record_at a i) phase_number_word 0)
       (get_or (record_at a i) frame_word 0) (omega arith)
       (omega arith)
       ∙ by_words
 
-pub emitters_end : (a : List ℕ) (n i : ℕ) (es : List Emitter) → i ≤ n → n ≤ i → es ≡ filled silent (emitter_at a) i
+pub emitters_end : (a : List ℕ) (n i : ℕ) (es : List Emitter) → i ≤ n → n ≤ i → es ≡ filled Silent (emitter_at a) i
     → es ≡ emitters_of a n
 unfolding emitters_of
-emitters_end a n i es p q r = filled_end silent (emitter_at a) n i es p q r
+emitters_end a n i es p q r = filled_end Silent (emitter_at a) n i es p q r
 
 -- ---- the code: the symbols of one station to another
-
-module _ (F : List ℕ) (e : Emitter) where
-  emitted_none : e.kind ≡ 0 → emitted F e ≡ silence
-  unfolding emitted
-  emitted_none h =
-      ap (λ (b : Bool). pick b silence (pick (eqb e.kind 1) (bits_from F e.bit) jams)) (eq-eqb e.kind 0 h)
-
-  emitted_bits : (e.kind ≡ 0 → ⊥) → e.kind ≡ 1 → emitted F e ≡ bits_from F e.bit
-  unfolding emitted
-  emitted_bits p q =
-      ap₂ (λ (b c : Bool). pick b silence (pick c (bits_from F e.bit) jams)) (ne_eqb e.kind 0 p)
-      (eq-eqb e.kind 1 q)
-
-  emitted_jam : (e.kind ≡ 0 → ⊥) → (e.kind ≡ 1 → ⊥) → emitted F e ≡ jams
-  unfolding emitted
-  emitted_jam p q =
-      ap₂ (λ (b c : Bool). pick b silence (pick c (bits_from F e.bit) jams)) (ne_eqb e.kind 0 p)
-      (ne_eqb e.kind 1 q)
 
 none_silent : (s : ℕ) → silence s ≡ Silence
 unfolding silence
@@ -139,18 +122,17 @@ module _ (j t K i : ℕ) (e : Emitter) (x : List ℕ) where
   unfolding pushed_from
   push_own h = rw (eq-eqb i j h)
 
-  pub push_silent : Pushes j t K i e x → e.kind ≡ 0 → x ≡ pushed_from j t K i e x
-  unfolding pushed_from
+  pub push_silent : Pushes j t K i e x → e ≡ Silent → x ≡ pushed_from j t K i e x
+  unfolding pushed_from emitted
   push_silent p h =
       let d = space_at x i j in
-      let F = frame_at x i e.octets in
       by_test (eqb i j)
       (λ b. rw b)
-      (λ b. rw b (sym (ap (λ (Q : ℕ → Symbol). on_way t d K Q j (min d K) x) (emitted_none F e h)
-      ∙ way_silent t d K silence j (min d K) x (omega arith) (λ s l. none_silent s) p.codes)))
+      (λ b. rw (b, h)
+      (sym (way_silent t d K silence j (min d K) x (omega arith) (λ s l. none_silent s) p.codes)))
 
   push_by : (d : ℕ) (Q : ℕ → Symbol) (z : List ℕ) → (i ≡ j → ⊥) → d ≡ space_at x i j
-      → emitted (frame_at x i e.octets) e ≡ Q → z ≡ on_way t d K Q j (min d K) x → z ≡ pushed_from j t K i e x
+      → emitted (frame_at x i (octets_in e)) e ≡ Q → z ≡ on_way t d K Q j (min d K) x → z ≡ pushed_from j t K i e x
   unfolding pushed_from
   push_by d Q z ne ed eQ ez =
       rw (ne_eqb i j ne) (ez ∙ ap₂ (λ (g : ℕ) (R : ℕ → Symbol). on_way t g K R j (min g K) x) ed (sym eQ))
@@ -158,10 +140,10 @@ module _ (j t K i : ℕ) (e : Emitter) (x : List ℕ) where
   pub push_coded : (cs : List ℕ) (d p q : ℕ) (z : List ℕ) → Pushes j t K i e x → CodedFrom cs K i e x
       → z ≡ codes_put j (t + (K - d + d)) cs (256 * i + (ring - min d K)) (min d K) x → d ≡ distance p q
       → q ≡ position_at x j → p ≡ position_at x i
-      → (e.kind ≡ 0 → ⊥) → (i ≡ j → ⊥) → z ≡ pushed_from j t K i e x
+      → (e ≡ Silent → ⊥) → (i ≡ j → ⊥) → z ≡ pushed_from j t K i e x
   unfolding CodedFrom
   push_coded cs d p q z h c ez ed eq ep some ne =
-      let Q = emitted (frame_at x i e.octets) e in
+      let Q = emitted (frame_at x i (octets_in e)) e in
       let w = space_is x i j d p q ed eq ep in
       push_by d Q z ne w refl (ez ∙ way_coded t d K Q j cs (ring * i) x (min d K) (omega (arith, w, h.near))
       (omega arith) (c some))
@@ -178,26 +160,24 @@ module _ (j t K i : ℕ) (e : Emitter) (x : List ℕ) where
 -- ---- the code: the codes of what is emitted
 
 module _ (K i : ℕ) (e : Emitter) (x cs : List ℕ) where
-  pub note_silent : e.kind ≡ 0 → CodedFrom cs K i e x
+  pub note_silent : e ≡ Silent → CodedFrom cs K i e x
   unfolding CodedFrom
   note_silent h = λ ne. absurd (ne h)
 
-  pub note_sends : Coded cs (ring * i) K (bits_from (frame_at x i e.octets) e.bit) → e.kind ≡ 1 → (e.kind ≡ 0 → ⊥)
+  pub note_sends : (k z : ℕ) → Coded cs (ring * i) K (bits_from (frame_at x i z) k) → e ≡ Sender k z
       → CodedFrom cs K i e x
-  unfolding CodedFrom
-  note_sends c one some =
-      λ ne. subst (Coded cs (ring * i) K) (sym (emitted_bits (frame_at x i e.octets) e some one)) c
+  unfolding CodedFrom emitted
+  note_sends k z c h = λ ne. rw h c
 
-  pub note_jams : Coded cs (ring * i) K jams → (e.kind ≡ 1 → ⊥) → (e.kind ≡ 0 → ⊥) → CodedFrom cs K i e x
-  unfolding CodedFrom
-  note_jams c other some =
-      λ ne. subst (Coded cs (ring * i) K) (sym (emitted_jam (frame_at x i e.octets) e some other)) c
+  pub note_jams : Coded cs (ring * i) K jams → e ≡ Jammer → CodedFrom cs K i e x
+  unfolding CodedFrom emitted
+  note_jams c h = λ ne. rw h c
 
-  pub note_frame : Enough K e → e.octets ≤ frame_room
-  note_frame h = h.frame
+  pub note_frame : (k z : ℕ) → Enough K e → e ≡ Sender k z → z ≤ frame_room
+  note_frame k z h e = rw e at h.frame
 
-  pub note_enough : Enough K e → e.kind ≡ 1 → e.bit + K ≤ 65 + 8 * e.octets
-  note_enough h one = h.bits one
+  pub note_enough : (k z : ℕ) → Enough K e → e ≡ Sender k z → k + K ≤ 65 + 8 * z
+  note_enough k z h e = h.bits k z e
 
 module _ (K : ℕ) (es : List Emitter) (x : List ℕ) where
   pub all_noted_none : (cs : List ℕ) → AllCoded cs K es x 0
@@ -205,20 +185,20 @@ module _ (K : ℕ) (es : List Emitter) (x : List ℕ) where
   all_noted_none cs i h = absurd (omega arith)
 
   pub all_noted_more : (n : ℕ) (ds cs : List ℕ) → AllCoded ds K es x n → Below (ring * n) ds cs
-      → CodedFrom cs K n (get_or es n silent) x → AllCoded cs K es x (n + 1)
+      → CodedFrom cs K n (get_or es n Silent) x → AllCoded cs K es x (n + 1)
   unfolding AllCoded CodedFrom
   all_noted_more n ds cs a b c i h =
       by_test (eqb i n)
       (λ p. let z : n ≡ i = sym (eqb-true i n p)
-      in subst (λ (k : ℕ). ((get_or es k silent).kind ≡ 0 → ⊥) → Coded cs (ring * k) K
-      (emitted (frame_at x k (get_or es k silent).octets) (get_or es k silent))) z c)
+      in subst (λ (k : ℕ). (get_or es k Silent ≡ Silent → ⊥) → Coded cs (ring * k) K
+      (emitted (frame_at x k (octets_in (get_or es k Silent))) (get_or es k Silent))) z c)
       (λ p. let z = eqb-false i n p in λ ne. below_coded (ring * i) (ring * n) K _ ds cs b (omega (arith, z))
       (a i (omega (arith, z)) ne))
 
   pub all_noted_end : (m n : ℕ) (cs : List ℕ) → n ≤ m → m ≤ n → AllCoded cs K es x n → AllCoded cs K es x m
   all_noted_end m n cs p q a = let z : n ≡ m = omega arith in subst (AllCoded cs K es x) z a
 
-  pub enough_at : (n i : ℕ) → AllEnough K es n → i < n → Enough K (get_or es i silent)
+  pub enough_at : (n i : ℕ) → AllEnough K es n → i < n → Enough K (get_or es i Silent)
   unfolding AllEnough
   enough_at n i a h = a i h
 
@@ -265,8 +245,8 @@ module _ (n t K : ℕ) (es : List Emitter) (x : List ℕ) (s : Settles n t K es 
   unfolding AllCoded CodedFrom
   coded_on cs y k a i h =
       let few = s.few in
-      let e = get_or es i silent in
-      let frames = frame_by y x i e.octets (omega arith) (s.enough i h).frame (omega (arith, k.long, s.long))
+      let e = get_or es i Silent in
+      let frames = frame_by y x i (octets_in e) (omega arith) (s.enough i h).frame (omega (arith, k.long, s.long))
       s.long (k.frames i (omega arith)) in
       λ ne. subst (λ (F : List ℕ). Coded cs (ring * i) K (emitted F e)) (sym frames) (a i h ne)
 
@@ -313,7 +293,7 @@ module _ (n t K : ℕ) (es : List Emitter) (x : List ℕ) (s : Settles n t K es 
           subst (Kept n x) (sym ey) (only_kept j hj (λ z. ways_to x (plan_by x es) K j i z)
           (ways_only n j few hj x (plan_by x es) K i))
 
-      pub ways_asks : Pushes j t K i (get_or es i silent) y
+      pub ways_asks : Pushes j t K i (get_or es i Silent) y
       ways_asks =
           let few = s.few in
           let r = settles_on y ways_kept in
@@ -327,20 +307,20 @@ module _ (n t K : ℕ) (es : List Emitter) (x : List ℕ) (s : Settles n t K es 
             enough = r.enough i hi;
           }
 
-      pub ways_coded : (cs : List ℕ) → AllCoded cs K es x n → CodedFrom cs K i (get_or es i silent) y
+      pub ways_coded : (cs : List ℕ) → AllCoded cs K es x n → CodedFrom cs K i (get_or es i Silent) y
       unfolding AllCoded
       ways_coded cs a = coded_on cs y ways_kept a i hi
 
-      pub ways_more : (z : List ℕ) → z ≡ pushed_from j t K i (get_or es i silent) y
+      pub ways_more : (z : List ℕ) → z ≡ pushed_from j t K i (get_or es i Silent) y
           → z ≡ ways_to x (plan_by x es) K j (i + 1) x
       unfolding ways_to pushed_from plan_by
       ways_more z ez =
           let few = s.few in
           let k = ways_kept in
-          let e = get_or es i silent in
+          let e = get_or es i Silent in
           let time = s.time in
           let space = space_by y x i j (omega arith) (omega arith) k.plan in
-          let frames = frame_by y x i e.octets (omega arith) (s.enough i hi).frame
+          let frames = frame_by y x i (octets_in e) (omega arith) (s.enough i hi).frame
           (omega (arith, k.long, s.long)) s.long (k.frames i (omega arith)) in
           turns_more _ i x y z
           (ez ∙ (λ m. pick (eqb i j) y (on_way (time m) (space m) K (emitted (frames m) e) j (min (space m) K) y)))
@@ -403,8 +383,8 @@ module _ (n t K : ℕ) (es : List Emitter) (x : List ℕ) (s : Settles n t K es 
         count = count_by y x k.plan;
         space = λ i hi. space_by y x i j (omega arith) (omega arith) k.plan;
         plan = λ i u hi hu.
-            ap (λ (F : List ℕ). emitted F (get_or es i silent) u)
-            (frame_by y x i (get_or es i silent).octets (omega arith) (s.enough i (omega arith)).frame
+            ap (λ (F : List ℕ). emitted F (get_or es i Silent) u)
+            (frame_by y x i (octets_in (get_or es i Silent)) (omega arith) (s.enough i (omega arith)).frame
             (omega (arith, k.long, s.long)) s.long (k.frames i (omega arith)));
       }
 
@@ -458,7 +438,7 @@ module _ (n t K : ℕ) (es : List Emitter) (x : List ℕ) (s : Settles n t K es 
 
 emitter_plan : (x a : List ℕ) (i s : ℕ) (p : Transmitter) (z : ℕ) → FrameIn p z
     → (z ≤ frame_room → frame_at x i z ≡ frame_at a i z)
-    → emitted (frame_at x i (emitter_of p z).octets) (emitter_of p z) s ≡ symbol_of (frame_at a i (octets_held p z))
+    → emitted (frame_at x i (octets_in (emitter_of p z))) (emitter_of p z) s ≡ symbol_of (frame_at a i (octets_held p z))
     (goes_on p s)
 unfolding emitted silence bits_from jams
 emitter_plan x a i s NoFrame z f h = refl
@@ -472,19 +452,31 @@ plan_same : (x a : List ℕ) (n i s : ℕ) → i < n → FrameIn (station_at a i
     → ((z : ℕ) → z ≤ frame_room → frame_at x i z ≡ frame_at a i z) → plan_by x (emitters_of a n) i s ≡ plan_of a i s
 unfolding plan_by emitters_of plan_of held_at emitter_at
 plan_same x a n i s hi f h =
-    ap (λ (e : Emitter). emitted (frame_at x i e.octets) e s) (filled_at silent (emitter_at a) n i silent hi)
+    ap (λ (e : Emitter). emitted (frame_at x i (octets_in e)) e s) (filled_at Silent (emitter_at a) n i Silent hi)
     ∙ emitter_plan x a i s (station_at a i).transmitter (station_at a i).frame f (h (station_at a i).frame)
 
+abbrev is_sender : Emitter → Bool
+is_sender Silent = false
+is_sender (Sender k z) = true
+is_sender Jammer = false
+
 -- an emitter that may go on for K steps has bits enough for them
+not_sender : (e : Emitter) → (k z : ℕ) → is_sender e ≡ false → e ≡ Sender k z → ⊥
+not_sender e k z n h = true≢false (sym (ap is_sender h) ∙ n)
+
 emitter_enough : (f : Figures) (K : ℕ) (p : Transmitter) (z : ℕ) → NumberIn f z p → FrameIn p z
     → (emits p ≡ true → K ≤ emits_for z p) → Enough K (emitter_of p z)
 unfolding emits_for
-emitter_enough f K NoFrame z n h l = record { frame = omega arith; bits = λ e. absurd (omega arith) }
-emitter_enough f K Waiting z n h l = record { frame = omega arith; bits = λ e. absurd (omega arith) }
-emitter_enough f K (BackingOff w) z n h l = record { frame = omega arith; bits = λ e. absurd (omega arith) }
-emitter_enough f K (Sending k) z n h l = record { frame = omega (arith, h.1); bits = λ e. omega (arith, l refl, n.1) }
-emitter_enough f K (Heading k) z n h l = record { frame = omega (arith, h.1); bits = λ e. omega (arith, l refl, n.1) }
-emitter_enough f K (Jamming m ends) z n h l = record { frame = omega arith; bits = λ e. absurd (omega arith) }
+emitter_enough f K NoFrame z n h l = record { frame = omega arith; bits = λ k y e. absurd (not_sender Silent k y refl e) }
+emitter_enough f K Waiting z n h l = record { frame = omega arith; bits = λ k y e. absurd (not_sender Silent k y refl e) }
+emitter_enough f K (BackingOff w) z n h l =
+    record { frame = omega arith; bits = λ k y e. absurd (not_sender Silent k y refl e) }
+emitter_enough f K (Sending j) z n h l =
+    record { frame = omega (arith, h.1); bits = λ k y e. omega (arith, ap bit_in e, ap octets_in e, l refl, n.1) }
+emitter_enough f K (Heading j) z n h l =
+    record { frame = omega (arith, h.1); bits = λ k y e. omega (arith, ap bit_in e, ap octets_in e, l refl, n.1) }
+emitter_enough f K (Jamming m ends) z n h l =
+    record { frame = omega arith; bits = λ k y e. absurd (not_sender Jammer k y refl e) }
 
 -- the stations have moved on by themselves: what the code asks for, and that it makes the lines of the window
 module _ (a : List ℕ) (r : Readiness a) (P : Plan) (K : ℕ) where
@@ -533,7 +525,7 @@ module _ (a : List ℕ) (r : Readiness a) (P : Plan) (K : ℕ) where
         near = λ i j hi hj. rw (space_by x a i j (omega arith) (omega arith) moved_layout) (r.spread.near i j hi hj);
         codes = λ i u hi. rw (symbol_by x a i u (all_line a P K n i u (omega arith) few)) (r.codes i u hi);
         enough = λ i hi.
-            subst (Enough K) (sym (filled_at silent (emitter_at a) n i silent hi))
+            subst (Enough K) (sym (filled_at Silent (emitter_at a) n i Silent hi))
             (emitter_enough (figures_at a) K (station_at a i).transmitter (station_at a i).frame (r.fine i hi).number
             (r.fine i hi).frame (lasts i hi));
       }

@@ -13,13 +13,12 @@ ghost use Rattle.fast_lines.specs.Lines.{Pushes, pushed_from, Settles};
 ghost use Rattle.sheet_layout.specs.Limits.{last_clock, max_stations};
 ghost use Rattle.area.specs.Offsets.{area_size, ring};
 
-// What a station emits in a window. Kind 0: nothing. Kind 1: its packet's bits from `bit` on, of the frame of so many
-// octets. Kind 2: jam.
+// What a station emits in a window: nothing; its packet's bits from `bit` on, of the frame of so many octets; jam.
 #[derive(Clone, Copy)]
-pub struct Emitter {
-    pub kind: u8,
-    pub bit: u32,
-    pub octets: u32,
+pub enum Emitter {
+    Silent,
+    Sender { bit: u32, octets: u32 },
+    Jammer,
 }
 
 // What station i is about to emit.
@@ -29,26 +28,14 @@ fn read_emitter(area: &[u8], i: usize) -> Emitter
 {
     let phase = area::read_word(area, i, area_record::words::PHASE);
     if phase < 3 {
-        return Emitter {
-            kind: 0,
-            bit: 0,
-            octets: 0,
-        };
+        return Emitter::Silent;
     }
     if 4 < phase {
-        return Emitter {
-            kind: 2,
-            bit: 0,
-            octets: 0,
-        };
+        return Emitter::Jammer;
     }
     let bit = area::read_word(area, i, area_record::words::PHASE_NUMBER);
     let octets = area::read_word(area, i, area_record::words::FRAME);
-    Emitter {
-        kind: 1,
-        bit,
-        octets,
-    }
+    Emitter::Sender { bit, octets }
 }
 
 // What the first n stations are about to emit: to be taken before the stations move on.
@@ -56,17 +43,9 @@ pub fn emitters(area: &[u8], n: usize) -> [Emitter; 16]
     requires { (n ≤ max_stations) × (area_size ≤ length area.now) }
     ensures { result ≡ emitters_of area.now n }
 {
-    let silent = Emitter {
-        kind: 0,
-        bit: 0,
-        octets: 0,
-    };
-    let mut all = [silent; 16];
-    let mut i: usize = 0;
-    while i < n {
-        let e = read_emitter(area, i);
-        all[i] = e;
-        i += 1;
+    let mut all = [Emitter::Silent; 16];
+    for i in 0..n {
+        all[i] = read_emitter(area, i);
     }
     all
 }
@@ -79,14 +58,13 @@ fn note_from(area: &[u8], steps: usize, i: usize, e: Emitter, codes: &mut [u8])
     ensures kept { Below (ring * i) codes.old codes.new }
 {
     let at = area::RING * i;
-    if e.kind == 0 {
-        return;
+    match e {
+        Emitter::Silent => (),
+        Emitter::Sender { bit, octets } => {
+            fast_line::note_bits(area, i, octets as usize, bit as usize, steps, codes, at)
+        }
+        Emitter::Jammer => fast_line::note_jam(steps, codes, at),
     }
-    if e.kind == 1 {
-        fast_line::note_bits(area, i, e.octets as usize, e.bit as usize, steps, codes, at);
-        return;
-    }
-    fast_line::note_jam(steps, codes, at);
 }
 
 // The same of all n stations.
@@ -95,11 +73,9 @@ fn note_all(area: &[u8], n: usize, steps: usize, from: [Emitter; 16], codes: &mu
         × AllEnough steps from n }
     ensures { AllCoded codes.new steps from area.now n }
 {
-    let mut i: usize = 0;
-    while i < n {
+    for i in 0..n {
         let e = from[i];
         note_from(area, steps, i, e, codes);
-        i += 1;
     }
 }
 
@@ -112,7 +88,7 @@ fn push_from(area: &mut [u8], j: usize, t: usize, steps: usize, i: usize, e: Emi
     if i == j {
         return;
     }
-    if e.kind == 0 {
+    if let Emitter::Silent = e {
         return;
     }
     let p = area::read_position(area, i);
@@ -149,11 +125,9 @@ fn push_all(
     ensures { area.new
         ≡ ways_to area.old (plan_by area.old from) steps j n area.old }
 {
-    let mut i: usize = 0;
-    while i < n {
+    for i in 0..n {
         let e = from[i];
         push_from(area, j, t, steps, i, e, codes);
-        i += 1;
     }
 }
 
@@ -191,10 +165,8 @@ fn settle_with(
         ≡ lines_done area.old (plan_by area.old from) steps n area.old }
 {
     note_all(area, n, steps, from, codes);
-    let mut j: usize = 0;
-    while j < n {
+    for j in 0..n {
         settle_line(area, n, j, t, steps, from, codes);
-        j += 1;
     }
 }
 

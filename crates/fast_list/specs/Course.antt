@@ -1,6 +1,6 @@
 -- A run, and steps until an event, by a plan that holds: the whole of it at once, its events within. Assumes nothing.
 use Prim.Native.Nat.{ℕ, zero, suc, ◌+◌, ◌≤◌, ◌<◌}
-use Rattle.std.specs.Prelude.{◌≡◌, refl, Bool, true, false, ltb}
+use Rattle.std.specs.Prelude.{◌≡◌, refl, Bool, true, false, ltb, Some}
 use Rattle.std.proofs.Common.{sym, ◌∙◌}
 use Rattle.std.proofs.Math.Path.{ap, ap₂}
 use mathlib.Core.List.{List, []}
@@ -9,10 +9,9 @@ use Rattle.octets.specs.Base.{pick, accepted}
 use Rattle.octets.specs.Turns.{turns}
 use Rattle.area.specs.Area.{clock_at, count_at}
 use Rattle.bus_spec.specs.declared.Events.{Events}
-use Rattle.bus_spec.specs.declared.course.Ended.TheVariants as how
 use Rattle.bus_spec.specs.BitTime.{events_at, step_area}
 use Rattle.bus_spec.specs.Ready.{Readiness}
-use Rattle.bus_spec.specs.Run.{Ran, tallied, late_at, stops, first, run_of}
+use Rattle.bus_spec.specs.Run.{Ran, tallied, late_at, stops, first, run_of, late_in}
 use Rattle.bus_spec.specs.Until.{Stretched, eventful, one_more, until_event}
 use Rattle.bus_spec.specs.UntilLaws.{plus}
 use Rattle.fast_plan.specs.Plan.{Plan, Holds, steps}
@@ -60,7 +59,7 @@ module _ (a : List ℕ) (P : Plan) (K : ℕ) (ready : Readiness a) where
         answer = accepted [];
         steps = m + 1;
         words = tallied es 16 ws;
-        ended = how.Late m (first (late_at es) 16);
+        ended = Some (late_in m (first (late_at es) 16));
         octets = step_area x;
       }
   unfolding run_of
@@ -73,7 +72,7 @@ module _ (a : List ℕ) (P : Plan) (K : ℕ) (ready : Readiness a) where
         answer = accepted [];
         steps = m + K + 1;
         words = words_all a P (suc K) ws;
-        ended = how.Late (m + K) (first (late_at (events_by a P K)) 16);
+        ended = Some (late_in (m + K) (first (late_at (events_by a P K)) 16));
         octets = turned_of a P (suc K);
       }
   unfolding words_all
@@ -88,7 +87,7 @@ module _ (a : List ℕ) (P : Plan) (K : ℕ) (ready : Readiness a) where
         answer = accepted [];
         steps = m + K + 1;
         words = ws';
-        ended = how.Late (m + K) (first (late_at (events_by a P K)) 16);
+        ended = Some (late_in (m + K) (first (late_at (events_by a P K)) 16));
         octets = x;
       })
       (last_words ∙ words_by_station a P (suc K) ws)

@@ -5,7 +5,8 @@ use Rattle.std.proofs.Common.{sym, ◌∙◌, ap, true≢false, arith, ltb-true,
 use Rattle.std.proofs.Math.Bool.{or-true}
 use Rattle.octets.specs.Base.{pick}
 use Rattle.octets.specs.BaseLaws.{by_test, neither}
-use Rattle.fast_list.specs.Stretches.{Stretch, end_of, sounds, sounds_any}
+use Rattle.fast_list.specs.declared.Stretch.{Stretch}
+use Rattle.fast_list.specs.Stretches.{end_of, sounds, sounds_any}
 
 -- the first step after s, of those up to m, in which a stretch begins to be heard at j
 unfoldable pub next_in : (d : ℕ → ℕ → ℕ) → List Stretch → (j s m : ℕ) → ℕ

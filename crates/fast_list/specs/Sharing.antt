@@ -16,7 +16,8 @@ use Rattle.bus_meeting.specs.Net.{Net, gathered, reaches, heard}
 use Rattle.bus_meeting.specs.Gather.{on, off_is, gathered_none, gathered_one}
 use Rattle.bus_meeting.specs.Meet.{unheard, met_group}
 use Rattle.fast_plan.specs.Plan.{Plan, cut, net_of, line_now, line_after}
-use Rattle.fast_list.specs.Stretches.{Stretch, symbol_in, over, plan_in}
+use Rattle.fast_list.specs.declared.Stretch.{Stretch}
+use Rattle.fast_list.specs.Stretches.{symbol_in, over, plan_in}
 use Rattle.fast_list.specs.Sounding.{Within}
 
 -- ---- what two lots of symbols come to

@@ -18,7 +18,8 @@ use Rattle.bus_meeting.specs.Net.{Net, gathered, reaches, heard}
 use Rattle.bus_meeting.specs.Gather.{on, off_is, gathered_one, gathered_two}
 use Rattle.fast_plan.specs.Plan.{Plan, net_of, line_now, hears}
 use Rattle.fast_list.specs.Grown.{Alike}
-use Rattle.fast_list.specs.Stretches.{Stretch, end_of, symbol_in, over, plan_in, sounds, sounds_of, sounds_any}
+use Rattle.fast_list.specs.declared.Stretch.{Stretch}
+use Rattle.fast_list.specs.Stretches.{end_of, symbol_in, over, plan_in, sounds, sounds_of, sounds_any}
 
 -- ---- one stretch
 

@@ -5,14 +5,7 @@ use Rattle.octets.specs.Base.{pick}
 use Rattle.station_symbols.specs.declared.Symbol.{Symbol}
 use Rattle.station_symbols.specs.declared.Symbol.TheVariants.{Silence, Bit, Jam}
 use Rattle.fast_plan.specs.Plan.{Plan}
-
--- station `who` emits from step `from` on: `bits` packet bits, the first of them `bit`, then `jam` jam bits
-pub record Stretch : Type 0 where
-  pub who : ℕ
-  pub from : ℕ
-  pub bit : ℕ
-  pub bits : ℕ
-  pub jam : ℕ
+use Rattle.fast_list.specs.declared.Stretch.{Stretch}
 
 -- the step after its last one
 abbrev pub end_of : Stretch → ℕ

@@ -1,11 +1,9 @@
 -- A station that moves on over steps of one kind: a law for each way through the code. Assumes nothing.
-use Rattle.std.specs.Prelude.{ℕ, ◌+◌, ◌≤◌, ◌<◌, ◌≡◌, Bool, false, List, length}
+use Rattle.std.specs.Prelude.{ℕ, ◌+◌, ◌≤◌, ◌<◌, ◌≡◌, Bool, false, List}
 use Rattle.std.proofs.Math.Path.{refl, sym, ap}
 use Rattle.std.proofs.Common.{◌∙◌, subst, true≢false}
 use Rattle.std.proofs.Math.Bool.{true}
 use native.Mathlib.Omega.{arith}
-use Rattle.octets.specs.Base.{pick}
-use Rattle.octets.specs.Turns.{turns}
 use Rattle.sheet_layout.specs.declared.Figures.{Figures}
 use Rattle.station_symbols.specs.declared.Heard.{Heard}
 use Rattle.station_symbols.specs.declared.Heard.TheVariants.{Nothing, Clean, Spoiled}
@@ -21,10 +19,11 @@ use Rattle.fast_receive.specs.Received.{spoils, line_from, bits_from, AllHeard, 
 use Rattle.fast_receive.specs.ReceivedLaws.{spoils_heard, bits_heard}
 use Rattle.fast_heard.specs.declared.Kind.{Kind}
 use Rattle.fast_heard.specs.declared.Kind.TheVariants.{Silent, Line, From, Mixed}
-use Rattle.fast_segment.specs.Alone.{Moves, moves_able}
+use Rattle.fast_segment.specs.Alone.{moves_able}
 use Rattle.fast_stretch.specs.Stretch.{heard_stretch, quiet_stretch, Movable}
 use Rattle.fast_stretch.specs.StretchLaws.{fine_movable, bits_room}
-use Rattle.fast_move.specs.Move.{heard_in, is_heard, emitting, rests_all, hears_all, emits_all, can_move, stretched}
+use Rattle.fast_heard.specs.Hearing.{is_heard, emits}
+use Rattle.fast_move.specs.Move.{heard_in, rests_all, hears_all, emits_all, can_move, stretched}
 use Rattle.fast_move.specs.Move.{Moving, Audible, Held}
 use Rattle.fast_move.specs.MoveLaws.{frame_small, moves_once}
 use Rattle.sheet_layout.specs.Limits.{last_clock}
@@ -32,9 +31,9 @@ use Rattle.sheet_layout.specs.Limits.{last_clock}
 -- ---- whether it can go over them at once
 
 module _ (f : Figures) (m : ℕ) (K : Kind) (x : List ℕ) (j : ℕ) (s : Station) (t : Transmitter) (h e r : Bool)
-    (es : s ≡ station_at x j) (et : t ≡ s.transmitter) (eh : h ≡ is_heard K) (ee : e ≡ emitting t) where
-  here : e ≡ emitting (station_at x j).transmitter
-  here = ee ∙ ap emitting (et ∙ ap (λ (q : Station). q.transmitter) es)
+    (es : s ≡ station_at x j) (et : t ≡ s.transmitter) (eh : h ≡ is_heard K) (ee : e ≡ emits t) where
+  here : e ≡ emits (station_at x j).transmitter
+  here = ee ∙ ap emits (et ∙ ap (λ (q : Station). q.transmitter) es)
 
   pub can_emits : e ≡ true → r ≡ emits_all m h s → r ≡ can_move f m K x j
   unfolding can_move
@@ -51,10 +50,10 @@ module _ (f : Figures) (m : ℕ) (K : Kind) (x : List ℕ) (j : ℕ) (s : Statio
       let z : w ≡ (station_at x j).receiver = ew ∙ ap (λ (y : Station). y.receiver) es in
       q ∙ rw (ec, z, es) (rw (sym here ∙ p, sym eh ∙ g))
 
-pub held_here : (s : Station) (t : Transmitter) (e : Bool) → Held s → t ≡ s.transmitter → e ≡ emitting t → e ≡ true
+pub held_here : (s : Station) (t : Transmitter) (e : Bool) → Held s → t ≡ s.transmitter → e ≡ emits t → e ≡ true
     → s.frame < 65536
 unfolding Held
-held_here s t e h et ee p = h (ap emitting (sym et) ∙ sym ee ∙ p)
+held_here s t e h et ee p = h (ap emits (sym et) ∙ sym ee ∙ p)
 
 pub report_room : (f : Figures) (m j : ℕ) (x : List ℕ) (s : Station) (w : Receiver) → Movable f m x j
     → s ≡ station_at x j → w ≡ s.receiver → bits_in w + 0 < 4294967296
@@ -132,19 +131,19 @@ module _ (f : Figures) (D j u : ℕ) (x : List ℕ) (v : Moving f D j u x) where
   unfolding Moving Held
   moving_held s es on =
       let z : (station_at x j).frame ≡ s.frame = ap (λ (q : Station). q.frame) (sym es) in
-      let w : emitting (station_at x j).transmitter ≡ true = ap (λ (q : Station). emitting q.transmitter) (sym es)
+      let w : emits (station_at x j).transmitter ≡ true = ap (λ (q : Station). emits q.transmitter) (sym es)
       ∙ on in
       omega (arith, z, frame_small (station_at x j).transmitter (station_at x j).frame w v.fine.frame)
 
   module _ (K : Kind) (F : List ℕ) (b : ℕ) (y : List ℕ) where
     pub advance_all : (m : ℕ) (s : Station) (t : Transmitter) (c e : Bool) → 0 < m → u + m ≤ last_clock
         → Audible K x j u m → s ≡ station_at x j → t ≡ s.transmitter
-        → e ≡ emitting t → c ≡ can_move f m K x j → c ≡ true → y ≡ stretched f e K m j x u F b
+        → e ≡ emits t → c ≡ can_move f m K x j → c ≡ true → y ≡ stretched f e K m j x u F b
         → y ≡ by_itself f D j (heard_in K x j u F b) m x
     unfolding Moving
     advance_all m s t c e pos early a es et ee ec p ey =
-        let z : e ≡ emitting (station_at x j).transmitter = ee
-        ∙ ap emitting (et ∙ ap (λ (q : Station). q.transmitter) es) in
+        let z : e ≡ emits (station_at x j).transmitter = ee
+        ∙ ap emits (et ∙ ap (λ (q : Station). q.transmitter) es) in
         ey ∙ ap (λ (w : Bool). stretched f w K m j x u F b) z
         ∙ moves_once f D j u x v m pos early K F b (all_heard K x j u F b m a) (sym ec ∙ p)
 

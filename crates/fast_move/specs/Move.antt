@@ -1,18 +1,14 @@
 -- What a station hears in steps of one kind, and what it must be for them to be taken at once. Assumes nothing.
-use Rattle.std.specs.Prelude.{ℕ, ◌+◌, ◌≤◌, ◌<◌, ◌≡◌, Bool, true, false, not, ◌&&◌, List, leb}
+use Rattle.std.specs.Prelude.{ℕ, ◌<◌, ◌≡◌, Bool, true, false, not, ◌&&◌, List, leb}
 use Rattle.octets.specs.Base.{pick}
 use Rattle.sheet_layout.specs.declared.Figures.{Figures}
 use Rattle.station_symbols.specs.declared.Heard.{Heard}
 use Rattle.station_symbols.specs.declared.Heard.TheVariants.{Nothing}
-use Rattle.station_state.specs.declared.Deference.{Deference}
-use Rattle.station_state.specs.declared.Deference.TheVariants.{Quiet, Busy, Gap}
-use Rattle.station_state.specs.declared.Transmitter.{Transmitter}
-use Rattle.station_state.specs.declared.Transmitter.TheVariants.{NoFrame, Waiting, BackingOff, Sending, Heading}
-use Rattle.station_state.specs.declared.Transmitter.TheVariants.{Jamming}
 use Rattle.station_state.specs.declared.Station.{Station}
 use Rattle.area.specs.Area.{address_at, buffer_at, station_at}
-use Rattle.fast_silence.specs.Bound.{frames_rest, idle}
-use Rattle.fast_station.specs.Forms.{heard_rest, emits_for}
+use Rattle.fast_silence.specs.Bound.{frames_rest}
+use Rattle.fast_station.specs.Forms.{heard_rest, emits_for, keeps_emitting}
+use Rattle.fast_heard.specs.Hearing.{is_heard, emits}
 use Rattle.fast_receive.specs.Received.{spoils, line_from, bits_from, AllHeard, may_report}
 use Rattle.fast_heard.specs.declared.Kind.{Kind}
 use Rattle.fast_heard.specs.declared.Kind.TheVariants.{Silent, Line, From, Mixed}
@@ -27,35 +23,6 @@ heard_in Line x j u F b = line_from x j u
 heard_in From x j u F b = bits_from F b
 heard_in Mixed x j u F b = spoils
 
--- whether anything is heard
-abbrev pub is_heard : Kind → Bool
-is_heard Silent = false
-is_heard Line = true
-is_heard From = true
-is_heard Mixed = true
-
--- whether it emits; whether it sends, and has no collision yet
-abbrev pub emitting : Transmitter → Bool
-emitting NoFrame = false
-emitting Waiting = false
-emitting (BackingOff w) = false
-emitting (Sending k) = true
-emitting (Heading k) = true
-emitting (Jamming l ends) = true
-
-abbrev pub sending : Transmitter → Bool
-sending NoFrame = false
-sending Waiting = false
-sending (BackingOff w) = false
-sending (Sending k) = true
-sending (Heading k) = false
-sending (Jamming l ends) = false
-
-abbrev pub is_busy_own : Deference → Bool
-is_busy_own Quiet = false
-is_busy_own (Busy own) = own
-is_busy_own (Gap n own) = false
-
 -- ---- when m steps of a kind can be taken at once
 
 -- of a station that emits nothing: no frame starts, and a reception that ends reports nothing
@@ -65,18 +32,14 @@ rests_all f m report s = not s.emitted && (leb m (frames_rest f m s.deference s.
 unfoldable pub hears_all : Figures → (m : ℕ) → Station → Bool
 hears_all f m s = not s.emitted && leb m (heard_rest f m s.deference s.transmitter)
 
--- of an emitter: it goes on, and a sender hears nothing; where nothing is heard its receiver is idle
+-- of an emitter: it goes on, and long enough
 unfoldable pub emits_all : (m : ℕ) → (heard : Bool) → Station → Bool
-emits_all m heard s =
-    s.emitted
-    && (is_busy_own s.deference
-    && (leb m (emits_for s.frame s.transmitter) && pick heard (not (sending s.transmitter))
-    (idle s.receiver)))
+emits_all m heard s = keeps_emitting heard s && leb m (emits_for s.frame s.transmitter)
 
 -- all of that
 unfoldable pub can_move : Figures → (m : ℕ) → Kind → List ℕ → (j : ℕ) → Bool
 can_move f m K x j =
-    pick (emitting (station_at x j).transmitter) (emits_all m (is_heard K) (station_at x j))
+    pick (emits (station_at x j).transmitter) (emits_all m (is_heard K) (station_at x j))
     (pick (is_heard K) (hears_all f m (station_at x j))
     (rests_all f m (may_report (address_at x j) (buffer_at x j) 0 (station_at x j).receiver) (station_at x j)))
 
@@ -95,4 +58,4 @@ Audible K x j u m = K ≡ Line → AllHeard (line_from x j u) m
 
 -- an emitter's frame is one that may be sent
 unfoldable pub Held : Station → Type 0
-Held s = emitting s.transmitter ≡ true → s.frame < 65536
+Held s = emits s.transmitter ≡ true → s.frame < 65536

@@ -2,119 +2,56 @@
 
 #![tactic(auto)]
 
-ghost use Rattle.std.specs.Prelude.{◌≡◌, not, ◌+◌, ◌<◌, ◌≤◌, length};
-ghost use Rattle.octets.specs.Base.{pick};
+ghost use Rattle.std.specs.Prelude.{◌≡◌, ◌+◌, ◌<◌, ◌≤◌, length};
 ghost use Rattle.fast_plan.specs.Own.{by_itself};
-ghost use Rattle.fast_silence.specs.Bound.{idle};
 ghost use Rattle.area.specs.Area.{station_at};
 ghost use Rattle.fast_stretch.specs.Stretch.{Movable};
-ghost use Rattle.fast_move.specs.Move.{heard_in, is_heard, emitting, sending, is_busy_own, rests_all, hears_all};
-ghost use Rattle.fast_move.specs.Move.{emits_all, can_move, stretched, Moving, Audible, Held};
+ghost use Rattle.fast_heard.specs.Hearing.{emits};
+ghost use Rattle.fast_move.specs.Move.{heard_in, rests_all, hears_all, emits_all, can_move, stretched, Moving};
+ghost use Rattle.fast_move.specs.Move.{Audible, Held};
 ghost use Rattle.sheet_layout.specs.Limits.{last_clock, max_stations};
 ghost use Rattle.area.specs.Offsets.{area_size};
 
 use fast_heard::Kind;
 use sheet_layout::Figures;
-use station_state::{Deference, Receiver, Station, Transmitter};
+use station_state::{Station, Transmitter};
 use station_symbols::Heard;
 
-fn is_heard(kind: Kind) -> bool
-    ensures { result ≡ is_heard kind }
-{
-    match kind {
-        Kind::Silent => false,
-        Kind::Line => true,
-        Kind::From => true,
-        Kind::Mixed => true,
-    }
-}
-
 fn is_emitting(x: Transmitter) -> bool
-    ensures { result ≡ emitting x }
+    ensures { result ≡ emits x }
 {
-    match x {
-        Transmitter::NoFrame => false,
-        Transmitter::Waiting => false,
-        Transmitter::BackingOff(_) => false,
-        Transmitter::Sending(_) => true,
-        Transmitter::Heading(_) => true,
-        Transmitter::Jamming { left: _, ends: _ } => true,
-    }
-}
-
-fn is_sending(x: Transmitter) -> bool
-    ensures { result ≡ sending x }
-{
-    match x {
-        Transmitter::NoFrame => false,
-        Transmitter::Waiting => false,
-        Transmitter::BackingOff(_) => false,
-        Transmitter::Sending(_) => true,
-        Transmitter::Heading(_) => false,
-        Transmitter::Jamming { left: _, ends: _ } => false,
-    }
-}
-
-fn is_busy_own(d: Deference) -> bool
-    ensures { result ≡ is_busy_own d }
-{
-    match d {
-        Deference::Quiet => false,
-        Deference::Busy(own) => own,
-        Deference::Gap { count: _, own: _ } => false,
-    }
+    matches!(
+        x,
+        Transmitter::Sending(_) | Transmitter::Heading(_) | Transmitter::Jamming { .. }
+    )
 }
 
 // A station that emits nothing hears nothing for m steps: none starts, and its reception, if any, ends without a
 // report.
+#[tactic(auto, unfolding(crate::specs::Move::rests_all))]
 fn rests_all(f: Figures, m: u32, report: bool, s: Station) -> bool
     requires { f.gap1 + f.gap2 < 65536 }
     ensures { result ≡ rests_all f m report s }
 {
-    let d = s.deference;
-    let x = s.transmitter;
-    octets::both(
-        !s.emitted,
-        octets::both(m <= fast_rest::frames_rest(f, m, d, x), !report),
-    )
+    !s.emitted & ((m <= fast_rest::frames_rest(f, m, s.deference, s.transmitter)) & !report)
 }
 
 // One that emits nothing hears others for m steps: none starts.
+#[tactic(auto, unfolding(crate::specs::Move::hears_all))]
 fn hears_all(f: Figures, m: u32, s: Station) -> bool
     requires { f.gap1 + f.gap2 < 65536 }
     ensures { result ≡ hears_all f m s }
 {
-    let d = s.deference;
-    let x = s.transmitter;
-    octets::both(!s.emitted, m <= fast_station::heard_rest(f, m, d, x))
+    !s.emitted & (m <= fast_station::heard_rest(f, m, s.deference, s.transmitter))
 }
 
-// What an emitter must be in to go on: a sender hears nothing, and where nothing is heard the receiver is idle.
-fn is_calm(heard: bool, x: Transmitter, r: Receiver) -> bool
-    ensures { result ≡ pick heard (not (sending x)) (idle r) }
-{
-    if heard {
-        return !is_sending(x);
-    }
-    fast_rest::is_idle(r)
-}
-
-// An emitter goes on for m steps.
+// An emitter goes on for m steps, in which it hears others, where `heard`, or nothing.
+#[tactic(auto, unfolding(crate::specs::Move::emits_all))]
 fn emits_all(m: u32, heard: bool, s: Station) -> bool
     requires { s.frame < 65536 }
     ensures { result ≡ emits_all m heard s }
 {
-    let d = s.deference;
-    let x = s.transmitter;
-    let r = s.receiver;
-    let calm = is_calm(heard, x, r);
-    octets::both(
-        s.emitted,
-        octets::both(
-            is_busy_own(d),
-            octets::both(m <= fast_station::emits_for(s.frame, x), calm),
-        ),
-    )
+    fast_station::keeps_emitting(heard, s) & (m <= fast_station::emits_for(s.frame, s.transmitter))
 }
 
 // Whether station j, which is s, can go over m steps of a kind at once.
@@ -123,16 +60,14 @@ fn can_move(area: &[u8], f: Figures, m: u32, kind: Kind, j: usize, s: Station) -
         × Movable f m area.now j × Held s × (s ≡ station_at area.now j) }
     ensures { result ≡ can_move f m kind area.now j }
 {
-    let heard = is_heard(kind);
-    let x = s.transmitter;
-    if is_emitting(x) {
+    let heard = kind.is_heard();
+    if is_emitting(s.transmitter) {
         return emits_all(m, heard, s);
     }
     if heard {
         return hears_all(f, m, s);
     }
-    let r = s.receiver;
-    let report = fast_receive::may_report(area, j, r, 0);
+    let report = fast_receive::may_report(area, j, s.receiver, 0);
     rests_all(f, m, report, s)
 }
 
@@ -169,10 +104,7 @@ fn heard_first(area: &[u8], kind: Kind, j: usize, u: usize, frame: &[u8], b: u32
     match kind {
         Kind::Silent => Heard::Nothing,
         Kind::Line => area_line::arrival(area, j, u),
-        Kind::From => {
-            let one = station_symbols::packet_bit(frame, b);
-            Heard::Clean(one)
-        }
+        Kind::From => Heard::Clean(station_symbols::packet_bit(frame, b)),
         Kind::Mixed => Heard::Spoiled,
     }
 }
@@ -198,8 +130,7 @@ pub fn advance(
     ensures bound { (0 < result) × (result ≤ m) }
 {
     let s = area::read_station(area, j);
-    let x = s.transmitter;
-    let e = is_emitting(x);
+    let e = is_emitting(s.transmitter);
     if can_move(area, f, m, kind, j, s) {
         move_at_once(area, f, e, kind, j, u, frame, b, m, s);
         return m;

@@ -1,5 +1,5 @@
 -- A law for each way through the code of a station's turn by itself. Assumes nothing.
-use Rattle.std.specs.Prelude.{ℕ, ◌≡◌, refl, List}
+use Rattle.std.specs.Prelude.{ℕ, ◌≡◌, List}
 use Rattle.std.proofs.Common.{sym, ◌∙◌}
 use Rattle.std.proofs.Math.Path.{ap, subst}
 use Rattle.sheet_layout.specs.declared.Figures.{Figures}
@@ -7,9 +7,7 @@ use Rattle.station_symbols.specs.declared.Heard.{Heard}
 use Rattle.station_spec.specs.declared.Stepped.{Stepped}
 use Rattle.station_state.specs.declared.Station.{Station}
 use Rattle.station_spec.specs.Step.{stepped}
-use Rattle.area.specs.Area.{station_at, draw_at, buffer_at, with_station}
-use Rattle.bus_spec.specs.declared.Act.{Act}
-use Rattle.bus_spec.specs.BitTime.{with_stored, with_counted}
+use Rattle.area.specs.Area.{station_at, draw_at, buffer_at}
 use Rattle.bus_spec.specs.InPlace.{Kept}
 use Rattle.fast_plan.specs.Own.{outcome_on, act_on, own_left, own_turn, on_kept}
 
@@ -26,8 +24,3 @@ module _ (f : Figures) (d i : ℕ) (h : Heard) (a : List ℕ) where
   pub turn_is : (o : Stepped) (b : List ℕ) → o ≡ outcome_on f d i h a → b ≡ own_left i o a → b ≡ own_turn f d i h a
   unfolding own_turn act_on
   turn_is o b e g = g ∙ ap (λ (x : Stepped). own_left i x a) e
-
-pub left_is : (i : ℕ) (o : Stepped) (a x y z : List ℕ) → z ≡ with_stored i o.stored y → y ≡ with_counted i o x
-    → x ≡ with_station a i o.station → z ≡ own_left i o a
-unfolding own_left
-left_is i o a x y z p q r = p ∙ rw (q, r)

@@ -14,6 +14,7 @@ use station_spec::Stepped;
 use station_symbols::Heard;
 
 // What station i does on hearing h.
+#[tactic(auto, using(bus_spec::specs::Ready::able_draw, crate::specs::OwnLaws::outcome_is))]
 fn outcome(area: &[u8], f: Figures, depth: u32, i: usize, h: Heard) -> Stepped
     requires { (i < max_stations) × (area_size ≤ length area.now) × Able f area.now i }
     ensures { result ≡ outcome_on f depth i h area.now }
@@ -24,17 +25,17 @@ fn outcome(area: &[u8], f: Figures, depth: u32, i: usize, h: Heard) -> Stepped
 }
 
 // What it leaves of its own: its record, its counters, the bit that it collected.
+#[tactic(auto, unfolding(fast_plan::specs::Own::own_left))]
 fn leave(area: &mut [u8], i: usize, o: Stepped)
     requires { (i < max_stations) × (area_size ≤ length area.old) × Kept o.stored }
     ensures { area.new ≡ own_left i o area.old }
 {
-    let next = o.station;
-    let stored = o.stored;
-    area::write_station(area, i, next);
+    area::write_station(area, i, o.station);
     bus_turn::count_step(area, i, o);
-    bus_turn::keep_bit(area, i, stored);
+    bus_turn::keep_bit(area, i, o.stored);
 }
 
+#[tactic(auto, using(crate::specs::OwnLaws::outcome_kept, crate::specs::OwnLaws::turn_is))]
 pub fn turn_alone(area: &mut [u8], f: Figures, depth: u32, i: usize, h: Heard)
     requires { (i < max_stations) × (area_size ≤ length area.old) × Able f area.old i }
     ensures { area.new ≡ own_turn f depth i h area.old }

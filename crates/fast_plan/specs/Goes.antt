@@ -1,7 +1,7 @@
 -- Many turns of a station by itself, where its state goes on in closed form and nothing is counted: the record is
 -- written once, and the bits that it collected are stored. Assumes nothing.
 use Prim.Native.Nat.{ℕ, zero, suc, ◌≤◌, ◌<◌}
-use Rattle.std.specs.Prelude.{◌≡◌}
+use Rattle.std.specs.Prelude.{◌≡◌, Option, None, Some}
 use Rattle.std.proofs.Math.Path.{refl, ap}
 use Rattle.std.proofs.Common.{◌∙◌, arith}
 use mathlib.Core.List.{List}
@@ -12,7 +12,6 @@ use Rattle.station_symbols.specs.declared.Heard.{Heard}
 use Rattle.station_symbols.specs.declared.Emission.{Emission}
 use Rattle.station_symbols.specs.Packet.{symbol_of}
 use Rattle.station_spec.specs.declared.Stored.{Stored}
-use Rattle.station_spec.specs.declared.Stored.TheVariants.{NoStore, Store}
 use Rattle.station_spec.specs.Transmit.{octets_held}
 use Rattle.station_state.specs.declared.Station.{Station}
 use Rattle.station_spec.specs.declared.Stepped.{Stepped}
@@ -31,23 +30,23 @@ use Rattle.area.specs.Offsets.{area_size, frame_room}
 use Rattle.sheet_layout.specs.Limits.{max_stations}
 
 -- the bits of m steps
-unfoldable pub stored_all : ℕ → (ℕ → Stored) → (m : ℕ) → List ℕ → List ℕ
+unfoldable pub stored_all : ℕ → (ℕ → Option Stored) → (m : ℕ) → List ℕ → List ℕ
 stored_all i st m x = turns (λ s y. with_stored i (st s) y) m x
 
 -- m turns of a station whose record is then s
-unfoldable pub went_to : ℕ → (ℕ → Stored) → (m : ℕ) → Station → List ℕ → List ℕ
+unfoldable pub went_to : ℕ → (ℕ → Option Stored) → (m : ℕ) → Station → List ℕ → List ℕ
 went_to i st m s x = stored_all i st m (with_station x i s)
 
-quiet_left : (i : ℕ) (s : Station) (e : Emission) (o : Stored) (x : List ℕ)
+quiet_left : (i : ℕ) (s : Station) (e : Emission) (o : Option Stored) (x : List ℕ)
     → own_left i (quietly s e o) x ≡ with_stored i o (with_station x i s)
 unfolding own_left with_counted happened quietly
 quiet_left i s e o x = refl
 
-pub length_all : (i : ℕ) (st : ℕ → Stored) (m : ℕ) (x : List ℕ) → length (stored_all i st m x) ≡ length x
+pub length_all : (i : ℕ) (st : ℕ → Option Stored) (m : ℕ) (x : List ℕ) → length (stored_all i st m x) ≡ length x
 unfolding stored_all
 length_all i st m x = length_turns _ m x (λ s y. length_stored i (st s) y)
 
-pub all_keeps : (p : Part) (i : ℕ) (st : ℕ → Stored) (m : ℕ) (x : List ℕ) → ((s : ℕ) → Kept (st s)) → Off p (buffer i)
+pub all_keeps : (p : Part) (i : ℕ) (st : ℕ → Option Stored) (m : ℕ) (x : List ℕ) → ((s : ℕ) → Kept (st s)) → Off p (buffer i)
     → Keeps p (stored_all i st m x) x
 unfolding stored_all turns
 all_keeps p i st zero x k o = keeps_refl p x
@@ -55,12 +54,12 @@ all_keeps p i st (suc m) x k o = keeps_trans p (stored_all i st (suc m) x) (stor
     (stored_keeps p i (st m) (stored_all i st m x) (k m) o) (all_keeps p i st m x k o)
 
 -- a record written before or after
-station_stored : (i : ℕ) (o : Stored) (s : Station) (x : List ℕ) → i < max_stations
+station_stored : (i : ℕ) (o : Option Stored) (s : Station) (x : List ℕ) → i < max_stations
     → with_station (with_stored i o x) i s ≡ with_stored i o (with_station x i s)
-station_stored i NoStore s x hi = refl
-station_stored i (Store k b) s x hi = station_bit x i hi s k b
+station_stored i None s x hi = refl
+station_stored i (Some b) s x hi = station_bit x i hi s b.bit b.one
 
-pub station_all : (i : ℕ) (st : ℕ → Stored) (m : ℕ) (s : Station) (x : List ℕ) → i < max_stations
+pub station_all : (i : ℕ) (st : ℕ → Option Stored) (m : ℕ) (s : Station) (x : List ℕ) → i < max_stations
     → with_station (stored_all i st m x) i s ≡ stored_all i st m (with_station x i s)
 unfolding stored_all turns
 station_all i st zero s x hi = refl
@@ -68,7 +67,7 @@ station_all i st (suc m) s x hi =
     station_stored i (st m) s (stored_all i st m x) hi ∙ ap (with_stored i (st m)) (station_all i st m s x hi)
 
 module _ (f : Figures) (d i : ℕ) (a : List ℕ) (K : ℕ) (hi : i < max_stations) (room : area_size ≤ length a)
-    (on : ℕ → Station) (H : ℕ → Heard) (em : ℕ → Emission) (st : ℕ → Stored)
+    (on : ℕ → Station) (H : ℕ → Heard) (em : ℕ → Emission) (st : ℕ → Option Stored)
     (begins : station_at a i ≡ on 0) (fit : (m : ℕ) → m ≤ K → Fit (on m))
     (address : (m : ℕ) → (on m).address ≡ address_at a i) (kept : (m : ℕ) → Kept (st m))
     (step : (m draw : ℕ) (buf : List ℕ) → m < K → (m ≡ 0 → buf ≡ buffer_at a i) → stepped f (on m) d draw buf (H m)

@@ -1,7 +1,7 @@
 -- What one step does to an area that went by a plan so far: it goes by the plan still. That a plan that holds is what
 -- happens (Theorem 1) is in proofs/Happens. Assumes nothing.
 use Prim.Native.Nat.{ℕ, zero, suc, ◌+◌, ◌-◌, ◌≤◌, ◌<◌}
-use Rattle.std.specs.Prelude.{◌≡◌, List, eqb, ltb, leb, get_or}
+use Rattle.std.specs.Prelude.{◌≡◌, List, eqb, ltb, leb, get_or, Option, None, Some}
 use Rattle.std.proofs.Math.Path.{refl, sym, ap, ap₂, subst}
 use Rattle.std.proofs.Common.{◌∙◌}
 use native.Mathlib.Omega.{arith}
@@ -15,7 +15,6 @@ use Rattle.station_symbols.specs.declared.Heard.TheVariants.{Nothing}
 use Rattle.station_symbols.specs.declared.Symbol.{Symbol}
 use Rattle.station_symbols.specs.declared.Symbol.TheVariants.{Silence}
 use Rattle.station_spec.specs.declared.Stored.{Stored}
-use Rattle.station_spec.specs.declared.Stored.TheVariants.{NoStore, Store}
 use Rattle.station_spec.specs.declared.Stepped.{Stepped}
 use Rattle.area.specs.Places.{Part, clock, depth, layout, counters, station, buffer, place, Off, Keeps}
 use Rattle.area.specs.Area.{clock_at, with_clock, depth_at, figures_at, count_at, space_at, station_at, arrival_at, met}
@@ -141,9 +140,9 @@ module _ (n k : ℕ) (few : n ≤ max_stations) (still : Still n k) where
   unfolding pushed
   pushed_still t i s x = by_test (is_silence s) (λ e. rw e) (λ e. rw e (sends_still t i s n x (omega arith)))
 
-  pub stored_still : (i : ℕ) (s : Stored) (x : List ℕ) → i < n → Kept s → get_or (with_stored i s x) k 0 ≡ get_or x k 0
-  stored_still i NoStore x hi h = refl
-  stored_still i (Store m b) x hi h = bit_still n k still x i m b hi h
+  pub stored_still : (i : ℕ) (s : Option Stored) (x : List ℕ) → i < n → Kept s → get_or (with_stored i s x) k 0 ≡ get_or x k 0
+  stored_still i None x hi h = refl
+  stored_still i (Some s) x hi h = bit_still n k still x i s.bit s.one hi h
 
   counted_still : (i : ℕ) (o : Stepped) (x : List ℕ) → i < n → get_or (with_counted i o x) k 0 ≡ get_or x k 0
   unfolding with_counted

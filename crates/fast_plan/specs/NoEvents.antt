@@ -1,5 +1,5 @@
 -- What has no event: a turn that reports nothing, and a step of which all stations report nothing. Assumes nothing.
-use Rattle.std.specs.Prelude.{ℕ, zero, suc, ◌+◌, ◌-◌, ◌≡◌, refl, List, ltb, get_or}
+use Rattle.std.specs.Prelude.{ℕ, zero, suc, ◌+◌, ◌-◌, ◌≡◌, refl, List, ltb, get_or, Option}
 use Rattle.std.proofs.Common.{◌∙◌, ap, arith, ltb-true, ltb-false}
 use Rattle.octets.specs.BaseLaws.{by_test}
 use Rattle.octets.specs.Filled.{filled, filled_at, filled_past}
@@ -22,12 +22,12 @@ use Rattle.bus_spec.specs.Run.{tallied}
 use Rattle.bus_quick.specs.Quick.{quietly}
 use Rattle.fast_plan.specs.Own.{act_on}
 
-pub quiet_events : (r : Act) (s : Station) (e : Emission) (o : Stored) → r.outcome ≡ quietly s e o
+pub quiet_events : (r : Act) (s : Station) (e : Emission) (o : Option Stored) → r.outcome ≡ quietly s e o
     → events_of r ≡ no_events
 unfolding quietly
 quiet_events r s e o h = ap (λ (c : Stepped). record { sent = c.sent; got = c.got }) h
 
-pub rest_symbol : (f : Figures) (d i : ℕ) (h : Heard) (x : List ℕ) (s : Station) (o : Stored)
+pub rest_symbol : (f : Figures) (d i : ℕ) (h : Heard) (x : List ℕ) (s : Station) (o : Option Stored)
     → (act_on f d i h x).outcome ≡ quietly s Rest o → (act_on f d i h x).symbol ≡ Silence
 unfolding act_on quietly
 rest_symbol f d i h x s o e = ap

@@ -1,6 +1,6 @@
 -- A station by itself: its turns on what it is told that it hears, with no line read or written. What they leave of its
 -- own parts goes by these parts alone. Assumes nothing.
-use Rattle.std.specs.Prelude.{ℕ, zero, suc, ◌+◌, ◌≤◌, ◌<◌, ◌≡◌, refl, List, length}
+use Rattle.std.specs.Prelude.{ℕ, zero, suc, ◌+◌, ◌≤◌, ◌<◌, ◌≡◌, refl, List, length, Option, None, Some}
 use Rattle.std.proofs.Common.{sym, ◌∙◌, ap, ap₂, subst, arith}
 use Rattle.octets.specs.BaseLaws.{by_test}
 use Rattle.octets.specs.Turns.{turns, length_turns}
@@ -8,7 +8,6 @@ use Rattle.sheet_layout.specs.declared.Figures.{Figures}
 use Rattle.station_symbols.specs.declared.Heard.{Heard}
 use Rattle.station_symbols.specs.Packet.{symbol_of}
 use Rattle.station_spec.specs.declared.Stored.{Stored}
-use Rattle.station_spec.specs.declared.Stored.TheVariants.{NoStore, Store}
 use Rattle.station_spec.specs.Transmit.{octets_held}
 use Rattle.station_state.specs.declared.Station.{Station}
 use Rattle.station_spec.specs.declared.Stepped.{Stepped}
@@ -164,9 +163,9 @@ module _ (i : ℕ) (hi : i < max_stations) (x y : List ℕ) (lx : area_size ≤ 
       (λ b. rw (b, counters_by x y i e) (counters_on i hi x y lx ly (counted (counters_at y i) o) e))
       (λ b. rw b e)
 
-  pub stored_on : (s : Stored) → Kept s → Keeps (buffer i) x y → Keeps (buffer i) (with_stored i s x) (with_stored i s y)
-  stored_on NoStore k e = e
-  stored_on (Store m b) h e = bit_on i hi x y lx ly m b h e
+  pub stored_on : (s : Option Stored) → Kept s → Keeps (buffer i) x y → Keeps (buffer i) (with_stored i s x) (with_stored i s y)
+  stored_on None k e = e
+  stored_on (Some s) h e = bit_on i hi x y lx ly s.bit s.one h e
 
 -- what it leaves of its own goes by that
 pub left_same : (i : ℕ) (o : Stepped) (x y : List ℕ) → i < max_stations → area_size ≤ length x → area_size ≤ length y

@@ -1,15 +1,21 @@
 -- A law for each way through the code. Assumes nothing.
 use Prim.Native.Nat.{ℕ, zero, suc, ◌+◌, ◌-◌, ◌*◌, ◌/◌, ◌%◌, ◌^◌, ◌≤◌, ◌<◌, min}
-use Rattle.std.specs.Prelude.{◌≡◌, refl, Bool, false, ◌||◌, eqb, leb, ltb, length, get_or, drop}
+use Rattle.std.specs.Prelude.{◌≡◌, refl, Bool, false, ◌||◌, eqb, leb, ltb, length, get_or, set, take, drop, replicate}
 use Rattle.std.proofs.Math.Path.{sym, ap}
 use Rattle.std.proofs.Common.{◌∙◌, subst, true≢false, add-one, get_or-take, get_or-drop}
 use Rattle.std.proofs.Math.Bool.{true}
+use Rattle.std.proofs.lemmas.List.{length-replicate}
+use Rattle.std.proofs.lemmas.List.Edits.{paste_none, paste_more, fill_from_more}
+use Rattle.std.proofs.lemmas.Slice.{put_mid-paste}
+use borrow.Rule.Slice.PartMut.{put_mid}
+use lib.Seq.{paste}
 use mathlib.Core.List.{List, []}
+use mathlib.Core.Logic.{◌⊎◌, inl, inr}
 use native.Mathlib.Omega.{arith}
 use borrow.Author.Tests.{ne_eqb, ltb-true, lt-ltb, le-ltb, lt-leb}
 use Rattle.octets.specs.BaseLaws.{by_test}
 use Rattle.octets.specs.Store.{part, length_part}
-use Rattle.octets.specs.Turns.{turns_none, turns_more, turns_end}
+use Rattle.octets.specs.Turns.{turns_none, turns_more}
 use Rattle.station_symbols.specs.declared.Heard.{Heard}
 use Rattle.station_symbols.specs.declared.Heard.TheVariants.{Clean}
 use Rattle.station_symbols.specs.Packet.{hears_any, packet_bit}
@@ -124,43 +130,52 @@ module _ (j : ℕ) (e : Bool) (r q q' : Receiver) (x y y' : List ℕ) where
 
 -- ---- whole octets
 
+pub part_long : (x : List ℕ) (at n k : ℕ) → at + n ≤ length x → k ≡ n → length (take k (drop at x)) ≡ n
+part_long x at n k room ek = ap (λ (i : ℕ). length (take i (drop at x))) ek ∙ length_part x at n room
+
 module _ (j q p : ℕ) (F x : List ℕ) where
   pub copied_none : x ≡ copied j q p 0 F x
   unfolding copied
   copied_none = turns_none _ x
 
-  pub copied_more : (k v : ℕ) (y z : List ℕ) → z ≡ with_octet y j (q + k) v → v ≡ get_or F (p + k) 0
+  copied_more : (k v : ℕ) (y z : List ℕ) → z ≡ with_octet y j (q + k) v → v ≡ get_or F (p + k) 0
       → y ≡ copied j q p k F x → z ≡ copied j q p (k + 1) F x
   unfolding copied
   copied_more k v y z h g e = turns_more _ k x y z (h ∙ ap (with_octet y j (q + k)) g) e
 
-  pub copied_end : (n k : ℕ) (y : List ℕ) → k ≤ n → n ≤ k → y ≡ copied j q p k F x → y ≡ copied j q p n F x
-  unfolding copied
-  copied_end n k y h g e = turns_end _ n k x y h g e
+  -- as the library's `copy_from_slice` leaves them
+  octets_pasted : (at m n : ℕ) → at ≡ from (the_buffer j) + q → n ≤ m → at + m ≤ length x → p + m ≤ length F
+      → paste x at (part F p m) n ≡ copied j q p n F x
+  unfolding with_octet
+  octets_pasted at m zero ea le room long = sym (paste_none x at (part F p m)) ∙ copied_none
+  octets_pasted at m (suc n) ea le room long =
+      let s = part F p m in
+      let y = paste x at s n in
+      let l : n < length s = omega (arith, length_part F p m long) in
+      let k : at + n ≡ from (the_buffer j) + (q + n) = omega arith in
+      subst (λ (i : ℕ). paste x at s i ≡ copied j q p i F x) (add-one n)
+      (sym (paste_more x at s n 0 (omega arith) l)
+      ∙ copied_more n (get_or s n 0) y (set y (at + n) (get_or s n 0)) (ap (λ (i : ℕ). set y i (get_or s n 0)) k)
+      (get_or-take m (drop p F) n 0 (omega arith) ∙ get_or-drop p F n 0)
+      (octets_pasted at m n ea (omega arith) room long))
 
-module _ (j : ℕ) (e : Bool) (F : List ℕ) (a bits : ℕ) (sp own : Bool) (x : List ℕ) (t : Receiver) (s : ℕ)
-    (p : t ≡ Collecting bits sp own) (z : s ≡ 0) where
-  pub stay_heard : taken t x ≡ heard_all j e (bits_from F a) s (taken (Collecting bits sp own) x)
-  stay_heard =
-      ap (λ (r : Receiver). taken r x) p ∙ all_none j e (bits_from F a) (Collecting bits sp own) x
-      ∙ ap (λ (k : ℕ). heard_all j e (bits_from F a) k (taken (Collecting bits sp own) x)) (sym z)
+  pub copied_row : (n at k i : ℕ) (z : List ℕ) → at ≡ from (the_buffer j) + q → at + n ≤ length x → p + n ≤ length F
+      → k ≡ n → i ≡ n → z ≡ take i (drop p F) → put_mid at k x z ≡ copied j q p n F x
+  copied_row n at k i z ea room long ek ei ez =
+      put_mid-paste at k x z (part F p n) n (ez ∙ ap (λ (v : ℕ). take v (drop p F)) ei) (sym ek)
+      (sym (length_part F p n long))
+      ∙ octets_pasted at n n ea (omega arith) room long
 
-pub stay_row : (t : Receiver) (bits : ℕ) (sp own : Bool) → t ≡ Collecting bits sp own → row_in t < row_limit
-stay_row t bits sp own p = omega (arith, ap row_in p)
-
-pub stay_bits : (t : Receiver) (bits s : ℕ) (sp own : Bool) → t ≡ Collecting bits sp own → bits_in t ≤ bits + s
-stay_bits t bits s sp own p = omega (arith, ap bits_in p)
-
-pub octets_heard : (j : ℕ) (e : Bool) (F : List ℕ) (a bits m n : ℕ) (sp own o : Bool) (x y : List ℕ) → j < max_stations
-    → area_size ≤ length x → ((k : ℕ) → get_or F k 0 < 256) → 65 ≤ a
-    → (a - 65) % 8 ≡ 0 → bits % 8 ≡ 0 → (8 * n ≤ m) × (n ≤ length F - (a - 65) / 8) × (n ≤ buffer_octets - bits / 8)
-    → (n ≡ 0 → ⊥) → o ≡ (own || e) → y ≡ copied j (bits / 8) ((a - 65) / 8) n F x
-    → taken (Collecting (bits + 8 * n) sp o) y ≡ heard_all j e (bits_from F a) (8 * n) (taken (Collecting bits sp own) x)
-octets_heard j e F a bits m n sp own o x y hj room small ha u v b ne w g =
-    ap (taken (Collecting (bits + 8 * n) sp o)) g
-    ∙ ap (λ (c : Bool). taken (Collecting (bits + 8 * n) sp c) (copied j (bits / 8) ((a - 65) / 8) n F x)) w
-    ∙ sym (octets_copied j e F bits a (bits / 8) ((a - 65) / 8) n sp own x hj room small (omega arith) (omega arith)
+pub octets_heard : (j : ℕ) (e : Bool) (F : List ℕ) (a bits m n : ℕ) (sp own : Bool) (r : Receiver) (x y : List ℕ)
+    → r ≡ Collecting bits sp own → j < max_stations → area_size ≤ length x → ((k : ℕ) → get_or F k 0 < 256) → 65 ≤ a
+    → a % 8 ≡ 1 → bits % 8 ≡ 0 → (8 * n ≤ m) × (n ≤ length F - (a - 65) / 8) × (n ≤ buffer_octets - bits / 8)
+    → (n ≡ 0 → ⊥) → y ≡ copied j (bits / 8) ((a - 65) / 8) n F x
+    → taken (Collecting (bits + 8 * n) sp (own || e)) y ≡ heard_all j e (bits_from F a) (8 * n) (taken r x)
+octets_heard j e F a bits m n sp own r x y er hj room small ha u v b ne g =
+    ap (taken (Collecting (bits + 8 * n) sp (own || e))) g
+    ∙ sym (octets_copied j e F bits a (bits / 8) ((a - 65) / 8) n sp own x hj room small (omega arith) (omega (arith, u))
     (omega (arith, ne)) (omega (arith, b, ne)) (omega (arith, b, ne)))
+    ∙ ap (λ (q : Receiver). heard_all j e (bits_from F a) (8 * n) (taken q x)) (sym er)
 
 -- ---- in parts
 
@@ -175,16 +190,6 @@ module _ (j : ℕ) (e : Bool) (F : List ℕ) (r : Receiver) (x : List ℕ) where
       ∙ ap (λ (f : ℕ → ℕ). heard_all j e (λ s. Clean (packet_bit F (f s))) n
       (heard_all j e (λ s. Clean (packet_bit F (a + s))) k (taken r x))) (λ i s. w s i)
       ∙ sym (heard_split j e (λ s. Clean (packet_bit F (a + s))) k n (taken r x))
-
-  pub packet_heard : (a k n m : ℕ) (q t v : Receiver) (y z w : List ℕ) → k ≤ m → n ≤ m - k
-      → taken q y ≡ heard_all j e (bits_from F a) k (taken r x)
-      → taken t z ≡ heard_all j e (bits_from F (a + k)) n (taken q y)
-      → taken v w ≡ heard_all j e (bits_from F (a + (k + n))) (m - (k + n)) (taken t z)
-      → taken v w ≡ heard_all j e (bits_from F a) m (taken r x)
-  packet_heard a k n m q t v y z w hk hn p g h =
-      let l : k + n + (m - (k + n)) ≡ m = omega arith in
-      join a (k + n) (m - (k + n)) t v z w (join a k n q t y z p g) h
-      ∙ ap (λ (i : ℕ). heard_all j e (bits_from F a) i (taken r x)) l
 
 -- ---- spoiled symbols
 
@@ -208,14 +213,29 @@ module _ (j q : ℕ) (x : List ℕ) where
   unfolding blanks
   blanks_none = turns_none _ x
 
-  pub blanks_more : (k : ℕ) (y z : List ℕ) → z ≡ with_octet y j (q + (k + 1)) 0 → y ≡ blanks j q k x
+  blanks_more : (k : ℕ) (y z : List ℕ) → z ≡ with_octet y j (q + (k + 1)) 0 → y ≡ blanks j q k x
       → z ≡ blanks j q (k + 1) x
   unfolding blanks
   blanks_more k y z h e = turns_more _ k x y z (h ∙ ap (λ (i : ℕ). with_octet y j (q + i) 0) (add-one k)) e
 
-  pub blanks_end : (n k : ℕ) (y : List ℕ) → k ≤ n → n ≤ k → y ≡ blanks j q k x → y ≡ blanks j q n x
-  unfolding blanks
-  blanks_end n k y h g e = turns_end _ n k x y h g e
+  -- as the library's `fill` leaves them
+  blanks_pasted : (at m n : ℕ) → at ≡ from (the_buffer j) + (q + 1) → n ≤ m → at + m ≤ length x
+      → paste x at (replicate n 0) n ≡ blanks j q n x
+  unfolding with_octet
+  blanks_pasted at m zero ea le room = sym (paste_none x at (replicate 0 0)) ∙ blanks_none
+  blanks_pasted at m (suc n) ea le room =
+      let y = paste x at (replicate n 0) n in
+      let k : at + n ≡ from (the_buffer j) + (q + (n + 1)) = omega arith in
+      subst (λ (i : ℕ). paste x at (replicate i 0) i ≡ blanks j q i x) (add-one n)
+      (sym (fill_from_more x at n 0 (omega arith))
+      ∙ blanks_more n y (set y (at + n) 0) (ap (λ (i : ℕ). set y i 0) k) (blanks_pasted at m n ea (omega arith) room))
+
+  pub blanks_row : (n at k : ℕ) (z : List ℕ) → at ≡ from (the_buffer j) + (q + 1) → at + n ≤ length x → k ≡ n
+      → z ≡ replicate (length (take k (drop at x))) 0 → put_mid at k x z ≡ blanks j q n x
+  blanks_row n at k z ea room ek ez =
+      put_mid-paste at k x z (replicate n 0) n (ez ∙ ap (λ (i : ℕ). replicate i 0) (part_long x at n k room ek)) (sym ek)
+      (sym (length-replicate n 0))
+      ∙ blanks_pasted at n n ea (omega arith) room
 
 module _ (j c m : ℕ) (x : List ℕ) where
   pub zeros_past : buffer_bits ≤ c → x ≡ zeroed_up_to j c m x
@@ -244,37 +264,27 @@ module _ (j : ℕ) (e : Bool) (m : ℕ) (r : Receiver) (x : List ℕ) where
       sym h ∙ ap (λ (k : ℕ). heard_all j e spoils k (taken g x)) (some z)
       ∙ ap (λ (q : Receiver). heard_all j e spoils m (taken q x)) (sym p)
 
-  pub spoiled_listens : r ≡ Listening → (m ≡ 0 → ⊥) → taken (Seeking 1 true e) x ≡ heard_all j e spoils m (taken r x)
-  spoiled_listens p z = heard_by_lem z (taken (Seeking 1 true e) x) Listening p (spoiled_listening j e x (m - 1))
-
-  pub spoiled_reads : (n : ℕ) → r ≡ Readable n → (m ≡ 0 → ⊥)
+  pub spoiled_idles : (r ≡ Listening) ⊎ ((n : ℕ) × (r ≡ Readable n)) → (m ≡ 0 → ⊥)
       → taken (Seeking 1 true e) x ≡ heard_all j e spoils m (taken r x)
-  spoiled_reads n p z = heard_by_lem z (taken (Seeking 1 true e) x) (Readable n) p (spoiled_readable j e x n (m - 1))
+  spoiled_idles (inl p) z = heard_by_lem z (taken (Seeking 1 true e) x) Listening p (spoiled_listening j e x (m - 1))
+  spoiled_idles (inr q) z =
+      heard_by_lem z (taken (Seeking 1 true e) x) (Readable q.0) q.1 (spoiled_readable j e x q.0 (m - 1))
 
-  pub spoiled_seeks : (row : ℕ) (sp own o : Bool) → r ≡ Seeking row sp own → (m ≡ 0 → ⊥) → o ≡ (own || e)
-      → taken (Seeking 1 true o) x ≡ heard_all j e spoils m (taken r x)
-  spoiled_seeks row sp own o p z w =
-      ap (λ (b : Bool). taken (Seeking 1 true b) x) w
-      ∙ heard_by_lem z (taken (Seeking 1 true (own || e)) x) (Seeking row sp own) p
+  pub spoiled_seeks : (row : ℕ) (sp own : Bool) → r ≡ Seeking row sp own → (m ≡ 0 → ⊥)
+      → taken (Seeking 1 true (own || e)) x ≡ heard_all j e spoils m (taken r x)
+  spoiled_seeks row sp own p z =
+      heard_by_lem z (taken (Seeking 1 true (own || e)) x) (Seeking row sp own) p
       (spoiled_seeking j e x row sp own (m - 1))
 
-  pub spoiled_collects : (c : ℕ) (sp own o : Bool) (y : List ℕ) → r ≡ Collecting c sp own → (m ≡ 0 → ⊥)
-      → j < max_stations
-      → area_size ≤ length x → y ≡ zeroed_up_to j c m x → o ≡ (own || e)
-      → taken (Collecting (c + m) true o) y ≡ heard_all j e spoils m (taken r x)
-  spoiled_collects c sp own o y p z hj room h w =
+  pub spoiled_collects : (c : ℕ) (sp own : Bool) (y : List ℕ) → r ≡ Collecting c sp own → (m ≡ 0 → ⊥)
+      → j < max_stations → area_size ≤ length x → y ≡ zeroed_up_to j c m x
+      → taken (Collecting (c + m) true (own || e)) y ≡ heard_all j e spoils m (taken r x)
+  spoiled_collects c sp own y p z hj room h =
       let k : suc (m - 1) ≡ m = some z in
-      ap (λ (b : Bool). taken (Collecting (c + m) true b) y) w
-      ∙ ap (taken (Collecting (c + m) true (own || e))) (h ∙ sym (zeros_stored j c m x hj room))
+      ap (taken (Collecting (c + m) true (own || e))) (h ∙ sym (zeros_stored j c m x hj room))
       ∙ ap (λ (i : ℕ). taken (Collecting (c + i) true (own || e)) (stored_all j (λ s. stored_bit (c + s) false) i x))
       (sym k)
       ∙ heard_by_lem z _ (Collecting c sp own) p (spoiled_collecting j e x c sp own (m - 1))
-
-  pub collects_bits : (c : ℕ) (sp own : Bool) → r ≡ Collecting c sp own → c + m ≤ bits_in r + m
-  collects_bits c sp own p = omega (arith, ap bits_in p)
-
-  pub collects_room : (c : ℕ) (sp own : Bool) → r ≡ Collecting c sp own → bits_in r + m < 4294967296 → c + m < 4294967296
-  collects_room c sp own p h = omega (arith, ap bits_in p)
 
 -- a receiver that collects
 module _ (r : Receiver) (c : ℕ) (sp own : Bool) (p : r ≡ Collecting c sp own) where
@@ -283,8 +293,3 @@ module _ (r : Receiver) (c : ℕ) (sp own : Bool) (p : r ≡ Collecting c sp own
 
   pub collecting_most : (b s : ℕ) → b ≤ c + s → b ≤ bits_in r + s
   collecting_most b s h = omega (arith, ap bits_in p)
-
-  pub collecting_heard : (j : ℕ) (e : Bool) (F : List ℕ) (a n : ℕ) (x y : List ℕ) (t : Receiver)
-      → taken t y ≡ heard_all j e (bits_from F a) n (taken (Collecting c sp own) x)
-      → taken t y ≡ heard_all j e (bits_from F a) n (taken r x)
-  collecting_heard j e F a n x y t h = h ∙ ap (λ (q : Receiver). heard_all j e (bits_from F a) n (taken q x)) (sym p)

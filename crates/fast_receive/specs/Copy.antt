@@ -1,7 +1,7 @@
 -- Clean bits that are collected: one by one they are the fold; eight from a whole octet on are an octet of the frame.
 -- Assumes nothing.
 use Prim.Native.Nat.{ℕ, zero, suc, ◌+◌, ◌-◌, ◌*◌, ◌/◌, ◌%◌, ◌^◌, ◌≤◌, ◌<◌}
-use Rattle.std.specs.Prelude.{◌≡◌, refl, Bool, true, false, ◌||◌, eqb, length, get_or}
+use Rattle.std.specs.Prelude.{◌≡◌, refl, Bool, true, false, ◌||◌, eqb, length, get_or, Option}
 use Rattle.std.proofs.Common.{sym, ◌∙◌, lt-ltb, length-set, get_or-set_same}
 use Rattle.std.proofs.Math.Path.{ap}
 use Rattle.std.proofs.Math.Bool.{or-false}
@@ -50,7 +50,7 @@ first_bit o v = omega arith
 
 module _ (i q : ℕ) (x : List ℕ) (hi : i < max_stations) (hq : q < buffer_octets) (room : area_size ≤ length x) (v : ℕ)
     (small : v < 256) (bit : ℕ → Bool) (is : (s : ℕ) → s < 8 → bit s ≡ eqb (v / 2 ^ s % 2) 1) where
-  abbrev pub st : ℕ → Stored
+  abbrev pub st : ℕ → Option Stored
   st s = stored_bit (8 * q + s) (bit s)
 
   one_bit : (s : ℕ) (y : List ℕ) → s < 8

@@ -1,11 +1,11 @@
 -- A reception that may not report reports nothing when it ends, and still may not while it goes on. Assumes nothing.
-use Prim.Native.Nat.{ℕ, zero, suc, ◌+◌, ◌-◌, ◌*◌, ◌/◌, ◌≤◌, ◌<◌}
-use Rattle.std.specs.Prelude.{◌≡◌, Bool, true, ◌||◌, ◌&&◌, eqb, leb, ltb, get_or, drop, replicate}
+use Prim.Native.Nat.{ℕ, zero, suc, ◌+◌, ◌-◌, ◌/◌, ◌≤◌, ◌<◌}
+use Rattle.std.specs.Prelude.{◌≡◌, Bool, true, ◌||◌, ◌&&◌, eqb, leb, ltb, get_or, drop, replicate, Option, None, Some}
 use Rattle.std.proofs.Math.Path.{refl, sym, ap}
 use Rattle.std.proofs.Common.{◌∙◌, ap₂, true≢false, arith, get_or-set_other}
 use Rattle.std.proofs.Math.Bool.{false, not, or-true}
 use mathlib.Core.List.{List, []}
-use borrow.Author.Tests.{ltb-false, lt-ltb, le-ltb, leb-false, le-leb, lt-leb}
+use borrow.Author.Tests.{ltb-false, le-ltb, leb-false, le-leb, lt-leb}
 use Rattle.std.proofs.Math.ListN.{length}
 use Rattle.std.proofs.Math.Seq.{get_or-take, get_or-drop}
 use Rattle.octets.specs.BaseLaws.{by_test}
@@ -19,9 +19,7 @@ use Rattle.station_symbols.specs.declared.Heard.TheVariants.{Nothing, Clean, Spo
 use Rattle.station_symbols.specs.Packet.{hears_any}
 use Rattle.station_state.specs.declared.Receiver.{Receiver}
 use Rattle.station_state.specs.declared.Receiver.TheVariants.{Listening, Readable, Seeking, Collecting}
-use Rattle.station_spec.specs.declared.ReceiveEvent.TheVariants.{NoReceive}
 use Rattle.station_spec.specs.declared.Stored.{Stored}
-use Rattle.station_spec.specs.declared.Stored.TheVariants.{NoStore, Store}
 use Rattle.station_spec.specs.Receive.{row_in, bits_in, next_row, stored_bit, seek, seek_bit, collect, collect_bit, hear}
 use Rattle.station_spec.specs.Receive.{addressed, deciding, decide, ended, receive, row_limit}
 use Rattle.area.specs.Area.{buffer_at, with_bit, address_at}
@@ -33,40 +31,6 @@ use Rattle.area.specs.Offsets.{area_size, from, the_buffer}
 use Rattle.frame_build.specs.Limits.{buffer_octets, buffer_bits, shortest_frame}
 use Rattle.sheet_layout.specs.Limits.{max_stations}
 
--- ---- a law for each way through the code
-
-module _ (address buffer : List ℕ) (more : ℕ) (r : Receiver) where
-  pub may_listening : r ≡ Listening → leb shortest_frame more ≡ may_report address buffer more r
-  unfolding may_report
-  may_listening e = rw e
-
-  pub may_readable : (n : ℕ) → r ≡ Readable n → leb shortest_frame more ≡ may_report address buffer more r
-  unfolding may_report
-  may_readable n e = rw e
-
-  pub may_seeking : (row : ℕ) (sp own b : Bool) → r ≡ Seeking row sp own → b ≡ (leb shortest_frame more && not own)
-      → b ≡ may_report address buffer more r
-  unfolding may_report
-  may_seeking row sp own b e p = rw e p
-
-  module _ (n : ℕ) (sp own : Bool) (e : r ≡ Collecting n sp own) where
-    pub may_short : n + more < shortest_frame → false ≡ may_report address buffer more r
-    unfolding may_report
-    may_short h = rw (e, lt-leb shortest_frame (n + more) h)
-
-    pub may_own : shortest_frame ≤ n + more → own ≡ true → false ≡ may_report address buffer more r
-    unfolding may_report
-    may_own h o = rw (e, le-leb shortest_frame (n + more) h, o)
-
-    pub may_early : shortest_frame ≤ n + more → own ≡ false → n < 48 → true ≡ may_report address buffer more r
-    unfolding may_report
-    may_early h o l = rw (e, le-leb shortest_frame (n + more) h, o, lt-ltb n 48 l)
-
-    pub may_addressed : (b : Bool) → shortest_frame ≤ n + more → own ≡ false → 48 ≤ n → b ≡ addressed address buffer
-        → b ≡ may_report address buffer more r
-    unfolding may_report
-    may_addressed b h o l p = rw (e, le-leb shortest_frame (n + more) h, o, le-ltb n 48 l) p
-
 -- ---- its first six octets stay
 
 -- a reception that has its destination
@@ -76,9 +40,9 @@ Far (Readable n) = ⊥
 Far (Seeking row sp own) = ⊥
 Far (Collecting n sp own) = 48 ≤ n
 
-abbrev Past : Stored → Type 0
-Past NoStore = Unit {0}
-Past (Store k b) = 48 ≤ k
+abbrev Past : Option Stored → Type 0
+Past None = Unit {0}
+Past (Some s) = 48 ≤ s.bit
 
 stored_past : (n : ℕ) (b : Bool) → 48 ≤ n → Past (stored_bit n b)
 unfolding stored_bit
@@ -94,12 +58,12 @@ far_step (Collecting n sp own) Nothing e p v = absurd (true≢false (sym p))
 far_step (Collecting n sp own) (Clean b) e p v = (omega arith, stored_past n b v)
 far_step (Collecting n sp own) Spoiled e p v = (omega arith, stored_past n false v)
 
-past_kept : (j k : ℕ) (o : Stored) (x : List ℕ) → Past o → k < 6
+past_kept : (j k : ℕ) (o : Option Stored) (x : List ℕ) → Past o → k < 6
     → get_or (with_stored j o x) (from (the_buffer j) + k) 0 ≡ get_or x (from (the_buffer j) + k) 0
 unfolding with_bit
-past_kept j k NoStore x p h = refl
-past_kept j k (Store n b) x p h =
-    get_or-set_other x (from (the_buffer j) + n / 8) (from (the_buffer j) + k) _ 0 (λ z. omega arith)
+past_kept j k None x p h = refl
+past_kept j k (Some s) x p h =
+    get_or-set_other x (from (the_buffer j) + s.bit / 8) (from (the_buffer j) + k) _ 0 (λ z. omega arith)
 
 module _ (e : Bool) (H : ℕ → Heard) (r : Receiver) (v : Far r) where
   far_all : (m : ℕ) → AllHeard H m → Far (received_by e H m r)
@@ -219,7 +183,7 @@ module _ (address buf : List ℕ) (more : ℕ) where
 
   -- a reception that may not report ends and reports nothing
   pub silent_ends : (q : Receiver) → may_report address buf more q ≡ false
-      → ended address buf q ≡ deciding (calmed 1 q) NoReceive
+      → ended address buf q ≡ deciding (calmed 1 q) None
   unfolding may_report ended calmed decide
   silent_ends Listening h = refl
   silent_ends (Readable n) h = refl

@@ -1,7 +1,7 @@
 -- A receiver over many steps in each of which others are heard, and the bits that it stores (document 01, "One bit
 -- time": "A reception is an unbroken stretch of steps in which others are heard."). Each is the fold of the receiver's
 -- steps. Assumes nothing.
-use Rattle.std.specs.Prelude.{ℕ, ◌+◌, ◌<◌, ◌≡◌, Bool, true, not, ◌||◌, ◌&&◌, List, [], eqb, leb, ltb, get_or}
+use Rattle.std.specs.Prelude.{ℕ, ◌+◌, ◌<◌, ◌≡◌, Bool, true, not, ◌||◌, ◌&&◌, List, [], eqb, leb, ltb, get_or, Option}
 use Rattle.octets.specs.Base.{pick}
 use Rattle.octets.specs.Turns.{turns}
 use Rattle.station_symbols.specs.declared.Heard.{Heard}
@@ -39,7 +39,7 @@ heard_all j e H m p = turns (λ s q. step_taken j (receive [] [] q.receiver (H s
 unfoldable pub received_by : (e : Bool) → (ℕ → Heard) → (m : ℕ) → Receiver → Receiver
 received_by e H m r = turns (λ s q. (receive [] [] q (H s) e).receiver) m r
 
-unfoldable pub kept_by : (e : Bool) → (ℕ → Heard) → Receiver → (s : ℕ) → Stored
+unfoldable pub kept_by : (e : Bool) → (ℕ → Heard) → Receiver → (s : ℕ) → Option Stored
 kept_by e H r s = (receive [] [] (received_by e H s r) (H s) e).stored
 
 -- ---- what is heard

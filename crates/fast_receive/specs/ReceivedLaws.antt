@@ -12,7 +12,6 @@ use Rattle.station_symbols.specs.declared.Heard.TheVariants.{Nothing, Clean, Spo
 use Rattle.station_symbols.specs.Packet.{hears_any}
 use Rattle.station_state.specs.declared.Receiver.{Receiver}
 use Rattle.station_state.specs.declared.Receiver.TheVariants.{Listening, Readable, Seeking, Collecting}
-use Rattle.station_spec.specs.declared.Received.{Received}
 use Rattle.station_spec.specs.Receive.{row_in, bits_in, next_row, hearing, seek_bit, seek, collect, collect_bit, hear}
 use Rattle.station_spec.specs.Receive.{receive, row_limit}
 use Rattle.area_record.specs.Codec.{receiver_number}

@@ -1,28 +1,28 @@
 -- Many bits at once: those of a preamble, of which only the last eight matter, and eight clean bits of a line as an
 -- octet. Assumes nothing.
 use Prim.Native.Nat.{ℕ, zero, suc, ◌+◌, ◌-◌, ◌*◌, ◌/◌, ◌%◌, ◌^◌, ◌≤◌, ◌<◌}
-use Rattle.std.specs.Prelude.{◌≡◌, refl, Bool, true, false, ◌||◌, eqb, leb, ltb, length}
-use Rattle.std.proofs.Common.{sym, ◌∙◌, subst, true≢false}
+use Rattle.std.specs.Prelude.{◌≡◌, refl, Bool, true, false, ◌||◌, eqb, leb, ltb, length, Option, is_some, unwrap_or}
+use Rattle.std.specs.Bool.{then_some}
+use Rattle.std.proofs.Common.{sym, ◌∙◌, ap₂, true≢false}
 use Rattle.std.proofs.Math.Path.{ap}
 use mathlib.Core.List.{List, []}
 use native.Mathlib.Omega.{arith}
-use borrow.Author.Tests.{ne_eqb, ltb-true, ltb-false}
+use borrow.Author.Tests.{leb-false, ne_eqb, ltb-true, ltb-false}
 use Rattle.octets.specs.BaseLaws.{by_test, by_eq}
 use Rattle.octets.specs.Turns.{turns}
 use Rattle.station_symbols.specs.declared.Heard.{Heard}
-use Rattle.station_symbols.specs.declared.Heard.TheVariants.{Nothing, Clean, Spoiled}
+use Rattle.station_symbols.specs.declared.Heard.TheVariants.{Clean}
 use Rattle.station_symbols.specs.Packet.{hears_any, packet_bit}
 use Rattle.station_symbols.specs.PacketLaws.{bit_alternates}
 use Rattle.station_state.specs.declared.Receiver.{Receiver}
 use Rattle.station_state.specs.declared.Receiver.TheVariants.{Seeking, Collecting}
-use Rattle.station_spec.specs.Receive.{row_in, bits_in, next_row, stored_bit, seek, seek_bit, hear, receive, row_limit}
+use Rattle.station_spec.specs.Receive.{next_row, stored_bit, seek, seek_bit, hear, receive}
 use Rattle.area.specs.Places.{place}
 use Rattle.area.specs.Area.{heard_of, symbol_at, arrival_at, with_octet}
 use Rattle.area.specs.AreaLaws.{symbol_by}
-use Rattle.bus_spec.specs.BitTime.{with_stored}
 use Rattle.fast_plan.specs.Goes.{stored_all}
 use Rattle.fast_receive.specs.Received.{Taken, taken, step_taken, heard_all, line_from, bits_from, AllHeard}
-use Rattle.fast_receive.specs.ReceivedLaws.{heard_split, heard_keeps}
+use Rattle.fast_receive.specs.ReceivedLaws.{heard_split, heard_keeps, heard_same}
 use Rattle.fast_receive.specs.Copy.{or_twice, collect_clean, eight_bits}
 use Rattle.fast_receive.specs.CodeLaws.{all_none, line_more, bits_more}
 use Rattle.area.specs.Offsets.{area_size}
@@ -79,42 +79,17 @@ module _ (j : ℕ) (e : Bool) (F x : List ℕ) (sp : Bool) where
       ∙ ap (λ (o : Bool). taken (Seeking (row_before (a + suc n + 1)) sp o) x) (or_twice own e)
       ∙ ap (λ (k : ℕ). taken (Seeking (row_before k) sp (own || e)) x) z
 
--- where none is passed
-pub pass_stay : (a : ℕ) (e : Bool) (r : Receiver) → Passes a e r r 0
-unfolding Passes heard_all turns
-pass_stay a e r j F x = refl
-
-pub pass_none : (a n row : ℕ) (e sp own : Bool) → n ≡ 0 → Passes a e (Seeking row sp own) (Seeking row sp own) 0
-pass_none a n row e sp own h = pass_stay a e (Seeking row sp own)
-
-pub pass_some : (a m n row : ℕ) (e sp own o : Bool) → (n ≤ m) × (0 < n → (row ≡ 341 + 85 * (a % 2)) × (a + n ≤ 63))
-    → (n ≡ 0 → ⊥)
-    → o ≡ (own || e) → Passes a e (Seeking row sp own) (Seeking (341 + 85 * ((a + n) % 2)) sp o) n
+-- the rest of a preamble is passed
+pub pass_some : (r : Receiver) (a n row : ℕ) (e sp own : Bool) → r ≡ Seeking row sp own → row ≡ row_before a → 0 < n
+    → a + n ≤ 63 → Passes a e r (Seeking (row_before (a + n)) sp (own || e)) n
 unfolding Passes
-pass_some a m n row e sp own o h ne w j F x =
-    let pos : 0 < n = omega (arith, ne) in
-    let r : row ≡ row_before a = (h.1 pos).0 in
+pass_some r a n row e sp own er ew pos up j F x =
     let z : suc (n - 1) ≡ n = omega arith in
-    let up : a + (n - 1) ≤ 62 = omega (arith, (h.1 pos).1) in
-    ap (λ (b : Bool). taken (Seeking (row_before (a + n)) sp b) x) w
-    ∙ ap (λ (k : ℕ). taken (Seeking (row_before (a + k)) sp (own || e)) x) (sym z)
-    ∙ sym (passed j e F x sp a own (n - 1) up)
+    ap (λ (k : ℕ). taken (Seeking (row_before (a + k)) sp (own || e)) x) (sym z)
+    ∙ sym (passed j e F x sp a own (n - 1) (omega arith))
     ∙ ap (λ (k : ℕ). heard_all j e (bits_from F a) k (taken (Seeking (row_before a) sp own) x)) z
-    ∙ ap (λ (k : ℕ). heard_all j e (bits_from F a) n (taken (Seeking k sp own) x)) (sym r)
-
--- a receiver that seeks
-module _ (r : Receiver) (row : ℕ) (sp own : Bool) (p : r ≡ Seeking row sp own) where
-  pub seeking_row : row_in r < row_limit → row < row_limit
-  seeking_row h = omega (arith, ap row_in p)
-
-  pub seeking_passes : (a : ℕ) (e : Bool) (q : Receiver) (n : ℕ) → Passes a e (Seeking row sp own) q n
-      → Passes a e r q n
-  seeking_passes a e q n h = subst (λ (t : Receiver). Passes a e t q n) (sym p) h
-
-pub pass_heard : (a : ℕ) (e : Bool) (r q : Receiver) (n j : ℕ) (F x : List ℕ) → Passes a e r q n
-    → taken q x ≡ heard_all j e (bits_from F a) n (taken r x)
-unfolding Passes
-pass_heard a e r q n j F x h = h j F x
+    ∙ ap (λ (q : Receiver). heard_all j e (bits_from F a) n (taken q x))
+    (ap (λ (k : ℕ). Seeking k sp own) (sym ew) ∙ sym er)
 
 -- ---- one part after the other
 
@@ -187,9 +162,6 @@ module _ (p q r s v : ℕ) (hp : p < 2) (hq : q < 2) (hr : r < 2) (hs : s < 2) (
   bit_3 : v / 2 ^ 3 % 2 ≡ s
   bit_3 = omega arith
 
-none_over : (m n v : ℕ) → v ≡ m + n * 16 → v < 16 → (n ≡ 0) × (v ≡ m)
-none_over m n v e h = (omega arith, omega arith)
-
 clean_code : (a : ℕ) → (a + 1) / 4 ≡ 0 → a ≤ 2
 clean_code a h = omega arith
 
@@ -207,17 +179,13 @@ module _ (x : List ℕ) (j u : ℕ) where
   place_clean s c w e a h g k =
       ap heard_of (sym e) ∙ code_clean c w (ap (λ (v : ℕ). hears_any (heard_of v)) e ∙ a s h) g k
 
-  four_by : (a b c d v : ℕ) → a ≡ symbol_at x j u → b ≡ symbol_at x j (u + 1) → c ≡ symbol_at x j (u + 2)
-      → d ≡ symbol_at x j (u + 3)
-      → v ≡ a / 2 + b / 2 * 2 + c / 2 * 4 + d / 2 * 8 + ((a + 1) / 4 + (b + 1) / 4 + (c + 1) / 4 + (d + 1) / 4) * 16
-      → AllHeard (line_from x j u) 4 → v < 16 → CleanBits x j u 4 v
+  pub four_clean : (a b c d v : ℕ) → a ≡ symbol_at x j u → b ≡ symbol_at x j (u + 1) → c ≡ symbol_at x j (u + 2)
+      → d ≡ symbol_at x j (u + 3) → (a + 1) / 4 + (b + 1) / 4 + (c + 1) / 4 + (d + 1) / 4 ≡ 0
+      → v ≡ a / 2 + b / 2 * 2 + c / 2 * 4 + d / 2 * 8 → AllHeard (line_from x j u) 4 → (v < 16) × CleanBits x j u 4 v
   unfolding CleanBits
-  four_by a b c d v ea eb ec ed ev al h =
+  four_clean a b c d v ea eb ec ed es w al =
       let z : u ≡ u + 0 = omega arith in
-      let o = none_over (a / 2 + b / 2 * 2 + c / 2 * 4 + d / 2 * 8)
-      ((a + 1) / 4 + (b + 1) / 4 + (c + 1) / 4 + (d + 1) / 4) v ev h in
-      let n = none_each ((a + 1) / 4) ((b + 1) / 4) ((c + 1) / 4) ((d + 1) / 4) o.0 in
-      let w = o.1 in
+      let n = none_each ((a + 1) / 4) ((b + 1) / 4) ((c + 1) / 4) ((d + 1) / 4) es in
       let pa = clean_code a n.0 in
       let pb = clean_code b n.1 in
       let pc = clean_code c n.2 in
@@ -225,19 +193,18 @@ module _ (x : List ℕ) (j u : ℕ) where
       let ha = half_small a pa in
       let hb = half_small b pb in
       let hc = half_small c pc in
-      let hd = half_small d pd in
-      by_four (λ s. arrival_at x j (u + s) ≡ Clean (eqb (v / 2 ^ s % 2) 1))
-      (place_clean 0 a (v / 2 ^ 0 % 2) (ea ∙ ap (symbol_at x j) z) al (omega arith) pa
-      (bit_0 (a / 2) (b / 2) (c / 2) (d / 2) v ha hb hc hd w))
-      (place_clean 1 b (v / 2 ^ 1 % 2) eb al (omega arith) pb (bit_1 (a / 2) (b / 2) (c / 2) (d / 2) v ha hb hc hd w))
-      (place_clean 2 c (v / 2 ^ 2 % 2) ec al (omega arith) pc (bit_2 (a / 2) (b / 2) (c / 2) (d / 2) v ha hb hc hd w))
-      (place_clean 3 d (v / 2 ^ 3 % 2) ed al (omega arith) pd (bit_3 (a / 2) (b / 2) (c / 2) (d / 2) v ha hb hc hd w))
-
-  pub four_clean : (a b c d : ℕ) → d ≡ symbol_at x j (u + 3) → c ≡ symbol_at x j (u + 2) → b ≡ symbol_at x j (u + 1)
-      → a ≡ symbol_at x j u → AllHeard (line_from x j u) 4
-      → let v = a / 2 + b / 2 * 2 + c / 2 * 4 + d / 2 * 8 +
-      ((a + 1) / 4 + (b + 1) / 4 + (c + 1) / 4 + (d + 1) / 4) * 16 in v < 16 → CleanBits x j u 4 v
-  four_clean a b c d ed ec eb ea al h = four_by a b c d _ ea eb ec ed refl al h
+      let hd = half_small d pd in (
+        omega arith,
+        by_four (λ s. arrival_at x j (u + s) ≡ Clean (eqb (v / 2 ^ s % 2) 1))
+            (place_clean 0 a (v / 2 ^ 0 % 2) (ea ∙ ap (symbol_at x j) z) al (omega arith) pa
+            (bit_0 (a / 2) (b / 2) (c / 2) (d / 2) v ha hb hc hd w))
+            (place_clean 1 b (v / 2 ^ 1 % 2) eb al (omega arith) pb
+            (bit_1 (a / 2) (b / 2) (c / 2) (d / 2) v ha hb hc hd w))
+            (place_clean 2 c (v / 2 ^ 2 % 2) ec al (omega arith) pc
+            (bit_2 (a / 2) (b / 2) (c / 2) (d / 2) v ha hb hc hd w))
+            (place_clean 3 d (v / 2 ^ 3 % 2) ed al (omega arith) pd
+            (bit_3 (a / 2) (b / 2) (c / 2) (d / 2) v ha hb hc hd w)),
+      )
 
   pub four_heard : AllHeard (line_from x j u) 8 → AllHeard (line_from x j u) 4
   unfolding AllHeard
@@ -259,87 +226,68 @@ module _ (x : List ℕ) (j u : ℕ) where
       (omega arith)
 
   -- two halves of an octet
-  pub octet_clean : (a b : ℕ) → a ≤ 15 → b ≤ 15 → (a < 16 → CleanBits x j u 4 a) → (b < 16 → CleanBits x j (u + 4) 4 b)
+  pub octet_clean : (a b : ℕ) → (a < 16) × CleanBits x j u 4 a → (b < 16) × CleanBits x j (u + 4) 4 b
       → CleanBits x j u 8 (a + 16 * b)
   unfolding CleanBits
-  octet_clean a b ha hb p q s h =
+  octet_clean a b p q s h =
       by_test (ltb s 4)
-      (λ c. let l = ltb-true s 4 c in p (omega arith) s l ∙ ap (λ (w : ℕ). Clean (eqb w 1))
-      (low_same a b (omega arith) s l))
+      (λ c. let l = ltb-true s 4 c in p.1 s l ∙ ap (λ (w : ℕ). Clean (eqb w 1)) (low_same a b p.0 s l))
       (λ c. let l = ltb-false s 4 c in
       let z : u + s ≡ u + 4 + (s - 4) = omega arith in
       let y : 4 + (s - 4) ≡ s = omega arith in
-      ap (arrival_at x j) z ∙ q (omega arith) (s - 4) (omega arith)
-      ∙ ap (λ (w : ℕ). Clean (eqb w 1)) (high_same a b (omega arith) (s - 4) (omega arith))
+      ap (arrival_at x j) z ∙ q.1 (s - 4) (omega arith)
+      ∙ ap (λ (w : ℕ). Clean (eqb w 1)) (high_same a b p.0 (s - 4) (omega arith))
       ∙ ap (λ (k : ℕ). Clean (eqb ((a + 16 * b) / 2 ^ k % 2) 1)) y)
 
-  pub octet_spoiled : 256 < 256 → CleanBits x j u 8 256
-  octet_spoiled h = absurd (omega arith)
-
--- only what is heard matters
-heard_same : (j : ℕ) (e : Bool) (H G : ℕ → Heard) (m : ℕ) (p : Taken) → ((s : ℕ) → s < m → H s ≡ G s)
-    → heard_all j e H m p ≡ heard_all j e G m p
-unfolding heard_all turns
-heard_same j e H G zero p h = refl
-heard_same j e H G (suc m) p h =
-    ap (λ (q : Taken). step_taken j (receive [] [] q.receiver (H m) e) q.octets)
-    (heard_same j e H G m p (λ s l. h s (omega arith)))
-    ∙ ap (λ (g : Heard). step_taken j (receive [] [] (heard_all j e G m p).receiver g e) (heard_all j e G m p).octets)
-    (h m (omega arith))
-
 -- eight bits collected from where an octet begins
-pub octet_heard : (j u : ℕ) (e : Bool) (c v : ℕ) (sp own o : Bool) (x y : List ℕ) → j < max_stations
-    → area_size ≤ length x → c % 8 ≤ 0 → c ≤ buffer_bits - 8 → v ≤ 255
-    → (v < 256 → CleanBits x j u 8 v) → y ≡ with_octet x j (c / 8) v → o ≡ (own || e)
-    → taken (Collecting (c + 8) sp o) y ≡ heard_all j e (line_from x j u) 8 (taken (Collecting c sp own) x)
+pub octet_heard : (j u : ℕ) (e : Bool) (c v : ℕ) (sp own : Bool) (r : Receiver) (x y : List ℕ) → r ≡ Collecting c sp own
+    → j < max_stations → area_size ≤ length x → c % 8 ≡ 0 → c ≤ buffer_bits - 8 → v < 256
+    → CleanBits x j u 8 v → y ≡ with_octet x j (c / 8) v
+    → taken (Collecting (c + 8) sp (own || e)) y ≡ heard_all j e (line_from x j u) 8 (taken r x)
 unfolding CleanBits line_from
-octet_heard j u e c v sp own o x y hj room al hc hv k ey w =
+octet_heard j u e c v sp own r x y er hj room al hc hv k ey =
     let bit : ℕ → Bool = λ s. eqb (v / 2 ^ s % 2) 1 in
     let z : c ≡ 8 * (c / 8) = omega arith in
-    ap (λ (b : Bool). taken (Collecting (c + 8) sp b) y) w
-    ∙ ap (taken (Collecting (c + 8) sp (own || e)))
+    ap (taken (Collecting (c + 8) sp (own || e)))
     (ey ∙ sym (eight_bits j (c / 8) x hj (omega arith) room v (omega arith) bit (λ s h. refl)))
     ∙ ap (λ (b : ℕ). taken (Collecting (c + 8) sp (own || e)) (stored_all j (λ s. stored_bit (b + s) (bit s)) 8 x))
     (sym z)
     ∙ sym (collect_clean j e bit c sp own x 7)
     ∙ sym (heard_same j e (λ s. arrival_at x j (u + s)) (λ s. Clean (bit s)) 8 (taken (Collecting c sp own) x)
-    (λ s h. k (omega arith) s h))
-
--- no step, and one
-pub stay_line : (j u : ℕ) (e : Bool) (c : ℕ) (sp own : Bool) (x : List ℕ) (t : Receiver) (s : ℕ)
-    → (t ≡ Collecting c sp own) × (s ≡ 0)
-    → taken t x ≡ heard_all j e (line_from x j u) s (taken (Collecting c sp own) x)
-unfolding heard_all turns
-stay_line j u e c sp own x t s p = rw (p.0, p.1)
+    (λ s h. k s h))
+    ∙ ap (λ (q : Receiver). heard_all j e (λ s. arrival_at x j (u + s)) 8 (taken q x)) (sym er)
 
 pub eight_heard : (H : ℕ → Heard) (m : ℕ) → AllHeard H m → 8 ≤ m → AllHeard H 8
 unfolding AllHeard
 eight_heard H m a h s l = a s (omega arith)
 
-pub some_one : (j : ℕ) (e : Bool) (r q t : Receiver) (x y z : List ℕ) (u m s c : ℕ) → AllHeard (line_from x j u) m
-    → 0 < m → j < max_stations → s ≡ 0
-    → c ≡ symbol_at y j u → taken q y ≡ heard_all j e (line_from x j u) s (taken r x)
-    → taken t z ≡ step_taken j (hear q (leb c 2) (eqb c 2) e) y
+-- the clean bit of a symbol by its code
+bit_of_code : (c : ℕ) → unwrap_or (then_some (leb c 2) (eqb c 2)) false ≡ eqb c 2
+bit_of_code c = by_test (leb c 2) (λ h. rw h) (λ h. rw (h, ne_eqb c 2 (λ e. omega (arith, leb-false c 2 h))))
+
+is_clean_code : (b c : Bool) → is_some (then_some b c) ≡ b
+is_clean_code true c = refl
+is_clean_code false c = refl
+
+pub some_one : (j : ℕ) (e : Bool) (r t : Receiver) (x y z : List ℕ) (u m c : ℕ) (s : Option Bool)
+    → AllHeard (line_from x j u) m → 0 < m → j < max_stations → y ≡ x → c ≡ symbol_at y j u
+    → s ≡ then_some (leb c 2) (eqb c 2) → taken t z ≡ step_taken j (hear r (is_some s) (unwrap_or s false) e) y
     → taken t z ≡ heard_all j e (line_from x j u) 1 (taken r x)
-some_one j e r q t x y z u m s c a h hj es ec p g =
+some_one j e r t x y z u m c s a h hj ey ec p g =
     let w : u ≡ u + 0 = omega arith in
-    line_more j e r q t x y z u m 0 c a h hj (ec ∙ ap (symbol_at y j) w) (rw es at p) g
+    line_more j e r r t x y z u m 0 c a h hj (ec ∙ ap (symbol_at y j) w)
+    (ap (taken r) ey ∙ all_none j e (line_from x j u) r x)
+    (g
+    ∙ ap (λ (q : Option Bool). step_taken j (hear r (is_some q) (unwrap_or q false) e) y) p
+    ∙ ap₂ (λ (b d : Bool). step_taken j (hear r b d e) y) (is_clean_code (leb c 2) (eqb c 2)) (bit_of_code c))
 
-pub next_one : (j : ℕ) (e : Bool) (r t : Receiver) (x z F : List ℕ) (a : ℕ) (one : Bool) → one ≡ packet_bit F a
-    → taken t z ≡ step_taken j (hear r true one e) x → taken t z ≡ heard_all j e (bits_from F a) 1 (taken r x)
-next_one j e r t x z F a one p g =
+pub next_one : (j : ℕ) (e : Bool) (r t : Receiver) (x y z F : List ℕ) (a : ℕ) (one : Bool) → y ≡ x → one ≡ packet_bit F a
+    → taken t z ≡ step_taken j (hear r true one e) y → taken t z ≡ heard_all j e (bits_from F a) 1 (taken r x)
+next_one j e r t x y z F a one ey p g =
     let w : a ≡ a + 0 = omega arith in
-    bits_more j e r r t x x z F a 0 one (p ∙ ap (packet_bit F) w) (all_none j e (bits_from F a) r x) g
+    bits_more j e r r t x y z F a 0 one (p ∙ ap (packet_bit F) w) (ap (taken r) ey ∙ all_none j e (bits_from F a) r x) g
 
-pub line_none : (j u : ℕ) (e : Bool) (r : Receiver) (x : List ℕ)
-    → taken r x ≡ heard_all j e (line_from x j u) 0 (taken r x)
-unfolding heard_all turns
-line_none j u e r x = refl
-
--- a receiver that collects
-pub collecting_line : (r : Receiver) (c : ℕ) (sp own : Bool) (p : r ≡ Collecting c sp own) (j u : ℕ) (e : Bool) (n : ℕ)
-    (x y : List ℕ) (t : Receiver)
-    → taken t y ≡ heard_all j e (line_from x j u) n (taken (Collecting c sp own) x)
-    → taken t y ≡ heard_all j e (line_from x j u) n (taken r x)
-collecting_line r c sp own p j u e n x y t h =
-    h ∙ ap (λ (q : Receiver). heard_all j e (line_from x j u) n (taken q x)) (sym p)
+pub next_passed : (j : ℕ) (e : Bool) (r q : Receiver) (x y F : List ℕ) (a n : ℕ) → y ≡ x → Passes a e r q n
+    → taken q y ≡ heard_all j e (bits_from F a) n (taken r x)
+unfolding Passes
+next_passed j e r q x y F a n ey h = ap (taken q) ey ∙ h j F x

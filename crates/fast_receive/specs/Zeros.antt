@@ -1,7 +1,7 @@
 -- Spoiled symbols: the delimiter is never found; after it they are zeros, so the low bits of an octet stay, and the
 -- octets behind it are 0. Assumes nothing.
 use Prim.Native.Nat.{ℕ, zero, suc, ◌+◌, ◌-◌, ◌*◌, ◌/◌, ◌%◌, ◌^◌, ◌≤◌, ◌<◌, min}
-use Rattle.std.specs.Prelude.{◌≡◌, Bool, false, ◌||◌, ltb, length, get_or, set}
+use Rattle.std.specs.Prelude.{◌≡◌, Bool, false, ◌||◌, ltb, length, get_or, set, Option}
 use Rattle.std.proofs.Math.Path.{refl, ap}
 use Rattle.std.proofs.Common.{sym, ◌∙◌, ap₂, mod-lt, mod-eq_of_lt, lt-ltb, le-ltb, ltb-true, ltb-false, pow_mono, pow_pos, length-set, get_or-set_same}
 use Rattle.std.proofs.Math.Bool.{true, or-true}
@@ -90,7 +90,7 @@ blanks_more i q n z =
     let e : get_or (blanks i q n z) (from (the_buffer i) + (q + suc n)) 0 % 1
     ≡ 0 = omega arith in ap (with_octet (blanks i q n z) i (q + suc n)) e
 
-none_stored : (i : ℕ) (st : ℕ → Stored) (x : List ℕ) → stored_all i st 0 x ≡ x
+none_stored : (i : ℕ) (st : ℕ → Option Stored) (x : List ℕ) → stored_all i st 0 x ≡ x
 unfolding stored_all turns
 none_stored i st x = refl
 

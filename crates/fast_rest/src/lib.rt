@@ -2,7 +2,7 @@
 
 #![tactic(auto)]
 
-ghost use Rattle.std.specs.Prelude.{◌≡◌, ◌+◌, ◌<◌, min, max};
+ghost use Rattle.std.specs.Prelude.{◌≡◌, ◌+◌, ◌<◌, min};
 ghost use Rattle.fast_silence.specs.Rested.{rests_for, gap_to, rested_deference, rested_transmitter, has_waited, rested};
 ghost use Rattle.fast_silence.specs.Bound.{frames_rest, idle, station_rests};
 
@@ -10,6 +10,7 @@ use sheet_layout::Figures;
 use station_state::{Deference, Receiver, Station, Transmitter};
 
 // The steps in which a frame that waits does not start.
+#[tactic(auto, unfolding(fast_silence::specs::Rested::rests_for, sheet_layout::specs::Layout::gap_of))]
 fn rests_for(f: Figures, d: Deference) -> u32
     requires { f.gap1 + f.gap2 < 65536 }
     ensures { result ≡ rests_for f d }
@@ -17,23 +18,12 @@ fn rests_for(f: Figures, d: Deference) -> u32
     match d {
         Deference::Quiet => 0,
         Deference::Busy(_) => f.gap1 + f.gap2,
-        Deference::Gap { count, own: _ } => {
-            if f.gap1 + f.gap2 < count {
-                return 0;
-            }
-            f.gap1 + f.gap2 - count
-        }
+        Deference::Gap { count, .. } => (f.gap1 + f.gap2).saturating_sub(count),
     }
 }
 
-// The larger of two counts.
-pub fn larger(x: u32, y: u32) -> u32
-    ensures { result ≡ max x y }
-{
-    if x < y { y } else { x }
-}
-
 // The steps in which no frame starts, of m asked.
+#[tactic(auto, unfolding(fast_silence::specs::Bound::frames_rest))]
 pub fn frames_rest(f: Figures, m: u32, d: Deference, x: Transmitter) -> u32
     requires { f.gap1 + f.gap2 < 65536 }
     ensures { result ≡ frames_rest f m d x }
@@ -41,34 +31,21 @@ pub fn frames_rest(f: Figures, m: u32, d: Deference, x: Transmitter) -> u32
     match x {
         Transmitter::NoFrame => m,
         Transmitter::Waiting => rests_for(f, d),
-        Transmitter::BackingOff(w) => larger(w, rests_for(f, d)),
-        Transmitter::Sending(_) => 0,
-        Transmitter::Heading(_) => 0,
-        Transmitter::Jamming { left: _, ends: _ } => 0,
+        Transmitter::BackingOff(w) => w.max(rests_for(f, d)),
+        Transmitter::Sending(_) | Transmitter::Heading(_) | Transmitter::Jamming { .. } => 0,
     }
 }
 
 // Whether nothing is being received.
+#[tactic(auto, unfolding(fast_silence::specs::Bound::idle))]
 pub fn is_idle(x: Receiver) -> bool
     ensures { result ≡ idle x }
 {
-    match x {
-        Receiver::Listening => true,
-        Receiver::Readable(_) => true,
-        Receiver::Seeking {
-            row: _,
-            spoiled: _,
-            own: _,
-        } => false,
-        Receiver::Collecting {
-            bits: _,
-            spoiled: _,
-            own: _,
-        } => false,
-    }
+    matches!(x, Receiver::Listening | Receiver::Readable(_))
 }
 
 // What a station allows of m steps.
+#[tactic(auto, unfolding(fast_silence::specs::Bound::station_rests))]
 fn station_rests(f: Figures, m: u32, s: Station) -> u32
     requires { f.gap1 + f.gap2 < 65536 }
     ensures { result ≡ station_rests f m s }
@@ -76,19 +53,10 @@ fn station_rests(f: Figures, m: u32, s: Station) -> u32
     if s.emitted {
         return 0;
     }
-    let receiver = s.receiver;
-    if is_idle(receiver) {
-        let d = s.deference;
-        let x = s.transmitter;
-        return frames_rest(f, m, d, x);
+    if is_idle(s.receiver) {
+        return frames_rest(f, m, s.deference, s.transmitter);
     }
     0
-}
-
-pub fn smaller(x: u32, y: u32) -> u32
-    ensures { result ≡ min x y }
-{
-    if x < y { x } else { y }
 }
 
 // The same, and no more than m.
@@ -96,19 +64,17 @@ pub fn least_rest(f: Figures, m: u32, s: Station) -> u32
     requires { f.gap1 + f.gap2 < 65536 }
     ensures { result ≡ min (station_rests f m s) m }
 {
-    smaller(station_rests(f, m, s), m)
+    station_rests(f, m, s).min(m)
 }
 
 // A gap that has come to `count` + m bit times, or is over.
+#[tactic(auto, unfolding(fast_silence::specs::Rested::gap_to, sheet_layout::specs::Layout::gap_of))]
 fn gap_to(f: Figures, own: bool, count: u32, m: u32) -> Deference
     requires { f.gap1 + f.gap2 < 65536 }
     ensures { result ≡ gap_to f own (count + m) }
 {
     let g = f.gap1 + f.gap2;
-    if g < count {
-        return Deference::Quiet;
-    }
-    if g - count < m {
+    if g < count || g - count < m {
         return Deference::Quiet;
     }
     Deference::Gap {
@@ -118,6 +84,7 @@ fn gap_to(f: Figures, own: bool, count: u32, m: u32) -> Deference
 }
 
 // A deference after m steps in which nothing is heard.
+#[tactic(auto, unfolding(fast_silence::specs::Rested::rested_deference))]
 pub fn rest_deference(f: Figures, m: u32, d: Deference) -> Deference
     requires { f.gap1 + f.gap2 < 65536 }
     ensures { result ≡ rested_deference f m d }
@@ -135,60 +102,52 @@ pub fn rest_deference(f: Figures, m: u32, d: Deference) -> Deference
 }
 
 // A transmitter after m steps without a start: its backoff runs down.
+#[tactic(auto, unfolding(fast_silence::specs::Rested::rested_transmitter))]
 pub fn rest_transmitter(m: u32, x: Transmitter) -> Transmitter
     ensures { result ≡ rested_transmitter m x }
 {
     match x {
-        Transmitter::NoFrame => Transmitter::NoFrame,
-        Transmitter::Waiting => Transmitter::Waiting,
         Transmitter::BackingOff(w) => {
             if m < w {
                 return Transmitter::BackingOff(w - m);
             }
             Transmitter::Waiting
         }
-        Transmitter::Sending(k) => Transmitter::Sending(k),
-        Transmitter::Heading(k) => Transmitter::Heading(k),
-        Transmitter::Jamming { left, ends } => Transmitter::Jamming { left, ends },
+        Transmitter::NoFrame
+        | Transmitter::Waiting
+        | Transmitter::Sending(_)
+        | Transmitter::Heading(_)
+        | Transmitter::Jamming { .. } => x,
     }
 }
 
 // Whether a frame waited in one of m steps.
+#[tactic(auto, unfolding(fast_silence::specs::Rested::has_waited))]
 pub fn has_waited(m: u32, x: Transmitter) -> bool
     ensures { result ≡ has_waited m x }
 {
     match x {
-        Transmitter::NoFrame => false,
         Transmitter::Waiting => 0 < m,
         Transmitter::BackingOff(w) => w < m,
-        Transmitter::Sending(_) => false,
-        Transmitter::Heading(_) => false,
-        Transmitter::Jamming { left: _, ends: _ } => false,
+        Transmitter::NoFrame
+        | Transmitter::Sending(_)
+        | Transmitter::Heading(_)
+        | Transmitter::Jamming { .. } => false,
     }
 }
 
 // A station after m steps of silence.
+#[tactic(auto, unfolding(fast_silence::specs::Rested::rested))]
 pub fn rest(f: Figures, m: u32, s: Station) -> Station
     requires { f.gap1 + f.gap2 < 65536 }
     ensures { result ≡ rested f m s }
 {
-    let address = s.address;
-    let d = s.deference;
-    let x = s.transmitter;
-    let receiver = s.receiver;
-    let deference = rest_deference(f, m, d);
-    let transmitter = rest_transmitter(m, x);
-    let waited = has_waited(m, x);
-    let deferred = octets::either(s.deferred, octets::both(s.attempts == 0, waited));
+    let waited = has_waited(m, s.transmitter);
     Station {
-        address,
-        deference,
-        transmitter,
-        receiver,
-        frame: s.frame,
-        attempts: s.attempts,
-        draw: s.draw,
-        deferred,
+        deference: rest_deference(f, m, s.deference),
+        transmitter: rest_transmitter(m, s.transmitter),
+        deferred: s.deferred | (s.attempts == 0) & waited,
         emitted: false,
+        ..s
     }
 }

@@ -6,7 +6,7 @@ use Rattle.std.proofs.Common.{◌∙◌, subst, true≢false}
 use Rattle.std.proofs.Math.Bool.{true, false, not}
 use Rattle.std.proofs.Math.Numerals.{add-one}
 use native.Mathlib.Omega.{arith}
-use borrow.Author.Tests.{eq-eqb, ne_eqb, lt-ltb, le-ltb}
+use borrow.Author.Tests.{eq-eqb, ne_eqb, lt-ltb}
 use Rattle.std.proofs.Math.Dec.{eqb}
 use Rattle.octets.specs.Base.{some}
 use Rattle.octets.specs.BaseLaws.{by_test, by_eq, below_none, some_none, some_more, some_hit, some_end}
@@ -71,10 +71,6 @@ module _ (a : List ℕ) (m : ℕ) where
   pub stations_few : (n i k : ℕ) → k ≡ stations_rest a m i → k < 5 → i ≤ n → 0 ≡ worth (stations_rest a m n)
   stations_few n i k p h g = few_worth k (stations_rest a m n) (omega (arith, stations_fall a m i n g)) h
 
-  pub stations_end : (n i k : ℕ) → k ≡ stations_rest a m i → 5 ≤ k → i ≤ n → n ≤ i → k ≡ worth (stations_rest a m n)
-  unfolding worth
-  stations_end n i k p h lo up = let e : i ≡ n = omega arith in rw (← e, ← p, le-ltb k 5 h)
-
   -- ---- the lines
 
   pub lines_none : m ≡ lines_rest a m 0
@@ -87,10 +83,6 @@ module _ (a : List ℕ) (m : ℕ) where
 
   pub lines_few : (n i k : ℕ) → k ≡ lines_rest a m i → k < 5 → i ≤ n → 0 ≡ worth (lines_rest a m n)
   lines_few n i k p h g = few_worth k (lines_rest a m n) (omega (arith, lines_fall a m i n g)) h
-
-  pub lines_end : (n i k : ℕ) → k ≡ lines_rest a m i → 5 ≤ k → i ≤ n → n ≤ i → k ≡ worth (lines_rest a m n)
-  unfolding worth
-  lines_end n i k p h lo up = let e : i ≡ n = omega arith in rw (← e, ← p, le-ltb k 5 h)
 
   pub lines_within : (t i k : ℕ) → k ≡ lines_rest a m i → t + m ≤ last_clock → t + k ≤ last_clock
   unfolding lines_rest
@@ -106,10 +98,10 @@ pub most_none : (a : List ℕ) (i : ℕ) → AtMost 0 a i 0
 unfolding AtMost
 most_none a i v h = absurd (omega arith)
 
-pub most_more : (a : List ℕ) (i u c w p q : ℕ) → c ≡ symbol_at a i u → w ≡ c → q ≡ max w p → AtMost p a i u
+pub most_more : (a : List ℕ) (i u c p q : ℕ) → c ≡ symbol_at a i u → q ≡ max p c → AtMost p a i u
     → AtMost q a i (u + 1)
 unfolding AtMost
-most_more a i u c w p q ec ew eq h v g =
+most_more a i u c p q ec eq h v g =
     by_eq v u (λ e. let z : symbol_at a i v ≡ c = ap (symbol_at a i) e ∙ sym ec in omega (arith, z))
     (λ ne. omega (arith, h v (omega arith)))
 

@@ -14,6 +14,7 @@ ghost use Rattle.area.specs.Offsets.{area_size, ring};
 use sheet_layout::Figures;
 
 // Whether station i emitted in the step before.
+#[tactic(auto, using(crate::specs::SearchLaws::emitted_is))]
 fn emitted(area: &[u8], i: usize) -> bool
     requires { (i < max_stations) × (area_size ≤ length area.now) }
     ensures { result ≡ emitted_at area.now i }
@@ -22,58 +23,60 @@ fn emitted(area: &[u8], i: usize) -> bool
 }
 
 // Whether one of n stations did.
+#[tactic(auto, using(crate::specs::SearchLaws::emitted_none, crate::specs::SearchLaws::emitted_more, crate::specs::SearchLaws::emitted_hit, crate::specs::SearchLaws::emitted_end))]
 fn any_emitted(area: &[u8], n: usize) -> bool
     requires { (n ≤ max_stations) × (area_size ≤ length area.now) }
     ensures { result ≡ some (emitted_at area.now) n }
 {
-    let mut i: usize = 0;
-    while i < n {
+    for i in 0..n {
         if emitted(area, i) {
             return true;
         }
-        i += 1;
     }
     false
 }
 
+// So many steps, or none where they are too few to be worth a jump.
+#[tactic(auto, unfolding(fast_silence::specs::Bound::worth))]
+fn worth(steps: u32) -> u32
+    ensures { result ≡ worth steps }
+{
+    if steps < 5 { 0 } else { steps }
+}
+
 // What n stations allow of m steps.
+#[tactic(auto, using(crate::specs::SearchLaws::stations_none, crate::specs::SearchLaws::stations_more))]
 fn stations_rest(area: &[u8], n: usize, f: Figures, m: u32) -> u32
     requires { (n ≤ max_stations) × (area_size ≤ length area.now) × (f.gap1 + f.gap2 < 65536)
         × (f ≡ figures_at area.now) }
     ensures { result ≡ worth (stations_rest area.now m n) }
 {
     let mut left = m;
-    let mut i: usize = 0;
-    while i < n {
+    for i in 0..n {
         if left < 5 {
             return 0;
         }
         let s = area::read_station(area, i);
         left = fast_rest::least_rest(f, left, s);
-        i += 1;
     }
-    if left < 5 {
-        return 0;
-    }
-    left
+    worth(left)
 }
 
 // No less than any code in the line of station i: found without a branch.
-fn line_top(area: &[u8], i: usize) -> u32
+#[tactic(auto, using(crate::specs::SearchLaws::most_none, crate::specs::SearchLaws::most_more, crate::specs::SearchLaws::most_end))]
+fn line_top(area: &[u8], i: usize) -> u8
     requires { (i < max_stations) × (area_size ≤ length area.now) }
     ensures { AtMost result area.now i ring }
 {
-    let mut top: u32 = 0;
-    let mut u: usize = 0;
-    while u < area::RING {
-        let code = octets::wide(area_line::read_symbol(area, i, u));
-        top = fast_rest::larger(code, top);
-        u += 1;
+    let mut top: u8 = 0;
+    for u in 0..area::RING {
+        top = top.max(area_line::read_symbol(area, i, u));
     }
     top
 }
 
 // The steps of m before something reaches station i.
+#[tactic(auto, using(crate::specs::SearchLaws::line_clear, crate::specs::SearchLaws::used_none, crate::specs::SearchLaws::used_more, crate::specs::SearchLaws::used_hit, crate::specs::SearchLaws::used_end))]
 fn line_rests(area: &[u8], i: usize, t: u32, m: u32) -> u32
     requires { (i < max_stations) × (area_size ≤ length area.now) × (t + m ≤ last_clock) × (t ≡ clock_at area.now) }
     ensures { result ≡ line_rests area.now m i }
@@ -81,38 +84,32 @@ fn line_rests(area: &[u8], i: usize, t: u32, m: u32) -> u32
     if line_top(area, i) == 0 {
         return m;
     }
-    let most = fast_rest::smaller(m, area::RING as u32);
-    let mut s: u32 = 0;
-    while s < most {
+    for s in 0..m.min(area::RING as u32) {
         if area_line::read_symbol(area, i, (t + s) as usize) != 0 {
             return s;
         }
-        s += 1;
     }
     m
 }
 
 // What the lines to n stations allow of m steps.
+#[tactic(auto, using(crate::specs::SearchLaws::lines_none, crate::specs::SearchLaws::lines_more))]
 fn lines_rest(area: &[u8], n: usize, t: u32, m: u32) -> u32
     requires { (n ≤ max_stations) × (area_size ≤ length area.now) × (t + m ≤ last_clock) × (t ≡ clock_at area.now) }
     ensures { result ≡ worth (lines_rest area.now m n) }
 {
     let mut left = m;
-    let mut i: usize = 0;
-    while i < n {
+    for i in 0..n {
         if left < 5 {
             return 0;
         }
         left = line_rests(area, i, t, left);
-        i += 1;
     }
-    if left < 5 {
-        return 0;
-    }
-    left
+    worth(left)
 }
 
-// How many of the next m steps may be made as one jump; 0 where none.
+// How many of the next m steps may be made as one jump.
+#[tactic(auto, using(bus_spec::specs::Ready::ready_few, crate::specs::SearchLaws::silent_few, crate::specs::SearchLaws::silent_emitted, crate::specs::SearchLaws::silent_is, crate::specs::SearchLaws::silent_within, crate::specs::SearchLaws::ready_gap))]
 pub fn silent_for(area: &[u8], m: u32) -> u32
     requires { (area_size ≤ length area.now) × (clock_at area.now + m ≤ last_clock) × Ready area.now }
     ensures { result ≡ silent_for m area.now }

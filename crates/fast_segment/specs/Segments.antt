@@ -1,7 +1,7 @@
 -- A segment of a window: K steps in which a station hears one kind of thing and emits throughout, or not at all. What
 -- its turns by itself leave is its closed form, with the bits that it collected; it emits what the plan says and has no
 -- event. Assumes nothing.
-use Rattle.std.specs.Prelude.{ℕ, zero, suc, ◌+◌, ◌-◌, ◌*◌, ◌^◌, ◌≤◌, ◌<◌, ◌≡◌, refl, Bool, true, false, length}
+use Rattle.std.specs.Prelude.{ℕ, zero, suc, ◌+◌, ◌-◌, ◌*◌, ◌^◌, ◌≤◌, ◌<◌, ◌≡◌, refl, Bool, true, false, length, Option, None}
 use Rattle.std.proofs.Common.{sym, ◌∙◌, ap₂, subst, arith}
 use Rattle.std.proofs.Math.Path.{ap}
 use mathlib.Core.List.{List}
@@ -21,8 +21,6 @@ use Rattle.station_state.specs.declared.Receiver.{Receiver}
 use Rattle.station_state.specs.declared.Station.{Station}
 use Rattle.station_spec.specs.Transmit.{octets_held, packet_length}
 use Rattle.station_spec.specs.declared.Stored.{Stored}
-use Rattle.station_spec.specs.declared.Stored.TheVariants.{NoStore}
-use Rattle.station_spec.specs.declared.ReceiveEvent.TheVariants.{NoReceive}
 use Rattle.station_spec.specs.Receive.{hearing, deciding, receive, ended}
 use Rattle.station_spec.specs.declared.Stepped.{Stepped}
 use Rattle.station_spec.specs.Step.{stepped}
@@ -49,7 +47,7 @@ use Rattle.fast_receive.specs.Received.{calmed}
 use Rattle.sheet_layout.specs.Limits.{max_stations}
 
 -- what a segment comes to: K turns by itself leave the station q, and the bits st; it emits Q and has no event
-pub record Segment (f : Figures) (D i : ℕ) (H : ℕ → Heard) (Q : ℕ → Symbol) (K : ℕ) (x : List ℕ) (st : ℕ → Stored)
+pub record Segment (f : Figures) (D i : ℕ) (H : ℕ → Heard) (Q : ℕ → Symbol) (K : ℕ) (x : List ℕ) (st : ℕ → Option Stored)
     (q : Station) : Type 0 where
   pub leaves : by_itself f D i H K x ≡ went_to i st K q x
   pub there : station_at (by_itself f D i H K x) i ≡ q
@@ -58,7 +56,7 @@ pub record Segment (f : Figures) (D i : ℕ) (H : ℕ → Heard) (Q : ℕ → Sy
 -- ---- any closed form
 
 module _ (f : Figures) (D i : ℕ) (x : List ℕ) (K : ℕ) (pos : 0 < K) (hi : i < max_stations) (room : area_size ≤ length x)
-    (on : ℕ → Station) (H : ℕ → Heard) (em : ℕ → Emission) (st : ℕ → Stored)
+    (on : ℕ → Station) (H : ℕ → Heard) (em : ℕ → Emission) (st : ℕ → Option Stored)
     (begins : station_at x i ≡ on 0) (fit : (m : ℕ) → m ≤ K → Fit (on m))
     (address : (m : ℕ) → (on m).address ≡ address_at x i) (kept : (m : ℕ) → Kept (st m))
     (step : (m draw : ℕ) (buf : List ℕ) → m < K → (m ≡ 0 → buf ≡ buffer_at x i) → stepped f (on m) D draw buf (H m)
@@ -120,7 +118,7 @@ module _ (f : Figures) (D i t : ℕ) (x : List ℕ) (v : Moves f D i t x) (K : �
   fits = fine_fit f v.figured D t (station_at x i) v.depth.1 (omega arith) v.fine
 
   -- a receiver that hears others: rs m after m of them, st m what is kept of each
-  module _ (e : Bool) (rs : ℕ → Receiver) (st : ℕ → Stored) (first : rs 0 ≡ (station_at x i).receiver)
+  module _ (e : Bool) (rs : ℕ → Receiver) (st : ℕ → Option Stored) (first : rs 0 ≡ (station_at x i).receiver)
       (kept : (m : ℕ) → Kept (st m)) (small : (m : ℕ) → m ≤ K → receiver_number (rs m) < 256 ^ 4)
       (hears : (m : ℕ) (buf : List ℕ) → m < K → receive (station_at x i).address buf (rs m) (H m) e ≡ hearing
       (rs (suc m)) (st m)) where
@@ -165,11 +163,11 @@ module _ (f : Figures) (D i t : ℕ) (x : List ℕ) (v : Moves f D i t x) (K : �
   pub rest_segment : ((m : ℕ) → m < K → H m ≡ Nothing) → (station_at x i).emitted ≡ false
       → Lasts f K (station_at x i).deference (station_at x i).transmitter
       → ended (station_at x i).address (buffer_at x i) (station_at x i).receiver ≡ deciding
-      (calmed 1 (station_at x i).receiver) NoReceive
-      → Segment f D i H (λ m. Silence) K x (λ m. NoStore) (rest_on f K (station_at x i))
+      (calmed 1 (station_at x i).receiver) None
+      → Segment f D i H (λ m. Silence) K x (λ m. None) (rest_on f K (station_at x i))
   unfolding gap_of
   rest_segment none silent lasts ends =
-      form_rests f D i x K pos v.index v.room (λ m. rest_on f m (station_at x i)) H (λ m. Rest) (λ m. NoStore)
+      form_rests f D i x K pos v.index v.room (λ m. rest_on f m (station_at x i)) H (λ m. Rest) (λ m. None)
       (sym (rest_none f D t (station_at x i) v.fine silent))
       (λ m h. rest_fit f v.figured m (station_at x i) fits)
       (λ m. rest_address f m (station_at x i).receiver (station_at x i) ∙ address_in x i)

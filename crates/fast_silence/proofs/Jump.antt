@@ -1,6 +1,6 @@
 -- Stage 1: where nobody emits and nothing arrives for K steps, K steps are one jump (the specs' Jump). Assumes nothing.
 use Prim.Native.Nat.{ℕ, zero, suc, ◌+◌, ◌-◌, ◌%◌, ◌≤◌, ◌<◌}
-use Rattle.std.specs.Prelude.{◌≡◌, false, ltb, get_or}
+use Rattle.std.specs.Prelude.{◌≡◌, false, ltb, get_or, None}
 use Rattle.std.proofs.Math.Path.{refl, sym, ap, ap₂, subst}
 use Rattle.std.proofs.Common.{◌∙◌, arith}
 use mathlib.Core.List.{List}
@@ -17,7 +17,6 @@ use Rattle.station_symbols.specs.declared.Heard.TheVariants.{Nothing}
 use Rattle.station_symbols.specs.declared.Symbol.TheVariants.{Silence}
 use Rattle.station_symbols.specs.declared.Emission.TheVariants.{Rest}
 use Rattle.station_symbols.specs.Packet.{symbol_of}
-use Rattle.station_spec.specs.declared.Stored.TheVariants.{NoStore}
 use Rattle.station_spec.specs.Transmit.{octets_held}
 use Rattle.station_state.specs.declared.Station.{Station}
 use Rattle.station_spec.specs.declared.Stepped.{Stepped}
@@ -74,7 +73,7 @@ module _ (a : List ℕ) (K : ℕ) where
 
 -- ---- one station
 
-quiet_left : (i : ℕ) (s : Station) (x : List ℕ) → own_left i (quietly s Rest NoStore) x ≡ with_station x i s
+quiet_left : (i : ℕ) (s : Station) (x : List ℕ) → own_left i (quietly s Rest None) x ≡ with_station x i s
 unfolding own_left with_counted happened quietly
 quiet_left i s x = refl
 
@@ -102,7 +101,7 @@ module _ (f : Figures) (d i : ℕ) (a : List ℕ) (K : ℕ) (hi : i < max_statio
   there m = station_same a room i (rested f m q) hi (fits m) (own_address m)
 
   outcome_by : (m : ℕ) (x : List ℕ) → m < K → station_at x i ≡ rested f m q
-      → (act_on f d i Nothing x).outcome ≡ quietly (rested f (suc m) q) Rest NoStore
+      → (act_on f d i Nothing x).outcome ≡ quietly (rested f (suc m) q) Rest None
   unfolding act_on outcome_on q
   outcome_by m x h e =
       ap (λ (s : Station). stepped f s d (draw_at x i s.draw) (buffer_at x i) Nothing) e
@@ -130,7 +129,7 @@ module _ (f : Figures) (d i : ℕ) (a : List ℕ) (K : ℕ) (hi : i < max_statio
   -- what it does in step m
   pub silent_act : (m : ℕ) → m < K
       → (act_on f d i Nothing (by_itself f d i (λ s. Nothing) m a)).outcome ≡ quietly (rested f (suc m) (station_at a i))
-      Rest NoStore
+      Rest None
   unfolding by_itself turns q
   silent_act zero h = outcome_by 0 a h begins
   silent_act (suc m) h =
@@ -178,7 +177,7 @@ module _ (a : List ℕ) (K : ℕ) (r : Readiness a) (s : Silent a K) where
       ∙ ap (λ (k : ℕ). with_station a i (rested (figures_at a) k (station_at a i))) (sym z)
 
   acts : (i m : ℕ) → i < count_at a → m < K
-      → (act_after a silent_plan i m).outcome ≡ quietly (rested (figures_at a) (suc m) (station_at a i)) Rest NoStore
+      → (act_after a silent_plan i m).outcome ≡ quietly (rested (figures_at a) (suc m) (station_at a i)) Rest None
   unfolding act_after
   acts i m hi hm =
       let few = r.spread.few in
@@ -188,7 +187,7 @@ module _ (a : List ℕ) (K : ℕ) (r : Readiness a) (s : Silent a K) where
       (omega (arith, r.clock)) (s.calm i hi) m hm
 
   silent_symbol : (f : Figures) (d i : ℕ) (h : Heard) (x : List ℕ) (q : Station)
-      → (act_on f d i h x).outcome ≡ quietly q Rest NoStore → (act_on f d i h x).symbol ≡ Silence
+      → (act_on f d i h x).outcome ≡ quietly q Rest None → (act_on f d i h x).symbol ≡ Silence
   unfolding act_on quietly
   silent_symbol f d i h x q e = ap
       (λ (o : Stepped). symbol_of (frame_at x i (octets_held (station_at x i).transmitter (station_at x i).frame))

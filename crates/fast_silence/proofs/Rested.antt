@@ -1,6 +1,6 @@
 -- A station that rests goes on in closed form: each further step is one step of the station. The closed form is in the
 -- specs' Rested. Assumes nothing.
-use Rattle.std.specs.Prelude.{ℕ, suc, ◌-◌, ◌≤◌, ◌<◌, ◌≡◌, Bool, true, false, List, eqb, ltb}
+use Rattle.std.specs.Prelude.{ℕ, suc, ◌-◌, ◌≤◌, ◌<◌, ◌≡◌, Bool, true, false, List, eqb, ltb, None}
 use Rattle.std.proofs.Common.{sym, ◌∙◌, ap, true≢false, arith, ltb-false}
 use Rattle.octets.specs.Base.{pick}
 use Rattle.octets.specs.BaseLaws.{by_test}
@@ -14,7 +14,6 @@ use Rattle.station_state.specs.declared.Transmitter.TheVariants.{NoFrame, Waitin
 use Rattle.station_state.specs.declared.Transmitter.TheVariants.{Jamming}
 use Rattle.station_state.specs.declared.Station.{Station}
 use Rattle.station_spec.specs.Transmit.{waits}
-use Rattle.station_spec.specs.declared.Stored.TheVariants.{NoStore}
 use Rattle.station_spec.specs.Step.{tries_after, draw_after, deferred_after, stepped, next_station}
 use Rattle.bus_quick.specs.Quick.{quietly}
 use Rattle.fast_silence.specs.Rested.{rested_transmitter, has_waited, rested, rests_for, Lasts, Rests, defer_goes}
@@ -39,7 +38,7 @@ waits_rests f K m d (Jamming k ends) l h e = absurd l
 -- ---- the step
 
 pub rested_step : (f : Figures) (K m : ℕ) (s : Station) (d draw : ℕ) (buf : List ℕ) → 1 ≤ gap_of f → Rests f K s → m < K
-    → stepped f (rested f m s) d draw buf Nothing ≡ quietly (rested f (suc m) s) Rest NoStore
+    → stepped f (rested f m s) d draw buf Nothing ≡ quietly (rested f (suc m) s) Rest None
 unfolding stepped next_station tries_after draw_after deferred_after quietly rested
 rested_step f K m s d draw buf g l h =
     rw (

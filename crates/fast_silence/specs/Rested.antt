@@ -1,6 +1,6 @@
 -- A station that hears nothing and emits nothing for m steps, in closed form: its gap goes on, its backoff runs down, a
 -- frame that waits is deferred. That each further step is one step of the station is in proofs/Rested. Assumes nothing.
-use Rattle.std.specs.Prelude.{ℕ, zero, suc, ◌+◌, ◌-◌, ◌^◌, ◌≤◌, ◌<◌, max, ◌≡◌, Bool, true, false, ◌||◌, ◌&&◌, List, eqb, ltb, leb}
+use Rattle.std.specs.Prelude.{ℕ, zero, suc, ◌+◌, ◌-◌, ◌^◌, ◌≤◌, ◌<◌, max, ◌≡◌, Bool, true, false, ◌||◌, ◌&&◌, List, eqb, ltb, leb, None}
 use Rattle.std.proofs.Math.Path.{refl}
 use Rattle.std.proofs.Common.{sym, ◌∙◌, ap, arith, ne_eqb, ltb-true, ltb-false, lt-ltb, le-ltb, leb-true, le-leb}
 use Rattle.std.proofs.Math.Bool.{or-true}
@@ -23,7 +23,6 @@ use Rattle.station_state.specs.State.{number_in}
 use Rattle.station_spec.specs.Defer.{to, defer, quiet_rule, busy_rule, gap_rule, gap_over, goes_back}
 use Rattle.station_spec.specs.Transmit.{waits, resting, transmit, wait_bit, backoff_bit}
 use Rattle.station_spec.specs.Receive.{deciding, receive, ended}
-use Rattle.station_spec.specs.declared.ReceiveEvent.TheVariants.{NoReceive}
 use Rattle.area_record.specs.Codec.{deference_count}
 use Rattle.area_record.specs.CodecLaws.{Fit}
 use Rattle.bus_spec.specs.Range.{Fine, GapIn, NumberIn}
@@ -225,7 +224,7 @@ deferred_more false false h false = refl
 -- ---- the step
 
 pub idle_ends : (address buf : List ℕ) (r : Receiver) (e : Bool) → Idle r
-    → receive address buf r Nothing e ≡ deciding r NoReceive
+    → receive address buf r Nothing e ≡ deciding r None
 unfolding receive ended
 idle_ends address buf Listening e i = refl
 idle_ends address buf (Readable n) e i = refl

@@ -1,11 +1,11 @@
 -- Each further step of a closed form is one step of the station; where it begins; its numbers fit. Assumes nothing.
 use Prim.Native.Nat.{ℕ, zero, suc, ◌+◌, ◌-◌, ◌*◌, ◌^◌, ◌≤◌, ◌<◌}
-use Rattle.std.specs.Prelude.{◌≡◌, Bool, true, ◌||◌, ◌&&◌, List, eqb, ltb, leb}
+use Rattle.std.specs.Prelude.{◌≡◌, Bool, true, ◌||◌, ◌&&◌, List, eqb, ltb, leb, Option, None}
 use Rattle.std.proofs.Math.Path.{refl}
 use Rattle.std.proofs.Common.{sym, ◌∙◌, ap, true≢false}
-use Rattle.std.proofs.Math.Bool.{false, or-false, and-true, and-false}
+use Rattle.std.proofs.Math.Bool.{false, not, or-false, and-true, and-false}
 use native.Mathlib.Omega.{arith}
-use borrow.Author.Tests.{ne_eqb, ltb-true, ltb-false, le-ltb, leb-true, leb-false, le-leb, lt-leb}
+use borrow.Author.Tests.{not-true, ne_eqb, ltb-true, ltb-false, le-ltb, leb-true, leb-false, le-leb, lt-leb}
 use Rattle.octets.specs.Base.{pick}
 use Rattle.octets.specs.BaseLaws.{by_test}
 use Rattle.sheet_layout.specs.declared.Figures.{Figures}
@@ -26,12 +26,9 @@ use Rattle.station_state.specs.declared.Receiver.TheVariants.{Listening, Readabl
 use Rattle.station_state.specs.declared.Station.{Station}
 use Rattle.station_state.specs.State.{number_in}
 use Rattle.station_spec.specs.Defer.{to, defer, quiet_rule, busy_rule, gap_rule, gap_over, goes_back}
-use Rattle.station_spec.specs.declared.TransmitEvent.TheVariants.{NoTransmit}
 use Rattle.station_spec.specs.Transmit.{waits, emitting, transmit, send_bit, after_bit, head_bit, jam_bit, packet_length}
 use Rattle.station_spec.specs.Transmit.{octets_held}
-use Rattle.station_spec.specs.declared.ReceiveEvent.TheVariants.{NoReceive}
 use Rattle.station_spec.specs.declared.Stored.{Stored}
-use Rattle.station_spec.specs.declared.Stored.TheVariants.{NoStore}
 use Rattle.station_spec.specs.Receive.{hearing, deciding, receive, ended}
 use Rattle.station_spec.specs.Step.{tries_after, draw_after, deferred_after, stepped, next_station}
 use Rattle.area_record.specs.Codec.{deference_count, receiver_number}
@@ -43,15 +40,15 @@ use Rattle.fast_silence.specs.Rested.{lasts_none, transmit_goes, waited_more, de
 use Rattle.fast_silence.proofs.Rested.{waits_rests}
 use Rattle.fast_silence.specs.Rested.{rested_frame, none_waited, as_was, count_small, number_less}
 use Rattle.fast_station.specs.Forms.{made, deferred_by, heard_gap, heard_deference, heard_for, heard_rest, hear_on}
-use Rattle.fast_station.specs.Forms.{rest_on, emits_on, emitted_at, emits_for, emit_on}
+use Rattle.fast_station.specs.Forms.{rest_on, emits_on, emitted_at, emits_for, emit_on, own_busy, sends}
 use Rattle.fast_receive.specs.Received.{calmed}
 
 -- ---- a step from its parts
 
 pub parts_step : (f : Figures) (s : Station) (d draw : ℕ) (buf : List ℕ) (h : Heard) (D E : Deference)
-    (X Y : Transmitter) (R S : Receiver) (df dg e : Bool) (em : Emission) (st : Stored)
+    (X Y : Transmitter) (R S : Receiver) (df dg e : Bool) (em : Emission) (st : Option Stored)
     → defer f D (hears_any h) e (waits X) ≡ to E
-    → transmit f X s.frame s.attempts draw false (hears_any h) ≡ emitting Y em NoTransmit
+    → transmit f X s.frame s.attempts draw false (hears_any h) ≡ emitting Y em None
     → receive s.address buf R h (is_emission em) ≡ hearing S st
     → (df || (waits X && (eqb s.attempts 0 && true))) ≡ dg
     → stepped f (made s D X R df e) d draw buf h ≡ quietly (made s E Y S dg (is_emission em)) em st
@@ -170,7 +167,7 @@ waits_heard f M K m d (Jamming k ends) l h e = absurd (omega arith)
 
 -- the step, over any receiver
 pub hear_step : (f : Figures) (M K m : ℕ) (s : Station) (d draw : ℕ) (buf : List ℕ) (h : Heard) (r q : Receiver)
-    (st : Stored)
+    (st : Option Stored)
     → K ≤ heard_rest f M s.deference s.transmitter → m < K → hears_any h ≡ true
     → receive s.address buf r h false ≡ hearing q st
     → stepped f (hear_on f m r s) d draw buf h ≡ quietly (hear_on f (suc m) q s) Rest st
@@ -190,8 +187,8 @@ hear_step f M K m s d draw buf h r q st l g a e =
 
 -- a reception that ends in the first step; later ones decide nothing
 pub calms : (address buf : List ℕ) (m : ℕ) (r : Receiver) (e : Bool)
-    → (m ≡ 0 → ended address buf r ≡ deciding (calmed 1 r) NoReceive)
-    → receive address buf (calmed m r) Nothing e ≡ hearing (calmed (suc m) r) NoStore
+    → (m ≡ 0 → ended address buf r ≡ deciding (calmed 1 r) None)
+    → receive address buf (calmed m r) Nothing e ≡ hearing (calmed (suc m) r) None
 unfolding receive calmed ended
 calms address buf m Listening e h = refl
 calms address buf m (Readable n) e h = refl
@@ -204,14 +201,14 @@ calms address buf (suc m) (Collecting n sp own) e h =
 
 pub rest_step : (f : Figures) (K m : ℕ) (s : Station) (d draw : ℕ) (buf : List ℕ) → 1 ≤ gap_of f
     → Lasts f K s.deference s.transmitter → m < K
-    → (m ≡ 0 → ended s.address buf s.receiver ≡ deciding (calmed 1 s.receiver) NoReceive)
-    → stepped f (rest_on f m s) d draw buf Nothing ≡ quietly (rest_on f (suc m) s) Rest NoStore
+    → (m ≡ 0 → ended s.address buf s.receiver ≡ deciding (calmed 1 s.receiver) None)
+    → stepped f (rest_on f m s) d draw buf Nothing ≡ quietly (rest_on f (suc m) s) Rest None
 unfolding rest_on
 rest_step f K m s d draw buf g l h c =
     let x = s.transmitter in
     parts_step f s d draw buf Nothing (rested_deference f m s.deference) (rested_deference f (suc m) s.deference)
     (rested_transmitter m x) (rested_transmitter (suc m) x)
-    (calmed m s.receiver) (calmed (suc m) s.receiver) (deferred_by m s) (deferred_by (suc m) s) false Rest NoStore
+    (calmed m s.receiver) (calmed (suc m) s.receiver) (deferred_by m s) (deferred_by (suc m) s) false Rest None
     (defer_goes f s.deference m (waits (rested_transmitter m x)) g (waits_rests f K m s.deference x l h))
     (transmit_goes f m x s.frame s.attempts draw false (lasts_none f K s.deference x l))
     (calms s.address buf m s.receiver false c)
@@ -221,7 +218,7 @@ rest_step f K m s d draw buf g l h c =
 
 emits_on_lem : (f : Figures) (K m z n draw : ℕ) (x : Transmitter) (h : Bool) → K ≤ emits_for z x → m < K
     → ((k : ℕ) → x ≡ Sending k → h ≡ false)
-    → transmit f (emits_on f m x) z n draw false h ≡ emitting (emits_on f (suc m) x) (emitted_at m x) NoTransmit
+    → transmit f (emits_on f m x) z n draw false h ≡ emitting (emits_on f (suc m) x) (emitted_at m x) None
 unfolding transmit emits_on emitted_at emits_for send_bit head_bit after_bit jam_bit
 emits_on_lem f K m z n draw NoFrame h l g c = absurd (omega arith)
 emits_on_lem f K m z n draw Waiting h l g c = absurd (omega arith)
@@ -236,8 +233,8 @@ emits_on_lem f K m z n draw (Heading k) h l g c =
     rw (le-leb (k + m) 64 (omega arith), lt-leb (k + suc m) 64 (omega arith)) (rw b))
   where
     heads : ltb (k + m) 64 ≡ true → k + m + 1 ≡ k + suc m
-        → emitting (pick (ltb (k + m) 64) (Heading (k + m + 1)) (Jamming f.jam false)) (PacketBit (k + m)) NoTransmit
-        ≡ emitting (Heading (k + suc m)) (PacketBit (k + m)) NoTransmit
+        → emitting (pick (ltb (k + m) 64) (Heading (k + m + 1)) (Jamming f.jam false)) (PacketBit (k + m)) None
+        ≡ emitting (Heading (k + suc m)) (PacketBit (k + m)) None
     heads b e = rw (b, e)
 emits_on_lem f K m z n draw (Jamming l ends) h b g c =
     let e : l - m - 1 ≡ l - suc m = omega arith in rw (lt-leb (l - m) 1 (omega arith), e)
@@ -259,7 +256,7 @@ busy_emits f true w = refl
 busy_emits f false w = refl
 
 pub emit_step : (f : Figures) (K m : ℕ) (s : Station) (d draw : ℕ) (buf : List ℕ) (h : Heard) (r q : Receiver)
-    (st : Stored)
+    (st : Option Stored)
     → K ≤ emits_for s.frame s.transmitter → m < K → ((k : ℕ) → s.transmitter ≡ Sending k → h ≡ Nothing)
     → receive s.address buf r h true ≡ hearing q st
     → stepped f (emit_on f m r s) d draw buf h ≡ quietly (emit_on f (suc m) q s) (emitted_at m s.transmitter) st
@@ -453,3 +450,15 @@ module _ (f : Figures) (g : Figured f) where
         attempts = v.attempts;
         draw = v.draw;
       }
+
+-- ---- an emitter that goes on
+
+pub busy_own : (d : Deference) → own_busy d ≡ true → d ≡ Busy true
+unfolding own_busy
+busy_own Quiet h = absurd (true≢false (sym h))
+busy_own (Busy own) h = ap Busy h
+busy_own (Gap n own) h = absurd (true≢false (sym h))
+
+pub not_sending : (x : Transmitter) → not (sends x) ≡ true → (i : ℕ) → x ≡ Sending i → ⊥
+unfolding sends
+not_sending x h i e = true≢false (ap sends (sym e) ∙ not-true (sends x) h)

@@ -1,7 +1,7 @@
 -- A station after m steps of one kind, in closed form: others are heard and it emits nothing; nothing is heard and it
 -- emits nothing; it emits in each of them. And how many steps each lasts (document 01, "One bit time"). Assumes
 -- nothing.
-use Rattle.std.specs.Prelude.{ℕ, ◌+◌, ◌-◌, max, Bool, true, false, ◌||◌, ◌&&◌, eqb, leb}
+use Rattle.std.specs.Prelude.{ℕ, ◌+◌, ◌-◌, max, Bool, true, false, not, ◌||◌, ◌&&◌, eqb, leb}
 use Rattle.octets.specs.Base.{pick}
 use Rattle.sheet_layout.specs.declared.Figures.{Figures}
 use Rattle.sheet_layout.specs.Layout.{gap_of}
@@ -16,6 +16,7 @@ use Rattle.station_state.specs.declared.Receiver.{Receiver}
 use Rattle.station_state.specs.declared.Station.{Station}
 use Rattle.station_spec.specs.Defer.{goes_back}
 use Rattle.station_spec.specs.Transmit.{packet_length}
+use Rattle.fast_silence.specs.Bound.{idle}
 use Rattle.fast_silence.specs.Rested.{rested_deference, rested_transmitter, has_waited}
 use Rattle.fast_receive.specs.Received.{calmed}
 
@@ -108,6 +109,28 @@ emits_for z (BackingOff w) = 0
 emits_for z (Sending k) = packet_length z - k
 emits_for z (Heading k) = 65 - k
 emits_for z (Jamming l ends) = l - 1
+
+-- busy, in a stretch in which it emitted
+unfoldable pub own_busy : Deference → Bool
+own_busy Quiet = false
+own_busy (Busy own) = own
+own_busy (Gap n own) = false
+
+unfoldable pub sends : Transmitter → Bool
+sends NoFrame = false
+sends Waiting = false
+sends (BackingOff w) = false
+sends (Sending k) = true
+sends (Heading k) = false
+sends (Jamming n ends) = false
+
+-- others heard, where h, make no collision; nothing heard ends no reception of it
+unfoldable pub unhurt : (h : Bool) → Receiver → Transmitter → Bool
+unhurt h r x = pick h (not (sends x)) (idle r)
+
+-- it emits as in the step before, and goes on
+unfoldable pub keeps_emitting : (h : Bool) → Station → Bool
+keeps_emitting h s = s.emitted && (own_busy s.deference && unhurt h s.receiver s.transmitter)
 
 -- the station then, with its receiver r
 unfoldable pub emit_on : Figures → (m : ℕ) → Receiver → Station → Station

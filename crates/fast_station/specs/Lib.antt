@@ -1,3 +1,2 @@
 pub mod Forms
 pub mod FormLaws
-pub mod CodeLaws

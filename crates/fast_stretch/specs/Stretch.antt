@@ -1,13 +1,12 @@
 -- What many steps of one kind leave of one station: its record in closed form, and the bits that it collected. It is
 -- the form that fast_plan/Goes (`goes_on_lem`) has for its turns by itself. Assumes nothing.
-use Rattle.std.specs.Prelude.{ℕ, ◌+◌, ◌<◌, Bool, List}
+use Rattle.std.specs.Prelude.{ℕ, ◌+◌, ◌<◌, Bool, List, None}
 use Rattle.octets.specs.Base.{pick}
 use Rattle.sheet_layout.specs.declared.Figures.{Figures}
 use Rattle.station_symbols.specs.declared.Heard.{Heard}
 use Rattle.station_state.specs.declared.Receiver.{Receiver}
 use Rattle.station_state.specs.declared.Station.{Station}
 use Rattle.station_state.specs.State.{number_in}
-use Rattle.station_spec.specs.declared.Stored.TheVariants.{NoStore}
 use Rattle.station_spec.specs.Receive.{row_in, bits_in, row_limit}
 use Rattle.area.specs.Area.{station_at}
 use Rattle.fast_plan.specs.Goes.{went_to}
@@ -31,7 +30,7 @@ unfoldable pub quiet_on : Figures → (e : Bool) → (m : ℕ) → Station → S
 quiet_on f e m s = pick e (emit_on f m (calmed m s.receiver) s) (rest_on f m s)
 
 unfoldable pub quiet_stretch : Figures → (e : Bool) → (m j : ℕ) → List ℕ → List ℕ
-quiet_stretch f e m j x = went_to j (λ s. NoStore) m (quiet_on f e m (station_at x j)) x
+quiet_stretch f e m j x = went_to j (λ s. None) m (quiet_on f e m (station_at x j)) x
 
 -- ---- room for the code's sums
 

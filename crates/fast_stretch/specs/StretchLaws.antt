@@ -1,8 +1,7 @@
 -- A law for each way through the code; what the ranges of a station give. Assumes nothing.
-use Rattle.std.specs.Prelude.{ℕ, zero, suc, ◌+◌, ◌≤◌, ◌<◌, ◌≡◌, Bool, true, false, List}
+use Rattle.std.specs.Prelude.{ℕ, zero, suc, ◌+◌, ◌≤◌, ◌<◌, ◌≡◌, Bool, true, false, List, None}
 use Rattle.std.proofs.Math.Path.{refl, sym, ap, subst}
 use Rattle.std.proofs.Common.{◌∙◌, ap₂, arith}
-use Rattle.octets.specs.Base.{pick}
 use Rattle.octets.specs.Turns.{turns}
 use Rattle.sheet_layout.specs.declared.Figures.{Figures}
 use Rattle.sheet_layout.specs.CheckLaws.{Figured}
@@ -14,7 +13,6 @@ use Rattle.station_state.specs.declared.Receiver.{Receiver}
 use Rattle.station_state.specs.declared.Receiver.TheVariants.{Listening, Readable, Seeking, Collecting}
 use Rattle.station_state.specs.declared.Station.{Station}
 use Rattle.station_state.specs.State.{number_in}
-use Rattle.station_spec.specs.declared.Stored.TheVariants.{NoStore}
 use Rattle.station_spec.specs.Receive.{row_in, bits_in, row_limit}
 use Rattle.area.specs.Area.{station_at, with_station}
 use Rattle.bus_spec.specs.Range.{Fine, NumberIn, FrameIn, ReceiverIn}
@@ -26,26 +24,6 @@ use Rattle.fast_stretch.specs.Stretch.{moved_on, heard_stretch, quiet_on, quiet_
 use Rattle.sheet_layout.specs.Limits.{last_clock, max_stations}
 
 -- ---- the code
-
-module _ (f : Figures) (m : ℕ) (s : Station) where
-  pub moved_emits : (e : Bool) (r : Receiver) (q : Station) → e ≡ true → q ≡ emit_on f m r s → q ≡ moved_on f e m r s
-  unfolding moved_on
-  moved_emits e r q p h = h ∙ sym (ap (λ (b : Bool). pick b (emit_on f m r s) (hear_on f m r s)) p)
-
-  pub moved_hears : (e : Bool) (r : Receiver) (q : Station) → e ≡ false → q ≡ hear_on f m r s → q ≡ moved_on f e m r s
-  unfolding moved_on
-  moved_hears e r q p h = h ∙ sym (ap (λ (b : Bool). pick b (emit_on f m r s) (hear_on f m r s)) p)
-
-  pub quiet_emits : (e : Bool) (r : Receiver) (q : Station) → e ≡ true → r ≡ calmed m s.receiver
-      → q ≡ emit_on f m r s → q ≡ quiet_on f e m s
-  unfolding quiet_on
-  quiet_emits e r q p c h =
-      h ∙ ap (λ (t : Receiver). emit_on f m t s) c
-      ∙ sym (ap (λ (b : Bool). pick b (emit_on f m (calmed m s.receiver) s) (rest_on f m s)) p)
-
-  pub quiet_rests : (e : Bool) (q : Station) → e ≡ false → q ≡ rest_on f m s → q ≡ quiet_on f e m s
-  unfolding quiet_on
-  quiet_rests e q p h = h ∙ sym (ap (λ (b : Bool). pick b (emit_on f m (calmed m s.receiver) s) (rest_on f m s)) p)
 
 -- the bits first, then the record
 pub stretch_heard : (f : Figures) (e : Bool) (H : ℕ → Heard) (m j : ℕ) (x y z : List ℕ) (s t : Station) (q : Receiver)
@@ -62,7 +40,7 @@ stretch_heard f e H m j x y z s t q hj a h b c =
     ∙ station_all j (kept_by e H r) m (moved_on f e m (received_by e H m r) (station_at x j)) x hj
 
 -- nothing is stored
-none_stored : (j m : ℕ) (x : List ℕ) → stored_all j (λ s. NoStore) m x ≡ x
+none_stored : (j m : ℕ) (x : List ℕ) → stored_all j (λ s. None) m x ≡ x
 unfolding stored_all turns
 none_stored j zero x = refl
 none_stored j (suc m) x = none_stored j m x
@@ -89,12 +67,12 @@ module _ (f : Figures) (H : ℕ → Heard) (m j : ℕ) (x : List ℕ) where
   stretch_emits = refl
 
 pub stretch_rests : (f : Figures) (m j : ℕ) (x : List ℕ)
-    → quiet_stretch f false m j x ≡ went_to j (λ s. NoStore) m (rest_on f m (station_at x j)) x
+    → quiet_stretch f false m j x ≡ went_to j (λ s. None) m (rest_on f m (station_at x j)) x
 unfolding quiet_stretch quiet_on
 stretch_rests f m j x = refl
 
 pub stretch_alone : (f : Figures) (m j : ℕ) (x : List ℕ)
-    → quiet_stretch f true m j x ≡ went_to j (λ s. NoStore) m
+    → quiet_stretch f true m j x ≡ went_to j (λ s. None) m
     (emit_on f m (calmed m (station_at x j).receiver) (station_at x j)) x
 unfolding quiet_stretch quiet_on
 stretch_alone f m j x = refl

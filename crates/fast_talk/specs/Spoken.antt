@@ -1,7 +1,7 @@
 -- Deference and transmitter over many steps of one kind, in closed form: others are heard, or nothing is, and the station
 -- says nothing; or it goes on emitting. These are the forms of fast_station/Forms, whatever the receiver. Assumes nothing.
 use Prim.Native.Nat.{ℕ, zero, suc, ◌≤◌, ◌<◌}
-use Rattle.std.specs.Prelude.{◌≡◌, Bool, true, false}
+use Rattle.std.specs.Prelude.{◌≡◌, Bool, true, false, Option, None}
 use Rattle.std.proofs.Math.Path.{refl, sym, ap}
 use Rattle.std.proofs.Common.{◌∙◌, arith}
 use mathlib.Core.List.{List, []}
@@ -19,10 +19,7 @@ use Rattle.station_state.specs.declared.Receiver.{Receiver}
 use Rattle.station_state.specs.declared.Receiver.TheVariants.{Listening, Seeking}
 use Rattle.station_state.specs.declared.Station.{Station}
 use Rattle.station_spec.specs.declared.Stored.{Stored}
-use Rattle.station_spec.specs.declared.Stored.TheVariants.{NoStore}
 use Rattle.station_spec.specs.declared.Stepped.{Stepped}
-use Rattle.station_spec.specs.declared.TransmitEvent.TheVariants.{NoTransmit}
-use Rattle.station_spec.specs.declared.ReceiveEvent.TheVariants.{NoReceive}
 use Rattle.station_spec.specs.Receive.{no_row, hearing, deciding, seek, hear, ended, receive}
 use Rattle.station_spec.specs.Step.{stepped}
 use Rattle.bus_spec.specs.Range.{Fine}
@@ -40,12 +37,12 @@ pub record Speaks (f : Figures) (D : ℕ) (g : ℕ → ℕ) (C : ℕ → Bool) (
   pub says : (m : ℕ) → m < K
       → (sending_on f (talked_by f D g C m t) (g (talked_by f D g C m t).draw) (C m)).emission ≡ E m
   pub quiet : (m : ℕ) → m < K
-      → (sending_on f (talked_by f D g C m t) (g (talked_by f D g C m t).draw) (C m)).event ≡ NoTransmit
+      → (sending_on f (talked_by f D g C m t) (g (talked_by f D g C m t).draw) (C m)).event ≡ None
 
 -- ---- any closed form of a station
 
 module _ (f : Figures) (D : ℕ) (g : ℕ → ℕ) (K : ℕ) (form : ℕ → Station) (H : ℕ → Heard) (em : ℕ → Emission)
-    (st : ℕ → Stored)
+    (st : ℕ → Option Stored)
     (step : (m draw : ℕ) → m < K → stepped f (form m) D draw [] (H m) ≡ quietly (form (suc m)) (em m) (st m)) where
   next : (m draw : ℕ) → m < K → talked f D draw (hears_any (H m)) (talker_of (form m)) ≡ talker_of (form (suc m))
   unfolding quietly
@@ -56,7 +53,7 @@ module _ (f : Figures) (D : ℕ) (g : ℕ → ℕ) (K : ℕ) (form : ℕ → Sta
   unfolding quietly
   emits m draw h = sym (said_step f (form m) D draw [] (H m)) ∙ ap (λ (o : Stepped). o.emission) (step m draw h)
 
-  none : (m draw : ℕ) → m < K → (sending_on f (talker_of (form m)) draw (hears_any (H m))).event ≡ NoTransmit
+  none : (m draw : ℕ) → m < K → (sending_on f (talker_of (form m)) draw (hears_any (H m))).event ≡ None
   unfolding quietly
   none m draw h = sym (event_step f (form m) D draw [] (H m)) ∙ ap (λ (o : Stepped). o.sent) (step m draw h)
 
@@ -91,16 +88,16 @@ emit_any f m r q s = refl
 
 -- a receiver that stays as it is over spoiled symbols, and one over silence
 stays_spoiled : (address : List ℕ) (own : Bool)
-    → receive address [] (Seeking no_row true own) Spoiled own ≡ hearing (Seeking no_row true own) NoStore
+    → receive address [] (Seeking no_row true own) Spoiled own ≡ hearing (Seeking no_row true own) None
 unfolding receive hear seek
 stays_spoiled address true = refl
 stays_spoiled address false = refl
 
-stays_quiet : (address : List ℕ) (e : Bool) → receive address [] Listening Nothing e ≡ hearing Listening NoStore
+stays_quiet : (address : List ℕ) (e : Bool) → receive address [] Listening Nothing e ≡ hearing Listening None
 unfolding receive ended
 stays_quiet address e = refl
 
-ends_quiet : (address : List ℕ) → ended address [] Listening ≡ deciding (calmed 1 Listening) NoReceive
+ends_quiet : (address : List ℕ) → ended address [] Listening ≡ deciding (calmed 1 Listening) None
 unfolding ended calmed
 ends_quiet address = refl
 
@@ -125,7 +122,7 @@ rest_any f m s = refl
 
 rest_form : (f : Figures) (D K m draw : ℕ) (s : Station) → 1 ≤ gap_of f → Lasts f K s.deference s.transmitter
     → m < K
-    → stepped f (rest_on f m (at_rest s)) D draw [] Nothing ≡ quietly (rest_on f (suc m) (at_rest s)) Rest NoStore
+    → stepped f (rest_on f m (at_rest s)) D draw [] Nothing ≡ quietly (rest_on f (suc m) (at_rest s)) Rest None
 unfolding at_rest
 rest_form f D K m draw s one l h = rest_step f K m (at_rest s) D draw [] one l h (λ z. ends_quiet s.address)
 
@@ -144,8 +141,8 @@ module _ (f : Figures) (D t : ℕ) (g : ℕ → ℕ) (s : Station) (v : Fine f D
       from_to f D g (λ m. true) (λ m. Rest) K (talker_of (hear_on f 0 R s)) (talker_of s) (talker_of (hear_on f K R s))
       (talker_of (hear_on f K s.receiver s))
       (hear_any f 0 R s.receiver s ∙ ap talker_of (hear_none f D t s v e)) (hear_any f K R s.receiver s)
-      (form_speaks f D g K (λ m. hear_on f m R s) (λ m. Spoiled) (λ m. Rest) (λ m. NoStore)
-      (λ m draw h. hear_step f M K m s D draw [] Spoiled R R NoStore l h refl (stays_spoiled s.address false)))
+      (form_speaks f D g K (λ m. hear_on f m R s) (λ m. Spoiled) (λ m. Rest) (λ m. None)
+      (λ m draw h. hear_step f M K m s D draw [] Spoiled R R None l h refl (stays_spoiled s.address false)))
 
   -- it goes on emitting, and nothing is heard
   pub emit_speaks : 0 < K → s.deference ≡ Busy true → s.emitted ≡ true → K ≤ emits_for s.frame s.transmitter
@@ -157,8 +154,8 @@ module _ (f : Figures) (D t : ℕ) (g : ℕ → ℕ) (s : Station) (v : Fine f D
       (emit_any f 0 Listening s.receiver s ∙ ap talker_of (emit_none f s (omega arith) b e))
       (emit_any f K Listening s.receiver s)
       (form_speaks f D g K (λ m. emit_on f m Listening s) (λ m. Nothing) (λ m. emitted_at m s.transmitter)
-      (λ m. NoStore)
-      (λ m draw h. emit_step f K m s D draw [] Nothing Listening Listening NoStore l h (λ k p. refl)
+      (λ m. None)
+      (λ m draw h. emit_step f K m s D draw [] Nothing Listening Listening None l h (λ k p. refl)
       (stays_quiet s.address true)))
 
   -- it goes on emitting after a collision, whoever is heard
@@ -172,8 +169,8 @@ module _ (f : Figures) (D t : ℕ) (g : ℕ → ℕ) (s : Station) (v : Fine f D
       (talker_of (emit_on f K R s)) (talker_of (emit_on f K s.receiver s))
       (emit_any f 0 R s.receiver s ∙ ap talker_of (emit_none f s (omega arith) b e))
       (emit_any f K R s.receiver s)
-      (form_speaks f D g K (λ m. emit_on f m R s) (λ m. Spoiled) (λ m. emitted_at m s.transmitter) (λ m. NoStore)
-      (λ m draw h. emit_step f K m s D draw [] Spoiled R R NoStore l h (λ k p. absurd (n k p))
+      (form_speaks f D g K (λ m. emit_on f m R s) (λ m. Spoiled) (λ m. emitted_at m s.transmitter) (λ m. None)
+      (λ m draw h. emit_step f K m s D draw [] Spoiled R R None l h (λ k p. absurd (n k p))
       (stays_spoiled s.address true)))
 
   -- nothing is heard, and it says nothing
@@ -183,9 +180,9 @@ module _ (f : Figures) (D t : ℕ) (g : ℕ → ℕ) (s : Station) (v : Fine f D
       from_to f D g (λ m. false) (λ m. Rest) K (talker_of (rest_on f 0 (at_rest s))) (talker_of s)
       (talker_of (rest_on f K (at_rest s))) (talker_of (rest_on f K s))
       (rest_any f 0 s ∙ ap talker_of (rest_none f D t s v e)) (rest_any f K s)
-      (form_speaks f D g K (λ m. rest_on f m (at_rest s)) (λ m. Nothing) (λ m. Rest) (λ m. NoStore)
+      (form_speaks f D g K (λ m. rest_on f m (at_rest s)) (λ m. Nothing) (λ m. Rest) (λ m. None)
       (λ m draw h. resting m draw h))
     where
       resting : (m draw : ℕ) → m < K
-          → stepped f (rest_on f m (at_rest s)) D draw [] Nothing ≡ quietly (rest_on f (suc m) (at_rest s)) Rest NoStore
+          → stepped f (rest_on f m (at_rest s)) D draw [] Nothing ≡ quietly (rest_on f (suc m) (at_rest s)) Rest None
       resting m draw h = rest_form f D K m draw s one l h

@@ -1,42 +1,35 @@
 -- A station that moves on run by run of what it hears, and all stations one after the other: a law for each way through
 -- the code. Assumes nothing.
-use Rattle.std.specs.Prelude.{ℕ, zero, suc, ◌+◌, ◌-◌, ◌*◌, ◌≤◌, ◌<◌, ◌≡◌, Bool, true, false, eqb, ltb, length, get_or, take}
+use Rattle.std.specs.Prelude.{ℕ, zero, suc, ◌+◌, ◌-◌, ◌≤◌, ◌<◌, ◌≡◌, eqb, ltb, length, get_or, take}
 use Rattle.std.proofs.Math.Path.{refl, sym, ap, ap₂, subst}
-use Rattle.std.proofs.Common.{◌∙◌, true≢false}
+use Rattle.std.proofs.Common.{◌∙◌}
 use mathlib.Core.List.{List}
 use native.Mathlib.Omega.{arith}
-use borrow.Author.Tests.{eq-eqb, ne_eqb, lt-ltb, le-ltb, ltb-true, ltb-false, eqb-true, eqb-false}
+use borrow.Author.Tests.{lt-ltb, eqb-true, eqb-false}
 use Rattle.std.proofs.lemmas.List.Edits.{sets}
 use Rattle.octets.specs.Store.{take_sets, length_part}
 use Rattle.octets.specs.Base.{pick}
-use Rattle.octets.specs.BaseLaws.{by_test, by_eq}
-use Rattle.octets.specs.Filled.{filled, filled_at, filled_end}
+use Rattle.octets.specs.BaseLaws.{by_test}
 use Rattle.octets.specs.Turns.{turns, turns_none, turns_more, turns_end}
 use Rattle.sheet_layout.specs.declared.Figures.{Figures}
 use Rattle.sheet_layout.specs.CheckLaws.{Figured}
 use Rattle.station_symbols.specs.declared.Heard.{Heard}
-use Rattle.station_symbols.specs.declared.Heard.TheVariants.{Nothing, Clean, Spoiled}
-use Rattle.station_symbols.specs.declared.Symbol.{Symbol}
+use Rattle.station_symbols.specs.declared.Heard.TheVariants.{Nothing, Spoiled}
 use Rattle.station_symbols.specs.declared.Symbol.TheVariants.{Bit}
 use Rattle.station_symbols.specs.Packet.{packet_bit, hears_any}
 use Rattle.station_state.specs.declared.Transmitter.{Transmitter}
 use Rattle.station_state.specs.declared.Transmitter.TheVariants.{NoFrame, Waiting, BackingOff, Sending, Heading}
 use Rattle.station_state.specs.declared.Transmitter.TheVariants.{Jamming}
 use Rattle.station_state.specs.declared.Station.{Station}
-use Rattle.station_spec.specs.Receive.{receive}
 use Rattle.station_spec.specs.Transmit.{octets_held}
-use Rattle.station_spec.specs.Step.{stepped, next_station}
-use Rattle.area_record.specs.Codec.{decoded}
 use Rattle.area.specs.Places.{Part, layout, station, frame, place, Keeps}
-use Rattle.area.specs.Area.{clock_at, depth_at, figures_at, count_at, record_at, station_at, frame_at, arrival_at, met}
+use Rattle.area.specs.Area.{depth_at, figures_at, count_at, station_at, frame_at, arrival_at, met}
 use Rattle.area.specs.AreaLaws.{station_by, frame_by, arrival_by}
 use Rattle.bus_spec.specs.Range.{Fine, NumberIn, FrameIn}
-use Rattle.bus_spec.specs.Ready.{Readiness, Ready}
-use Rattle.fast_plan.specs.Own.{outcome_on, act_on, own_turn, by_itself, itself_heard, itself_split, by_itself_none}
+use Rattle.fast_plan.specs.Own.{own_turn, by_itself, itself_heard, itself_split, by_itself_none}
 use Rattle.fast_plan.specs.Own.{itself_keeps, Others}
 use Rattle.fast_plan.specs.Plan.{hears}
 use Rattle.fast_plan.specs.Exact.{own_all, length_own, own_keeps}
-use Rattle.fast_plan.specs.Turned.{all_line}
 use Rattle.fast_receive.specs.Received.{spoils, bits_from, AllHeard}
 use Rattle.fast_receive.specs.Received as received
 use Rattle.fast_line.specs.Line.{kind_of}
@@ -45,15 +38,16 @@ use Rattle.fast_heard.specs.declared.Near.{Near}
 use Rattle.fast_heard.specs.declared.Segment.{Segment}
 use Rattle.fast_heard.specs.declared.Kind.{Kind}
 use Rattle.fast_heard.specs.declared.Kind.TheVariants.{Silent, Line, From, Mixed}
-use Rattle.fast_heard.specs.Hearing.{held_at, plan_of, emits, emits_at, bit_of, nearest_of, near_bit, brought, line_from}
+use Rattle.fast_heard.specs.Hearing.{held_at, plan_of, bit_of, nearest_of, near_bit, brought, line_from}
 use Rattle.fast_heard.specs.Hearing.{mixed, sends, Says, Segmented}
 use Rattle.fast_heard.specs.NearLaws.{near_station}
-use Rattle.fast_heard.specs.HearingLaws.{brought_same, says_same, hears_mixed}
+use Rattle.fast_heard.specs.HearingLaws.{brought_same, hears_mixed}
 use Rattle.fast_segment.specs.Alone.{Moves, itself_moves}
 use Rattle.fast_move.specs.Move.{heard_in, Moving, Audible}
 use Rattle.fast_heard.specs.declared.Sight.{Sight}
-use Rattle.fast_heard.specs.Sights.{sight_by, sight_of, unseen, blank_sight, sights_of}
-use Rattle.fast_heard.specs.SightLaws.{bit_near, bit_from, sight_at}
+use Rattle.fast_heard.specs.Sights.{sight_by, sight_of}
+use Rattle.fast_bound.specs.Bound.{Sighted}
+use Rattle.fast_heard.specs.SightLaws.{bit_near, bit_from}
 use Rattle.fast_window.specs.Window.{bit_at, heard_by, heard_from, Begins}
 use Rattle.sheet_layout.specs.Limits.{last_clock, max_stations}
 use Rattle.area.specs.Offsets.{area_size, ring, from, the_frame, frame_room}
@@ -171,11 +165,10 @@ held_frame x F l i n h hi hn room long e eh =
     let z = frame_long x F i n hi hn room e in ap (take n) eh ∙ take_sets F l n (sym z) (omega arith) ∙ e
 
 pub station_moved : (f : Figures) (D j t : ℕ) (w : Near) (k m i e : ℕ) (h x y : List ℕ) → take e h ≡ frame_at x i e
-    → y ≡ by_itself f D j (heard_by x j t w (take (e - 0) h) k) m x
+    → y ≡ by_itself f D j (heard_by x j t w (take e h) k) m x
     → y ≡ by_itself f D j (heard_by x j t w (frame_at x i e) k) m x
 station_moved f D j t w k m i e h x y eh ey =
-    let z : e - 0 ≡ e = omega arith in
-    ey ∙ ap (λ (F : List ℕ). by_itself f D j (heard_by x j t w F k) m x) (ap (λ (n : ℕ). take n h) z ∙ eh)
+    ey ∙ ap (λ (F : List ℕ). by_itself f D j (heard_by x j t w F k) m x) eh
 
 -- a frame that is sent has its place, and its bits are few
 sent_small : (f : Figures) (z : ℕ) (p : Transmitter) → NumberIn f z p → FrameIn p z → (bit_of p ≡ 0 → ⊥)
@@ -315,12 +308,11 @@ module _ (a : List ℕ) (f : Figures) (d n t : ℕ) (v : Begins a f d n t) where
           ∙ hears_mixed a y j t near bit v.ready (omega (arith, v.count))
           (ap (λ (c : ℕ). nearest_of a c j) v.count) refl v.clock same_line s
 
-      pub all_more : (ws : List Sight) (w : Sight) (z : List ℕ) → ws ≡ sights_of a n → w ≡ get_or ws j blank_sight
+      all_on : (w : Sight) (z : List ℕ) → w ≡ sight_of a n j
           → z ≡ by_itself f d j (heard_by y j t w.near (frame_at y w.from w.octets) w.bit) m y
           → z ≡ own_all a (plan_of a) m (j + 1) a
       unfolding Begins own_all
-      all_more ws w z es ew ez =
-          let e : w ≡ sight_of a n j = sight_at a n j ws w hj es ew in
+      all_on w z e ez =
           turns_more (λ i x. by_itself (figures_at a) (depth_at a) i (hears a (plan_of a) i) m x) j a y z
           (ez ∙ ap (λ (q : Sight). by_itself f d j
           (heard_by y j t q.near (frame_at y q.from q.octets) q.bit) m y) e
@@ -330,25 +322,31 @@ module _ (a : List ℕ) (f : Figures) (d n t : ℕ) (v : Begins a f d n t) where
           ∙ ap₂ (λ (g : Figures) (c : ℕ). by_itself g c j (hears a (plan_of a) j) m y) v.figures v.depth)
           ey
 
-  -- what the code asks for
-  sight_asks : (j : ℕ) (ws : List Sight) (w : Sight) → j < n → ws ≡ sights_of a n → w ≡ get_or ws j blank_sight
-      → (w.from < max_stations) × (w.octets ≤ frame_room) × (w.bit < 65536)
-  sight_asks j ws w hj es ew =
-      let e : w ≡ sight_of a n j = sight_at a n j ws w hj es ew in
-      subst (λ (q : Sight). (q.from < max_stations) × (q.octets ≤ frame_room) × (q.bit < 65536)) (sym e)
-      (sight_fits j hj)
+module _ (a : List ℕ) (f : Figures) (d t : ℕ) (ws : List Sight) (v : Begins a f d (length ws) t) (es : Sighted a ws)
+    (j : ℕ) (o : Sight) (hj : j < length ws) where
+  sight_asks : ((get_or ws j o).from < max_stations) × ((get_or ws j o).octets ≤ frame_room)
+      × ((get_or ws j o).bit < 65536)
+  unfolding Sighted
+  sight_asks =
+      subst (λ (q : Sight). (q.from < max_stations) × (q.octets ≤ frame_room) × (q.bit < 65536)) (sym (es j o hj))
+      (sight_fits a f d (length ws) t v j hj)
 
-  pub sight_from : (j : ℕ) (ws : List Sight) (w : Sight) → j < n → ws ≡ sights_of a n → w ≡ get_or ws j blank_sight
-      → w.from < max_stations
-  sight_from j ws w hj es ew = (sight_asks j ws w hj es ew).0
+  pub sight_from : (get_or ws j o).from < max_stations
+  sight_from = sight_asks.0
 
-  pub sight_octets : (j : ℕ) (ws : List Sight) (w : Sight) → j < n → ws ≡ sights_of a n → w ≡ get_or ws j blank_sight
-      → w.octets ≤ frame_room
-  sight_octets j ws w hj es ew = (sight_asks j ws w hj es ew).1
+  pub sight_octets : (get_or ws j o).octets ≤ frame_room
+  sight_octets = sight_asks.1
 
-  pub sight_bit : (j m : ℕ) (ws : List Sight) (w : Sight) → t + m ≤ last_clock → j < n → ws ≡ sights_of a n
-      → w ≡ get_or ws j blank_sight → w.bit + m < 4294967296
-  sight_bit j m ws w h hj es ew = omega (arith, (sight_asks j ws w hj es ew).2)
+  pub sight_bit : (m : ℕ) → t + m ≤ last_clock → (get_or ws j o).bit + m < 4294967296
+  sight_bit m h = omega (arith, sight_asks.2)
+
+  pub all_more : (m : ℕ) (y z : List ℕ) → y ≡ own_all a (plan_of a) m j a
+      → z ≡ by_itself f d j (heard_by y j t (get_or ws j o).near
+      (frame_at y (get_or ws j o).from (get_or ws j o).octets) (get_or ws j o).bit) m y
+      → z ≡ own_all a (plan_of a) m (j + 1) a
+  unfolding Sighted
+  all_more m y z ey ez =
+      all_on a f d (length ws) t v j hj m y ey (get_or ws j o) z (es j o hj) ez
 
 pub all_none : (a : List ℕ) (m : ℕ) → a ≡ own_all a (plan_of a) m 0 a
 unfolding own_all

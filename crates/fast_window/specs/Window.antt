@@ -1,5 +1,6 @@
 -- What a station hears in a window, by what it heard of before it; and what a window is. Assumes nothing.
-use Rattle.std.specs.Prelude.{ℕ, ◌+◌, ◌-◌, ◌≤◌, ◌<◌, ◌≡◌, List}
+use Rattle.std.specs.Prelude.{ℕ, ◌+◌, ◌-◌, ◌≤◌, ◌<◌, ◌≡◌, List, Option}
+use Rattle.std.specs.Option.{MatchOption}
 use Rattle.sheet_layout.specs.declared.Figures.{Figures}
 use Rattle.station_symbols.specs.declared.Heard.{Heard}
 use Rattle.area.specs.Area.{clock_at, depth_at, figures_at, count_at}
@@ -11,6 +12,7 @@ use Rattle.fast_plan.specs.Placed.{lines_done}
 use Rattle.fast_heard.specs.declared.Near.{Near}
 use Rattle.fast_heard.specs.Hearing.{plan_of, line_from, mixed, sends}
 use Rattle.fast_bound.specs.Bound.{AllLast}
+use Rattle.fast_window.specs.declared.Start.{Start}
 
 -- ---- one station
 
@@ -30,7 +32,7 @@ heard_from x j t w F k s v = heard_by x j t w F k (s + v)
 -- ---- all stations
 
 -- what is read of a ready area before a window
-pub record Start (a : List ℕ) (f : Figures) (d n t : ℕ) : Type 0 where
+pub record Starts (a : List ℕ) (f : Figures) (d n t : ℕ) : Type 0 where
   pub ready : Readiness a
   pub figures : f ≡ figures_at a
   pub depth : d ≡ depth_at a
@@ -39,7 +41,10 @@ pub record Start (a : List ℕ) (f : Figures) (d n t : ℕ) : Type 0 where
 
 -- shut, so that a search does not enter it
 unfoldable pub Begins : List ℕ → Figures → (d n t : ℕ) → Type 0
-Begins a f d n t = Start a f d n t
+Begins a f d n t = Starts a f d n t
+
+abbrev pub Began : List ℕ → Start → (n : ℕ) → Type 0
+Began a s n = Begins a s.figures s.depth n s.clock
 
 -- the stations after r steps, and then the lines
 unfoldable pub settled_of : List ℕ → (r : ℕ) → List ℕ
@@ -55,9 +60,11 @@ Lasting a r = Lasts a r
 
 -- of m steps r are made, in none of which a station starts or has an event
 pub record Window (m r : ℕ) (a b : List ℕ) : Type 0 where
+  pub some : 0 < r
   pub within : r ≤ m
   pub calm : AllCalm a (plan_of a) r
   pub made : b ≡ steps r a
 
-unfoldable pub Passed : (m r : ℕ) → (a b : List ℕ) → Type 0
-Passed m r a b = Window m r a b
+-- some steps are, or none
+unfoldable pub Passed : (m : ℕ) → Option ℕ → (a b : List ℕ) → Type 0
+Passed m o a b = MatchOption o (b ≡ a) (λ r. Window m r a b)

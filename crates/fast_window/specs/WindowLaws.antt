@@ -1,13 +1,16 @@
 -- A window on the area: its stations, its lines, its clock; and that it is so many steps. Assumes nothing.
-use Rattle.std.specs.Prelude.{ℕ, ◌+◌, ◌≤◌, ◌<◌, ◌≡◌, refl, Bool, true, length}
+use Rattle.std.specs.Prelude.{ℕ, ◌+◌, ◌≤◌, ◌<◌, ◌≡◌, refl, Some, None, length, take, get_or}
 use Rattle.std.proofs.Math.Path.{sym, ap, subst}
-use Rattle.std.proofs.Common.{◌∙◌, ap₂, arith}
+use Rattle.std.proofs.Common.{◌∙◌, arith, length-take, get_or-take}
+use Rattle.octets.specs.Filled.{filled_at}
+use Rattle.fast_heard.specs.declared.Sight.{Sight}
+use Rattle.fast_heard.specs.Sights.{sight_of, unseen, sights_of}
 use mathlib.Core.List.{List}
-use Rattle.octets.specs.Turns.{turns, turns_none, turns_more, turns_end}
+use Rattle.octets.specs.Turns.{turns_none, turns_more, turns_end}
 use Rattle.sheet_layout.specs.declared.Figures.{Figures}
-use Rattle.area.specs.Area.{clock_at, with_clock, depth_at, figures_at, count_at, station_at}
+use Rattle.area.specs.Area.{clock_at, with_clock, depth_at, figures_at, count_at}
 use Rattle.bus_spec.specs.BitTime.{step_area}
-use Rattle.bus_spec.specs.Ready.{Readiness, Ready}
+use Rattle.bus_spec.specs.Ready.{Ready}
 use Rattle.bus_spec.specs.RunLaws.{Runnable}
 use Rattle.fast_plan.specs.Plan.{steps}
 use Rattle.fast_plan.specs.Calm.{AllCalm}
@@ -20,9 +23,9 @@ use Rattle.fast_heard.specs.Hearing.{plan_of, emits_at}
 use Rattle.fast_lines.specs.declared.Emitter.{Emitter}
 use Rattle.fast_lines.specs.Lines.{emitters_of, plan_by, Settles}
 use Rattle.fast_lines.specs.LinesLaws.{moved_settles, moved_lines}
-use Rattle.fast_bound.specs.Bound.{AllLast, ReadFrom}
+use Rattle.fast_bound.specs.Bound.{AllLast, ReadFrom, Sighted}
 use Rattle.fast_window.specs.Window.{Begins, settled_of, Lasting, Passed}
-use Rattle.sheet_layout.specs.Limits.{last_clock}
+use Rattle.sheet_layout.specs.Limits.{last_clock, max_stations}
 
 pub begins : (a : List ℕ) (f : Figures) (d n t c : ℕ) → Ready a → f ≡ figures_at a → d ≡ depth_at a → c ≡ count_at a
     → n ≡ c → t ≡ clock_at a → Begins a f d n t
@@ -57,6 +60,28 @@ module _ (a : List ℕ) (f : Figures) (d n t : ℕ) (v : Begins a f d n t) where
   unfolding Begins
   begins_clock = v.clock
 
+-- what is seen of the first n places is what each of n stations hears of
+module _ (a : List ℕ) (n : ℕ) (ws : List Sight) (e : ws ≡ sights_of a n) (el : length ws ≡ 16) (few : n ≤ max_stations) where
+  seen_long : length (take n ws) ≡ n
+  seen_long = omega (arith, length-take n ws)
+
+  pub seen_few : length (take n ws) ≤ max_stations
+  seen_few = omega (arith, seen_long)
+
+  pub seen_sighted : Sighted a (take n ws)
+  unfolding Sighted sights_of
+  seen_sighted j d h =
+      let lt : j < n = omega (arith, seen_long) in
+      get_or-take n ws j d lt ∙ ap (λ (q : List Sight). get_or q j d) e
+      ∙ filled_at unseen (sight_of a n) n j d lt
+      ∙ ap (λ (k : ℕ). sight_of a k j) (sym seen_long)
+
+  pub seen_begins : (f : Figures) (d t : ℕ) → Begins a f d n t → Begins a f d (length (take n ws)) t
+  seen_begins f d t v = subst (λ (k : ℕ). Begins a f d k t) (sym seen_long) v
+
+  pub seen_read : (f : Figures) (d t : ℕ) → Begins a f d n t → ReadFrom a f (length (take n ws)) t
+  seen_read f d t v = begins_read a f d (length (take n ws)) t (seen_begins f d t v)
+
 pub window_made : (a : List ℕ) (f : Figures) (d n t r : ℕ) (z b : List ℕ) → Begins a f d n t → z ≡ settled_of a r
     → b ≡ with_clock z (t + r) → b ≡ turned_of a (plan_of a) r
 unfolding settled_of turned_of
@@ -68,10 +93,11 @@ module _ (a : List ℕ) (m r : ℕ) where
   lasting l h = record { some = omega arith; lasts = l }
 
   pub pass_some : (f : Figures) (d n t : ℕ) (b : List ℕ) → Begins a f d n t → t + m ≤ last_clock → AllCalm a (plan_of a) r
-      → r ≤ m → 12 ≤ r → b ≡ turned_of a (plan_of a) r → Passed m r a b
+      → r ≤ m → 12 ≤ r → b ≡ turned_of a (plan_of a) r → Passed m (Some r) a b
   unfolding Passed Begins
   pass_some f d n t b v early calm h pos eb =
       record {
+        some = omega arith;
         within = h;
         calm = calm;
         made =
@@ -79,9 +105,9 @@ module _ (a : List ℕ) (m r : ℕ) where
             (calm_holds a (plan_of a) r calm));
       }
 
-  pub pass_singly : (b : List ℕ) → AllCalm a (plan_of a) r → r ≤ m → b ≡ steps r a → Passed m r a b
+  pub pass_singly : (b : List ℕ) → AllCalm a (plan_of a) r → r ≤ m → 2 ≤ r → b ≡ steps r a → Passed m (Some r) a b
   unfolding Passed
-  pass_singly b calm h eb = record { within = h; calm = calm; made = eb }
+  pass_singly b calm h pos eb = record { some = omega arith; within = h; calm = calm; made = eb }
 
 pub single_runs : (a : List ℕ) (f : Figures) (d n t m r : ℕ) → Begins a f d n t → t + m ≤ last_clock → r ≤ m
     → Runnable r a
@@ -101,11 +127,6 @@ module _ (a : List ℕ) where
   unfolding steps
   single_end r s x p q h = turns_end _ r s a x p q h
 
-pub pass_none : (a : List ℕ) (m : ℕ) → Passed m 0 a a
-unfolding Passed steps turns
-pass_none a m =
-    record {
-      within = omega arith;
-      calm = λ i h. record { emits = λ s l. absurd (omega arith); quiet = λ s l. absurd (omega arith) };
-      made = refl;
-    }
+pub pass_none : (a : List ℕ) (m : ℕ) → Passed m None a a
+unfolding Passed
+pass_none a m = refl

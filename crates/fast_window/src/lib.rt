@@ -12,17 +12,25 @@ ghost use Rattle.fast_plan.specs.Own.{by_itself};
 ghost use Rattle.fast_plan.specs.Exact.{own_all};
 ghost use Rattle.fast_plan.specs.Turned.{turned_of};
 ghost use Rattle.fast_heard.specs.Hearing.{plan_of};
-ghost use Rattle.fast_heard.specs.Sights.{sights_of};
+ghost use Rattle.fast_bound.specs.Bound.{Sighted};
 ghost use Rattle.fast_move.specs.Move.{Moving};
-ghost use Rattle.fast_window.specs.Window.{bit_at, heard_by, heard_from, Begins, settled_of, Lasting, Passed};
+ghost use Rattle.fast_window.specs.Window.{bit_at, heard_by, heard_from, Began, settled_of, Lasting, Passed};
 ghost use Rattle.sheet_layout.specs.Limits.{last_clock, max_stations};
 ghost use Rattle.area.specs.Offsets.{area_size, frame_room};
 
-use fast_heard::{Near, Sight};
+use fast_heard::Sight;
 use sheet_layout::Figures;
 
 // A window of fewer steps is made by single steps: they cost less.
 const SHORT: u32 = 12;
+
+// What is read of a work area before a window.
+#[derive(Clone, Copy)]
+pub struct Start {
+    pub figures: Figures,
+    pub depth: u32,
+    pub clock: u32,
+}
 
 // ---- one station
 
@@ -31,62 +39,7 @@ fn bit_at(bit: u32, d: usize, s: u32) -> u32
     requires { bit + s < 4294967296 }
     ensures { result ≡ bit_at bit d s }
 {
-    if (s as usize) < d {
-        return bit;
-    }
-    bit + (s - d as u32)
-}
-
-// Station j, s steps from clock t on, moves on over steps of one kind, at most to step m; says over how many.
-fn move_run(
-    area: &mut [u8],
-    f: Figures,
-    depth: u32,
-    j: usize,
-    t: u32,
-    near: Near,
-    bit: u32,
-    frame: &[u8],
-    s: u32,
-    m: u32,
-) -> u32
-    requires { (j < max_stations) × (area_size ≤ length area.old) × (s < m) × (t + m ≤ last_clock)
-        × (bit + m < 4294967296) × (f.gap1 + f.gap2 < 65536) × Moving f depth j (t + s) area.old }
-    ensures moved { area.new
-        ≡ by_itself f depth j (heard_from area.old j t near frame.now bit s) result
-        area.old }
-    ensures bound { (0 < result) × (s + result ≤ m) }
-{
-    let most = m - s;
-    let run = fast_heard::heard_run(area, j, t as usize, near, bit, s as usize, most as usize);
-    let b = bit_at(bit, near.d1, s);
-    let kind = run.kind;
-    let len = run.len as u32;
-    fast_move::advance(area, f, depth, j, t + s, kind, frame, b, len)
-}
-
-// Station j moves on over m steps from clock t on, run by run of what it hears.
-fn move_runs(
-    area: &mut [u8],
-    f: Figures,
-    depth: u32,
-    j: usize,
-    t: u32,
-    near: Near,
-    bit: u32,
-    frame: &[u8],
-    m: u32,
-)
-    requires { (j < max_stations) × (area_size ≤ length area.old) × (t + m ≤ last_clock) × (bit + m < 4294967296)
-        × (f.gap1 + f.gap2 < 65536)
-        × Moving f depth j t area.old }
-    ensures { area.new
-        ≡ by_itself f depth j (heard_by area.old j t near frame.now bit) m area.old }
-{
-    let mut s: u32 = 0;
-    while s < m {
-        s += move_run(area, f, depth, j, t, near, bit, frame, s, m);
-    }
+    bit + (s as usize).saturating_sub(d) as u32
 }
 
 // The first n octets are the frame of station i.
@@ -99,58 +52,101 @@ fn hold_frame(area: &[u8], i: usize, n: usize) -> [u8; area::FRAME_ROOM]
     held
 }
 
-// Station j moves on over m steps from clock t on.
-fn move_station(area: &mut [u8], f: Figures, depth: u32, j: usize, t: u32, w: Sight, m: u32)
-    requires { (j < max_stations) × (area_size ≤ length area.old) × (t + m ≤ last_clock) × (w.bit + m < 4294967296)
-        × (w.from < max_stations) × (w.octets ≤ frame_room) × (f.gap1 + f.gap2 < 65536)
-        × Moving f depth j t area.old }
-    ensures { area.new
-        ≡ by_itself f depth j
-        (heard_by area.old j t w.near (frame_at area.old w.from w.octets) w.bit) m
-        area.old }
-{
-    let near = w.near;
-    let octets = w.octets as usize;
-    let held = hold_frame(area, w.from, octets);
-    move_runs(area, f, depth, j, t, near, w.bit, &held[0..octets], m);
-}
-
-// ---- all stations
-
-// Each of n stations moves on over m steps from clock t on, by what it heard of before.
-fn move_all(area: &mut [u8], f: Figures, depth: u32, n: usize, t: u32, seen: [Sight; 16], m: u32)
-    requires { (n ≤ max_stations) × (area_size ≤ length area.old) × (t + m ≤ last_clock)
-        × Begins area.old f depth n t × (seen ≡ sights_of area.old n) }
-    ensures { area.new
-        ≡ own_all area.old (plan_of area.old) m n area.old }
-{
-    let mut j: usize = 0;
-    while j < n {
-        let w = seen[j];
-        move_station(area, f, depth, j, t, w, m);
-        j += 1;
+impl Start {
+    // Station j, s steps on, moves on over steps of one kind, at most to step m; says over how many.
+    fn move_run(&self, area: &mut [u8], j: usize, w: &Sight, frame: &[u8], s: u32, m: u32) -> u32
+        requires { (j < max_stations) × (area_size ≤ length area.old) × (s < m) × (self.now.clock + m ≤ last_clock)
+            × (w.now.bit + m < 4294967296) × (self.now.figures.gap1 + self.now.figures.gap2 < 65536)
+            × Moving self.now.figures self.now.depth j (self.now.clock + s) area.old }
+        ensures moved { area.new
+            ≡ by_itself self.now.figures self.now.depth j
+            (heard_from area.old j self.now.clock w.now.near frame.now w.now.bit s) result
+            area.old }
+        ensures bound { (0 < result) × (s + result ≤ m) }
+    {
+        let run = fast_bound::run_at(area, j, self.clock, w, s, m);
+        let b = bit_at(w.bit, w.near.d1, s);
+        fast_move::advance(
+            area,
+            self.figures,
+            self.depth,
+            j,
+            self.clock + s,
+            run.kind,
+            frame,
+            b,
+            run.len as u32,
+        )
     }
-}
 
-// A window of r steps from clock t on, but for the clock: the stations, and then the lines.
-fn make_steps(area: &mut [u8], f: Figures, depth: u32, n: usize, t: u32, seen: [Sight; 16], r: u32)
-    requires { (n ≤ max_stations) × (area_size ≤ length area.old) × (t + r ≤ last_clock)
-        × Begins area.old f depth n t × (seen ≡ sights_of area.old n) × Lasting area.old r }
-    ensures { area.new ≡ settled_of area.old r }
-{
-    let from = fast_lines::emitters(area, n);
-    move_all(area, f, depth, n, t, seen, r);
-    fast_lines::settle_lines(area, n, t as usize, r as usize, from);
-}
+    // Station j moves on over m steps, run by run of what it hears.
+    fn move_runs(&self, area: &mut [u8], j: usize, w: &Sight, frame: &[u8], m: u32)
+        requires { (j < max_stations) × (area_size ≤ length area.old) × (self.now.clock + m ≤ last_clock)
+            × (w.now.bit + m < 4294967296) × (self.now.figures.gap1 + self.now.figures.gap2 < 65536)
+            × Moving self.now.figures self.now.depth j self.now.clock area.old }
+        ensures { area.new
+            ≡ by_itself self.now.figures self.now.depth j
+            (heard_by area.old j self.now.clock w.now.near frame.now w.now.bit) m
+            area.old }
+    {
+        let mut s: u32 = 0;
+        // No range: a run says how many steps it has.
+        while s < m {
+            s += self.move_run(area, j, w, frame, s, m);
+        }
+    }
 
-// A window of r steps from clock t on.
-fn make(area: &mut [u8], f: Figures, depth: u32, n: usize, t: u32, seen: [Sight; 16], r: u32)
-    requires { (n ≤ max_stations) × (area_size ≤ length area.old) × (t + r ≤ last_clock)
-        × Begins area.old f depth n t × (seen ≡ sights_of area.old n) × Lasting area.old r }
-    ensures { area.new ≡ turned_of area.old (plan_of area.old) r }
-{
-    make_steps(area, f, depth, n, t, seen, r);
-    area::write_clock(area, t + r);
+    // Station j moves on over m steps.
+    fn move_station(&self, area: &mut [u8], j: usize, w: &Sight, m: u32)
+        requires { (j < max_stations) × (area_size ≤ length area.old) × (self.now.clock + m ≤ last_clock)
+            × (w.now.bit + m < 4294967296) × (w.now.from < max_stations) × (w.now.octets ≤ frame_room)
+            × (self.now.figures.gap1 + self.now.figures.gap2 < 65536)
+            × Moving self.now.figures self.now.depth j self.now.clock area.old }
+        ensures { area.new
+            ≡ by_itself self.now.figures self.now.depth j
+            (heard_by area.old j self.now.clock w.now.near (frame_at area.old w.now.from w.now.octets) w.now.bit) m
+            area.old }
+    {
+        let octets = w.octets as usize;
+        let held = hold_frame(area, w.from, octets);
+        self.move_runs(area, j, w, &held[..octets], m);
+    }
+
+    // ---- all stations
+
+    // Each station moves on over m steps, by what it heard of before.
+    fn move_all(&self, area: &mut [u8], seen: &[Sight], m: u32)
+        requires { (length seen.now ≤ max_stations) × (area_size ≤ length area.old) × (self.now.clock + m ≤ last_clock)
+            × Began area.old self.now (length seen.now) × Sighted area.old seen.now }
+        ensures { area.new
+            ≡ own_all area.old (plan_of area.old) m (length seen.now) area.old }
+    {
+        for (j, w) in seen.iter().enumerate() {
+            self.move_station(area, j, w, m);
+        }
+    }
+
+    // A window of r steps, but for the clock: the stations, and then the lines.
+    fn make_steps(&self, area: &mut [u8], seen: &[Sight], r: u32)
+        requires { (length seen.now ≤ max_stations) × (area_size ≤ length area.old) × (self.now.clock + r ≤ last_clock)
+            × Began area.old self.now (length seen.now) × Sighted area.old seen.now × Lasting area.old r }
+        ensures { area.new ≡ settled_of area.old r }
+    {
+        let n = seen.len();
+        let from = fast_lines::emitters(area, n);
+        self.move_all(area, seen, r);
+        fast_lines::settle_lines(area, n, self.clock as usize, r as usize, from);
+    }
+
+    // A window of r steps.
+    fn make(&self, area: &mut [u8], seen: &[Sight], r: u32)
+        requires { (length seen.now ≤ max_stations) × (area_size ≤ length area.old) × (self.now.clock + r ≤ last_clock)
+            × Began area.old self.now (length seen.now) × Sighted area.old seen.now × Lasting area.old r }
+        ensures { area.new ≡ turned_of area.old (plan_of area.old) r }
+    {
+        self.make_steps(area, seen, r);
+        area::write_clock(area, self.clock + r);
+    }
 }
 
 // ---- whether a window is worth a try: any answer is right
@@ -198,20 +194,6 @@ fn may_last(area: &[u8], f: Figures, i: usize, t: u32) -> bool
     goes_on(area, i, phase, t)
 }
 
-// Whether each of n stations may.
-fn is_worth(area: &[u8], f: Figures, n: usize, t: u32) -> bool
-    requires { (n ≤ max_stations) × (area_size ≤ length area.now) × (f.gap1 + f.gap2 < 65536) }
-{
-    let mut i: usize = 0;
-    while i < n {
-        if !may_last(area, f, i, t) {
-            return false;
-        }
-        i += 1;
-    }
-    true
-}
-
 // ---- a window
 
 // r steps, one after the other.
@@ -219,43 +201,54 @@ fn make_singly(area: &mut [u8], r: u32)
     requires { (area_size ≤ length area.old) × Runnable r area.old }
     ensures { area.new ≡ steps r area.old }
 {
-    let mut s: u32 = 0;
-    while s < r {
+    for _s in 0..r {
         bus_turn::step::step(area);
-        s += 1;
     }
 }
 
-// Of the next m steps, from clock t on, those that are a window.
-fn pass_from(area: &mut [u8], f: Figures, depth: u32, n: usize, t: u32, m: u32) -> u32
-    requires { (n ≤ max_stations) × (area_size ≤ length area.old) × (t + m ≤ last_clock)
-        × Begins area.old f depth n t }
-    ensures { Passed m result area.old area.new }
-{
-    if !is_worth(area, f, n, t) {
-        return 0;
+impl Start {
+    // Whether each of n stations may allow a window.
+    fn is_worth(&self, area: &[u8], n: usize) -> bool
+        requires { (n ≤ max_stations) × (area_size ≤ length area.now)
+            × (self.now.figures.gap1 + self.now.figures.gap2 < 65536) }
+    {
+        (0..n).all(|i| may_last(area, self.figures, i, self.clock))
     }
-    let seen = fast_heard::sights(area, n);
-    let r = fast_bound::bound(area, f, n, t, seen, m);
-    if r < fast_bound::LEAST {
-        return 0;
+
+    // Of the next m steps of n stations those that are a window.
+    fn pass(&self, area: &mut [u8], n: usize, m: u32) -> Option<u32>
+        requires { (n ≤ max_stations) × (area_size ≤ length area.old) × (self.now.clock + m ≤ last_clock)
+            × Began area.old self.now n }
+        ensures { Passed m result area.old area.new }
+    {
+        if !self.is_worth(area, n) {
+            return None;
+        }
+        let all = fast_heard::sights(area, n);
+        let seen = &all[..n];
+        let r = fast_bound::bound(area, self.figures, self.clock, seen, m);
+        if r < fast_bound::LEAST {
+            return None;
+        }
+        if r < SHORT {
+            make_singly(area, r);
+            return Some(r);
+        }
+        self.make(area, seen, r);
+        Some(r)
     }
-    if r < SHORT {
-        make_singly(area, r);
-        return r;
-    }
-    make(area, f, depth, n, t, seen, r);
-    r
 }
 
 // Of the next m steps those that are a window, where they are worth one: says how many.
-pub fn pass(area: &mut [u8], m: u32) -> u32
+pub fn pass(area: &mut [u8], m: u32) -> Option<u32>
     requires { (area_size ≤ length area.old) × (clock_at area.old + m ≤ last_clock) × Ready area.old }
     ensures { Passed m result area.old area.new }
 {
     let n = area::read_count(area) as usize;
-    let depth = area::read_depth(area);
-    let t = area::read_clock(area);
-    let f = area::read_figures(area);
-    pass_from(area, f, depth, n, t, m)
+    let start = Start {
+        figures: area::read_figures(area),
+        depth: area::read_depth(area),
+        clock: area::read_clock(area),
+    };
+    start.pass(area, n, m)
 }

@@ -1,13 +1,11 @@
 -- Building a frame (document 01, "Frames"). d is the destination, s the source, v the length/type value, x the data.
 -- The laws are in BuildLaws. Assumes nothing.
-use Rattle.std.specs.Prelude.{ℕ, ◌-◌, Bool, true, false, List, [], ◌∷◌, ◌++◌, ltb, length, replicate}
+use Rattle.std.specs.Prelude.{ℕ, ◌-◌, List, [], ◌∷◌, ◌++◌, ltb, length, replicate}
 use Rattle.std.proofs.lemmas.List.Edits.{sets}
-use Rattle.octets.specs.Base.{pick, Answer, refused, accepted, Outcome, outcome}
+use Rattle.octets.specs.Base.{pick, refused, accepted, Outcome, outcome}
 use Rattle.octets.specs.Number.{spelled}
 use Rattle.frame_crc.specs.Crc.{check_sequence}
 use Rattle.frame_build.specs.Limits.{min_data, refuses_data}
-use Rattle.frame_build.specs.declared.builder.Built.{Built}
-use Rattle.frame_build.specs.declared.builder.Built.TheVariants.{Refused, Made}
 
 -- "Destination 6, source 6, length/type 2 (high octet first)"
 unfoldable pub header : (d s : List ℕ) (v : ℕ) → List ℕ
@@ -31,8 +29,3 @@ built l d s v x =
     pick (refuses_data v (length x)) (outcome (refused 11) l)
     (pick (ltb (length l) (length (frame_of d s v x))) (outcome (refused 15) l)
     (outcome (accepted (length (frame_of d s v x) ∷ [])) (sets l 0 (frame_of d s v x))))
-
--- what each case of the code's answer stands for
-abbrev pub built_answer : Built → Answer
-built_answer (Refused n) = refused n
-built_answer (Made n) = accepted (n ∷ [])

@@ -1,11 +1,13 @@
 -- The sizes of a frame and its parts, and a law for each way through the builder. Assumes nothing.
-use Rattle.std.specs.Prelude.{ℕ, zero, suc, ◌+◌, ◌-◌, ◌≤◌, ◌<◌, max, ◌≡◌, refl, Bool, true, false, not, List, [], ◌∷◌, ◌++◌, ltb, eqb, take, replicate}
+use Rattle.std.specs.Prelude.{ℕ, ◌+◌, ◌-◌, ◌≤◌, ◌<◌, max, ◌≡◌, refl, Bool, true, false, List, [], ◌∷◌, ◌++◌, ltb, eqb, take, drop, replicate}
 use Rattle.std.proofs.Common.{◌∙◌, ap, true≢false}
 use native.Mathlib.Omega.{arith}
-use borrow.Author.Tests.{lt-ltb, le-ltb, le-leb, lt-leb, ltb-false, eq-eqb, ne_eqb}
+use borrow.Author.Tests.{lt-ltb, le-ltb, ltb-false, ne_eqb}
 use Rattle.std.proofs.Math.ListN.{length, length-append}
 use Rattle.std.proofs.lemmas.List.{length-replicate}
-use Rattle.std.proofs.Math.Seq.{sets}
+use Rattle.std.proofs.Math.Seq.{sets, length-sets}
+use borrow.Rule.Slice.PartMut.{put_mid}
+use Rattle.octets.specs.Lent.{put_fill}
 use Rattle.octets.specs.Base.{pick, refused, accepted, outcome}
 use Rattle.octets.specs.BaseLaws.{by_test}
 use Rattle.octets.specs.Number.{spelled, put}
@@ -15,24 +17,6 @@ use Rattle.frame_crc.specs.Crc.{check_sequence}
 use Rattle.frame_crc.specs.Division.{length_sequence}
 use Rattle.frame_build.specs.Limits.{tag_value, max_data, max_frame, buffer_octets, refuses_value, refuses_data}
 use Rattle.frame_build.specs.Build.{header, padded, covered, frame_of, built}
-
--- ---- refusal 11
-
-pub refuses_length : (v n : ℕ) → v ≤ 1500 → not (eqb v n) ≡ refuses_value v n
-unfolding refuses_value
-refuses_length v n h = rw (le-leb v 1500 h)
-
-pub refuses_type : (v n : ℕ) → 1500 < v → ltb v 1536 ≡ refuses_value v n
-unfolding refuses_value
-refuses_type v n h = rw (lt-leb v 1500 h)
-
-pub refuses_over : (v n k : ℕ) → k ≡ max_data v → k < n → true ≡ refuses_data v n
-unfolding refuses_data
-refuses_over v n k p h = rw (← p, lt-ltb k n h)
-
-pub refuses_rest : (v n k : ℕ) (b : Bool) → k ≡ max_data v → n ≤ k → b ≡ refuses_value v n → b ≡ refuses_data v n
-unfolding refuses_data
-refuses_rest v n k b p h q = q ∙ rw (← p, le-ltb k n h)
 
 -- ---- sizes
 
@@ -57,22 +41,18 @@ header_is l a b c d s v p q r m n =
     let two : b ≡ sets l 0 (d ++ s) = q ∙ rw r (sets_append d s l 0 6 (omega arith)) in
     p ∙ rw two (sets_append (d ++ s) (spelled 2 v) l 0 12 (omega (arith, length-append d s)))
 
-take_zeros : (p m : ℕ) → p ≤ m → take p (replicate {A = ℕ} m 0) ≡ replicate p 0
-take_zeros zero m h = refl
-take_zeros (suc p) zero h = absurd (omega arith)
-take_zeros (suc p) (suc m) h = ap (λ (r : List ℕ). 0 ∷ r) (take_zeros p m (omega arith))
-
 -- data and padding
-pub data_is : (l a b x : List ℕ) (p : ℕ) → b ≡ sets a (14 + length x) (take (p - 0) (replicate 46 0))
-    → p ≡ 46 - length x → a ≡ sets l 14 x
-    → b ≡ sets l 14 (padded x)
+pub data_is : (l a z x : List ℕ) (p k : ℕ) → a ≡ sets l 14 x → p ≡ 46 - length x → 14 + (length x + p) ≤ length l
+    → z ≡ replicate (length (take k (drop (14 + length x) a))) 0 → k ≡ 14 + length x + p - (14 + length x)
+    → put_mid (14 + length x) k a z ≡ sets l 14 (padded x)
 unfolding padded
-data_is l a b x p q e r =
-    let w : p - 0 ≡ 46 - length x = omega arith in
-    q ∙ rw (w, take_zeros (46 - length x) 46 (omega arith), r)
-    (sets_append x (replicate (46 - length x) 0) l 14 (14 + length x) refl)
+data_is l a z x p k r e h f g =
+    let w : k ≡ 46 - length x = omega arith in
+    let n : length a ≡ length l = ap length r ∙ length-sets l 14 x in
+    put_fill a z (14 + length x) k 0 f (omega arith)
+    ∙ rw (w, r) (sets_append x (replicate (46 - length x) 0) l 14 (14 + length x) refl)
 
-pub covered_is : (l a b d s : List ℕ) (v : ℕ) (x : List ℕ) → b ≡ sets a 14 (padded x) → a ≡ sets l 0 (header d s v)
+covered_is : (l a b d s : List ℕ) (v : ℕ) (x : List ℕ) → b ≡ sets a 14 (padded x) → a ≡ sets l 0 (header d s v)
     → length d ≡ 6 → length s ≡ 6
     → b ≡ sets l 0 (covered d s v x)
 unfolding covered
@@ -83,9 +63,9 @@ covered_is l a b d s v x p q m n =
 unfoldable pub sealed : List ℕ → ℕ → List ℕ
 sealed l end = sets l end (check_sequence (take end l))
 
-pub seal_is : (l a c : List ℕ) (end : ℕ) → a ≡ sets l end c → c ≡ check_sequence (take (end - 0) l) → a ≡ sealed l end
+pub seal_is : (l a c : List ℕ) (end : ℕ) → a ≡ sets l end c → c ≡ check_sequence (take end l) → a ≡ sealed l end
 unfolding sealed
-seal_is l a c end p q = let z : end - 0 ≡ end = omega arith in rw (p, q, z)
+seal_is l a c end p q = rw (p, q)
 
 -- ---- the whole frame
 
@@ -100,31 +80,16 @@ module _ (l d s : List ℕ) (v : ℕ) (x : List ℕ) where
       length-append (covered d s v x) (check_sequence (covered d s v x))
       ∙ omega (arith, length_covered m n, length_sequence (covered d s v x))
 
-  -- "data over 1504 with the tag value, and over 1500 otherwise"
-  pub built_over : (k : ℕ) → k ≡ max_data v → k < length x → outcome (refused 11) l ≡ built l d s v x
-  unfolding built refuses_data
-  built_over k p h = rw (← p, lt-ltb k (length x) h)
+  pub built_refused : (b : Bool) → b ≡ refuses_data v (length x) → b ≡ true → outcome (refused 11) l ≡ built l d s v x
+  unfolding built
+  built_refused b p q = rw (← p, q)
 
-  -- "a value up to 1500 other than the data's size, or a value 1501..1535"
-  pub built_value : (k : ℕ) (b : Bool) → k ≡ max_data v → length x ≤ k → b ≡ refuses_value v (length x) → b ≡ true
-      → outcome (refused 11) l ≡ built l d s v x
-  unfolding built refuses_data
-  built_value k b p h q t = rw (← p, le-ltb k (length x) h, ← q, t)
-
-  pub built_short : (k : ℕ) (b : Bool) (p : ℕ) → k ≡ max_data v → length x ≤ k → b ≡ refuses_value v (length x)
-      → b ≡ false
-      → p ≡ 46 - length x → length l < 14 + (length x + p) + 4 → length d ≡ 6 → length s ≡ 6
+  pub built_short : (b : Bool) (p : ℕ) → b ≡ refuses_data v (length x) → b ≡ false → p ≡ 46 - length x
+      → length l < 14 + (length x + p) + 4 → length d ≡ 6 → length s ≡ 6
       → outcome (refused 15) l ≡ built l d s v x
-  unfolding built refuses_data
-  built_short k b p e h q f w g m n =
-      rw (
-        ← e,
-        le-ltb k (length x) h,
-        ← q,
-        f,
-        lt-ltb (length l) (length (frame_of d s v x))
-            (omega (arith, length_frame m n)),
-      )
+  unfolding built
+  built_short b p q f w g m n =
+      rw (← q, f, lt-ltb (length l) (length (frame_of d s v x)) (omega (arith, length_frame m n)))
 
   -- the two stores of the builder make the frame
   frame_is : (a c : List ℕ) (e : ℕ) → c ≡ sealed a e → a ≡ sets l 0 (covered d s v x) → e ≡ length (covered d s v x)
@@ -135,17 +100,17 @@ module _ (l d s : List ℕ) (v : ℕ) (x : List ℕ) where
       p ∙ rw (q, take_sets (covered d s v x) l e n (omega arith))
       (sets_append (covered d s v x) (check_sequence (covered d s v x)) l 0 e (omega arith))
 
-  pub built_made : (a c : List ℕ) (k : ℕ) (b : Bool) (p : ℕ) → c ≡ sealed a (14 + (length x + p))
-      → a ≡ sets l 0 (covered d s v x)
-      → k ≡ max_data v → length x ≤ k → b ≡ refuses_value v (length x) → b ≡ false
+  pub built_made : (h a c : List ℕ) (b : Bool) (p : ℕ) → c ≡ sealed a (14 + (length x + p))
+      → a ≡ sets h 14 (padded x) → h ≡ sets l 0 (header d s v)
+      → b ≡ refuses_data v (length x) → b ≡ false
       → p ≡ 46 - length x → 14 + (length x + p) + 4 ≤ length l → length d ≡ 6 → length s ≡ 6
       → outcome (accepted ((14 + (length x + p) + 4) ∷ [])) c ≡ built l d s v x
-  unfolding built refuses_data
-  built_made a c k b p r t e h q f w g m n =
+  unfolding built
+  built_made h a c b p r t u q f w g m n =
       let size : 14 + (length x + p) + 4 ≡ length (frame_of d s v x) = omega (arith, length_frame m n) in
       let octets : c ≡ sets l 0 (frame_of d s v x) =
-      frame_is a c (14 + (length x + p)) r t (omega (arith, length_covered m n)) (omega arith) in
-      rw (← e, le-ltb k (length x) h, ← q, f, le-ltb (length l) (length (frame_of d s v x)) (omega arith), size, octets)
+      frame_is a c (14 + (length x + p)) r (covered_is l h a d s v x t u m n) (omega (arith, length_covered m n)) (omega arith) in
+      rw (← q, f, le-ltb (length l) (length (frame_of d s v x)) (omega arith), size, octets)
 
 -- ---- sizes
 
@@ -157,20 +122,8 @@ within v n h = go (ltb (max_data v) n) refl h
     go true p q = absurd (true≢false q)
     go false p q = ltb-false (max_data v) n p
 
--- a law for each way through the code of the two sizes
+-- the largest frame and the largest data
 module _ (v : ℕ) where
-  pub data_tag : v ≡ tag_value → 1504 ≡ max_data v
-  unfolding max_data
-  data_tag h = rw (eq-eqb v tag_value h)
-
-  pub data_plain : (v ≡ tag_value → ⊥) → 1500 ≡ max_data v
-  unfolding max_data
-  data_plain h = rw (ne_eqb v tag_value h)
-
-  pub frame_tag : v ≡ tag_value → 1522 ≡ max_frame v
-  unfolding max_frame
-  frame_tag h = rw (eq-eqb v tag_value h)
-
   pub frame_plain : (v ≡ tag_value → ⊥) → 1518 ≡ max_frame v
   unfolding max_frame
   frame_plain h = rw (ne_eqb v tag_value h)
@@ -200,3 +153,17 @@ pub frame_within : (d s : List ℕ) (v : ℕ) (x : List ℕ) → length d ≡ 6 
     → length (frame_of d s v x) ≤ max_frame v
 frame_within d s v x hd hs h =
     omega (arith, frame_size d s v x hd hs, within v (length x) h, frame_room_lem v, frame_most v)
+
+-- ---- refusal 11, by its two parts
+
+module _ (l d s : List ℕ) (v : ℕ) (x : List ℕ) where
+  -- "Data over 1500 octets", 1504 under the tag
+  pub built_over : (k : ℕ) → k ≡ max_data v → k < length x → outcome (refused 11) l ≡ built l d s v x
+  unfolding built refuses_data
+  built_over k p h = rw (← p, lt-ltb k (length x) h)
+
+  -- "a value up to 1500 other than the data's size, or a value 1501..1535"
+  pub built_value : (k : ℕ) (b : Bool) → k ≡ max_data v → length x ≤ k → b ≡ refuses_value v (length x) → b ≡ true
+      → outcome (refused 11) l ≡ built l d s v x
+  unfolding built refuses_data
+  built_value k b p h q t = rw (← p, le-ltb k (length x) h, ← q, t)

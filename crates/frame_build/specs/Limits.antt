@@ -1,5 +1,5 @@
 -- The sizes of frames (document 01, "Frames", and refusal 11). Assumes nothing.
-use Rattle.std.specs.Prelude.{ℕ, ◌*◌, Bool, true, false, not, ltb, leb, eqb}
+use Rattle.std.specs.Prelude.{ℕ, ◌*◌, Bool, true, not, ltb, leb, eqb}
 use Rattle.octets.specs.Base.{pick}
 
 -- "data padded with zeros to 46 octets"

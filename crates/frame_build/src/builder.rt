@@ -2,19 +2,13 @@
 
 ghost use Rattle.std.specs.Prelude.{◌≡◌, ◌+◌, ◌-◌, ◌≤◌, max, length};
 ghost use Rattle.std.proofs.lemmas.List.Edits.{sets};
-ghost use Rattle.octets.specs.Base.{outcome};
+ghost use Rattle.octets.specs.Base.{outcome, size_answer};
 ghost use Rattle.frame_build.specs.Limits.{min_data, refuses_data};
-ghost use Rattle.frame_build.specs.Build.{header, padded, covered, built, built_answer};
+ghost use Rattle.frame_build.specs.Build.{header, padded, built};
 ghost use Rattle.frame_build.specs.BuildLaws.{sealed};
 
 use super::limits;
-
-// The builder's answer: a refusal by its number, or the length of the frame made.
-#[derive(Clone, Copy)]
-pub enum Built {
-    Refused(u32),
-    Made(usize),
-}
+use octets::Refusal;
 
 // Writes destination, source and length/type to the front of out.
 fn write_header(out: &mut [u8], destination: [u8; 6], source: [u8; 6], value: u16)
@@ -32,20 +26,8 @@ fn write_data(out: &mut [u8], payload: &[u8])
     ensures { out.new ≡ sets out.old 14 (padded payload.now) }
 {
     octets_copies::store(out, 14, payload);
-    let n = payload.len();
-    let pad = limits::pad_size(n);
-    let zeros = [0u8; limits::MIN_DATA];
-    octets_copies::store(out, 14 + n, &zeros[0..pad]);
-}
-
-// Writes all that the check sequence covers.
-fn write_covered(out: &mut [u8], destination: [u8; 6], source: [u8; 6], value: u16, payload: &[u8])
-    requires { 14 + (length payload.now + (46 - length payload.now)) ≤ length out.old }
-    ensures { out.new
-        ≡ sets out.old 0 (covered destination source value payload.now) }
-{
-    write_header(out, destination, source, value);
-    write_data(out, payload);
+    let end = 14 + payload.len();
+    out[end..end + limits::pad_size(payload.len())].fill(0);
 }
 
 // Writes the check sequence of the first `end` octets after them.
@@ -53,20 +35,18 @@ fn seal(out: &mut [u8], end: usize)
     requires { end + 4 ≤ length out.old }
     ensures { out.new ≡ sealed out.old end }
 {
-    let check = frame_crc::check_sequence(&out[0..end]);
+    let check = frame_crc::check_sequence(&out[..end]);
     octets_copies::store(out, end, &check);
 }
 
 // Whether refusal 11 stands against a length/type value and data.
+#[tactic(auto, unfolding(crate::specs::Limits::refuses_data))]
 pub fn refuses(value: u16, payload: &[u8]) -> bool
     ensures { result ≡ refuses_data value (length payload.now) }
 {
-    let v = value as usize;
+    let v = usize::from(value);
     let n = payload.len();
-    if limits::max_data(v) < n {
-        return true;
-    }
-    limits::refuses_value(v, n)
+    limits::max_data(v) < n || limits::refuses_value(v, n)
 }
 
 // The octets of a frame with such data, of which there are not too many.
@@ -75,7 +55,7 @@ pub fn frame_size(payload: &[u8]) -> u32
     ensures { result ≡ max min_data (length payload.now) + 18 }
 {
     let n = payload.len();
-    (n + limits::pad_size(n) + 18) as u32
+    (n.max(limits::MIN_DATA) + 18) as u32
 }
 
 // Builds a frame at the front of out, or refuses (11, 15) and leaves out as it was. What stands after the frame stays.
@@ -85,23 +65,20 @@ pub fn build(
     source: [u8; 6],
     value: u16,
     payload: &[u8],
-) -> Built
-    ensures { outcome (built_answer result) out.new
+) -> Result<usize, Refusal>
+    ensures { outcome (size_answer result) out.new
         ≡ built out.old destination source value payload.now }
 {
-    let v = value as usize;
+    if refuses(value, payload) {
+        return Err(Refusal::FrameData);
+    }
     let n = payload.len();
-    if limits::max_data(v) < n {
-        return Built::Refused(11);
-    }
-    if limits::refuses_value(v, n) {
-        return Built::Refused(11);
-    }
     let end = 14 + (n + limits::pad_size(n));
     if out.len() < end + 4 {
-        return Built::Refused(15);
+        return Err(Refusal::OutputShort);
     }
-    write_covered(out, destination, source, value, payload);
+    write_header(out, destination, source, value);
+    write_data(out, payload);
     seal(out, end);
-    Built::Made(end + 4)
+    Ok(end + 4)
 }

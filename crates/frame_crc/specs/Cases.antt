@@ -1,7 +1,7 @@
 -- A published value of the definition, by computation; the others are run by the program `vectors`.
-use Rattle.std.specs.Prelude.{ℕ, ◌≡◌, refl, List, [], ◌∷◌}
+use Rattle.std.specs.Prelude.{◌≡◌, refl, [], ◌∷◌}
 use Rattle.std.proofs.Math.Bool.{xor}
-use Rattle.octets.specs.Bits.{low_bits, bits_of, low_first, packed}
+use Rattle.octets.specs.Bits.{low_bits, bits_of, low_first}
 use Rattle.frame_crc.specs.Crc.{generator, add, complement_first, remainder, dividend, crc_bits, crc_of}
 
 -- the check value of CRC-32: that of "123456789"

@@ -1,15 +1,17 @@
 -- The long division, one bit of the frame at a time: a register of 32 bits holds what is to be added to the bits still
 -- to come. Its lowest bit stands for the highest power. Assumes nothing.
-use Rattle.std.specs.Prelude.{ℕ, zero, suc, ◌+◌, ◌-◌, ◌*◌, ◌/◌, ◌%◌, ◌^◌, ◌≤◌, ◌<◌, ◌≡◌, refl, Bool, true, false, not, List, [], ◌∷◌, ◌++◌, map, eqb, length, replicate}
-use Rattle.std.proofs.Common.{sym, ◌∙◌, ap, ap₂, pow-suc, arith, eq-eqb, ne_eqb}
+use Rattle.std.specs.Prelude.{ℕ, zero, suc, ◌+◌, ◌-◌, ◌/◌, ◌%◌, ◌^◌, ◌≤◌, ◌<◌, ◌≡◌, refl, Bool, true, false, not, List, [], ◌∷◌, ◌++◌, map, eqb, length, replicate}
+use Rattle.std.proofs.Common.{sym, ◌∙◌, ap, ap₂, pow-suc, arith}
 use Rattle.std.proofs.Math.Bool.{xor}
+use Rattle.std.specs.Int.{w32, byte_at, bytes_low_first, to_le_bytes}
+use Rattle.std.proofs.Math.Nat.{div-div-eq-div-mul}
 use Rattle.std.specs.Int.Bits.{bit_xor, xor_add_and}
 use Rattle.std.proofs.lemmas.Nat.{xor_mod, xor_shr, xor_lt, and_mask}
 use Rattle.std.proofs.lemmas.List.{length-map}
 use Rattle.octets.specs.Base.{pick}
 use Rattle.octets.specs.Bits.{low_bits, bits_of, digit, low_first, packed}
 use Rattle.octets.specs.BitsLaws.{low_octets, packed_number, bits_packed, length_bits}
-use Rattle.frame_crc.specs.Crc.{among, coefficients, generator, add, complement_first, remainder, dividend}
+use Rattle.frame_crc.specs.Crc.{generator, add, complement_first, remainder, dividend}
 use Rattle.frame_crc.specs.Crc.{crc_bits, crc_of, check_sequence}
 
 -- ---- sums of coefficients
@@ -202,9 +204,20 @@ length_crc s =
     (register (bits_of s) ones))
 
 -- the four octets of the number, the low one first
-pub sequence_is : (s : List ℕ) (c : ℕ) → c ≡ crc_of s → low_octets 4 c ≡ check_sequence s
+bytes_low : (k i v x : ℕ) → x ≡ v / 256 ^ i → bytes_low_first i k v ≡ low_octets k x
+bytes_low zero i v x e = refl
+bytes_low (suc k) i v x e =
+    ap₂ (λ (y : ℕ) (l : List ℕ). y ∷ l) (low i e)
+    (bytes_low k (suc i) v (x / 256)
+    (ap (λ (y : ℕ). y / 256) e ∙ div-div-eq-div-mul v (256 ^ i) 256 ∙ ap (λ (m : ℕ). v / m) (sym (pow-suc 256 i))))
+  where
+    low : (i : ℕ) → x ≡ v / 256 ^ i → byte_at i v ≡ x % 256
+    low zero e = omega arith
+    low (suc i) e = ap (λ (y : ℕ). y % 256) (sym e)
+
+pub sequence_is : (s : List ℕ) (c : ℕ) → c ≡ crc_of s → to_le_bytes w32 c ≡ check_sequence s
 unfolding check_sequence crc_of
-sequence_is s c p = rw p (sym (packed_number 4 (crc_bits s)))
+sequence_is s c p = bytes_low 4 0 c c (omega arith) ∙ rw p (sym (packed_number 4 (crc_bits s)))
 
 pub length_sequence : (s : List ℕ) → length (check_sequence s) ≡ 4
 unfolding check_sequence packed

@@ -1,6 +1,7 @@
 -- The register by octets: eight octets at once are a sum of what each does by itself by the end. Assumes nothing.
 use Rattle.std.specs.Prelude.{ℕ, zero, suc, ◌+◌, ◌*◌, ◌/◌, ◌%◌, ◌^◌, ◌≤◌, ◌<◌, ◌≡◌, refl, Bool, true, false, List, [], ◌∷◌, ◌++◌, eqb, length, get_or, take, drop}
-use Rattle.std.proofs.Common.{sym, ◌∙◌, ap, pow-suc, lt_of_lt_of_le, add-one, arith, pow_mono, take-append-drop, length-drop, drop_of_length-le, drop-cons, drop-drop, length-take-le}
+use Rattle.std.specs.Simd.{first_chunks}
+use Rattle.std.proofs.Common.{sym, ◌∙◌, ap, take_all, not-suc-le-zero, pow-suc, lt_of_lt_of_le, add-one, arith, pow_mono, take-append-drop, length-drop, drop_of_length-le, drop-cons, drop-drop, length-take-le}
 use Rattle.std.proofs.Math.Bool.{xor}
 use Rattle.std.specs.Int.Bits.{bit_xor, xor_self, xor_zero_l, xor_zero_r, xor_shifted, shifted_half, shifted_even}
 use Rattle.std.proofs.lemmas.Nat.{xor_shr, xor_mod, xor_comm}
@@ -200,31 +201,31 @@ octet_of s i j n c d q f h b p e =
     let len : length l ≡ n = length-take-le n (drop (suc i) s) (omega (arith, length-drop (suc i) s)) in
     rw (p, e, f, drop-cons s i 0 (omega arith)) (sym (octet_before l (get_or s i 0) c b ∙ rw len))
 
--- eight octets of s, the last first; of the register nothing is left after four
-pub eight_is : (s : List ℕ) (i c d0 d1 d2 d3 d4 d5 d6 d7 : ℕ) → c < 2 ^ 32 → i + 8 ≤ length s
-    → d0 ≡ shifts 8 (bit_xor 0 (get_or s (i + 7) 0) % 256) → get_or s (i + 7) 0 < 256
-    → d1 ≡ shifts 16 (bit_xor 0 (get_or s (i + 6) 0) % 256) → get_or s (i + 6) 0 < 256
-    → d2 ≡ shifts 24 (bit_xor 0 (get_or s (i + 5) 0) % 256) → get_or s (i + 5) 0 < 256
-    → d3 ≡ shifts 32 (bit_xor 0 (get_or s (i + 4) 0) % 256) → get_or s (i + 4) 0 < 256
-    → d4 ≡ shifts 40 (bit_xor (c / 256 / 256 / 256) (get_or s (i + 3) 0) % 256) → get_or s (i + 3) 0 < 256
-    → d5 ≡ shifts 48 (bit_xor (c / 256 / 256) (get_or s (i + 2) 0) % 256) → get_or s (i + 2) 0 < 256
-    → d6 ≡ shifts 56 (bit_xor (c / 256) (get_or s (i + 1) 0) % 256) → get_or s (i + 1) 0 < 256
-    → d7 ≡ shifts 64 (bit_xor c (get_or s i 0) % 256) → get_or s i 0 < 256
-    → bit_xor (bit_xor (bit_xor (bit_xor (bit_xor (bit_xor (bit_xor d0 d1) d2) d3) d4) d5) d6) d7 ≡ register
-    (bits_of (take 8 (drop i s))) c
+-- eight octets, the last first; of the register nothing is left after four
+pub eight_is : (s : List ℕ) (c d0 d1 d2 d3 d4 d5 d6 d7 : ℕ) → c < 2 ^ 32 → length s ≡ 8
+    → d0 ≡ shifts 8 (bit_xor 0 (get_or s 7 0) % 256) → get_or s 7 0 < 256
+    → d1 ≡ shifts 16 (bit_xor 0 (get_or s 6 0) % 256) → get_or s 6 0 < 256
+    → d2 ≡ shifts 24 (bit_xor 0 (get_or s 5 0) % 256) → get_or s 5 0 < 256
+    → d3 ≡ shifts 32 (bit_xor 0 (get_or s 4 0) % 256) → get_or s 4 0 < 256
+    → d4 ≡ shifts 40 (bit_xor (c / 256 / 256 / 256) (get_or s 3 0) % 256) → get_or s 3 0 < 256
+    → d5 ≡ shifts 48 (bit_xor (c / 256 / 256) (get_or s 2 0) % 256) → get_or s 2 0 < 256
+    → d6 ≡ shifts 56 (bit_xor (c / 256) (get_or s 1 0) % 256) → get_or s 1 0 < 256
+    → d7 ≡ shifts 64 (bit_xor c (get_or s 0 0) % 256) → get_or s 0 0 < 256
+    → bit_xor (bit_xor (bit_xor (bit_xor (bit_xor (bit_xor (bit_xor d0 d1) d2) d3) d4) d5) d6) d7 ≡ register (bits_of s) c
 unfolding register bits_of
-eight_is s i c d0 d1 d2 d3 d4 d5 d6 d7 hc h p0 b0 p1 b1 p2 b2 p3 b3 p4 b4 p5 b5 p6 b6 p7 b7 =
+eight_is s c d0 d1 d2 d3 d4 d5 d6 d7 hc h p0 b0 p1 b1 p2 b2 p3 b3 p4 b4 p5 b5 p6 b6 p7 b7 =
     let over : 0 ≡ c / 256 / 256 / 256 / 256 = omega arith in
-    let last : d0 ≡ register (bits_of (take 1 (drop (i + 7) s))) 0 =
-    sym (xor_zero_l d0) ∙ octet_of s (i + 7) (i + 8) 0 0 d0 0 (omega arith) (omega arith) b0 p0 refl in
-    octet_of s i (i + 1) 7 c d7 _ (omega arith) (omega arith) b7 p7
-    (octet_of s (i + 1) (i + 2) 6 (c / 256) d6 _ (omega arith) (omega arith) b6 p6
-    (octet_of s (i + 2) (i + 3) 5 (c / 256 / 256) d5 _ (omega arith) (omega arith) b5 p5
-    (octet_of s (i + 3) (i + 4) 4 (c / 256 / 256 / 256) d4 _ (omega arith) (omega arith) b4 p4
-    (octet_of s (i + 4) (i + 5) 3 0 d3 _ (omega arith) (omega arith) b3 p3
-    (octet_of s (i + 5) (i + 6) 2 0 d2 _ (omega arith) (omega arith) b2 p2
-    (octet_of s (i + 6) (i + 7) 1 0 d1 _ (omega arith) (omega arith) b1 p1 last))
-    ∙ ap (register (bits_of (take 4 (drop (i + 4) s)))) over))))
+    let last : d0 ≡ register (bits_of (take 1 (drop 7 s))) 0 =
+    sym (xor_zero_l d0) ∙ octet_of s 7 8 0 0 d0 0 (omega arith) (omega arith) b0 p0 refl in
+    octet_of s 0 1 7 c d7 _ (omega arith) (omega arith) b7 p7
+    (octet_of s 1 2 6 (c / 256) d6 _ (omega arith) (omega arith) b6 p6
+    (octet_of s 2 3 5 (c / 256 / 256) d5 _ (omega arith) (omega arith) b5 p5
+    (octet_of s 3 4 4 (c / 256 / 256 / 256) d4 _ (omega arith) (omega arith) b4 p4
+    (octet_of s 4 5 3 0 d3 _ (omega arith) (omega arith) b3 p3
+    (octet_of s 5 6 2 0 d2 _ (omega arith) (omega arith) b2 p2
+    (octet_of s 6 7 1 0 d1 _ (omega arith) (omega arith) b1 p1 last))
+    ∙ ap (register (bits_of (take 4 (drop 4 s)))) over))))
+    ∙ ap (λ (l : List ℕ). register (bits_of l) c) (take_all 8 s (omega arith))
 
 registers_append : (a b : List ℕ) (c : ℕ) → register (bits_of (a ++ b)) c ≡ register (bits_of b) (register (bits_of a) c)
 unfolding register bits_of
@@ -235,12 +236,21 @@ registers_append (x ∷ a) b c =
     ∙ ap (register (bits_of b)) (sym (register_append (low_bits 8 x) (bits_of a) c))
 
 -- the loop by eight octets: what is left to do gives what all of it gives
-pub eight_more : (s : List ℕ) (i c d r : ℕ) → d ≡ register (bits_of (take 8 (drop i s))) c
-    → register (bits_of (drop i s)) c ≡ r → register (bits_of (drop (i + 8) s)) d ≡ r
-eight_more s i c d r p q =
-    rw (p, ← drop-drop 8 i s)
-    (sym (registers_append (take 8 (drop i s)) (drop 8 (drop i s)) c)
-    ∙ ap (λ (l : List ℕ). register (bits_of l) c) (take-append-drop 8 (drop i s)) ∙ q)
+chunk_at : (m k : ℕ) (s : List ℕ) → k < m → get_or (first_chunks 8 m s) k [] ≡ take 8 (drop (8 * k) s)
+chunk_at zero k s h = absurd (not-suc-le-zero h)
+chunk_at (suc m) zero s h = refl
+chunk_at (suc m) (suc k) s h =
+    let e : 8 * suc k ≡ 8 + 8 * k = omega arith in
+    chunk_at m k (drop 8 s) (omega arith) ∙ rw (e, drop-drop (8 * k) 8 s)
+
+pub eight_more : (s : List ℕ) (es : List (List ℕ)) (m k c d r : ℕ) → es ≡ first_chunks 8 m s → length es ≡ m
+    → k < length es → d ≡ register (bits_of (get_or es k [])) c
+    → register (bits_of (drop (8 * k) s)) c ≡ r → register (bits_of (drop (8 * (k + 1)) s)) d ≡ r
+eight_more s es m k c d r f n h p q =
+    let e : 8 * (k + 1) ≡ 8 * k + 8 = omega arith in
+    rw (p, f, chunk_at m k s (omega arith), e, ← drop-drop 8 (8 * k) s)
+    (sym (registers_append (take 8 (drop (8 * k) s)) (drop 8 (drop (8 * k) s)) c)
+    ∙ ap (λ (l : List ℕ). register (bits_of l) c) (take-append-drop 8 (drop (8 * k) s)) ∙ q)
 
 -- and the loop over the octets that are left
 pub octets_more : (s : List ℕ) (i c d r : ℕ) → i < length s → get_or s i 0 < 256
@@ -251,7 +261,7 @@ octets_more s i c d r h b p q =
     rw (add-one i, p, ← octet (get_or s i 0) c b)
     (sym (register_append (low_bits 8 (get_or s i 0)) (bits_of (drop (suc i) s)) c) ∙ rw (drop-cons s i 0 h) at q)
 
-pub octets_end : (s : List ℕ) (i c : ℕ) → length s ≤ i → register (bits_of (drop i s)) c ≡ register (bits_of s) ones
+pub octets_end : (s rest : List ℕ) (i c : ℕ) → length rest ≤ i → register (bits_of (drop i rest)) c ≡ register (bits_of s) ones
     → bit_xor c ones ≡ crc_of s
 unfolding register bits_of
-octets_end s i c h q = crc_is s c (rw (drop_of_length-le s h) at q)
+octets_end s rest i c h q = crc_is s c (rw (drop_of_length-le rest h) at q)

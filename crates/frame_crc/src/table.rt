@@ -4,7 +4,7 @@
 ghost use Rattle.std.specs.Prelude.{◌≡◌};
 ghost use Rattle.frame_crc.specs.Table.{table};
 
-const ROWS: [u32; 256] = [
+static ROWS: [u32; 256] = [
     0x0000_0000,
     0x1db7_1064,
     0x3b6e_20c8,
@@ -263,9 +263,10 @@ const ROWS: [u32; 256] = [
     0xd920_12ac,
 ];
 
-// The table, for a local of who reads it: read in place, it would be built anew at each reading.
-pub(crate) fn rows() -> [u32; 256]
-    ensures { result ≡ table }
+// The table. It is no `const`: that would be built anew at each reading.
+#[tactic(auto, unfolding(crate::specs::Table::table))]
+pub(crate) fn rows() -> &'static [u32; 256]
+    ensures { result.now ≡ table }
 {
-    ROWS
+    &ROWS
 }

@@ -1,14 +1,15 @@
 -- Opening a frame (document 01, "Frames"): f are its octets, e its excess bits.
 -- The laws are in OpenLaws, the round trip with the builder in RoundTrip. Assumes nothing.
-use Rattle.std.specs.Prelude.{ℕ, ◌-◌, max, Bool, not, ◌||◌, List, [], ◌∷◌, ltb, leb, eqb, length, take, drop}
-use Rattle.octets.specs.Base.{pick, Answer, refused, accepted}
+use Rattle.std.specs.Prelude.{ℕ, ◌-◌, max, Result, Bool, not, ◌||◌, List, [], ◌∷◌, ltb, leb, eqb, length, take, drop}
+use Rattle.octets.specs.Base.{pick, Answer, refused, accepted, values_of, answer_by}
+use Rattle.octets.specs.declared.Refusal.{Refusal}
 use Rattle.octets.specs.Equal.{equal}
 use Rattle.octets.specs.Number.{get}
 use Rattle.octets.specs.Store.{part}
 use Rattle.frame_crc.specs.Crc.{check_sequence}
 use Rattle.frame_build.specs.Limits.{min_data, min_frame, max_frame, max_length, min_type}
 use Rattle.frame_open.specs.declared.ReceiveStatus.{ReceiveStatus}
-use Rattle.frame_open.specs.declared.ReceiveStatus.TheVariants.{Refused, Fragment, FrameTooLong, FrameCheckError}
+use Rattle.frame_open.specs.declared.ReceiveStatus.TheVariants.{Fragment, FrameTooLong, FrameCheckError}
 use Rattle.frame_open.specs.declared.ReceiveStatus.TheVariants.{AlignmentError, LengthError, ReceiveOk}
 
 -- ---- the fields
@@ -47,15 +48,18 @@ length_error = accepted (4 ∷ [])
 abbrev pub receive_ok : ℕ → Answer
 receive_ok n = accepted (5 ∷ n ∷ [])
 
--- what each case of the code's answer stands for
-abbrev pub status_answer : ReceiveStatus → Answer
-status_answer (Refused n) = refused n
-status_answer Fragment = fragment
-status_answer FrameTooLong = frame_too_long
-status_answer FrameCheckError = frame_check_error
-status_answer AlignmentError = alignment_error
-status_answer LengthError = length_error
-status_answer (ReceiveOk n) = receive_ok n
+-- the values of each status
+abbrev pub status_values : ReceiveStatus → List ℕ
+status_values Fragment = values_of fragment
+status_values FrameTooLong = values_of frame_too_long
+status_values FrameCheckError = values_of frame_check_error
+status_values AlignmentError = values_of alignment_error
+status_values LengthError = values_of length_error
+status_values (ReceiveOk n) = values_of (receive_ok n)
+
+-- what the code's answer stands for
+abbrev pub status_answer : Result ReceiveStatus Refusal → Answer
+status_answer r = answer_by status_values r
 
 -- what opening gives: the status, and the client data, which are none but with receiveOK
 pub record Opening : Type 0 where

@@ -1,92 +1,32 @@
 -- A law for each way through the opener, and what a receiveOK says of the client data. Assumes nothing.
-use Rattle.std.specs.Prelude.{ℕ, ◌+◌, ◌-◌, ◌≤◌, ◌<◌, max, ◌≡◌, refl, Bool, true, false, not, List, [], ◌∷◌, ltb, leb, eqb, get_or, take, drop}
-use Rattle.std.proofs.Common.{sym, ◌∙◌, ap, length-take, length-drop, take_all, take-take}
+use Rattle.std.specs.Prelude.{ℕ, ◌+◌, ◌-◌, ◌≤◌, max, ◌≡◌, refl, Result, Ok, Err, Bool, true, false, not, List, [], ◌∷◌, ltb, leb, eqb, get_or, take, drop, ◌<◌}
+use Rattle.std.proofs.Common.{sym, ◌∙◌, ap, length-take, length-drop, take-take}
 use native.Mathlib.Omega.{arith}
-use borrow.Author.Tests.{lt-ltb, le-ltb, le-leb, lt-leb, eq-eqb, ne_eqb, ltb-false, eqb-true, not-false}
+use borrow.Author.Tests.{ltb-false, eqb-true, not-false, lt-ltb}
 use Rattle.std.proofs.Math.ListN.{length}
-use Rattle.octets.specs.Base.{pick, Answer, refused, accepted, values_of}
-use Rattle.octets.specs.Equal.{equal}
-use Rattle.octets.specs.Number.{get}
+use Rattle.octets.specs.Base.{pick, Answer, refused, accepted, values_of, refusal_number}
 use Rattle.octets.specs.Store.{part}
-use Rattle.frame_crc.specs.Crc.{check_sequence}
-use Rattle.frame_build.specs.Limits.{max_frame, min_type}
+use Rattle.frame_build.specs.Limits.{max_length, min_data, min_type, max_frame}
+use Rattle.octets.specs.declared.Refusal.{Refusal}
 use Rattle.frame_open.specs.declared.ReceiveStatus.{ReceiveStatus}
-use Rattle.frame_open.specs.declared.ReceiveStatus.TheVariants.{ReceiveOk}
+use Rattle.frame_open.specs.declared.ReceiveStatus.TheVariants.{Fragment, FrameTooLong, FrameCheckError}
+use Rattle.frame_open.specs.declared.ReceiveStatus.TheVariants.{AlignmentError, LengthError, ReceiveOk}
 use Rattle.frame_open.specs.Open.{status_answer, value_of, data_field, fragment, frame_too_long, frame_check_error}
 use Rattle.frame_open.specs.Open.{alignment_error, length_error, receive_ok, Opening, without, check_wrong}
 use Rattle.frame_open.specs.Open.{check_error, length_wrong, client_size, unpadded, opened}
 
--- ---- the check
+-- ---- the length and padding rules, for the code
 
-pub wrong_spoiled : (f : List ℕ) (s : Bool) → s ≡ true → true ≡ check_wrong s f
-unfolding check_wrong
-wrong_spoiled f s p = rw p
-
-pub wrong_clean : (f c : List ℕ) (s b : Bool) → b ≡ equal (take (length f - (length f - 4)) (drop (length f - 4) f)) c
-    → c ≡ check_sequence (take (length f - 4 - 0) f) → s ≡ false → not b ≡ check_wrong s f
-unfolding check_wrong
-wrong_clean f c s b p q r =
-    let z : length f - 4 - 0 ≡ length f - 4 = omega arith in
-    let w : length (drop (length f - 4) f) ≤ length f - (length f - 4) = omega (arith, length-drop (length f - 4) f) in
-    rw (r, p, q, z, take_all (length f - (length f - 4)) (drop (length f - 4) f) w)
-
-pub check_whole : (e : ℕ) → e ≡ 0 → frame_check_error ≡ check_error e
-unfolding check_error
-check_whole e p = rw (eq-eqb e 0 p)
-
-pub check_excess : (e : ℕ) → (e ≡ 0 → ⊥) → alignment_error ≡ check_error e
-unfolding check_error
-check_excess e p = rw (ne_eqb e 0 p)
-
--- ---- the length and padding rules
-
-module _ (v : ℕ) (field : List ℕ) where
-  pub unpad_type : min_type ≤ v → receive_ok (length field) ≡ (unpadded v field).status
-  unfolding unpadded length_wrong client_size
-  unpad_type h = rw (lt-leb v 1500 (omega arith), le-ltb v min_type h)
-
-  pub unpad_neither : v < min_type → 1500 < v → length_error ≡ (unpadded v field).status
-  unfolding unpadded length_wrong
-  unpad_neither h k = rw (lt-leb v 1500 k, lt-ltb v min_type h)
-
-  pub unpad_length : (m : ℕ) → v ≤ 1500 → m ≡ max 46 v → length field ≡ m → receive_ok v ≡ (unpadded v field).status
-  unfolding unpadded length_wrong client_size
-  unpad_length m h p q = rw (le-leb v 1500 h, ← p, eq-eqb (length field) m q)
-
-  pub unpad_wrong : (m : ℕ) → v ≤ 1500 → m ≡ max 46 v → (length field ≡ m → ⊥) → length_error ≡ (unpadded v field).status
-  unfolding unpadded length_wrong
-  unpad_wrong m h p q = rw (le-leb v 1500 h, ← p, ne_eqb (length field) m q)
-
--- ---- the order of the rules
-
-module _ (s : Bool) (f : List ℕ) (e : ℕ) where
-  pub opened_refused : 7 < e → refused 5 ≡ (opened s f e).status
-  unfolding opened
-  opened_refused h = rw (lt-ltb 7 e h)
-
-  pub opened_fragment : e ≤ 7 → length f < 64 → fragment ≡ (opened s f e).status
-  unfolding opened
-  opened_fragment h k = rw (le-ltb 7 e h, lt-ltb (length f) 64 k)
-
-  pub opened_long : (v m : ℕ) → e ≤ 7 → 64 ≤ length f → v ≡ get 2 f 12 → m ≡ max_frame v → m < length f
-      → frame_too_long ≡ (opened s f e).status
-  unfolding opened value_of
-  opened_long v m h k p q o = rw (le-ltb 7 e h, le-ltb (length f) 64 k, ← p, ← q, lt-ltb m (length f) o)
-
-  pub opened_check : (v m : ℕ) (b : Bool) (r : Answer) → r ≡ check_error e → b ≡ check_wrong s f → b ≡ true → e ≤ 7
-      → 64 ≤ length f
-      → v ≡ get 2 f 12 → m ≡ max_frame v → length f ≤ m → r ≡ (opened s f e).status
-  unfolding opened value_of
-  opened_check v m b r d c t h k p q o =
-      d ∙ rw (le-ltb 7 e h, le-ltb (length f) 64 k, ← p, ← q, le-ltb m (length f) o, ← c, t)
-
-  pub opened_rules : (v m : ℕ) (b : Bool) (r : Answer) → r ≡ (unpadded v (take (length f - 4 - 14) (drop 14 f))).status
-      → b ≡ check_wrong s f → b ≡ false → e ≤ 7 → 64 ≤ length f → v ≡ get 2 f 12 → m ≡ max_frame v → length f ≤ m
-      → r ≡ (opened s f e).status
-  unfolding opened value_of data_field
-  opened_rules v m b r d c t h k p q o =
-      let z : length f - 4 - 14 ≡ length f - 18 = omega arith in
-      d ∙ rw (z, le-ltb 7 e h, le-ltb (length f) 64 k, ← p, ← q, le-ltb m (length f) o, ← c, t)
+pub unpadded_status : (v : ℕ) (field : List ℕ) → (unpadded v field).status
+    ≡ pick (pick (leb v max_length) (not (eqb (length field) (max min_data v))) (ltb v min_type)) length_error
+    (receive_ok (pick (leb v max_length) v (length field)))
+unfolding unpadded length_wrong client_size
+unpadded_status v field = go (length_wrong v (length field)) (client_size v (length field))
+  where
+    go : (t : Bool) (n : ℕ) → (pick t (without length_error) (record { status = receive_ok n; client_data = take n field })).status
+        ≡ pick t length_error (receive_ok n)
+    go true n = refl
+    go false n = refl
 
 -- ---- what a status says of the client data
 
@@ -175,17 +115,34 @@ fair s f e =
 
 -- ---- the client data in the code
 
-pub client_room : (f : List ℕ) (e n : ℕ) (r : ReceiveStatus) → status_answer r ≡ (opened false f e).status
-    → r ≡ ReceiveOk n → 14 + n ≤ length f
-client_room f e n r p q =
-    let h : 18 + n ≤ length f = ((fair false f e).handed n (sym p ∙ ap status_answer q)).room in omega arith
+module _ (f : List ℕ) (e : ℕ) (r : Result ReceiveStatus Refusal) (p : status_answer r ≡ (opened false f e).status) where
+  client_handed : (n : ℕ) (t : ReceiveStatus) → r ≡ Ok t → t ≡ ReceiveOk n → Handed f n (opened false f e)
+  client_handed n t q g = (fair false f e).handed n (sym p ∙ ap status_answer (q ∙ ap Ok g))
 
-pub client_ok : (f : List ℕ) (e n : ℕ) (r : ReceiveStatus) → status_answer r ≡ (opened false f e).status → r ≡ ReceiveOk n
-    → take (14 + n - 14) (drop 14 f) ≡ (opened false f e).client_data
-client_ok f e n r p q =
-    let z : 14 + n - 14 ≡ n = omega arith in
-    rw z (sym ((fair false f e).handed n (sym p ∙ ap status_answer q)).octets)
+  pub client_room : (n : ℕ) (t : ReceiveStatus) → r ≡ Ok t → t ≡ ReceiveOk n → 14 + n ≤ length f
+  client_room n t q g = let h : 18 + n ≤ length f = (client_handed n t q g).room in omega arith
 
-pub client_none : (f : List ℕ) (e : ℕ) (r : ReceiveStatus) → status_answer r ≡ (opened false f e).status
-    → ((n : ℕ) → status_answer r ≡ receive_ok n → ⊥) → [] ≡ (opened false f e).client_data
-client_none f e r p h = (fair false f e).none (λ n q. h n (p ∙ q))
+  pub client_ok : (n : ℕ) (t : ReceiveStatus) → r ≡ Ok t → t ≡ ReceiveOk n
+      → take (14 + n - 14) (drop 14 f) ≡ (opened false f e).client_data
+  client_ok n t q g = let z : 14 + n - 14 ≡ n = omega arith in rw z (sym (client_handed n t q g).octets)
+
+  -- a refusal, or another status
+  pub client_refused : (k : Refusal) → r ≡ Err k → [] ≡ (opened false f e).client_data
+  client_refused k q =
+      (fair false f e).none (λ n g. refused_status (refusal_number k) n (sym (ap status_answer q) ∙ p ∙ g))
+
+  pub client_none : (t : ReceiveStatus) → r ≡ Ok t → ((n : ℕ) → t ≡ ReceiveOk n → ⊥) → [] ≡ (opened false f e).client_data
+  client_none t q h = (fair false f e).none (λ n g. other t h n (sym (ap status_answer q) ∙ p ∙ g))
+    where
+      other : (t : ReceiveStatus) → ((n : ℕ) → t ≡ ReceiveOk n → ⊥) → (n : ℕ) → status_answer (Ok t) ≡ receive_ok n → ⊥
+      other Fragment h n q = other_status 0 n (λ z. omega arith) q
+      other FrameTooLong h n q = other_status 1 n (λ z. omega arith) q
+      other FrameCheckError h n q = other_status 2 n (λ z. omega arith) q
+      other AlignmentError h n q = other_status 3 n (λ z. omega arith) q
+      other LengthError h n q = other_status 4 n (λ z. omega arith) q
+      other (ReceiveOk k) h n q = absurd (h k refl)
+
+-- "so too excess bits over 7"
+pub opened_refused : (s : Bool) (f : List ℕ) (e : ℕ) → 7 < e → refused 5 ≡ (opened s f e).status
+unfolding opened
+opened_refused s f e h = rw (lt-ltb 7 e h)

@@ -12,22 +12,25 @@
 
 ghost use Rattle.std.specs.Prelude.{◌<◌, ◌≤◌, ◌+◌, IfOk};
 
-use log_entry::{Entry, Event};
-use octets::Done;
+use log_entry::{CELLS, Entry, Event};
+use octets::Refusal;
 use std::io;
 
 // An octet of the input, 0 past its end.
-fn octet(s: &[u8], k: usize) -> u32
-    ensures { result < 256 }
-{
-    if k < s.len() { octets::wide(s[k]) } else { 0 }
+fn octet(s: &[u8], k: usize) -> u8 {
+    s.get(k).copied().unwrap_or(0)
 }
 
 // A number of four octets.
 fn four(s: &[u8], k: usize) -> u32
     requires { k < 2000000 }
 {
-    octet(s, k) * 16777216 + octet(s, k + 1) * 65536 + octet(s, k + 2) * 256 + octet(s, k + 3)
+    u32::from_be_bytes([
+        octet(s, k),
+        octet(s, k + 1),
+        octet(s, k + 2),
+        octet(s, k + 3),
+    ])
 }
 
 fn read_entry(s: &[u8], k: usize) -> Entry
@@ -35,8 +38,8 @@ fn read_entry(s: &[u8], k: usize) -> Entry
 {
     Entry {
         time: four(s, k),
-        station: octet(s, k + 4),
-        event: log_octets::event_of(octet(s, k + 5)),
+        station: u32::from(octet(s, k + 4)),
+        event: log_octets::event_of(u32::from(octet(s, k + 5))),
     }
 }
 
@@ -49,10 +52,8 @@ fn read_log(s: &[u8], k: usize, count: usize) -> [Entry; 40]
         event: Event::Collision(0),
     };
     let mut log = [last; 40];
-    for i in 0..40usize {
-        if i < count {
-            log[i] = read_entry(s, k + 6 * i);
-        }
+    for i in 0..count.min(40) {
+        log[i] = read_entry(s, k + 6 * i);
     }
     log
 }
@@ -62,67 +63,38 @@ fn read_windows(s: &[u8], k: usize) -> [u32; 204]
 {
     let mut windows = [0u32; 204];
     for w in 0..68usize {
-        windows[3 * w] = octet(s, k + 9 * w);
+        windows[3 * w] = u32::from(octet(s, k + 9 * w));
         windows[3 * w + 1] = four(s, k + 9 * w + 1);
         windows[3 * w + 2] = four(s, k + 9 * w + 5);
     }
     windows
 }
 
-fn print_number(rt: &impl Print, x: u32) -> io::Result<()> {
-    rt.print(x)
-}
-
 // The counts of the first windows.
 fn print_counts(rt: &impl Print, out: &[u32], windows: usize) -> io::Result<()> {
-    for c in 0..640usize {
-        if c / station_tally::WORDS < windows {
-            if c < out.len() {
-                if c % station_tally::WORDS == 0 {
-                    rt.write_all(b" ")?;
-                } else {
-                    rt.write_all(b",")?;
-                }
-                print_number(rt, out[c])?;
-            }
+    for counts in out.chunks_exact(station_tally::WORDS).take(windows) {
+        for (j, count) in counts.iter().enumerate() {
+            let parting = if j == 0 { ' ' } else { ',' };
+            print!(rt; "{parting}{count}")?;
         }
     }
     Ok(())
 }
 
-fn print_answer(rt: &impl Print, answer: Done, out: &[u32], windows: usize) -> io::Result<()> {
+fn print_answer(
+    rt: &impl Print,
+    answer: Result<(), Refusal>,
+    out: &[u32],
+    windows: usize,
+) -> io::Result<()> {
     match answer {
-        Done::Refused(x) => {
-            rt.write_all(b"refused ")?;
-            print_number(rt, x)?;
-        }
-        Done::Made => {
-            rt.write_all(b"ok")?;
+        Err(e) => println!(rt; "refused {}", e.number()),
+        Ok(()) => {
+            print!(rt; "ok")?;
             print_counts(rt, out, windows)?;
+            println!(rt)
         }
     }
-    rt.write_all(b"\n")
-}
-
-fn least(a: usize, b: usize) -> usize
-    ensures { (result ≤ a) × (result ≤ b) }
-{
-    if a < b { a } else { b }
-}
-
-// One lookup, with at most `last` counts of the output lent to it, and its line.
-fn look_and_print(
-    rt: &impl Print,
-    log: [Entry; 40],
-    n: u32,
-    windows: &[u32],
-    out: &mut [u32],
-    last: usize,
-    count: usize,
-) -> io::Result<()> {
-    let end = least(last, out.len());
-    let answer = log_board::look_up_all(log, n, windows, &mut out[0..end]);
-    print_answer(rt, answer, out, count)
 }
 
 // One case at `at`: the place of the next.
@@ -130,23 +102,17 @@ fn run_case(rt: &impl Print, s: &[u8], at: usize) -> io::Result<usize>
     requires { at < 1700000 }
     ensures { IfOk result (λ next. next ≤ at + 4000) }
 {
-    let n = octet(s, at);
-    let entries = octet(s, at + 1) as usize;
-    let count = octet(s, at + 2) as usize;
-    let room = octet(s, at + 3) as usize;
+    let n = u32::from(octet(s, at));
+    let entries = usize::from(octet(s, at + 1));
+    let count = usize::from(octet(s, at + 2));
+    let room = usize::from(octet(s, at + 3));
     let log = read_log(s, at + 4, entries);
     let windows = read_windows(s, at + 4 + 6 * entries);
-    let mut out = [0u32; 640];
-    let end = least(3 * count, 204);
-    look_and_print(
-        rt,
-        log,
-        n,
-        &windows[0..end],
-        &mut out,
-        station_tally::WORDS * room,
-        count,
-    )?;
+    let mut out = [0u32; CELLS];
+    let windows = &windows[..windows.len().min(3 * count)];
+    let last = out.len().min(station_tally::WORDS * room);
+    let answer = log_lookup::look_up(&log, n, windows, &mut out[..last]);
+    print_answer(rt, answer, &out, count)?;
     Ok(at + 4 + 6 * entries + 9 * count)
 }
 

@@ -8,8 +8,8 @@
 
 #![tactic(auto)]
 
-use log_entry::State;
-use octets::Done;
+use log_entry::{CELLS, State};
+use octets::Refusal;
 use std::io;
 use std::io::Read;
 
@@ -30,72 +30,61 @@ fn read_windows(head: &[u8; 2295]) -> [u32; 765] {
 }
 
 // The answer after the last entry.
-fn answer(unknown: bool, s: State, windows: &[u32], out: &mut [u32]) -> Done {
+fn answer(unknown: bool, s: &State, windows: &[u32], out: &mut [u32]) -> Result<(), Refusal> {
     if unknown {
-        return Done::Refused(5);
+        return Err(Refusal::OutOfRange);
     }
     log_closing::closed(s, windows, out)
 }
 
 // Looks up the windows in the log that is still to be read.
-fn look_up<R: Read>(from: &mut R, n: u32, windows: &[u32], out: &mut [u32]) -> io::Result<Done> {
+fn look_up<R: Read>(
+    from: &mut R,
+    n: u32,
+    windows: &[u32],
+    out: &mut [u32],
+) -> io::Result<Result<(), Refusal>> {
     let mut part = [0u8; PART];
     let mut unknown = false;
     let mut s = log_windows::opened(n);
-    for k in 0..PARTS {
+    for _ in 0..PARTS {
         let got = reading::fill(from, &mut part)?;
-        unknown = octets::either(unknown, log_octets::any_unknown(&part[0..got]));
-        s = log_octets::entered_all(s, windows, &part[0..got]);
+        unknown |= log_octets::any_unknown(&part[..got]);
+        log_octets::enter_all(&mut s, windows, &part[..got]);
         if got < PART {
-            return Ok(answer(unknown, s, windows, out));
+            return Ok(answer(unknown, &s, windows, out));
         }
     }
-    Ok(Done::Refused(16))
-}
-
-fn print_number(rt: &impl Print, x: u32) -> io::Result<()> {
-    rt.print(x)
+    Ok(Err(Refusal::PlanWrong))
 }
 
 // A line for each of the first windows.
-fn print_counts(rt: &impl Print, out: &[u32; 640], windows: usize) -> io::Result<()> {
-    for c in 0..640usize {
-        if c / station_tally::WORDS < windows {
-            print_number(rt, out[c])?;
-            if c % station_tally::WORDS == 9 {
-                rt.write_all(b"\n")?;
-            } else {
-                rt.write_all(b" ")?;
-            }
+fn print_counts(rt: &impl Print, out: &[u32], windows: usize) -> io::Result<()> {
+    for counts in out.chunks_exact(station_tally::WORDS).take(windows) {
+        for (j, count) in counts.iter().enumerate() {
+            let parting = if j == 0 { "" } else { " " };
+            print!(rt; "{parting}{count}")?;
         }
+        println!(rt)?;
     }
     Ok(())
-}
-
-fn print_answer(rt: &impl Print, answer: Done, out: &[u32; 640], windows: usize) -> io::Result<()> {
-    match answer {
-        Done::Refused(x) => {
-            rt.write_all(b"refused ")?;
-            print_number(rt, x)?;
-            rt.write_all(b"\n")
-        }
-        Done::Made => print_counts(rt, out, windows),
-    }
 }
 
 fn main(rt: HostRuntime) -> io::Result<()> {
     let mut size = [0u8; 2];
     let mut head = [0u8; 2295];
-    let mut out = [0u32; 640];
+    let mut out = [0u32; CELLS];
     reading::fill(&mut rt.stdin(), &mut size)?;
-    let m = octets::wide(size[1]) as usize;
-    reading::fill(&mut rt.stdin(), &mut head[0..9 * m])?;
+    let m = usize::from(size[1]);
+    reading::fill(&mut rt.stdin(), &mut head[..9 * m])?;
     let windows = read_windows(&head);
-    let answer = look_up(
+    match look_up(
         &mut rt.stdin(),
-        octets::wide(size[0]),
-        &windows[0..3 * m],
+        u32::from(size[0]),
+        &windows[..3 * m],
         &mut out,
-    )?;
-    print_answer(&rt, answer, &out, m)
+    )? {
+        Err(e) => println!(rt; "refused {}", e.number()),
+        Ok(()) => print_counts(&rt, &out, m),
+    }
 }

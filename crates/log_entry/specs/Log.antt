@@ -1,6 +1,6 @@
 -- Many windows over one log (document 02, N14). A log is a list of entries; windows are a list of numbers, three to a
 -- window: station, first time, time past the last. Assumes nothing.
-use Rattle.std.specs.Prelude.{ℕ, suc, ◌+◌, ◌-◌, ◌*◌, ◌/◌, ◌%◌, min, Bool, false, ◌&&◌, ◌||◌, List, [], ◌∷◌, ltb, leb, eqb, length, get_or}
+use Rattle.std.specs.Prelude.{ℕ, suc, ◌+◌, ◌-◌, ◌*◌, ◌/◌, ◌%◌, min, Bool, false, ◌&&◌, ◌||◌, List, [], ◌∷◌, ltb, leb, eqb, length, get_or, Some}
 use Rattle.std.proofs.lemmas.List.Edits.{sets}
 use Rattle.octets.specs.Base.{pick, some, refused, accepted, Outcome, outcome}
 use Rattle.octets.specs.Table.{tabulated}
@@ -14,16 +14,16 @@ use Rattle.station_spec.specs.declared.TransmitEvent.TheVariants as sent
 
 -- the place of an event's word among those that are counted, from 0 on: station_tally/Words numbers them from 1 on
 abbrev pub word_of : Event → ℕ
-word_of (Collision k) = transmit_word (sent.Collision k) - 1
-word_of (Late k) = transmit_word (sent.Late k false) - 1
-word_of (Sent n) = transmit_word (sent.Sent n) - 1
-word_of (GivenUp n) = transmit_word (sent.GivenUp n) - 1
-word_of (LateEnd n) = transmit_word (sent.LateEnded n) - 1
-word_of (GotOk n) = receive_word (got.GotOk n) - 1
-word_of (GotTooLong n) = receive_word (got.GotTooLong n) - 1
-word_of (GotAlignment n) = receive_word (got.GotAlignment n) - 1
-word_of (GotCheck n) = receive_word (got.GotCheck n) - 1
-word_of (GotLength n) = receive_word (got.GotLength n) - 1
+word_of (Collision k) = transmit_word (Some (sent.Collision k)) - 1
+word_of (Late k) = transmit_word (Some (sent.Late k false)) - 1
+word_of (Sent n) = transmit_word (Some (sent.Sent n)) - 1
+word_of (GivenUp n) = transmit_word (Some (sent.GivenUp n)) - 1
+word_of (LateEnd n) = transmit_word (Some (sent.LateEnded n)) - 1
+word_of (GotOk n) = receive_word (Some (got.GotOk n)) - 1
+word_of (GotTooLong n) = receive_word (Some (got.GotTooLong n)) - 1
+word_of (GotAlignment n) = receive_word (Some (got.GotAlignment n)) - 1
+word_of (GotCheck n) = receive_word (Some (got.GotCheck n)) - 1
+word_of (GotLength n) = receive_word (Some (got.GotLength n)) - 1
 
 -- ---- windows: "(station, first time, time past the last)"
 

@@ -1,11 +1,19 @@
 // A log of events: entries with time, station and event, and what is known of a log after its entries so far. The
-// windows that are looked up in a log are numbers, three to a window: station, first time, time past the last.
+// windows that are looked up in a log are numbers, three to a window: station, first time, time past the last. They are
+// no structs, since C lends them as an array of numbers.
 
 #![tactic(auto)]
 
-ghost use Rattle.std.specs.Prelude.{◌≡◌, ◌<◌};
-ghost use Rattle.station_tally.specs.Words.{word_count};
+ghost use Rattle.std.specs.Prelude.{◌≡◌, ◌+◌};
+ghost use Rattle.station_tally.specs.Words.{word_number};
 ghost use Rattle.log_entry.specs.Log.{word_of};
+
+use station_tally::Word;
+
+// The most windows of a lookup, and the counts of so many.
+pub const MAX_WINDOWS: usize = 64;
+
+pub const CELLS: usize = MAX_WINDOWS * station_tally::WORDS;
 
 // What a station reported, as document 01 prints it: a transmit event with its bit or its attempts, a receive event
 // with its octets.
@@ -38,24 +46,23 @@ pub struct State {
     pub astray: bool,
     pub falls: bool,
     pub last: u32,
-    pub counts: [u32; 640],
+    pub counts: [u32; CELLS],
 }
 
-// The place of an event's word among those that are counted, from 0 on.
-pub fn word_of(event: Event) -> usize
-    ensures value { result ≡ word_of event }
-    ensures small { result < word_count }
+// The word of an event.
+pub fn word_of(event: Event) -> Word
+    ensures { word_number (Some result) ≡ word_of event + 1 }
 {
     match event {
-        Event::Collision(_) => 0,
-        Event::Late(_) => 1,
-        Event::Sent(_) => 2,
-        Event::GivenUp(_) => 3,
-        Event::LateEnd(_) => 4,
-        Event::GotOk(_) => 5,
-        Event::GotTooLong(_) => 6,
-        Event::GotAlignment(_) => 7,
-        Event::GotCheck(_) => 8,
-        Event::GotLength(_) => 9,
+        Event::Collision(_) => Word::Collision,
+        Event::Late(_) => Word::Late,
+        Event::Sent(_) => Word::Sent,
+        Event::GivenUp(_) => Word::GivenUp,
+        Event::LateEnd(_) => Word::LateEnd,
+        Event::GotOk(_) => Word::GotOk,
+        Event::GotTooLong(_) => Word::GotTooLong,
+        Event::GotAlignment(_) => Word::GotAlignment,
+        Event::GotCheck(_) => Word::GotCheck,
+        Event::GotLength(_) => Word::GotLength,
     }
 }

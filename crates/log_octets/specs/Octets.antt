@@ -8,8 +8,6 @@ use Rattle.log_entry.specs.declared.Entry.{Entry}
 use Rattle.log_entry.specs.declared.Event.{Event}
 use Rattle.log_entry.specs.declared.Event.TheVariants.{Collision, Late, Sent, GivenUp, LateEnd, GotOk, GotTooLong}
 use Rattle.log_entry.specs.declared.Event.TheVariants.{GotAlignment, GotCheck, GotLength}
-use Rattle.log_entry.specs.Log.{word_of}
-use Rattle.log_windows.specs.Grow.{added_all}
 use Rattle.log_lookup.specs.Lookup.{looked_up}
 
 -- the event of a number, as station_tally/Words numbers the words
@@ -28,10 +26,6 @@ event_of c =
 -- entry k, and whether its event stands for nothing
 unfoldable pub entry_at : List ℕ → ℕ → Entry
 entry_at l k = record { time = get 4 l (6 * k); station = get_or l (6 * k + 4) 0; event = event_of (get_or l (6 * k + 5) 0) }
-
--- the counts c after entry k
-abbrev pub added_at : (ws l : List ℕ) (k : ℕ) (c : List ℕ) → List ℕ
-added_at ws l k c = added_all ws (entry_at l k).time (entry_at l k).station (word_of (entry_at l k).event) c
 
 abbrev pub unknown_at : List ℕ → ℕ → Bool
 unknown_at l k = outside (get_or l (6 * k + 5) 0) 1 word_count

@@ -6,51 +6,36 @@
 ghost use Rattle.std.specs.Prelude.{◌≡◌, ◌+◌, ◌*◌, ◌≤◌, ◌/◌, length};
 ghost use Rattle.octets.specs.Base.{some, done_answer, outcome};
 ghost use Rattle.log_windows.specs.Grow.{over};
-ghost use Rattle.log_octets.specs.Octets.{event_of, added_at, unknown_at, entries_of, octets_looked_up};
+ghost use Rattle.log_octets.specs.Octets.{event_of, entry_at, unknown_at, entries_of, octets_looked_up};
 
-use log_entry::{Event, State};
-use octets::Done;
+use log_entry::{Entry, Event, State};
+use octets::Refusal;
 
 // The event of a number; where it stands for none, the last.
+#[tactic(auto, using(std::proofs::lemmas::Bool::Decides::nat_tests), unfolding(crate::specs::Octets::event_of))]
 pub fn event_of(c: u32) -> Event
     ensures { result ≡ event_of c }
 {
-    if c == 1 {
-        return Event::Collision(0);
+    match c {
+        1 => Event::Collision(0),
+        2 => Event::Late(0),
+        3 => Event::Sent(0),
+        4 => Event::GivenUp(0),
+        5 => Event::LateEnd(0),
+        6 => Event::GotOk(0),
+        7 => Event::GotTooLong(0),
+        8 => Event::GotAlignment(0),
+        9 => Event::GotCheck(0),
+        _ => Event::GotLength(0),
     }
-    if c == 2 {
-        return Event::Late(0);
-    }
-    if c == 3 {
-        return Event::Sent(0);
-    }
-    if c == 4 {
-        return Event::GivenUp(0);
-    }
-    if c == 5 {
-        return Event::LateEnd(0);
-    }
-    if c == 6 {
-        return Event::GotOk(0);
-    }
-    if c == 7 {
-        return Event::GotTooLong(0);
-    }
-    if c == 8 {
-        return Event::GotAlignment(0);
-    }
-    if c == 9 {
-        return Event::GotCheck(0);
-    }
-    Event::GotLength(0)
 }
 
 // Whether some entry's event stands for nothing.
+#[tactic(auto, using(crate::specs::OctetsLaws::searches))]
 pub fn any_unknown(log: &[u8]) -> bool
     ensures { result ≡ some (unknown_at log.now) (length log.now / 6) }
 {
-    let m = log.len() / 6;
-    for k in 0..m {
+    for k in 0..log.len() / 6 {
         if octets::out_of(octets::wide(log[6 * k + 5]), 1, 10) {
             return true;
         }
@@ -58,52 +43,40 @@ pub fn any_unknown(log: &[u8]) -> bool
     false
 }
 
-// Entry k is added to the counts of every window that holds it.
-fn add_at(counts: &mut [u32; 640], windows: &[u32], log: &[u8], k: usize)
+// Entry k.
+#[tactic(auto, unfolding(crate::specs::Octets::entry_at))]
+fn entry_at(log: &[u8], k: usize) -> Entry
     requires { 6 * k + 6 ≤ length log.now }
-    ensures { counts.new ≡ added_at windows.now log.now k counts.old }
+    ensures { result ≡ entry_at log.now k }
 {
-    let time = octets_words::get32(log, 6 * k);
-    let station = octets::wide(log[6 * k + 4]);
-    let event = event_of(octets::wide(log[6 * k + 5]));
-    log_windows::add_all(counts, windows, time, station, log_entry::word_of(event));
+    Entry {
+        time: octets_words::get32(log, 6 * k),
+        station: octets::wide(log[6 * k + 4]),
+        event: event_of(octets::wide(log[6 * k + 5])),
+    }
 }
 
 // The state after all entries of the log more.
-pub fn entered_all(s: State, windows: &[u32], log: &[u8]) -> State
-    ensures { result ≡ over windows.now s (entries_of log.now) }
+#[tactic(auto, using(crate::specs::OctetsLaws::entries))]
+pub fn enter_all(s: &mut State, windows: &[u32], log: &[u8])
+    ensures { s.new ≡ over windows.now s.old (entries_of log.now) }
 {
-    let m = log.len() / 6;
-    let stations = s.stations;
-    let mut astray = s.astray;
-    let mut falls = s.falls;
-    let mut last = s.last;
-    let mut counts = s.counts;
-    for k in 0..m {
-        let time = octets_words::get32(log, 6 * k);
-        astray = octets::either(astray, stations <= octets::wide(log[6 * k + 4]));
-        falls = octets::either(falls, time < last);
-        last = time;
-        add_at(&mut counts, windows, log, k);
-    }
-    State {
-        stations,
-        astray,
-        falls,
-        last,
-        counts,
+    for k in 0..log.len() / 6 {
+        log_windows::enter(s, windows, entry_at(log, k));
     }
 }
 
 // Looks up the windows in the log of n stations, as `log_lookup::look_up` does, with one refusal before all others: 5,
 // where an entry's event stands for nothing.
-pub fn look_up_octets(log: &[u8], n: u32, windows: &[u32], out: &mut [u32]) -> Done
+#[tactic(auto, using(crate::specs::OctetsLaws::answers), unfolding(crate::specs::Octets::octets_looked_up))]
+pub fn look_up_octets(log: &[u8], n: u32, windows: &[u32], out: &mut [u32]) -> Result<(), Refusal>
     ensures { outcome (done_answer result) out.new
         ≡ octets_looked_up n windows.now log.now out.old }
 {
     if any_unknown(log) {
-        return Done::Refused(5);
+        return Err(Refusal::OutOfRange);
     }
-    let s = entered_all(log_windows::opened(n), windows, log);
-    log_closing::closed(s, windows, out)
+    let mut s = log_windows::opened(n);
+    enter_all(&mut s, windows, log);
+    log_closing::closed(&s, windows, out)
 }

@@ -1,4 +1,3 @@
 pub mod Grow
-pub mod GrowLaws
 pub mod Cells
 pub mod Whole

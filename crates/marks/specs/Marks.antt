@@ -1,5 +1,5 @@
--- Bookmarks in a run (document 02, N5; refusals 1, 2, 15, 17, 18). The laws are in MarkLaws. Assumes nothing.
-use Rattle.std.specs.Prelude.{ℕ, zero, suc, ◌+◌, ◌*◌, Bool, ◌&&◌, not, List, [], ltb, eqb, length, get_or, set, take}
+-- Bookmarks in a run (document 02, N5; refusals 1, 2, 15, 17, 18). The laws are in proofs/MarkLaws. Assumes nothing.
+use Rattle.std.specs.Prelude.{ℕ, zero, suc, ◌+◌, ◌*◌, Bool, ◌&&◌, not, List, [], ltb, eqb, length, get_or, set, take, Option, Some, None}
 use Rattle.std.proofs.lemmas.List.Edits.{sets}
 use Rattle.octets.specs.Base.{pick, refused, accepted, Outcome, outcome}
 use Rattle.octets.specs.Equal.{equal}
@@ -43,6 +43,11 @@ unfoldable pub copy_at : (store : List ℕ) (k : ℕ) → List ℕ
 copy_at s k = part s (copy_from k) area_size
 
 -- ---- finding a place: its number, markCount where there is none
+
+-- the number of the place that the code found
+abbrev pub place_number : Option ℕ → ℕ
+place_number (Some k) = k
+place_number None = mark_count
 
 -- the first number from k on, of n, that passes the test; k + n where none does
 unfoldable pub first_from : (ℕ → Bool) → (k n : ℕ) → ℕ

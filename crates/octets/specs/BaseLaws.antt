@@ -6,7 +6,12 @@ use Rattle.std.proofs.Common.{◌∙◌, ap₂, true≢false, not-suc-le-zero, a
 use Rattle.std.proofs.Math.Bool.{true, false, or-true}
 use Rattle.std.proofs.Math.Decide.{dec_lt, ℕ_discrete}
 use native.Mathlib.Omega.{arith}
-use Rattle.octets.specs.Base.{some, outside, Answer, refused, accepted}
+use Rattle.octets.specs.Base.{some, outside, refusal_number, Answer, refused, accepted}
+use Rattle.octets.specs.declared.Refusal.{Refusal}
+use Rattle.octets.specs.declared.Refusal.TheVariants.{AreaShort, AreaWrong, SheetShort, MapBits, OutOfRange, StationCount}
+use Rattle.octets.specs.declared.Refusal.TheVariants.{Positions, Addresses, Draws, NoSuchStation, FrameData, FrameHeld}
+use Rattle.octets.specs.declared.Refusal.TheVariants.{ClockTop, NothingReadable, OutputShort, PlanWrong, NoSuchMark}
+use Rattle.octets.specs.declared.Refusal.TheVariants.{MarksFull, WindowReversed, TimesFall}
 
 -- a test with its answer remembered, and two numbers that are equal or not
 pub by_test : {C : Type 0} (b : Bool) → (b ≡ true → C) → (b ≡ false → C) → C
@@ -19,6 +24,29 @@ by_eq {C} m n f g = go (ℕ_discrete m n)
     go : Dec (m ≡ n) → C
     go (yes h) = f h
     go (no h) = g h
+
+-- a refusal has a number that is not 0
+pub refusal_numbered : (e : Refusal) → refusal_number e ≡ 0 → ⊥
+refusal_numbered AreaShort p = cc
+refusal_numbered AreaWrong p = cc
+refusal_numbered SheetShort p = cc
+refusal_numbered MapBits p = cc
+refusal_numbered OutOfRange p = cc
+refusal_numbered StationCount p = cc
+refusal_numbered Positions p = cc
+refusal_numbered Addresses p = cc
+refusal_numbered Draws p = cc
+refusal_numbered NoSuchStation p = cc
+refusal_numbered FrameData p = cc
+refusal_numbered FrameHeld p = cc
+refusal_numbered ClockTop p = cc
+refusal_numbered NothingReadable p = cc
+refusal_numbered OutputShort p = cc
+refusal_numbered PlanWrong p = cc
+refusal_numbered NoSuchMark p = cc
+refusal_numbered MarksFull p = cc
+refusal_numbered WindowReversed p = cc
+refusal_numbered TimesFall p = cc
 
 -- a refusal is no accepted answer, whatever its number
 abbrev is_accepted : Answer → Bool
@@ -89,9 +117,6 @@ outside_not x a b p q = rw (le-ltb x a p, le-ltb b x q)
 pub within : (x a b : ℕ) → outside x a b ≡ false → (a ≤ x) × (x ≤ b)
 unfolding outside
 within x a b h = let n = neither (ltb x a) (ltb b x) h in (ltb-false x a n.0, ltb-false b x n.1)
-
-pub within_low : (x a b : ℕ) (t : Bool) → t ≡ outside x a b → t ≡ false → a ≤ x
-within_low x a b t p q = (within x a b (sym p ∙ q)).0
 
 pub within_high : (x a b : ℕ) (t : Bool) → t ≡ outside x a b → t ≡ false → x ≤ b
 within_high x a b t p q = (within x a b (sym p ∙ q)).1

@@ -1,7 +1,7 @@
 -- Bits, the octets that travel as them, and the number of which they are the bits: each gives back the other.
 -- Assumes nothing.
 use Rattle.std.specs.Prelude.{ℕ, zero, suc, ◌+◌, ◌*◌, ◌/◌, ◌%◌, ◌^◌, ◌-◌, ◌≤◌, ◌<◌, ◌≡◌, refl, Bool, true, false, List, [], ◌∷◌, ◌++◌, eqb, length, get_or, take, drop}
-use Rattle.std.proofs.Common.{sym, ◌∙◌, ap, ap₂, pow-suc, mod-eq_of_lt, mul_comm, not-suc-le-zero, arith, eq-eqb, ne_eqb, pow_pos, length-append, length-drop, take-append-drop, length-take-le, get_or-append-add}
+use Rattle.std.proofs.Common.{sym, ◌∙◌, ap, pow-suc, mod-eq_of_lt, mul_comm, not-suc-le-zero, arith, pow_pos, length-append, length-drop, take-append-drop, length-take-le, get_or-append-add}
 use Rattle.std.proofs.Math.Nat.{div-div-eq-div-mul, zero-mod, zero-div}
 use Rattle.std.proofs.Math.Decide.{dec_lt}
 use Rattle.std.proofs.Math.Arith.{mod-mul}

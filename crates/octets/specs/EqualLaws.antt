@@ -1,6 +1,7 @@
--- The test of `equal` and the equation, and the loop of `same`. Assumes nothing.
-use Rattle.std.specs.Prelude.{ℕ, zero, suc, ◌+◌, ◌≤◌, ◌<◌, ◌≡◌, refl, Bool, true, false, List, [], ◌∷◌, eqb, length, get_or, drop}
-use Rattle.std.proofs.Common.{sym, ◌∙◌, ap, ap₂, true≢false, add-one, arith, eq-eqb, ne_eqb, eqb-true, drop_of_length-le, drop-cons}
+-- The test of `equal`, the equation, and the library's `==`. Assumes nothing.
+use Rattle.std.specs.Prelude.{ℕ, ◌≡◌, refl, Bool, true, false, ◌&&◌, List, [], ◌∷◌, eqb, nat_eq}
+use Rattle.std.specs.Cmp.Lexicographic.{pointwise}
+use Rattle.std.proofs.Common.{sym, ◌∙◌, ap, ap₂, true≢false, eq-eqb, eqb-true}
 use Rattle.octets.specs.Base.{pick}
 use Rattle.octets.specs.BaseLaws.{by_test}
 use Rattle.octets.specs.Equal.{equal}
@@ -9,17 +10,6 @@ pub equal_refl : (a : List ℕ) → equal a a ≡ true
 unfolding equal
 equal_refl [] = refl
 equal_refl (x ∷ a) = rw (eq-eqb x x refl) (equal_refl a)
-
-pub equal_lengths : (a b : List ℕ) → (length a ≡ length b → ⊥) → false ≡ equal a b
-unfolding equal
-equal_lengths [] [] h = absurd (h refl)
-equal_lengths [] (y ∷ b) h = refl
-equal_lengths (x ∷ a) [] h = refl
-equal_lengths (x ∷ a) (y ∷ b) h = go (eqb x y) (equal_lengths a b (λ e. h (omega arith)))
-  where
-    go : (t : Bool) → false ≡ equal a b → false ≡ pick t (equal a b) false
-    go true p = p
-    go false p = refl
 
 -- what passes the test is equal
 pub equal_true : (a b : List ℕ) → equal a b ≡ true → a ≡ b
@@ -32,26 +22,15 @@ equal_true (x ∷ a) (y ∷ b) p =
     (λ e. ap₂ (λ (n : ℕ) (l : List ℕ). n ∷ l) (eqb-true x y e) (equal_true a b (rw e at p)))
     (λ e. absurd (true≢false (sym (rw e at p))))
 
--- ---- the loop: the octets from i on are the same exactly if all are
+both_pick : (s t : Bool) → (s && t) ≡ pick s t false
+both_pick true t = refl
+both_pick false t = refl
 
-pub equal_more : (a b : List ℕ) (r : Bool) (i : ℕ) → i < length a → length a ≡ length b → get_or a i 0 ≡ get_or b i 0
-    → equal (drop i a) (drop i b) ≡ r → equal (drop (i + 1) a) (drop (i + 1) b) ≡ r
+-- the library's `==` of two slices
+pub equal_pointwise : (a b : List ℕ) → pointwise nat_eq a b ≡ equal a b
 unfolding equal
-equal_more a b r i h n e p =
-    let k : i < length b = omega arith in
-    rw (add-one i) (rw (drop-cons a i 0 h, drop-cons b i 0 k, eq-eqb (get_or a i 0) (get_or b i 0) e) at p)
-
-pub equal_differs : (a b : List ℕ) (r : Bool) (i : ℕ) → i < length a → length a ≡ length b
-    → (get_or a i 0 ≡ get_or b i 0 → ⊥)
-    → equal (drop i a) (drop i b) ≡ r → false ≡ r
-unfolding equal
-equal_differs a b r i h n e p =
-    let k : i < length b = omega arith in
-    rw (drop-cons a i 0 h, drop-cons b i 0 k, ne_eqb (get_or a i 0) (get_or b i 0) e) at p
-
-pub equal_end : (a b : List ℕ) (r : Bool) (i : ℕ) → length a ≤ i → length a ≡ length b → equal (drop i a) (drop i b) ≡ r
-    → true ≡ r
-unfolding equal
-equal_end a b r i h n p =
-    let k : length b ≤ i = omega arith in
-    rw (drop_of_length-le a h, drop_of_length-le b k) at p
+equal_pointwise [] [] = refl
+equal_pointwise [] (y ∷ b) = refl
+equal_pointwise (x ∷ a) [] = refl
+equal_pointwise (x ∷ a) (y ∷ b) =
+    both_pick (eqb x y) (pointwise nat_eq a b) ∙ ap (λ (t : Bool). pick (eqb x y) t false) (equal_pointwise a b)

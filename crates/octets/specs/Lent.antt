@@ -1,11 +1,11 @@
 -- What a slice holds after a part of it was lent and written: a list stored into the part is stored into the slice.
 -- Assumes nothing.
-use Rattle.std.specs.Prelude.{ℕ, zero, suc, ◌+◌, ◌-◌, ◌≤◌, ◌<◌, ◌≡◌, refl, List, [], ◌∷◌, ◌++◌, length, set, take, drop}
-use Rattle.std.proofs.Common.{sym, ◌∙◌, ap, ap₂, add-zero, arith, length-set, drop-set-lt}
-use Rattle.std.proofs.lemmas.List.Edits.{sets}
-use Rattle.std.proofs.lemmas.List.{take-set-le, drop-set-add}
+use Rattle.std.specs.Prelude.{ℕ, suc, ◌+◌, ◌≤◌, ◌<◌, ◌≡◌, List, [], ◌∷◌, length, set, drop}
+use Rattle.std.proofs.Common.{replicate, length-drop, length-take-le, sym, ◌∙◌, append_assoc, ap, add-zero, arith, drop-set-lt}
+use Rattle.std.proofs.lemmas.List.Edits.{sets, sets-eq}
+use Rattle.std.proofs.lemmas.List.{take-set-le, drop-set-add, drop-drop, length-replicate}
 use Rattle.std.proofs.Math.Seq.{take-set-lt}
-use borrow.Rule.Slice.PartMut.{mid_of, post_of, put_mid, put_same}
+use borrow.Rule.Slice.PartMut.{mid_of, put_mid, put_same}
 
 -- an octet set within the part changes neither what is before it nor what is after it
 put_set : (a k j v : ℕ) (l ys : List ℕ) → j < k → put_mid a k (set l (a + j) v) ys ≡ put_mid a k l ys
@@ -28,3 +28,16 @@ stored_from (v ∷ vs) a k j l h =
 pub lent_store : (vs : List ℕ) (a k : ℕ) (l : List ℕ) → length vs ≤ k
     → put_mid a k l (sets (mid_of a k l) 0 vs) ≡ sets l a vs
 lent_store vs a k l h = stored_from vs a k 0 l (omega arith) ∙ ap (λ (i : ℕ). sets l i vs) (add-zero a)
+
+-- the part overwritten as a whole
+pub put_all : (vs l : List ℕ) (at k : ℕ) → k ≡ length vs → at + length vs ≤ length l → put_mid at k l vs ≡ sets l at vs
+put_all vs l at k e h =
+    rw (sets-eq vs l at h, e, drop-drop (length vs) at l, append_assoc)
+
+-- the part filled with one octet, by the library's `fill`
+pub put_fill : (l z : List ℕ) (at k v : ℕ) → z ≡ replicate (length (mid_of at k l)) v → at + k ≤ length l
+    → put_mid at k l z ≡ sets l at (replicate k v)
+put_fill l z at k v e h =
+    let n : length (mid_of at k l) ≡ k = length-take-le k (drop at l) (omega (arith, length-drop at l)) in
+    let m : k ≡ length (replicate {A = ℕ} k v) = sym (length-replicate k v) in
+    rw (e, n) (put_all (replicate k v) l at k m (omega arith))

@@ -1,12 +1,14 @@
 -- A number that was written is read back, and one that lies apart from it is as it was. Each law is stated once, over
 -- the widths. Assumes nothing.
 use Rattle.std.specs.Prelude.{ℕ, zero, suc, ◌+◌, ◌*◌, ◌/◌, ◌%◌, ◌^◌, ◌≤◌, ◌<◌, ◌≡◌, refl, List, [], ◌∷◌, ◌++◌, length, get_or, set, take, drop}
-use Rattle.std.proofs.Common.{◌∙◌, ap, ap₂, sym, pow-suc, add-zero, add-one, arith, length-append, get_or-append-add, get_or-drop}
+use Rattle.std.proofs.Common.{add-one, ◌∙◌, ap, mul_comm, get_or-take, ap₂, sym, pow-suc, arith, length-append, get_or-append-add, get_or-drop}
 use Rattle.std.proofs.Math.ListN.{get_or-append}
 use Rattle.std.proofs.lemmas.List.Edits.{sets}
 use Rattle.std.proofs.Math.Seq.{length-sets, get_or-append_seam}
-use Rattle.octets.specs.Store.{Apart, octet_same, octet_other}
+use Rattle.octets.specs.Store.{part, Apart, octet_same, octet_other}
 use Rattle.octets.specs.Number.{get, spelled, put}
+use Rattle.std.specs.Int.{w16, w32, byte_at, bytes_high_first, from_be_bytes}
+use Rattle.std.proofs.Math.Nat.{div-div-eq-div-mul}
 
 -- one octet more, for every width
 get_more : (w : ℕ) (l : List ℕ) (at : ℕ) → get (suc w) l at ≡ get w l at * 256 + get_or l (at + w) 0
@@ -108,21 +110,52 @@ get_put_other w n l at b v a =
     (λ k p. octet_other (spelled w v) l at (b + k)
     (λ q r. a (omega (arith, length_spelled w v)) (omega (arith, length_spelled w v))))
 
--- ---- the code of widths 2 and 4
+-- ---- the library's conversions
 
-pub get_two : (l : List ℕ) (at x y : ℕ) → x ≡ get_or l at 0 → y ≡ get_or l (at + 1) 0 → x * 256 + y ≡ get 2 l at
+-- the first of the octets that spell a number
+spelled_front : (w v : ℕ) → byte_at w v ∷ spelled w v ≡ spelled (suc w) v
+unfolding spelled
+spelled_front zero v = refl
+spelled_front (suc w) v =
+    ap₂ (λ (x : ℕ) (l : List ℕ). x ∷ l) (front w) refl
+    ∙ ap (λ (l : List ℕ). l ++ (v % 256 ∷ [])) (spelled_front w (v / 256))
+  where
+    front : (k : ℕ) → byte_at (suc k) v ≡ byte_at k (v / 256)
+    front zero = refl
+    front (suc k) =
+        ap (λ (x : ℕ). x % 256) (ap (λ (m : ℕ). v / m) (pow-suc 256 (suc k) ∙ mul_comm (256 ^ suc k) 256)
+        ∙ sym (div-div-eq-div-mul v 256 (256 ^ suc k)))
+
+-- `to_be_bytes` spells the number
+pub spelled_bytes : (w v : ℕ) → bytes_high_first w v ≡ spelled w v
+unfolding spelled
+spelled_bytes zero v = refl
+spelled_bytes (suc w) v = ap (λ (l : List ℕ). byte_at w v ∷ l) (spelled_bytes w v) ∙ spelled_front w v
+
+pub put_bytes : (w : ℕ) (l m : List ℕ) (at v : ℕ) (b : List ℕ) → m ≡ sets l at b → b ≡ bytes_high_first w v
+    → m ≡ put w l at v
+unfolding put
+put_bytes w l m at v b p q = rw (p, q, spelled_bytes w v)
+
+-- `from_be_bytes` reads the number
+get_part : (w : ℕ) (l : List ℕ) (at : ℕ) → get w (part l at w) 0 ≡ get w l at
+get_part w l at =
+    get_by w 0 at (part l at w) l
+    (λ k h. let e : 0 + k ≡ k = omega arith in rw (e, get_or-take w (drop at l) k 0 h, get_or-drop at l k 0))
+
+pub get_two : (l : List ℕ) (at x : ℕ) (b : List ℕ) → x ≡ from_be_bytes w16 b → b ≡ part l at 2 → x ≡ get 2 l at
 unfolding get
-get_two l at x y e f = ap₂ (λ (p q : ℕ). p * 256 + q) e f
+get_two l at x b p q = p ∙ rw q (omega (arith, get_part 2 l at))
+
+pub get_four : (l : List ℕ) (at x : ℕ) (b : List ℕ) → x ≡ from_be_bytes w32 b → b ≡ part l at 4 → x ≡ get 4 l at
+unfolding get
+get_four l at x b p q = p ∙ rw q (omega (arith, get_part 4 l at))
+
+-- ---- octets stored one by one
 
 pub put_two : (l : List ℕ) (at v : ℕ) → set (set l at (v / 256 % 256)) (at + 1) (v % 256) ≡ put 2 l at v
 unfolding put spelled
 put_two l at v = rw (add-one at)
-
-pub get_four : (l : List ℕ) (at x y z w : ℕ) → x ≡ get_or l at 0 → y ≡ get_or l (at + 1) 0 → z ≡ get_or l (at + 2) 0
-    → w ≡ get_or l (at + 3) 0
-    → ((x * 256 + y) * 256 + z) * 256 + w ≡ get 4 l at
-unfolding get
-get_four l at x y z w e f g h = rw (e, f, g, h)
 
 pub put_four : (l : List ℕ) (at v : ℕ)
     → set (set (set (set l at (v / 256 / 256 / 256 % 256)) (at + 1) (v / 256 / 256 % 256)) (at + 2) (v / 256 % 256))

@@ -1,7 +1,7 @@
 -- Two lists that agree on a region. A reader has one law, that it goes by its region alone; a writer has one, that it
 -- leaves other regions as they were. Any reader after any writer elsewhere then follows, with no law for each pair.
 -- Assumes nothing.
-use Rattle.std.specs.Prelude.{ℕ, zero, suc, ◌+◌, ◌*◌, ◌≤◌, ◌<◌, ◌≡◌, refl, List, [], ◌∷◌, ◌++◌, length, get_or, set, take, drop}
+use Rattle.std.specs.Prelude.{ℕ, zero, suc, ◌+◌, ◌*◌, ◌≤◌, ◌<◌, ◌≡◌, refl, List, length, get_or, set, drop}
 use Rattle.std.proofs.Common.{◌∙◌, sym, arith, get_or-set_other, get_or-take, get_or-drop, ext_get_or}
 use Rattle.std.proofs.lemmas.List.Edits.{sets}
 use Rattle.octets.specs.Store.{part, Apart, octet_other, length_part}

@@ -1,8 +1,8 @@
 -- A part of a list, and a list stored into another. `sets l at vs` of lib.Seq is l with vs stored from index `at` on.
 -- Its laws: the length stays; a part stored is read back; a part apart from it is as it was; two stores in a row are
 -- one. Assumes nothing.
-use Rattle.std.specs.Prelude.{ℕ, zero, suc, ◌+◌, ◌-◌, ◌≤◌, ◌<◌, ◌≡◌, refl, List, [], ◌∷◌, ◌++◌, length, get_or, set, take, drop}
-use Rattle.std.proofs.Common.{◌∙◌, ap, sym, add-zero, add-one, arith, length-set, length-drop, take-suc, take_all, drop-cons, get_or-set_same, get_or-set_other, get_or-take, get_or-drop, ext_get_or, length-take-le}
+use Rattle.std.specs.Prelude.{ℕ, zero, suc, ◌+◌, ◌≤◌, ◌<◌, ◌≡◌, refl, List, [], ◌∷◌, ◌++◌, length, get_or, set, take, drop}
+use Rattle.std.proofs.Common.{◌∙◌, ap, sym, add-zero, arith, length-set, length-drop, get_or-set_same, get_or-set_other, get_or-take, get_or-drop, ext_get_or, length-take-le}
 use Rattle.std.proofs.lemmas.List.Edits.{sets}
 use Rattle.std.proofs.Math.Seq.{length-sets}
 
@@ -69,50 +69,9 @@ part_same vs l at h =
 pub take_sets : (vs l : List ℕ) (n : ℕ) → n ≡ length vs → length vs ≤ length l → take n (sets l 0 vs) ≡ vs
 take_sets vs l n p h = rw p (part_same vs l 0 (omega arith))
 
--- six octets, as an address has, one by one
-pub six_octets : (a : List ℕ) (at : ℕ) → at + 6 ≤ length a
-    → get_or a at 0 ∷ get_or a (at + 1) 0 ∷ get_or a (at + 2) 0 ∷ get_or a (at + 3) 0 ∷ get_or a (at + 4) 0 ∷ get_or a (at + 5) 0 ∷
-    [] ≡ part a at 6
-six_octets a at h =
-    let e₁ : at + 1 ≡ suc at = omega arith in
-    let e₂ : at + 2 ≡ suc (suc at) = omega arith in
-    let e₃ : at + 3 ≡ suc (suc (suc at)) = omega arith in
-    let e₄ : at + 4 ≡ suc (suc (suc (suc at))) = omega arith in
-    let e₅ : at + 5 ≡ suc (suc (suc (suc (suc at)))) = omega arith in
-    let h₀ : at < length a = omega arith in
-    let h₁ : suc at < length a = omega arith in
-    let h₂ : suc (suc at) < length a = omega arith in
-    let h₃ : suc (suc (suc at)) < length a = omega arith in
-    let h₄ : suc (suc (suc (suc at))) < length a = omega arith in
-    let h₅ : suc (suc (suc (suc (suc at)))) < length a = omega arith in
-    rw (
-      e₁,
-      e₂,
-      e₃,
-      e₄,
-      e₅,
-      drop-cons a at 0 h₀,
-      drop-cons a (suc at) 0 h₁,
-      drop-cons a (suc (suc at)) 0 h₂,
-      drop-cons a (suc (suc (suc at))) 0 h₃,
-      drop-cons a (suc (suc (suc (suc at)))) 0 h₄,
-      drop-cons a (suc (suc (suc (suc (suc at))))) 0 h₅,
-    )
-
 -- ---- stores in a row
 
 -- two stores, the second where the first ends, are one
 pub sets_append : (xs ys l : List ℕ) (at e : ℕ) → e ≡ at + length xs → sets (sets l at xs) e ys ≡ sets l at (xs ++ ys)
 sets_append [] ys l at e p = let q : e ≡ at = omega arith in rw q
 sets_append (x ∷ xs) ys l at e p = sets_append xs ys (set l at x) (suc at) e (omega arith)
-
--- ---- the loop of `store`: after i turns the first i octets of src are stored
-
-pub stored_more : (s l src : List ℕ) (at i : ℕ) → i < length src → s ≡ sets l at (take i src)
-    → set s (at + i) (get_or src i 0) ≡ sets l at (take (i + 1) src)
-stored_more s l src at i h e =
-    rw (e, add-one i, take-suc src i 0 h)
-    (sets_append (take i src) (get_or src i 0 ∷ []) l at (at + i) (omega (arith, length-take-le i src (omega arith))))
-
-pub stored_all_lem : (s l src : List ℕ) (at i : ℕ) → length src ≤ i → s ≡ sets l at (take i src) → s ≡ sets l at src
-stored_all_lem s l src at i h e = rw (take_all i src h) at e

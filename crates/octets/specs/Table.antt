@@ -1,6 +1,6 @@
 -- A table whose entries are given by a rule. That a table in the code is this one is for antt to compute, entry by
 -- entry, where the law is cited. Assumes nothing.
-use Rattle.std.specs.Prelude.{ℕ, zero, suc, ◌+◌, ◌<◌, ◌≡◌, refl, List, [], ◌∷◌, get_or}
+use Rattle.std.specs.Prelude.{ℕ, zero, suc, ◌+◌, ◌<◌, ◌≡◌, List, [], ◌∷◌, get_or}
 use Rattle.std.proofs.Common.{◌∙◌, ap, not-suc-le-zero, zero-add, arith}
 
 -- the n entries f i, f (i + 1), ..

@@ -1,6 +1,7 @@
 -- A loop that counts up, as a recursion on the count; and the octets that such a loop makes 0. Assumes nothing.
-use Rattle.std.specs.Prelude.{ℕ, zero, suc, ◌+◌, ◌≤◌, ◌<◌, ◌≡◌, refl, List, length, get_or, set}
-use Rattle.std.proofs.Common.{sym, ◌∙◌, ap, not-suc-le-zero, add-one, arith, length-set, get_or-set_same, get_or-set_other}
+use Rattle.std.specs.Prelude.{ℕ, zero, suc, ◌+◌, ◌≤◌, ◌<◌, ◌≡◌, refl, List, ◌++◌, length, get_or, set, drop}
+use Rattle.std.proofs.Common.{sym, ◌∙◌, ap, replicate, not-suc-le-zero, add-one, arith, length-set, get_or-set_same, get_or-set_other}
+use Rattle.std.proofs.lemmas.List.Edits.{fill_more}
 use Rattle.std.proofs.Math.Decide.{ℕ_discrete}
 
 -- n turns, of which turn i makes f i x of x; the last turn is the last one made
@@ -34,16 +35,15 @@ unfoldable pub blanked : ℕ → List ℕ → List ℕ
 blanked zero l = l
 blanked (suc n) l = set (blanked n l) n 0
 
-pub blanked_none : (l : List ℕ) → l ≡ blanked 0 l
+-- what the library's `fill` of the first n leaves
+pub blanked_fill : (n : ℕ) (l : List ℕ) → n ≤ length l → replicate n 0 ++ drop n l ≡ blanked n l
 unfolding blanked
-blanked_none l = refl
-
-pub blanked_more : (k : ℕ) (l x : List ℕ) → x ≡ blanked k l → set x k 0 ≡ blanked (k + 1) l
-unfolding blanked
-blanked_more k l x p = rw (add-one k, p)
-
-pub blanked_end : (n k : ℕ) (l x : List ℕ) → k ≤ n → n ≤ k → x ≡ blanked k l → x ≡ blanked n l
-blanked_end n k l x p q r = let e : k ≡ n = omega arith in rw e at r
+blanked_fill zero l h = refl
+blanked_fill (suc n) l h =
+    let k : n ≤ length l = omega arith in
+    let e : replicate (suc n) 0 ++ drop (suc n) l ≡ set (replicate n 0 ++ drop n l) n 0 =
+    sym (rw add-one at (fill_more n 0 l (omega arith))) in
+    e ∙ ap (λ (x : List ℕ). set x n 0) (blanked_fill n l k)
 
 pub length_blanked : (n : ℕ) (l : List ℕ) → length (blanked n l) ≡ length l
 unfolding blanked

@@ -1,7 +1,7 @@
 -- Words that were written are read back, and words apart from them are as they were; the loops that write and read
 -- them. Assumes nothing.
-use Rattle.std.specs.Prelude.{ℕ, zero, suc, ◌+◌, ◌*◌, ◌-◌, ◌^◌, ◌≤◌, ◌<◌, ◌≡◌, refl, List, [], ◌∷◌, ◌++◌, length, get_or, set, drop}
-use Rattle.std.proofs.Common.{◌∙◌, ap, sym, append-nil, ⊎_elim, add-one, not-suc-le-zero, arith, length-append, drop_of_length-le, drop-cons, ext_get_or}
+use Rattle.std.specs.Prelude.{ℕ, zero, suc, ◌+◌, ◌*◌, ◌^◌, ◌≤◌, ◌<◌, ◌≡◌, refl, List, [], ◌∷◌, ◌++◌, length, get_or, set, drop}
+use Rattle.std.proofs.Common.{◌∙◌, sym, add-one, not-suc-le-zero, arith, length-append, drop-cons, ext_get_or}
 use Rattle.std.proofs.Math.Decide.{dec_lt}
 use Rattle.std.proofs.Math.ListN.{get_or-append}
 use Rattle.std.proofs.lemmas.List.{set_at, get_or_at}
@@ -102,26 +102,14 @@ pub put_none : (l : List ℕ) (at : ℕ) (ws : List ℕ) → l ≡ put_words 0 l
 unfolding put_words
 put_none l at ws = refl
 
-pub put_end : (n i : ℕ) (l a : List ℕ) (at : ℕ) (ws : List ℕ) → i ≤ n → n ≤ i → a ≡ put_words i l at ws
-    → a ≡ put_words n l at ws
-put_end n i l a at ws p q r = let e : i ≡ n = omega arith in rw e at r
-
--- the first k words are read, and the rest is as it was. `a` is what stands there now, as the loop's test names it
-pub load_more : (k w : ℕ) (l a ws : List ℕ) (at : ℕ) → k < length a → length a ≡ length ws → w ≡ get 4 l (at + 4 * k)
+-- the first k words are read, and the rest is as it was
+pub load_more : (k w : ℕ) (l a ws : List ℕ) (at : ℕ) → k < length ws → w ≡ get 4 l (at + 4 * k)
     → a ≡ words_at k l at ++ drop k ws → set a k w ≡ words_at (k + 1) l at ++ drop (k + 1) ws
 unfolding words_at
-load_more k w l a ws at h n p q =
-    let h' : k < length ws = omega arith in
-    rw (q, p, add-one k, drop-cons ws k 0 h', append_snoc (words_at k l at) (get 4 l (at + 4 * k)) (drop (suc k) ws))
+load_more k w l a ws at h p q =
+    rw (q, p, add-one k, drop-cons ws k 0 h, append_snoc (words_at k l at) (get 4 l (at + 4 * k)) (drop (suc k) ws))
     (set_at (words_at k l at) (get_or ws k 0) (drop (suc k) ws) (get 4 l (at + 4 * k)) k (length_words k l at))
 
 pub load_none : (l ws : List ℕ) (at : ℕ) → ws ≡ words_at 0 l at ++ drop 0 ws
 unfolding words_at
 load_none l ws at = refl
-
-pub load_end : (k : ℕ) (l a ws : List ℕ) (at : ℕ) → k ≤ length ws → length a ≡ length ws → length a ≤ k
-    → a ≡ words_at k l at ++ drop k ws → a ≡ words_at (length ws) l at
-load_end k l a ws at p n q r =
-    let e : k ≡ length ws = omega arith in
-    let q' : length ws ≤ k = omega arith in
-    r ∙ rw (drop_of_length-le ws q', append-nil (words_at k l at), e)

@@ -1,7 +1,7 @@
 -- Over every list of starts, calls, marks, returns, drops and writes of another hand, refused ones among them, the
 -- promise of Paths holds. Assumes nothing.
 use Rattle.std.specs.Prelude.{ℕ, ◌+◌, ◌≤◌, ◌<◌, ◌≡◌, refl, Bool, true, false, List, [], ◌∷◌, ◌++◌, ltb, eqb, length, take, drop}
-use Rattle.std.proofs.Common.{sym, ◌∙◌, ap, ap₂, subst, true≢false, arith, le-ltb, ltb-false, eqb-true, length-append, take-append-drop, take_at, length-take-le, ext_get_or}
+use Rattle.std.proofs.Common.{sym, ◌∙◌, ap, subst, true≢false, arith, le-ltb, ltb-false, eqb-true, length-append, take-append-drop, take_at, length-take-le, ext_get_or}
 use Rattle.std.proofs.lemmas.Bool.{eqb-false}
 use Rattle.std.proofs.lemmas.List.{length-replicate}
 use Rattle.std.proofs.lemmas.List.Edits.{sets}
@@ -33,7 +33,9 @@ use Rattle.delivery.specs.Calls.{Call, Fair, AllFair, Moment, leaves, end, begin
 use Rattle.delivery.specs.Demand3.{called}
 use Rattle.delivery.specs.Passing.{started_passes}
 use Rattle.delivery.proofs.Theorem.{call_octets, demand_3}
-use Rattle.paths.specs.Front.{refusal_front, called_front, called_passing, called_length, fresh_front}
+use Rattle.area_check.specs.Front.{refusal_front}
+use Rattle.bus_start.specs.Front.{fresh_front}
+use Rattle.paths.specs.Front.{called_front, called_passing, called_length}
 use Rattle.paths.specs.Paths.{Path, Known, unknown, along, further, onward, blank, layout_of, beginning, reached}
 use Rattle.paths.specs.Paths.{Act, start, call, mark, back, lose, hand, FairAct, AllFairActs, Session, opened}
 use Rattle.paths.specs.Paths.{starts, after, after_all, Promise}

@@ -18,7 +18,7 @@ use Rattle.area_check.specs.Valid.{area_wrong, area_refusal}
 use Rattle.area_check.specs.AreaCheckLaws.{passes_right}
 use Rattle.marks.specs.Marks.{mark_count, name_size, store_size, copy_at, found, place_for, with_mark, marked, returned}
 use Rattle.marks.specs.MarkTheorems.{place_most, mark_length, mark_own, mark_found}
-use Rattle.paths.specs.Front.{refusal_front}
+use Rattle.area_check.specs.Front.{refusal_front}
 use Rattle.paths.specs.Paths.{Known, mark, back, Session, after}
 
 -- what an accepted mark is

@@ -1,5 +1,4 @@
--- The draws of a run input (document 01, "The run program"): l are its octets. The laws are in DrawsLaws. Assumes
--- nothing.
+-- The draws of a run input (document 01, "The run program"): l are its octets. Assumes nothing.
 use Rattle.std.specs.Prelude.{ℕ, ◌+◌, ◌*◌, List, replicate}
 use Rattle.octets.specs.Number.{get}
 use Rattle.octets.specs.Filled.{filled}

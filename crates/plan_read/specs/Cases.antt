@@ -1,5 +1,5 @@
 -- Document 01's whole case, and what is refused of inputs near it, as rows that one computation covers.
-use Rattle.std.specs.Prelude.{ℕ, ◌+◌, ◌≡◌, refl, List, [], ◌∷◌, ◌++◌, map, replicate, take}
+use Rattle.std.specs.Prelude.{ℕ, ◌≡◌, refl, List, [], ◌∷◌, ◌++◌, map, replicate, take}
 use Rattle.octets.specs.Base.{some, outside}
 use Rattle.octets.specs.Equal.{equal}
 use Rattle.octets.specs.Number.{get}

@@ -1,14 +1,13 @@
 -- Reading a run input (document 01, "The run program"): l are its octets, "all high octet first".
 -- The laws are in PlanLaws. Assumes nothing.
-use Rattle.std.specs.Prelude.{ℕ, zero, suc, ◌+◌, ◌*◌, Bool, ◌||◌, not, List, [], ltb, eqb, length, get_or}
-use Rattle.octets.specs.Base.{pick, some, outside, Answer, refused, accepted, number_of}
+use Rattle.std.specs.Prelude.{ℕ, zero, suc, ◌+◌, ◌*◌, Bool, ◌||◌, not, List, [], ltb, eqb, length, get_or, Result, Ok, Err}
+use Rattle.octets.specs.declared.Refusal.{Refusal}
+use Rattle.octets.specs.Base.{pick, some, outside, Answer, refused, accepted, number_of, refusal_number}
 use Rattle.octets.specs.Number.{get}
 use Rattle.octets.specs.Store.{part}
 use Rattle.sheet_layout.specs.declared.Layout.{Layout}
 use Rattle.sheet_layout.specs.Layout.{blank_layout}
 use Rattle.sheet_read.specs.Sheet.{count_in, layout_in, sheet_size, read_sheet}
-use Rattle.plan_read.specs.declared.Verdict.{Verdict}
-use Rattle.plan_read.specs.declared.Verdict.TheVariants.{Refused, Whole}
 use Rattle.plan_read.specs.declared.Plan.{Plan}
 use Rattle.plan_read.specs.declared.Offered.{Offered}
 use Rattle.sheet_layout.specs.Limits.{last_clock}
@@ -154,14 +153,10 @@ unfoldable pub plan_as_read : List ℕ → Planned
 plan_as_read l = unless (plan_refusal l) (whole_from l (layout_in l) (sheet_size l))
 
 -- what the code's answer stands for
-abbrev pub verdict_answer : Verdict → Answer
-verdict_answer (Refused n) = refused n
-verdict_answer Whole = accepted []
-
-abbrev pub plan_reading : Plan → Planned
-plan_reading r =
+abbrev pub plan_reading : Result Plan Refusal → Planned
+plan_reading (Ok r) =
     record {
-      answer = verdict_answer r.read;
+      answer = accepted [];
       layout = r.layout;
       depth = r.depth;
       drawn = r.drawn;
@@ -169,3 +164,7 @@ plan_reading r =
       first = r.first;
       times = r.times;
     }
+plan_reading (Err e) = unplanned (refusal_number e)
+
+abbrev pub plan_answer : Result Plan Refusal → Answer
+plan_answer r = (plan_reading r).answer

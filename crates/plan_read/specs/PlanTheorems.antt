@@ -1,16 +1,14 @@
 -- What a caller may rely on where a run input is read: its values are in range, the draws and every offer lie within
 -- the input, times do not fall, and the bit times end it. Assumes nothing.
-use Rattle.std.specs.Prelude.{ℕ, ◌+◌, ◌-◌, ◌*◌, ◌≤◌, ◌<◌, min, ◌≡◌, refl, Bool, true, false, ◌||◌, not, List, [], ◌∷◌, ltb, eqb, length, get_or}
+use Rattle.std.specs.Prelude.{ℕ, ◌+◌, ◌*◌, ◌≤◌, ◌<◌, ◌≡◌, refl, Bool, true, false, not, List, [], ◌∷◌, ltb, eqb, length, get_or, Ok}
 use Rattle.std.proofs.Common.{sym, ◌∙◌, ap, subst, arith}
 use borrow.Author.Tests.{ltb-false, eqb-true, eqb-false, eq-eqb}
 use Rattle.octets.specs.Base.{pick, some, outside, accepted, number_of}
 use Rattle.octets.specs.BaseLaws.{neither, none_below, within}
-use Rattle.sheet_layout.specs.declared.Tap.{Tap}
 use Rattle.sheet_layout.specs.declared.Layout.{Layout}
-use Rattle.sheet_layout.specs.Layout.{blank_tap}
 use Rattle.sheet_layout.specs.Check.{refusal_of}
 use Rattle.sheet_layout.specs.CheckLaws.{Sound}
-use Rattle.sheet_read.specs.Sheet.{map_of, stands, count_place, count_in, tap_in, taps_from, layout_in, sheet_size, unread}
+use Rattle.sheet_read.specs.Sheet.{map_of, stands, count_in, layout_in, sheet_size, unread}
 use Rattle.sheet_read.specs.Sheet.{read_sheet}
 use Rattle.sheet_read.specs.SheetTheorems.{read_sound, layout_formed}
 use Rattle.plan_read.specs.Plan.{depth_in, offers_place, offers_in, offer_time, offer_size, offer_place, times_in}
@@ -200,6 +198,6 @@ read_formed l h i g =
 
 -- ---- the same of the code's answer, as its callers meet it
 
-pub reading_right : (l : List ℕ) (p : Plan) → plan_reading p ≡ plan_as_read l → number_of (plan_as_read l).answer ≡ 0
-    → Right l (plan_reading p)
-reading_right l p e n = subst (λ (r : Planned). Right l r) (sym e) (read_right l n)
+pub reading_right : (l : List ℕ) (p : Plan) → plan_reading (Ok p) ≡ plan_as_read l → Right l (plan_reading (Ok p))
+reading_right l p e =
+    subst (λ (r : Planned). Right l r) (sym e) (read_right l (ap (λ (r : Planned). number_of r.answer) (sym e)))

@@ -3,26 +3,19 @@
 #![tactic(auto)]
 
 ghost use Rattle.std.specs.Prelude.{◌≡◌, ◌+◌, ◌*◌, ◌<◌, ◌≤◌, length};
-ghost use Rattle.plan_read.specs.Plan.{offer_in, offer_data, offers_wrong, plan_wrong, last_refusal, unplanned};
+ghost use Rattle.octets.specs.Base.{refusal_in};
+ghost use Rattle.plan_read.specs.Plan.{offer_in, offer_data, offers_wrong, plan_wrong, last_refusal};
 ghost use Rattle.plan_read.specs.Plan.{plan_as_read, plan_reading};
 ghost use Rattle.plan_read.specs.PlanLaws.{rest_read, sheet_on};
 ghost use Rattle.sheet_layout.specs.Limits.{max_stations};
 
-use sheet_layout::{Figures, Layout, Tap};
-use sheet_read::SheetRead;
+use octets::Refusal;
+use sheet_layout::Layout;
 
-// The reader's answer: a refusal by its number, or the whole input is read.
-#[derive(Clone, Copy)]
-pub enum Verdict {
-    Refused(u32),
-    Whole,
-}
-
-// A run input as read: the answer, and beside it the layout, D, where the draws begin, the number of offers, where the
-// first begins, and the bit times. All are blank where the input is refused.
+// A run input as read: the layout, D, where the draws begin, the number of offers, where the first begins, and the bit
+// times.
 #[derive(Clone, Copy)]
 pub struct Plan {
-    pub read: Verdict,
     pub layout: Layout,
     pub depth: u32,
     pub drawn: usize,
@@ -42,6 +35,7 @@ pub struct Offered {
 }
 
 // The fixed fields of the offer that begins at `at`.
+#[tactic(auto, unfolding(crate::specs::Plan::offer_in))]
 pub fn read_offer(s: &[u8], at: usize) -> Offered
     requires { at + 15 ≤ length s.now }
     ensures { result ≡ offer_in s.now at }
@@ -61,6 +55,7 @@ pub fn read_offer(s: &[u8], at: usize) -> Offered
 }
 
 // The data of the offer that begins at `at`, as a part of the input itself.
+#[tactic(auto, unfolding(crate::specs::Plan::offer_data))]
 pub fn offer_data(s: &[u8], at: usize, size: usize) -> &[u8]
     requires { at + 15 + size ≤ length s.now }
     ensures { result.now ≡ offer_data s.now at size }
@@ -71,6 +66,7 @@ pub fn offer_data(s: &[u8], at: usize, size: usize) -> &[u8]
 }
 
 // Whether the times of the offers from octet `at` on fall, or the offers and the bit times are not just what is left.
+#[tactic(auto, using(crate::specs::PlanLaws::walk_short, crate::specs::PlanLaws::walk_falls, crate::specs::PlanLaws::walk_cut, crate::specs::PlanLaws::walk_place, crate::specs::PlanLaws::walk_time, crate::specs::PlanLaws::walk_rising, crate::specs::PlanLaws::walk_end), unfolding(crate::specs::Plan::offer_place, crate::specs::Plan::time_before, octets::specs::Base::some))]
 fn offers_wrong(s: &[u8], at: usize, count: usize) -> bool
     requires { at ≤ length s.now }
     ensures { result ≡ offers_wrong s.now at count }
@@ -78,8 +74,7 @@ fn offers_wrong(s: &[u8], at: usize, count: usize) -> bool
     let n = s.len();
     let mut place = at;
     let mut last: u32 = 0;
-    let mut k: usize = 0;
-    while k < count {
+    for _k in 0..count {
         if n - place < 15 {
             return true;
         }
@@ -93,15 +88,12 @@ fn offers_wrong(s: &[u8], at: usize, count: usize) -> bool
         }
         place = place + 15 + size;
         last = time;
-        k += 1;
     }
-    if n - place != 4 {
-        return true;
-    }
-    false
+    n - place != 4
 }
 
 // Refusal 16 of an input whose offer count stands at c.
+#[tactic(auto, unfolding(crate::specs::Plan::plan_wrong))]
 fn plan_wrong(s: &[u8], c: usize) -> bool
     requires { c ≤ length s.now }
     ensures { result ≡ plan_wrong s.now c }
@@ -120,103 +112,65 @@ fn plan_wrong(s: &[u8], c: usize) -> bool
     offers_wrong(s, c + 2, offers as usize)
 }
 
-// Refusals 16 and 13, by their number; 0 where there is none.
-fn last_refusal(s: &[u8], c: usize) -> u32
+// Refusals 16 and 13.
+#[tactic(auto, using(crate::specs::PlanLaws::ends_so), unfolding(crate::specs::Plan::last_refusal))]
+fn check_last(s: &[u8], c: usize) -> Result<(), Refusal>
     requires { c ≤ length s.now }
-    ensures { result ≡ last_refusal s.now c }
+    ensures { refusal_in result ≡ last_refusal s.now c }
 {
     if plan_wrong(s, c) {
-        return 16;
+        return Err(Refusal::PlanWrong);
     }
     if sheet_layout::LAST_CLOCK < octets_words::get32(s, s.len() - 4) {
-        return 13;
+        return Err(Refusal::ClockTop);
     }
-    0
-}
-
-// What is answered with a refusal.
-fn unread_plan(n: u32) -> Plan
-    ensures { plan_reading result ≡ unplanned n }
-{
-    let blank = Tap {
-        position: 0,
-        address: [0u8; 6],
-    };
-    let figures = Figures {
-        slot: 0,
-        gap1: 0,
-        gap2: 0,
-        jam: 0,
-        limit: 0,
-        backoff: 0,
-        ends: 0,
-    };
-    Plan {
-        read: Verdict::Refused(n),
-        layout: Layout {
-            figures,
-            count: 0,
-            stations: [blank; 16],
-        },
-        depth: 0,
-        drawn: 0,
-        offers: 0,
-        first: 0,
-        times: 0,
-    }
+    Ok(())
 }
 
 // The plan of an input whose draws begin at `at`, all there, and whose offer count stands at c.
-fn read_rest(s: &[u8], y: Layout, d: u32, at: usize, c: usize) -> Plan
+#[tactic(auto, using(crate::specs::PlanLaws::count_room, crate::specs::PlanLaws::end_room, crate::specs::PlanLaws::end_place), unfolding(crate::specs::PlanLaws::rest_read))]
+fn read_rest(s: &[u8], y: Layout, d: u32, at: usize, c: usize) -> Result<Plan, Refusal>
     requires { c ≤ length s.now }
     ensures { plan_reading result ≡ rest_read s.now y d at c }
 {
-    let number = last_refusal(s, c);
-    if number != 0 {
-        return unread_plan(number);
-    }
+    check_last(s, c)?;
     let offers = octets_words::get16(s, c);
     let times = octets_words::get32(s, s.len() - 4);
-    Plan {
-        read: Verdict::Whole,
+    Ok(Plan {
         layout: y,
         depth: d,
         drawn: at,
         offers,
         first: c + 2,
         times,
-    }
+    })
 }
 
 // The plan of an input whose sheet has layout y and takes the first `used` octets.
-fn after_sheet(s: &[u8], used: usize, y: Layout) -> Plan
+#[tactic(auto, unfolding(crate::specs::PlanLaws::sheet_on, crate::specs::PlanLaws::rest_read, crate::specs::Plan::after_sheet, crate::specs::Plan::draws_wrong))]
+fn after_sheet(s: &[u8], used: usize, y: Layout) -> Result<Plan, Refusal>
     requires { (used ≤ length s.now) × (y.count ≤ max_stations) }
     ensures { plan_reading result ≡ sheet_on s.now used y }
 {
     let n = s.len();
     if n <= used {
-        return unread_plan(9);
+        return Err(Refusal::Draws);
     }
     let d = octets::wide(s[used]);
     if octets::out_of(d, 1, 16) {
-        return unread_plan(9);
+        return Err(Refusal::Draws);
     }
     let c = used + 1 + 2 * ((y.count as usize) * (d as usize));
     if n < c {
-        return unread_plan(9);
+        return Err(Refusal::Draws);
     }
     read_rest(s, y, d, used + 1, c)
 }
 
 // The run input s, or a refusal (3 to 9, 16, 13).
-pub fn read_plan(s: &[u8]) -> Plan
+pub fn read_plan(s: &[u8]) -> Result<Plan, Refusal>
     ensures { plan_reading result ≡ plan_as_read s.now }
 {
-    let front = sheet_read::read_sheet(s);
-    let y = front.layout;
-    let read = front.read;
-    match read {
-        SheetRead::Refused(n) => unread_plan(n),
-        SheetRead::Used(n) => after_sheet(s, n, y),
-    }
+    let front = sheet_read::read_sheet(s)?;
+    after_sheet(s, front.used, front.layout)
 }

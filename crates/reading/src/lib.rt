@@ -15,7 +15,8 @@ pub fn fill<R: Read>(from: &mut R, buffer: &mut [u8]) -> io::Result<usize>
     ensures octets { IfOk result (λ n. Consumes (R.remaining from.old) (R.remaining from.new) (take n buffer.new)) }
     ensures whole { IfOk result (λ n. n < length buffer.new → IsAtEnd (R.remaining from.new)) }
 {
-    let mut at: usize = 0;
+    let mut at = 0;
+    // It goes on by as many octets as were read, which no range counts.
     while at < buffer.len() {
         let n = from.read(&mut buffer[at..])?;
         if n == 0 {

@@ -1,8 +1,9 @@
 -- The text of a run handed out piece by piece, on lent octets: the input l, a work area a, and octets o for the text.
 -- That the pieces are what is printed is in Whole. The laws are in PieceLaws. Assumes nothing.
-use Rattle.std.specs.Prelude.{ℕ, zero, suc, ◌+◌, ◌-◌, min, Bool, true, false, not, List, [], ◌∷◌, ◌++◌, eqb, ltb, length, get_or, take, drop}
+use Rattle.std.specs.Prelude.{ℕ, zero, suc, ◌+◌, ◌-◌, min, Bool, true, false, not, List, [], ◌∷◌, ◌++◌, eqb, ltb, length, get_or, take, drop, Result, Ok, Err}
 use Rattle.std.proofs.lemmas.List.Edits.{sets}
-use Rattle.octets.specs.Base.{pick, Answer, refused, accepted, number_of, values_of}
+use Rattle.octets.specs.Base.{pick, Answer, refused, accepted, answer_by, number_of, values_of}
+use Rattle.octets.specs.declared.Refusal.{Refusal}
 use Rattle.area.specs.Offsets.{area_size}
 use Rattle.area.specs.Area.{clock_at}
 use Rattle.area_check.specs.Valid.{area_refusal}
@@ -12,8 +13,6 @@ use Rattle.report_text.specs.Text.{refused_line, end_line}
 use Rattle.report_lines.specs.Events.{step_lines}
 use Rattle.plan_read.specs.Plan.{offer_time, Planned, plan_as_read}
 use Rattle.report_spec.specs.declared.Progress.{Progress}
-use Rattle.report_spec.specs.declared.Piece.{Piece}
-use Rattle.report_spec.specs.declared.Piece.TheVariants.{Refused, Text}
 use Rattle.report_spec.specs.declared.Handed.{Handed}
 use Rattle.report_spec.specs.Printed.{next_offer, lies, made, offer_text, Course, course, run_on, first_text}
 use Rattle.report_spec.specs.Printed.{start_area}
@@ -81,12 +80,20 @@ pub record Hand : Type 0 where
   pub octets : List ℕ
   pub out : List ℕ
 
-abbrev pub piece_answer : Piece → Answer
-piece_answer (Refused n) = refused n
-piece_answer (Text n) = accepted (n ∷ [])
+-- of a call that hands out a piece, by its octets
+abbrev pub piece_answer : Result Handed Refusal → Answer
+piece_answer r = answer_by (λ h. h.size ∷ []) r
 
-abbrev pub handing : Handed → (a o : List ℕ) → Hand
-handing r a o = record { answer = piece_answer r.piece; progress = r.progress; octets = a; out = o }
+-- where the run stands after a call at g: a refused call leaves it where it stood
+abbrev pub standing_after : Progress → Result Handed Refusal → Progress
+standing_after g (Ok r) = r.progress
+standing_after g (Err e) = g
+
+abbrev pub handing : Progress → Result Handed Refusal → (a o : List ℕ) → Hand
+handing g r a o = record { answer = piece_answer r; progress = standing_after g r; octets = a; out = o }
+
+abbrev pub handed : Handed → (a o : List ℕ) → Hand
+handed r a o = record { answer = accepted (r.size ∷ []); progress = r.progress; octets = a; out = o }
 
 -- a piece, at the front of the output
 abbrev pub given : (o : List ℕ) → Moved → Hand

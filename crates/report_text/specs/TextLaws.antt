@@ -1,43 +1,18 @@
 -- A law for each way through the code that writes numbers and words. Assumes nothing.
-use Rattle.std.specs.Prelude.{ℕ, zero, suc, ◌+◌, ◌-◌, ◌/◌, ◌%◌, ◌≤◌, ◌<◌, ◌≡◌, Bool, List, [], ◌∷◌, ◌++◌, get_or, set, take, drop, replicate}
+use Rattle.std.specs.Prelude.{ℕ, zero, suc, ◌+◌, ◌/◌, ◌%◌, ◌≤◌, ◌<◌, ◌≡◌, ◌^◌, eqb, List, [], ◌∷◌, ◌++◌, get_or, set, replicate}
 use Rattle.std.proofs.Math.Path.{refl, ap}
-use Rattle.std.proofs.Common.{sym, ◌∙◌, ap₂, append_assoc, append-nil, add-one, arith, eq-eqb, ne_eqb, length-append, length-set, length-drop, take_all, drop-cons, drop-set-lt, get_or-set_same}
+use Rattle.std.proofs.Common.{sym, pow-suc, ◌∙◌, ap₂, add-one, arith, ne_eqb, length-append}
 use Rattle.std.proofs.Math.ListN.{length}
+use Rattle.std.specs.Fmt.{decimal as text}
+use Rattle.std.proofs.lemmas.Fmt.{decimal_by_steps}
+use Rattle.std.proofs.lemmas.List.{replicate_more}
 use Rattle.std.proofs.lemmas.List.Edits.{sets}
+use Rattle.octets.specs.BaseLaws.{by_test}
 use Rattle.octets.specs.Store.{sets_append}
 use Rattle.report_text.specs.Text.{Written, written, puts, digits, lean, decimal, numbered, counted, placed, line}
 use Rattle.report_text.specs.Text.{stations_word, first_line}
 
 -- ---- the digits
-
--- The loop writes from the last digit on: k are still to come, of v.
-pub spell_first : (n : ℕ) → digits 10 n ++ drop 10 (replicate 10 0) ≡ digits 10 n
-spell_first n = append-nil (digits 10 n)
-
-set_drop : (l : List ℕ) (j d : ℕ) → j < length l → drop j (set l j d) ≡ d ∷ drop (suc j) l
-set_drop l j d h =
-    drop-cons (set l j d) j 0 (omega (arith, length-set l j d))
-    ∙ ap₂ (λ (x : ℕ) (r : List ℕ). x ∷ r) (get_or-set_same l j d 0 h) (drop-set-lt (suc j) l j d (omega arith))
-
-digit_off : (j v n : ℕ) (l : List ℕ) → digits (suc j) v ++ drop (suc j) l ≡ digits 10 n
-    → digits j (v / 10) ++ ((48 + v % 10) ∷ drop (suc j) l) ≡ digits 10 n
-unfolding digits
-digit_off j v n l h = sym (append_assoc (digits j (v / 10)) ((48 + v % 10) ∷ []) (drop (suc j) l)) ∙ h
-
-pub spell_length : (l : List ℕ) (k v : ℕ) → length l ≡ 10 → length (set l k v) ≡ 10
-spell_length l k v h = length-set l k v ∙ h
-
-pub spell_more : (k v n : ℕ) (l : List ℕ) → 0 < k → k ≤ 10 → length l ≡ 10 → digits k v ++ drop k l ≡ digits 10 n
-    → digits (k - 1) (v / 10) ++ drop (k - 1) (set l (k - 1) (48 + v % 10)) ≡ digits 10 n
-spell_more zero v n l p q e h = absurd (omega arith)
-spell_more (suc j) v n l p q e h =
-    let z : suc j - 1 ≡ j = omega arith in
-    rw (z, set_drop l j (48 + v % 10) (omega arith)) (digit_off j v n l h)
-
-pub spell_end : (k v n : ℕ) (l : List ℕ) → k ≤ 0 → digits k v ++ drop k l ≡ digits 10 n → l ≡ digits 10 n
-unfolding digits
-spell_end zero v n l p h = h
-spell_end (suc k) v n l p h = absurd (omega arith)
 
 pub length_digits : (w n : ℕ) → length (digits w n) ≡ w
 unfolding digits
@@ -45,65 +20,62 @@ length_digits zero n = refl
 length_digits (suc w) n =
     length-append (digits w (n / 10)) _ ∙ ap (λ (k : ℕ). k + 1) (length_digits w (n / 10)) ∙ add-one w
 
--- ---- the zeros that lead
-
-lean_zero : (x y : ℕ) (r : List ℕ) → x ≡ 48 → lean (x ∷ y ∷ r) ≡ lean (y ∷ r)
+lean_zeros : (w d : ℕ) → lean (replicate w 48 ++ (d ∷ [])) ≡ d ∷ []
 unfolding lean
-lean_zero x y r e = rw (eq-eqb x 48 e)
+lean_zeros zero d = refl
+lean_zeros (suc zero) d = refl
+lean_zeros (suc (suc w)) d = lean_zeros (suc w) d
 
-lean_digit : (x : ℕ) (r : List ℕ) → (x ≡ 48 → ⊥) → lean (x ∷ r) ≡ x ∷ r
+digits_zero : (w : ℕ) → digits w 0 ≡ replicate w 48
+unfolding digits
+digits_zero zero = refl
+digits_zero (suc w) = ap (λ (l : List ℕ). l ++ (48 ∷ [])) (digits_zero w) ∙ replicate_more w 48 ∙ ap (λ (k : ℕ). replicate k 48) (add-one w)
+
+-- behind a digit that is not 0, nothing that follows is left out
+lean_append : (l : List ℕ) (d : ℕ) → 48 < get_or (lean l) 0 0 → lean (l ++ (d ∷ [])) ≡ lean l ++ (d ∷ [])
 unfolding lean
-lean_digit x [] e = refl
-lean_digit x (y ∷ r) e = rw (ne_eqb x 48 e)
+lean_append [] d h = absurd (omega arith)
+lean_append (x ∷ []) d h = rw (ne_eqb x 48 (λ e. omega arith))
+lean_append (x ∷ y ∷ l) d h =
+    by_test (eqb x 48) (λ e. rw e (lean_append (y ∷ l) d (rw e at h))) (λ e. rw e)
 
-lean_one : (x : ℕ) → lean (x ∷ []) ≡ x ∷ []
-unfolding lean
-lean_one x = refl
+get_front : (l : List ℕ) (d : ℕ) → 48 < get_or l 0 0 → 48 < get_or (l ++ (d ∷ [])) 0 0
+get_front [] d h = absurd (omega arith)
+get_front (x ∷ l) d h = h
 
-module _ (l : List ℕ) (j : ℕ) (h : lean (drop j l) ≡ lean l) (n : length l ≡ 10) where
-  one_more_lem : j < 9 → drop j l ≡ get_or l j 0 ∷ get_or l (suc j) 0 ∷ drop (suc (suc j)) l
-  one_more_lem g = drop-cons l j 0 (omega arith) ∙ ap (λ (r : List ℕ). get_or l j 0 ∷ r) (drop-cons l (suc j) 0 (omega arith))
+-- what the library writes: as many digits as there are, and the first is not 0 but of 0
+Lean : ℕ → List ℕ → Type 0
+Lean n ds = ((w : ℕ) → n < 10 ^ suc w → lean (digits (suc w) n) ≡ ds) × (0 < n → 48 < get_or ds 0 0)
 
-  pub lead_more : j < 9 → get_or l j 0 ≡ 48 → lean (drop (j + 1) l) ≡ lean l
-  lead_more g e =
-      ap (λ (k : ℕ). lean (drop k l)) (add-one j)
-      ∙ ap lean (drop-cons l (suc j) 0 (omega arith))
-      ∙ sym (lean_zero (get_or l j 0) (get_or l (suc j) 0) (drop (suc (suc j)) l) e)
-      ∙ ap lean (sym (one_more_lem g))
-      ∙ h
+lean_one : (n : ℕ) → n < 10 → Lean n ((48 + n) ∷ [])
+unfolding Lean digits
+lean_one n h =
+    let z : n / 10 ≡ 0 = omega arith in
+    let e : n % 10 ≡ n = omega arith in
+    (λ w k. rw (z, e, digits_zero w) (lean_zeros w (48 + n)), λ k. omega arith)
 
-  pub lead_found : j < 9 → (get_or l j 0 ≡ 48 → ⊥) → drop j l ≡ lean l
-  lead_found g e =
-      drop-cons l j 0 (omega arith) ∙ sym (lean_digit (get_or l j 0) (drop (suc j) l) e)
-      ∙ ap lean (sym (drop-cons l j 0 (omega arith))) ∙ h
-
-pub lead_last : (l : List ℕ) (j : ℕ) → lean (drop j l) ≡ lean l → length l ≡ 10 → j ≤ 9 → 9 ≤ j → drop j l ≡ lean l
-lead_last l j h n p q =
-    let e : drop j l ≡ get_or l j 0 ∷ [] = drop-cons l j 0 (omega arith)
-    ∙ ap (λ (r : List ℕ). get_or l j 0 ∷ r) (rest (drop (suc j) l) (omega (arith, length-drop (suc j) l))) in
-    e ∙ sym (lean_one (get_or l j 0)) ∙ ap lean (sym e) ∙ h
+lean_next : (n : ℕ) (ds : List ℕ) → 10 ≤ n → Lean (n / 10) ds → Lean n (ds ++ ((48 + n % 10) ∷ []))
+unfolding Lean digits
+lean_next n ds h (p, q) = (each, λ k. get_front ds (48 + n % 10) (q (omega arith)))
   where
-    rest : (r : List ℕ) → length r ≤ 0 → r ≡ []
-    rest [] g = refl
-    rest (x ∷ r) g = absurd (omega arith)
+    each : (w : ℕ) → n < 10 ^ suc w → lean (digits (suc w) n) ≡ ds ++ ((48 + n % 10) ∷ [])
+    each zero k = absurd (omega arith)
+    each (suc w) k =
+        let f : lean (digits (suc w) (n / 10)) ≡ ds = p w (omega (arith, pow-suc 10 (suc w))) in
+        lean_append (digits (suc w) (n / 10)) (48 + n % 10) (rw f (q (omega arith)))
+        ∙ ap (λ (l : List ℕ). l ++ ((48 + n % 10) ∷ [])) f
+
+decimal_text : (n : ℕ) → n < 2 ^ 32 → decimal n ≡ text n
+unfolding decimal Lean
+decimal_text n h = (decimal_by_steps Lean lean_one lean_next n (omega arith)).0 9 (omega arith)
 
 -- ---- a number
 
-module _ (d : List ℕ) (n j : ℕ) (q : drop j d ≡ lean d) (e : d ≡ digits 10 n) where
-  is_decimal : drop j d ≡ decimal n
-  unfolding decimal
-  is_decimal = q ∙ ap lean e
-
-  long : length d ≡ 10
-  long = ap length e ∙ length_digits 10 n
-
-  pub decimal_is : (l x : List ℕ) (at : ℕ) → j < 10 → x ≡ sets l at (take (10 - j) (drop j d))
-      → written (at + 10 - j) x ≡ puts l at (decimal n)
-  decimal_is l x at h p =
-      let f : x ≡ sets l at (decimal n) = p
-      ∙ ap (sets l at) (take_all (10 - j) (drop j d) (omega (arith, length-drop j d, long)) ∙ is_decimal) in
-      let g : at + 10 - j ≡ at + length (decimal n) = omega (arith, ap length is_decimal, length-drop j d, long) in
-      ap₂ written g f
+pub decimal_is : (l x t s : List ℕ) (at n : ℕ) → n < 2 ^ 32 → x ≡ sets l at t → t ≡ s → s ≡ text n
+    → written (at + length t) x ≡ puts l at (decimal n)
+decimal_is l x t s at n h p q r =
+    let e : t ≡ decimal n = q ∙ r ∙ sym (decimal_text n h) in
+    ap₂ written (ap (λ (u : List ℕ). at + length u) e) (p ∙ ap (sets l at) e)
 
 -- ---- pieces one after the other
 

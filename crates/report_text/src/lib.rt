@@ -2,39 +2,9 @@
 
 #![tactic(auto)]
 
-ghost use Rattle.std.specs.Prelude.{◌≡◌, [], ◌∷◌, ◌++◌, ◌+◌, ◌<◌, ◌≤◌, length, drop};
-ghost use Rattle.report_text.specs.Text.{written, puts, digits, lean, decimal, numbered, counted, placed, line};
+ghost use Rattle.std.specs.Prelude.{◌≡◌, [], ◌∷◌, ◌++◌, ◌+◌, ◌≤◌, length};
+ghost use Rattle.report_text.specs.Text.{written, puts, decimal, numbered, counted, placed, line};
 ghost use Rattle.report_text.specs.Text.{first_line, space};
-
-// The ten digits of n, zeros leading.
-fn spell(n: u32) -> [u8; 10]
-    ensures { result ≡ digits 10 n }
-{
-    let mut all = [0u8; 10];
-    let mut v = n;
-    let mut k: usize = 10;
-    while 0 < k {
-        k -= 1;
-        all[k] = 48 + (v % 10) as u8;
-        v = v / 10;
-    }
-    all
-}
-
-// How many zeros lead; the last digit is none of them.
-fn leading(d: [u8; 10]) -> usize
-    ensures value { drop result d ≡ lean d }
-    ensures small { result < 10 }
-{
-    let mut j: usize = 0;
-    while j < 9 {
-        if d[j] != 48 {
-            return j;
-        }
-        j += 1;
-    }
-    j
-}
 
 // n in decimal, written at `at`. Answers where it ends, as all here do.
 fn put_decimal(out: &mut [u8], at: usize, n: u32) -> usize
@@ -42,10 +12,10 @@ fn put_decimal(out: &mut [u8], at: usize, n: u32) -> usize
     ensures text { written result out.new ≡ puts out.old at (decimal n) }
     ensures small { result ≤ at + 10 }
 {
-    let d = spell(n);
-    let j = leading(d);
-    octets_copies::store(out, at, &d[j..10]);
-    at + 10 - j
+    let mut digits = itoa::Buffer::new();
+    let text = digits.format(n).as_bytes();
+    octets_copies::store(out, at, text);
+    at + text.len()
 }
 
 // A number with an octet after it.

@@ -12,7 +12,7 @@ use Rattle.report_text.specs.Text.{refused_line}
 use Rattle.report_spec.specs.declared.Progress.{Progress}
 use Rattle.report_spec.specs.declared.Handed.{Handed}
 use Rattle.report_spec.specs.Printed.{Course, course, before, input_course, printed}
-use Rattle.report_spec.specs.Pieces.{Moved, moved, move, Hand, piece_answer, handing, given, on_front, advanced}
+use Rattle.report_spec.specs.Pieces.{Moved, moved, move, Hand, handed, given, on_front, advanced}
 use Rattle.report_spec.specs.Pieces.{no_progress, first_piece, begun, remaining}
 use Rattle.report_theorem.specs.Whole.{Going, next, pieces, remaining_off, course_same, refused_course}
 use Rattle.report_theorem.specs.Whole.{started_first, refused_first, start_on, start_going, advance_on, begin_on}
@@ -144,19 +144,18 @@ module _ (l b o : List ℕ) (k : 2048 ≤ length o) where
       }) (append-nil (move l g b).octets)
 
 -- what a call hands out, by the octets that it says
-module _ (o x b : List ℕ) (m : Moved) (r : Handed) (k : ℕ)
-    (e : k ≡ get_or (values_of (piece_answer r.piece)) 0 0) (p : handing r b x ≡ given o m) where
-  size_is : k ≡ length m.text
-  size_is = e ∙ ap (λ (h : Hand). get_or (values_of h.answer) 0 0) p
+module _ (o x b : List ℕ) (m : Moved) (r : Handed) (p : handed r b x ≡ given o m) (q : length m.text ≤ 2048)
+    (f : 2048 ≤ length o) where
+  size_is : r.size ≡ length m.text
+  size_is = ap (λ (h : Hand). get_or (values_of h.answer) 0 0) p
 
-  module _ (q : length m.text ≤ 2048) (f : 2048 ≤ length o) where
-    pub hand_moved : moved (take k x) r.progress b ≡ m
-    hand_moved =
-        let t : take k x ≡ m.text = ap (take k) (ap (λ (h : Hand). h.out) p)
-        ∙ take_sets m.text o k size_is (omega arith) in
-        (λ i. moved (t i) (p i).progress (p i).octets)
+  pub hand_moved : moved (take r.size x) r.progress b ≡ m
+  hand_moved =
+      let t : take r.size x ≡ m.text = ap (take r.size) (ap (λ (h : Hand). h.out) p)
+      ∙ take_sets m.text o r.size size_is (omega arith) in
+      (λ i. moved (t i) (p i).progress (p i).octets)
 
-    pub hand_within : k ≤ length x
-    hand_within =
-        let y : length x ≡ length o = ap (λ (h : Hand). length h.out) p
-        ∙ length-sets o 0 m.text in omega (arith, size_is)
+  pub hand_within : r.size ≤ length x
+  hand_within =
+      let y : length x ≡ length o = ap (λ (h : Hand). length h.out) p
+      ∙ length-sets o 0 m.text in omega (arith, size_is)

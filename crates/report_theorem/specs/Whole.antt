@@ -1,7 +1,7 @@
 -- The pieces are what is printed: from `begin` on, no `advance` is refused, each hands out the next piece of it, and
 -- they come to an end. Assumes nothing.
 use Prim.Native.Nat.{ℕ, zero, suc, ◌+◌, ◌-◌, ◌≤◌, ◌<◌, min}
-use Rattle.std.specs.Prelude.{◌≡◌, Bool, not, eqb, ltb, get_or, replicate, take, drop}
+use Rattle.std.specs.Prelude.{◌≡◌, Bool, eqb, ltb, get_or, replicate, take, drop, Option, None, Some, is_some}
 use Rattle.std.proofs.Math.Path.{refl, sym, ap, ap₂}
 use Rattle.std.proofs.Common.{◌∙◌, subst, true≢false, ext_get_or, take_at, drop_at, length-take-le}
 use Rattle.std.proofs.Math.Bool.{true, false}
@@ -18,10 +18,8 @@ use Rattle.octets.specs.Turns.{blanked, length_blanked, blanked_same}
 use Rattle.sheet_layout.specs.Layout.{fits_well}
 use Rattle.octets.specs.BaseLaws.{by_test, by_eq, neither, none_below, below_none}
 use Rattle.station_spec.specs.declared.ReceiveEvent.{ReceiveEvent}
-use Rattle.station_spec.specs.declared.ReceiveEvent.TheVariants.{NoReceive, GotOk, GotTooLong, GotAlignment}
-use Rattle.station_spec.specs.declared.ReceiveEvent.TheVariants.{GotCheck, GotLength}
 use Rattle.station_spec.specs.declared.TransmitEvent.{TransmitEvent}
-use Rattle.station_spec.specs.declared.TransmitEvent.TheVariants.{NoTransmit, Collision, Late, Sent, GivenUp}
+use Rattle.station_spec.specs.declared.TransmitEvent.TheVariants.{Collision, Late, Sent, GivenUp}
 use Rattle.station_spec.specs.declared.TransmitEvent.TheVariants.{LateEnded}
 use Rattle.area.specs.Area.{clock_at}
 use Rattle.bus_start.specs.Fresh.{with_plan, fresh}
@@ -49,26 +47,30 @@ use Rattle.report_spec.specs.Printed.{input_course, zeros, printed}
 use Rattle.report_spec.specs.Pieces.{Moved, moved, standing, is_due, span_of, last_piece, offer_piece, times_left}
 use Rattle.report_spec.specs.Pieces.{stretch_piece, step_piece, move, given, offer_short, move_refusal, advanced_on, on_front}
 use Rattle.report_spec.specs.Pieces.{advanced, no_progress, start_piece, first_piece, begun, remaining, told}
-use Rattle.report_spec.specs.PieceLaws.{move_last, move_offer, move_step, due_offers_lem, span_most, span_some, lies_room}
-use Rattle.report_spec.specs.PieceLaws.{short_none, short_is}
+use Rattle.report_spec.specs.PieceLaws.{move_last, move_offer, move_step, due_some, span_most, span_some, offer_room}
 use Rattle.sheet_layout.specs.Limits.{last_clock, max_stations}
 use Rattle.area.specs.Offsets.{area_size}
-use Rattle.station_tally.specs.Words.{transmit_word, transmit_value, receive_word, receive_value, ends_run, is_transmit}
-use Rattle.station_tally.specs.Words.{is_receive}
+use Rattle.station_tally.specs.Words.{transmit_word, transmit_value, receive_word, receive_value, ends_run}
 
 -- ---- a step without an event has no lines, and no late collision
 
-event_silent : (t i w v : ℕ) → not (eqb w 0) ≡ false → event_line t i w v ≡ []
+transmit_silent : (t i : ℕ) (e : Option TransmitEvent) → is_some e ≡ false
+    → event_line t i (transmit_word e) (transmit_value e) ≡ []
 unfolding event_line
-event_silent t i w v h = by_test (eqb w 0) (λ e. rw e) (λ e. absurd (true≢false (rw e at h)))
+transmit_silent t i None h = refl
+transmit_silent t i (Some e) h = absurd (true≢false h)
+
+receive_silent : (t i : ℕ) (e : Option ReceiveEvent) → is_some e ≡ false
+    → event_line t i (receive_word e) (receive_value e) ≡ []
+unfolding event_line
+receive_silent t i None h = refl
+receive_silent t i (Some e) h = absurd (true≢false h)
 
 station_silent : (t i : ℕ) (e : Events) → has_event e ≡ false → station_lines t i e ≡ []
 unfolding has_event station_lines
 station_silent t i e h =
-    let b = neither (is_transmit e.sent) (is_receive e.got) h in
-    ap₂ (λ (x y : List ℕ). x ++ y)
-    (event_silent t i (transmit_word e.sent) (transmit_value e.sent) b.0)
-    (event_silent t i (receive_word e.got) (receive_value e.got) b.1)
+    let b = neither (is_some e.sent) (is_some e.got) h in
+    ap₂ (λ (x y : List ℕ). x ++ y) (transmit_silent t i e.sent b.0) (receive_silent t i e.got b.1)
 
 lines_silent : (t : ℕ) (es : List Events) (n : ℕ) → ((i : ℕ) → i < n → has_event (get_or es i no_events) ≡ false)
     → step_lines t es n ≡ []
@@ -78,19 +80,19 @@ lines_silent t es (suc n) h =
     ap₂ (λ (x y : List ℕ). x ++ y) (lines_silent t es n (λ i g. h i (omega arith)))
     (station_silent t n (get_or es n no_events) (h n (omega arith)))
 
-late_transmits : (e : TransmitEvent) → is_transmit e ≡ false → ends_run e ≡ false
-late_transmits NoTransmit h = refl
-late_transmits (Collision k) h = refl
-late_transmits (Late k closes) h = absurd (true≢false h)
-late_transmits (Sent n) h = refl
-late_transmits (GivenUp n) h = refl
-late_transmits (LateEnded n) h = refl
+late_transmits : (e : Option TransmitEvent) → is_some e ≡ false → ends_run e ≡ false
+late_transmits None h = refl
+late_transmits (Some (Collision k)) h = refl
+late_transmits (Some (Late k closes)) h = absurd (true≢false h)
+late_transmits (Some (Sent n)) h = refl
+late_transmits (Some (GivenUp n)) h = refl
+late_transmits (Some (LateEnded n)) h = refl
 
 calm_late : (es : List Events) (i : ℕ) → has_event (get_or es i no_events) ≡ false → late_at es i ≡ false
 unfolding has_event late_at
 calm_late es i h =
     late_transmits (get_or es i no_events).sent
-    (neither (is_transmit (get_or es i no_events).sent) (is_receive (get_or es i no_events).got) h).0
+    (neither (is_some (get_or es i no_events).sent) (is_some (get_or es i no_events).got) h).0
 
 module _ (es : List Events) (h : eventful es ≡ false) where
   each : (i : ℕ) → i < max_stations → has_event (get_or es i no_events) ≡ false
@@ -282,7 +284,7 @@ module _ (l : List ℕ) (g : Progress) (a : List ℕ) (w : Going l g a) (n m : �
   inside = ap (lies l) (sym (place_first l g.at)) ∙ w.offers 0 (omega arith)
 
   six : length (offer_destination l g.at) ≡ 6
-  six = length_part l (g.at + 5) 6 (omega (arith, (lies_room l g.at inside).0))
+  six = length_part l (g.at + 5) 6 (omega (arith, offer_room l g.at inside))
 
   made_going : (Passing (made l g.at a).octets)
       × ((clock_at (made l g.at a).octets ≡ clock_at a) × (length (made l g.at a).octets ≡ length a))
@@ -413,7 +415,7 @@ module _ (l : List ℕ) (g : Progress) (a : List ℕ) (w : Going l g a) (h : g.e
   unfolding offer_piece
   offer_next t d =
       let p = positive g.times t in
-      let q = due_offers_lem l a g (is_due l g a) refl d in
+      let q = due_some l a g d in
       let n : g.times ≡ suc (g.times - 1) = omega arith in
       let m : g.offers ≡ suc (g.offers - 1) = omega arith in
       record {
@@ -451,15 +453,15 @@ module _ (l : List ℕ) (g : Progress) (a : List ℕ) (w : Going l g a) (h : g.e
   pub next : Next l g a (move l g a)
   next =
       by_eq g.times 0
-      (λ t. subst (Next l g a) (move_last l g a h t) (last_next t))
+      (λ t. subst (Next l g a) (sym (move_last l g a h t)) (last_next t))
       (λ t. by_test (is_due l g a)
-      (λ d. subst (Next l g a) (move_offer l g a h t d) (offer_next t d))
-      (λ d. subst (Next l g a) (move_step l g a h t d) (step_next t d)))
+      (λ d. subst (Next l g a) (sym (move_offer l g a h t d)) (offer_next t d))
+      (λ d. subst (Next l g a) (sym (move_step l g a h t d)) (step_next t d)))
 
 -- No advance is refused.
 pub not_refused : (l : List ℕ) (g : Progress) (a : List ℕ) (room : ℕ) → Going l g a → 2048 ≤ room
     → move_refusal l a room g ≡ 0
-unfolding move_refusal
+unfolding move_refusal offer_short
 not_refused l g a room w h =
     let c = w.clock in
     rw (
@@ -473,9 +475,8 @@ not_refused l g a room w h =
     whole : offer_short l g ≡ false
     whole =
         by_eq g.offers 0
-        (λ e. sym (short_none l g e))
-        (λ e. sym (short_is l g true (sym (ap (lies l) (sym (place_first l g.at)) ∙ w.offers 0
-        (positive g.offers e))) e))
+        (λ e. rw (eq-eqb g.offers 0 e))
+        (λ e. rw (ne_eqb g.offers 0 e, sym (ap (lies l) (place_first l g.at)), w.offers 0 (positive g.offers e)))
 
 -- ---- a piece has room
 

@@ -18,30 +18,30 @@ use Rattle.area.specs.Offsets.{area_size}
 -- ---- a piece, of k octets in buffer x, is stored
 
 -- the rest behind a stored piece is the rest from there on
-text_on : (l x y : List ℕ) (n k : ℕ) → k ≤ length x → part (printed l) n (length (take (k - 0) x)) ≡ take (k - 0) x
-    → sets (sets y n (take (k - 0) x)) (n + k) (drop (n + k) (printed l)) ≡ sets y n (drop n (printed l))
+text_on : (l x y : List ℕ) (n k : ℕ) → k ≤ length x → part (printed l) n (length (take k x)) ≡ take k x
+    → sets (sets y n (take k x)) (n + k) (drop (n + k) (printed l)) ≡ sets y n (drop n (printed l))
 text_on l x y n k z p =
-    let q : length (take (k - 0) x) ≡ k = part_size x k z in
-    let t : take k (drop n (printed l)) ≡ take (k - 0) x = ap (λ (m : ℕ). take m (drop n (printed l))) (sym q) ∙ p in
-    sets_append (take (k - 0) x) (drop (n + k) (printed l)) y n (n + k) (omega (arith, q))
+    let q : length (take k x) ≡ k = part_size x k z in
+    let t : take k (drop n (printed l)) ≡ take k x = ap (λ (m : ℕ). take m (drop n (printed l))) (sym q) ∙ p in
+    sets_append (take k x) (drop (n + k) (printed l)) y n (n + k) (omega (arith, q))
     ∙ ap (sets y n)
     (ap₂ (λ (u v : List ℕ). u ++ v) (sym t) (sym (drop-drop k n (printed l))) ∙ take-append-drop k (drop n (printed l)))
 
 module _ (l a c x : List ℕ) (k : ℕ) (h : Progress) (z : k ≤ length x) (q : length a ≡ area_size)
     (e : moved (take k x) h c ≡ first_piece l a) where
-  pub begun_store : (y : List ℕ) → length (printed l) ≤ length y → 0 + length (take (k - 0) x) ≤ length y
+  pub begun_store : (y : List ℕ) → length (printed l) ≤ length y → 0 + length (take k x) ≤ length y
   begun_store y t = omega (arith, (begun_along l a c x k h z q e).within, part_size x k z)
 
   pub begun_over : (room : ℕ) → room < k → false ≡ leb (length (printed l)) room
   begun_over room t = sym (lt-leb (length (printed l)) room (omega (arith, (begun_along l a c x k h z q e).within)))
 
-  pub begun_text : (y u v : List ℕ) → u ≡ sets y 0 (take (k - 0) x) → v ≡ sets u k (drop k (printed l))
+  pub begun_text : (y u v : List ℕ) → u ≡ sets y 0 (take k x) → v ≡ sets u k (drop k (printed l))
       → v ≡ sets y 0 (printed l)
   begun_text y u v s t =
       let m : 0 + k ≡ k = omega arith in
       t
       ∙ ap (λ (i : List ℕ). sets i k (drop k (printed l))) s
-      ∙ ap (λ (i : ℕ). sets (sets y 0 (take (k - 0) x)) i (drop i (printed l))) (sym m)
+      ∙ ap (λ (i : ℕ). sets (sets y 0 (take k x)) i (drop i (printed l))) (sym m)
       ∙ text_on l x y 0 k z (begun_part l a c x k h z q e)
 
   pub begun_area : (d : List ℕ) → d ≡ (remaining l h c).octets → d ≡ (input_course l a).octets
@@ -55,10 +55,10 @@ module _ (l b c x : List ℕ) (n k : ℕ) (g h : Progress) (w : Along l n g b) (
       sym (lt-leb (length (printed l)) room (omega (arith, (along_more l b c x n k g h w o z e).within)))
 
   pub along_store : (y v : List ℕ) → length y ≡ length v → length (printed l) ≤ length v
-      → n + length (take (k - 0) x) ≤ length y
+      → n + length (take k x) ≤ length y
   along_store y v p t = omega (arith, (along_more l b c x n k g h w o z e).within, part_size x k z)
 
-  pub along_text : (y u v : List ℕ) → u ≡ sets y n (take (k - 0) x) → sets y n (drop n (printed l)) ≡ v
+  pub along_text : (y u v : List ℕ) → u ≡ sets y n (take k x) → sets y n (drop n (printed l)) ≡ v
       → sets u (n + k) (drop (n + k) (printed l)) ≡ v
   along_text y u v p t =
       ap (λ (m : List ℕ). sets m (n + k) (drop (n + k) (printed l))) p

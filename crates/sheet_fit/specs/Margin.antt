@@ -1,13 +1,12 @@
 -- The margin of a layout: how far its last tap may move outward so that the layout still fits. The laws are in
 -- MarginLaws; that it fits exactly up to there is in MarginTheorems. Assumes nothing.
-use Rattle.std.specs.Prelude.{ℕ, ◌+◌, ◌-◌, ◌*◌, ◌/◌, min, [], ◌∷◌, eqb, set}
-use Rattle.octets.specs.Base.{pick, Answer, refused, accepted}
+use Rattle.std.specs.Prelude.{ℕ, ◌+◌, ◌-◌, ◌*◌, ◌/◌, min, List, [], ◌∷◌, eqb, set, Option, Some, None, Result}
+use Rattle.octets.specs.declared.Refusal.{Refusal}
+use Rattle.octets.specs.Base.{pick, Answer, answer_by, refused, accepted}
 use Rattle.sheet_layout.specs.declared.Layout.{Layout}
 use Rattle.sheet_layout.specs.Layout.{position_at, address_at, gap_of, span_of, fits_well}
 use Rattle.sheet_layout.specs.Check.{refusal_of}
 use Rattle.sheet_layout.specs.Limits.{max_position}
-use Rattle.sheet_fit.specs.declared.MarginAnswer.{MarginAnswer}
-use Rattle.sheet_fit.specs.declared.MarginAnswer.TheVariants.{Refused, NoFit, Outward}
 
 -- the layout with its last tap d bit times farther out
 unfoldable pub moved_out : Layout → ℕ → Layout
@@ -25,11 +24,13 @@ unfoldable pub outward_of : Layout → ℕ
 outward_of y =
     min ((y.figures.slot - (2 * span_of y + gap_of y.figures)) / 2) (max_position - position_at y (y.count - 1))
 
--- what each case of the code's answer stands for
-abbrev pub margin_answer : MarginAnswer → Answer
-margin_answer (Refused n) = refused n
-margin_answer NoFit = accepted []
-margin_answer (Outward d) = accepted (d ∷ [])
+-- what the code's answer stands for
+abbrev pub margin_values : Option ℕ → List ℕ
+margin_values None = []
+margin_values (Some d) = d ∷ []
+
+abbrev pub margin_answer : Result (Option ℕ) Refusal → Answer
+margin_answer r = answer_by margin_values r
 
 -- so many bit times where the layout fits; none where it does not; the refusal of one that does not pass 5 to 8
 unfoldable pub margin_of : Layout → Answer

@@ -15,7 +15,7 @@ use Rattle.sheet_layout.specs.declared.Layout.{Layout}
 use Rattle.sheet_layout.specs.Layout.{tap_at, position_at, address_at, gap_of, span_of, fits_well}
 use Rattle.sheet_layout.specs.Fit.{fit_of}
 use Rattle.sheet_layout.specs.Check.{figures_out, position_out, falls, is_group, same_address, address_wrong, refusal_of}
-use Rattle.sheet_layout.specs.CheckLaws.{Sound, sound, fit_yes_lem}
+use Rattle.sheet_layout.specs.CheckLaws.{Sound, sound, fit_is}
 use Rattle.sheet_layout.specs.Limits.{max_stations, max_position}
 use Rattle.sheet_fit.specs.Margin.{moved_out, outward_of, margin_of}
 use Rattle.sheet_fit.specs.MarginLaws.{fits_says}
@@ -138,8 +138,8 @@ module _ (y : Layout) (room : y.count ≤ length y.stations) (w : Sound y) (d : 
       → fit_of (moved_out y d) ≡ accepted (1 ∷ [])
   unfolding moved_out
   moved_fits ok far slot gap =
-      sym (fit_yes_lem (moved_out y d) 0 true (sym (moved_passes ok far)) refl
-      (fits_from (moved_out y d) (omega (arith, moved_span)) gap) refl)
+      sym (fit_is (moved_out y d) true (sym (moved_passes ok far))
+      (fits_from (moved_out y d) (omega (arith, moved_span)) gap))
 
   -- and back: what a moved layout that fits says
   moved_says : fit_of (moved_out y d) ≡ accepted (1 ∷ [])

@@ -1,6 +1,6 @@
 -- The checks of a layout's values, refusals 5 to 8 (document 01, "The sheet" and "Refusals, in checking order").
 -- The laws, and what a layout that passes is known to be, are in CheckLaws. Assumes nothing.
-use Rattle.std.specs.Prelude.{ℕ, suc, ◌-◌, ◌*◌, ◌%◌, min, Bool, true, false, ◌||◌, List, ltb, leb, eqb, get_or}
+use Rattle.std.specs.Prelude.{ℕ, suc, ◌-◌, ◌*◌, ◌%◌, min, Bool, ◌||◌, List, ltb, leb, eqb, get_or}
 use Rattle.octets.specs.Base.{pick, some, outside}
 use Rattle.octets.specs.Equal.{equal}
 use Rattle.sheet_layout.specs.declared.Figures.{Figures}

@@ -1,38 +1,22 @@
 -- Laws of the checks 5 to 8, one for each way through the code, and what a layout that passes is known to be.
 -- Assumes nothing.
-use Rattle.std.specs.Prelude.{ℕ, suc, ◌+◌, ◌-◌, ◌*◌, ◌≤◌, ◌<◌, min, ◌≡◌, Bool, true, false, ◌||◌, ◌&&◌, List, [], ◌∷◌, ltb, leb, eqb, get_or}
+use Rattle.std.specs.Prelude.{ℕ, suc, ◌-◌, ◌*◌, ◌≤◌, ◌<◌, min, ◌≡◌, Bool, true, false, ◌||◌, List, [], ◌∷◌, ltb, leb}
 use Rattle.std.proofs.Math.Path.{refl}
 use Rattle.std.proofs.Common.{sym, ◌∙◌, ap, ap₂, true≢false}
 use native.Mathlib.Omega.{arith}
-use borrow.Author.Tests.{ltb-false, leb-false, ne_eqb}
-use Rattle.octets.specs.Base.{pick, some, outside, refused, accepted}
+use borrow.Author.Tests.{ltb-false, leb-false}
+use Rattle.octets.specs.Base.{pick, some, outside, accepted}
 use Rattle.octets.specs.BaseLaws.{neither, within, none_below, some_same}
 use Rattle.octets.specs.Equal.{equal}
 use Rattle.octets.specs.EqualLaws.{equal_refl}
 use Rattle.sheet_layout.specs.declared.Figures.{Figures}
 use Rattle.sheet_layout.specs.declared.Tap.{Tap}
 use Rattle.sheet_layout.specs.declared.Layout.{Layout}
-use Rattle.sheet_layout.specs.Layout.{tap_at, position_at, address_at, gap_of, span_of, fits_well}
+use Rattle.sheet_layout.specs.Layout.{tap_at, position_at, address_at, fits_well}
 use Rattle.sheet_layout.specs.Fit.{fit_of}
 use Rattle.sheet_layout.specs.Check.{gap1_out, figures_out, position_out, falls, is_group, same_address, address_wrong}
 use Rattle.sheet_layout.specs.Check.{refusal_of}
 use Rattle.sheet_layout.specs.Limits.{max_slot, max_stations, max_position, max_attempts}
-
--- ---- the code's tests
-
-pub gap1_is : (f : Figures) (b r : Bool) → r ≡ (b || ltb (2 * f.gap2) f.gap1) → b ≡ outside f.gap1 0 255
-    → r ≡ gap1_out f
-unfolding gap1_out
-gap1_is f b r p q = rw q at p
-
-pub figures_is : (f : Figures) (s g h j l b e be lb r₃ r₂ r₁ r : Bool) → r ≡ (s || r₁) → r₁ ≡ (g || r₂) → r₂ ≡ (h || r₃)
-    → r₃ ≡ (j || lb) → lb ≡ (l || be) → be ≡ (b || e) → e ≡ outside f.ends 0 1
-    → b ≡ outside f.backoff 1 10 → l ≡ outside f.limit 1 max_attempts → j ≡ outside f.jam 1 64
-    → h ≡ outside f.gap2 1 255 → g ≡ gap1_out f
-    → s ≡ outside f.slot 64 max_slot → r ≡ figures_out f
-unfolding figures_out
-figures_is f s g h j l b e be lb r₃ r₂ r₁ r p p₁ p₂ p₃ q qe ee eb el ej eh eg es =
-    p ∙ rw (p₁, p₂, p₃, q, qe, ee, eb, el, ej, eh, eg, es)
 
 -- ---- what a layout that passes is known to be
 
@@ -145,48 +129,15 @@ refusal_same y z ef en few et =
         ∙ ap (λ (n : ℕ). some (λ i. is_group (address_at z i) || some (same_address z i) i) n) en
 
 -- for the fit: there is a first and a last station
-pub counted_low : (y : Layout) (n : ℕ) → n ≡ refusal_of y → n ≡ 0 → 0 < y.count
-counted_low y n p q = let c = (sound y (sym p ∙ q)).count in omega arith
-
-pub counted_high : (y : Layout) (n : ℕ) → n ≡ refusal_of y → n ≡ 0 → y.count ≤ max_stations
-counted_high y n p q = (sound y (sym p ∙ q)).count.1
+pub counted : (y : Layout) → 0 ≡ refusal_of y → (0 < y.count) × (y.count ≤ max_stations)
+counted y p = let c = (sound y (sym p)).count in (omega arith, c.1)
 
 -- ---- the fit
 
-pub gap_is : (f : Figures) → f.gap1 + f.gap2 ≡ gap_of f
-unfolding gap_of
-gap_is f = refl
-
-module _ (y : Layout) where
-  pub span_apart : (get_or y.stations (y.count - 1) (record {
-    position = 0;
-    address = [];
-  })).position - (get_or y.stations 0 (record { position = 0; address = [] })).position ≡ span_of y
-  unfolding span_of tap_at
-  span_apart = refl
-
-  pub span_none : (get_or y.stations (y.count - 1) (record {
-    position = 0;
-    address = [];
-  })).position ≤ (get_or y.stations 0 (record { position = 0; address = [] })).position → 0 ≡ span_of y
-  unfolding span_of tap_at
-  span_none h = omega arith
-
-pub fits_is : (y : Layout) (g s : ℕ) (r : Bool)
-    → r ≡ (leb (2 * s + g) y.figures.slot && leb g (64 + y.figures.jam))
-    → s ≡ span_of y → g ≡ gap_of y.figures → r ≡ fits_well y
-unfolding fits_well
-fits_is y g s r p q e = p ∙ rw (q, e)
-
-module _ (y : Layout) (n : ℕ) where
-  pub fit_refused : n ≡ refusal_of y → (n ≡ 0 → ⊥) → refused n ≡ fit_of y
-  unfolding fit_of
-  fit_refused p q = rw (← p, ne_eqb n 0 q)
-
-  pub fit_yes_lem : (b : Bool) → n ≡ refusal_of y → n ≡ 0 → b ≡ fits_well y → b ≡ true → accepted (1 ∷ []) ≡ fit_of y
-  unfolding fit_of
-  fit_yes_lem b p q r s = rw (← p, q, ← r, s)
-
-  pub fit_no_lem : (b : Bool) → n ≡ refusal_of y → n ≡ 0 → b ≡ fits_well y → b ≡ false → accepted (0 ∷ []) ≡ fit_of y
-  unfolding fit_of
-  fit_no_lem b p q r s = rw (← p, q, ← r, s)
+pub fit_is : (y : Layout) (b : Bool) → 0 ≡ refusal_of y → b ≡ fits_well y → accepted (pick b 1 0 ∷ []) ≡ fit_of y
+unfolding fit_of
+fit_is y b p q = rw (← p, ← q) (by_pick b)
+  where
+    by_pick : (b : Bool) → accepted (pick b 1 0 ∷ []) ≡ pick b (accepted (1 ∷ [])) (accepted (0 ∷ []))
+    by_pick true = refl
+    by_pick false = refl

@@ -1,6 +1,6 @@
 -- The layout that a sheet describes: its figures, its stations, its span, and whether it fits (document 01, "The
 -- sheet"). Assumes nothing.
-use Rattle.std.specs.Prelude.{ℕ, ◌+◌, ◌-◌, ◌*◌, Bool, true, false, ◌&&◌, List, [], leb, get_or, replicate}
+use Rattle.std.specs.Prelude.{ℕ, ◌+◌, ◌-◌, ◌*◌, Bool, ◌&&◌, List, [], leb, get_or, replicate}
 use Rattle.octets.specs.Filled.{filled}
 use Rattle.sheet_layout.specs.declared.Figures.{Figures}
 use Rattle.sheet_layout.specs.declared.Tap.{Tap}

@@ -2,7 +2,10 @@
 
 #![tactic(auto)]
 
-ghost use Rattle.std.specs.Prelude.{◌≡◌, ◌<◌, ◌≤◌, min};
+ghost use Rattle.std.specs.Prelude.{◌≡◌, ℕ, ◌<◌, ◌≤◌, min};
+ghost use Rattle.octets.specs.Filled.{filled};
+ghost use Rattle.sheet_layout.specs.declared.Tap.{Tap};
+ghost use Rattle.sheet_layout.specs.Layout.{places_of};
 ghost use Rattle.sheet_layout.specs.Limits.{max_stations};
 
 // The most stations: "N is outside 2..16."
@@ -44,22 +47,38 @@ pub struct Layout {
     pub stations: [Tap; 16],
 }
 
-// Whether a layout fits: a refusal by its number, or no, or yes.
-#[derive(Clone, Copy)]
-pub enum Fit {
-    Refused(u32),
-    No,
-    Yes,
-}
-
 // The places that a count of stations takes.
 pub fn places(count: u32) -> usize
     ensures value { result ≡ min count max_stations }
     ensures most { result ≤ max_stations }
 {
-    if (count as usize) < MAX_STATIONS {
-        count as usize
-    } else {
-        MAX_STATIONS
+    (count as usize).min(MAX_STATIONS)
+}
+
+// The first n of sixteen places, as `give` has each, and `blank` in those after them.
+pub fn filled<T: Copy, F: Fn(usize) -> T>(blank: T, n: usize, give: F) -> [T; 16]
+    requires most { n ≤ max_stations }
+    requires callable { (i : ℕ) → i < n → F.pre give i }
+    ensures { (t : ℕ → T) → ((i : ℕ) (x : T) → i < n → F.post give i x → x ≡ t i) → result ≡ filled blank t n }
+{
+    let mut all = [blank; 16];
+    for i in 0..n {
+        all[i] = give(i);
     }
+    all
+}
+
+// What stands in a place that no station has.
+const BLANK: Tap = Tap {
+    position: 0,
+    address: [0; 6],
+};
+
+// The stations of n places, as `tap` gives each, and blank places after them.
+pub fn taps<F: Fn(usize) -> Tap>(n: usize, tap: F) -> [Tap; 16]
+    requires most { n ≤ max_stations }
+    requires callable { (i : ℕ) → i < n → F.pre tap i }
+    ensures { (t : ℕ → Tap) → ((i : ℕ) (x : Tap) → i < n → F.post tap i x → x ≡ t i) → result ≡ places_of t n }
+{
+    filled(BLANK, n, tap)
 }

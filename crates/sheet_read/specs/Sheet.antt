@@ -1,16 +1,15 @@
 -- Reading a sheet (document 01, "The sheet"): l are the octets, m its map.
 -- The laws are in SheetLaws. Assumes nothing.
-use Rattle.std.specs.Prelude.{ℕ, zero, suc, ◌+◌, ◌-◌, ◌*◌, ◌/◌, ◌%◌, ◌^◌, min, Bool, true, false, ◌||◌, List, [], ◌∷◌, ◌++◌, ltb, eqb, length, get_or, replicate}
-use Rattle.octets.specs.Base.{pick, Answer, refused, accepted}
+use Rattle.std.specs.Prelude.{ℕ, zero, suc, ◌+◌, ◌*◌, ◌/◌, ◌%◌, ◌^◌, min, Bool, List, [], ◌∷◌, ltb, eqb, length, get_or, Result, Ok, Err}
+use Rattle.octets.specs.declared.Refusal.{Refusal}
+use Rattle.octets.specs.Base.{pick, Answer, refused, accepted, refusal_number}
 use Rattle.octets.specs.Number.{get}
 use Rattle.octets.specs.Store.{part}
 use Rattle.sheet_layout.specs.declared.Figures.{Figures}
 use Rattle.sheet_layout.specs.declared.Tap.{Tap}
 use Rattle.sheet_layout.specs.declared.Layout.{Layout}
-use Rattle.sheet_read.specs.declared.SheetRead.{SheetRead}
-use Rattle.sheet_read.specs.declared.SheetRead.TheVariants.{Refused, Used}
 use Rattle.sheet_read.specs.declared.Sheet.{Sheet}
-use Rattle.sheet_layout.specs.Layout.{blank_tap, blank_layout, places_of}
+use Rattle.sheet_layout.specs.Layout.{blank_layout, places_of}
 use Rattle.sheet_layout.specs.Check.{refusal_of}
 use Rattle.sheet_layout.specs.Limits.{max_stations}
 
@@ -122,9 +121,9 @@ read_sheet l =
     (unread (refusal_of (layout_in l)))))
 
 -- what the code's answer stands for
-abbrev pub sheet_answer : SheetRead → Answer
-sheet_answer (Refused n) = refused n
-sheet_answer (Used n) = accepted (n ∷ [])
+abbrev pub sheet_reading : Result Sheet Refusal → Reading
+sheet_reading (Ok r) = record { answer = accepted (r.used ∷ []); layout = r.layout }
+sheet_reading (Err e) = unread (refusal_number e)
 
-abbrev pub sheet_reading : Sheet → Reading
-sheet_reading r = record { answer = sheet_answer r.read; layout = r.layout }
+abbrev pub sheet_answer : Result Sheet Refusal → Answer
+sheet_answer r = (sheet_reading r).answer

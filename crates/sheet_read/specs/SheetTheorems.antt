@@ -1,13 +1,12 @@
 -- What a caller may rely on: a sheet that is read has values in range, it used the octets that its map and N require,
 -- and octets after those do not matter. Assumes nothing.
-use Prim.Native.Nat.{ℕ, zero, suc, ◌+◌, ◌-◌, ◌*◌, ◌≤◌, ◌<◌, min}
-use Rattle.std.specs.Prelude.{◌≡◌, Bool, ◌||◌, List, [], ◌∷◌, ◌++◌, ltb, eqb, length, get_or, take, drop}
+use Prim.Native.Nat.{ℕ, suc, ◌+◌, ◌*◌, ◌≤◌, ◌<◌, min}
+use Rattle.std.specs.Prelude.{◌≡◌, Bool, List, [], ◌∷◌, ◌++◌, ltb, eqb, length, get_or, take, drop}
 use Rattle.std.proofs.Math.Path.{refl, ap₂, subst}
 use Rattle.std.proofs.Common.{sym, ◌∙◌, ap, take-append-drop, length-drop, length-take-le}
 use Rattle.std.proofs.Math.Bool.{true, false}
-use Rattle.std.proofs.Math.Decide.{dec_lt}
 use native.Mathlib.Omega.{arith}
-use borrow.Author.Tests.{ltb-false, le-ltb, eqb-true, eqb-false}
+use borrow.Author.Tests.{ltb-false, le-ltb, eqb-true}
 use Rattle.std.proofs.Math.ListN.{length-append, get_or-append}
 use Rattle.std.proofs.lemmas.List.{take-append-le, drop-append-le}
 use Rattle.octets.specs.BaseLaws.{refused_none}
@@ -15,7 +14,6 @@ use Rattle.octets.specs.Base.{pick, Answer, refused, accepted, values_of}
 use Rattle.octets.specs.Number.{get}
 use Rattle.octets.specs.NumberLaws.{Octets, octets_take, octets_drop, get_front}
 use Rattle.octets.specs.Store.{part, length_part}
-use Rattle.sheet_layout.specs.declared.Figures.{Figures}
 use Rattle.sheet_layout.specs.declared.Tap.{Tap}
 use Rattle.sheet_layout.specs.declared.Layout.{Layout}
 use Rattle.sheet_layout.specs.Check.{refusal_of}
@@ -25,6 +23,7 @@ use Rattle.sheet_layout.specs.CheckLaws.{Sound, sound}
 use Rattle.sheet_read.specs.Sheet.{map_of, stands, field_count, row, width, field_at, field, figures_in, count_place}
 use Rattle.sheet_read.specs.Sheet.{count_in, tap_in, taps_from, layout_in, sheet_size, Reading, unread, read_sheet}
 use Rattle.sheet_layout.specs.Limits.{max_stations}
+use Rattle.sheet_read.specs.SheetLaws.{fields_rise, field_ends}
 
 -- ---- a sheet that is read
 
@@ -172,17 +171,6 @@ module _ (a z : List ℕ) where
   part_front : (at n : ℕ) → at + n ≤ length a → part (a ++ z) at n ≡ part a at n
   part_front at n h =
       rw (drop-append-le at a z (omega arith)) (take-append-le n (drop at a) z (omega (arith, length-drop at a)))
-
--- the fields follow one another
-fields_rise : (m j d : ℕ) → field_at m j ≤ field_at m (d + j)
-unfolding field_at
-fields_rise m j zero = let e : 0 + j ≡ j = omega arith in rw e (omega arith)
-fields_rise m j (suc d) = let e : suc d + j ≡ suc (d + j) = omega arith in rw e (omega (arith, fields_rise m j d))
-
--- where the field of bit k stands, it ends before the next
-field_ends : (m k : ℕ) → stands m k ≡ true → field_at m k + width k ≤ field_at m (suc k)
-unfolding field_at
-field_ends m k p = rw p (omega arith)
 
 module _ (a z : List ℕ) (h : sheet_size a ≤ length a) where
   front : count_place a + 1 + 7 * count_in a ≤ length a

@@ -2,114 +2,141 @@
 
 #![tactic(auto)]
 
-ghost use Rattle.std.specs.Prelude.{◌≡◌, ◌+◌, ◌*◌, ◌/◌, ◌%◌, ◌<◌, ◌≤◌, eqb, length};
+ghost use Rattle.std.specs.Prelude.{◌≡◌, ◌+◌, ◌*◌, ◌<◌, ◌≤◌, suc, length};
 ghost use Rattle.octets.specs.Base.{pick};
 ghost use Rattle.sheet_layout.specs.Layout.{places_of};
-ghost use Rattle.sheet_read.specs.Sheet.{tap_in, taps_from, unread, read_sheet, sheet_reading};
-ghost use Rattle.sheet_read.specs.SheetLaws.{sizes_of, ends, field_of, figures_of, layout_of};
+ghost use Rattle.sheet_read.specs.Sheet.{map_of, stands, field_count, row, width, field_at, field, figures_in};
+ghost use Rattle.sheet_read.specs.Sheet.{tap_in, taps_from, layout_in, count_in, count_place, sheet_size};
+ghost use Rattle.sheet_read.specs.Sheet.{read_sheet, sheet_reading};
 ghost use Rattle.sheet_layout.specs.Limits.{max_stations};
 
+use octets::Refusal;
 use sheet_layout::{Figures, Layout, Tap};
 
-// The reader's answer: a refusal by its number, or the octets used.
-#[derive(Clone, Copy)]
-pub enum SheetRead {
-    Refused(u32),
-    Used(usize),
-}
-
-// A sheet as read: the answer, and beside it the layout, blank where the sheet is refused.
+// A sheet as read: the octets used, and the layout.
 #[derive(Clone, Copy)]
 pub struct Sheet {
-    pub read: SheetRead,
+    pub used: usize,
     pub layout: Layout,
 }
 
-// The octets that each field takes, none where its bit does not stand.
+// What is known of a field: the octets that it takes, and what it is if absent.
 #[derive(Clone, Copy)]
-pub struct Sizes {
-    pub slot: usize,
-    pub gap1: usize,
-    pub gap2: usize,
-    pub jam: usize,
-    pub limit: usize,
-    pub backoff: usize,
-    pub ends: usize,
+pub struct Field {
+    pub width: usize,
+    pub absent: u32,
 }
 
-// The octets of a field of this width whose bit has this value in the map.
-fn field_size(map: u32, unit: u32, width: usize) -> usize
-    requires { 0 < unit }
-    ensures size { result ≡ pick (eqb (map / unit % 2) 1) width 0 }
-    ensures most { result ≤ width }
+// How many fields a sheet may have.
+pub const FIELDS: usize = 7;
+
+// The fields in the order of the map's bits: slot, gap1, gap2, jam, attempt limit, backoff limit, late-end.
+const TABLE: [Field; FIELDS] = [
+    Field {
+        width: 2,
+        absent: 512,
+    },
+    Field {
+        width: 1,
+        absent: 64,
+    },
+    Field {
+        width: 1,
+        absent: 32,
+    },
+    Field {
+        width: 1,
+        absent: 32,
+    },
+    Field {
+        width: 1,
+        absent: 16,
+    },
+    Field {
+        width: 1,
+        absent: 10,
+    },
+    Field {
+        width: 1,
+        absent: 0,
+    },
+];
+
+// The field of bit k.
+pub fn field_of(k: usize) -> Field
+    requires { k < field_count }
+    ensures width { result.width ≡ width k }
+    ensures range { (1 ≤ result.width) × (result.width ≤ 2) }
+    ensures absent { result.absent ≡ (row k).absent }
 {
-    if map / unit % 2 == 1 { width } else { 0 }
+    TABLE[k]
 }
 
-fn map_sizes(map: u32) -> Sizes
-    ensures value { result ≡ sizes_of map }
-    ensures most { (result.slot ≤ 2) × (result.gap1 ≤ 1) × (result.gap2 ≤ 1) × (result.jam ≤ 1) × (result.limit ≤ 1)
-        × (result.backoff ≤ 1) × (result.ends ≤ 1) }
+// Whether bit k of the map stands.
+fn stands(s: &[u8], k: usize) -> bool
+    requires { (0 < length s.now) × (k ≤ field_count) }
+    ensures { result ≡ stands (map_of s.now) k }
 {
-    Sizes {
-        slot: field_size(map, 1, 2),
-        gap1: field_size(map, 2, 1),
-        gap2: field_size(map, 4, 1),
-        jam: field_size(map, 8, 1),
-        limit: field_size(map, 16, 1),
-        backoff: field_size(map, 32, 1),
-        ends: field_size(map, 64, 1),
+    (s[0] >> k) % 2 == 1
+}
+
+// The octets that the field of bit k takes.
+fn taken(s: &[u8], k: usize) -> usize
+    requires { (0 < length s.now) × (k < field_count) }
+    ensures value { result ≡ pick (stands (map_of s.now) k) (width k) 0 }
+    ensures most { result ≤ 2 }
+{
+    if stands(s, k) { field_of(k).width } else { 0 }
+}
+
+// Where the field of bit k begins, or would; after the last one the octet N.
+#[tactic(auto, using(crate::specs::SheetLaws::place_more), unfolding(crate::specs::Sheet::field_at))]
+fn field_at(s: &[u8], k: usize) -> usize
+    requires { (0 < length s.now) × (k ≤ field_count) }
+    ensures place { result ≡ field_at (map_of s.now) k }
+    ensures most { result ≤ 1 + 2 * k }
+{
+    let mut at = 1;
+    for j in 0..k {
+        at += taken(s, j);
     }
+    at
 }
 
-// Where the fields end, and the octet N stands.
-fn fields_end(z: Sizes) -> usize
-    requires slot_bound { (z.slot ≤ 2) × (z.gap1 ≤ 1) × (z.gap2 ≤ 1) × (z.jam ≤ 1) × (z.limit ≤ 1) }
-    requires backoff_bound { (z.backoff ≤ 1) × (z.ends ≤ 1) }
-    ensures value { result ≡ ends z }
-    ensures sum { result ≡ 1 + z.slot + z.gap1 + z.gap2 + z.jam + z.limit + z.backoff + z.ends }
+// The field of bit k, or what stands for it where it has none.
+#[tactic(auto, using(crate::specs::SheetLaws::place_low, crate::specs::SheetLaws::field_within), unfolding(crate::specs::Sheet::field, octets::specs::Number::get))]
+fn read_field(s: &[u8], k: usize) -> u32
+    requires { (k < field_count) × (count_place s.now ≤ length s.now) }
+    ensures { result ≡ field s.now k }
 {
-    1 + z.slot + z.gap1 + z.gap2 + z.jam + z.limit + z.backoff + z.ends
-}
-
-// The field of `size` octets at `at`, or what stands for it where it has none.
-fn read_field(s: &[u8], at: usize, size: usize, absent: u32) -> u32
-    requires { (size ≤ 2) × (at + size ≤ length s.now) }
-    ensures { result ≡ field_of s.now at size absent }
-{
-    if size == 0 {
-        return absent;
+    if !stands(s, k) {
+        return field_of(k).absent;
     }
-    if size == 1 {
+    let at = field_at(s, k);
+    if field_of(k).width == 1 {
         return octets::wide(s[at]);
     }
     octets_words::get16(s, at)
 }
 
-fn read_figures(s: &[u8], z: Sizes) -> Figures
-    requires slot_bound { (z.slot ≤ 2) × (z.gap1 ≤ 1) × (z.gap2 ≤ 1) × (z.jam ≤ 1) × (z.limit ≤ 1) }
-    requires backoff_bound { (z.backoff ≤ 1) × (z.ends ≤ 1) }
-    requires ends_in_bounds { 1 + z.slot + z.gap1 + z.gap2 + z.jam + z.limit + z.backoff + z.ends ≤ length s.now }
-    ensures { result ≡ figures_of s.now z }
+#[tactic(auto, unfolding(crate::specs::Sheet::figures_in))]
+fn read_figures(s: &[u8]) -> Figures
+    requires { count_place s.now ≤ length s.now }
+    ensures { result ≡ figures_in s.now }
 {
-    let gap1_at = 1 + z.slot;
-    let gap2_at = gap1_at + z.gap1;
-    let jam_at = gap2_at + z.gap2;
-    let limit_at = jam_at + z.jam;
-    let backoff_at = limit_at + z.limit;
-    let ends_at = backoff_at + z.backoff;
     Figures {
-        slot: read_field(s, 1, z.slot, 512),
-        gap1: read_field(s, gap1_at, z.gap1, 64),
-        gap2: read_field(s, gap2_at, z.gap2, 32),
-        jam: read_field(s, jam_at, z.jam, 32),
-        limit: read_field(s, limit_at, z.limit, 16),
-        backoff: read_field(s, backoff_at, z.backoff, 10),
-        ends: read_field(s, ends_at, z.ends, 0),
+        slot: read_field(s, 0),
+        gap1: read_field(s, 1),
+        gap2: read_field(s, 2),
+        jam: read_field(s, 3),
+        limit: read_field(s, 4),
+        backoff: read_field(s, 5),
+        ends: read_field(s, 6),
     }
 }
 
 // The station whose seven octets begin at `at`.
+#[tactic(auto, unfolding(crate::specs::Sheet::tap_in))]
 fn read_tap(s: &[u8], at: usize) -> Tap
     requires { at + 7 ≤ length s.now }
     ensures { result ≡ tap_in s.now at }
@@ -119,35 +146,20 @@ fn read_tap(s: &[u8], at: usize) -> Tap
     Tap { position, address }
 }
 
-// The n stations from octet `at` on, and blank places after them.
-fn read_taps(s: &[u8], at: usize, n: usize) -> [Tap; 16]
-    requires { (n ≤ max_stations) × (at + 7 * n ≤ length s.now) }
-    ensures { result ≡ places_of (taps_from s.now at) n }
+// The layout as it is written, of a sheet that is all there; of more than sixteen stations the first sixteen.
+#[tactic(auto, unfolding(crate::specs::Sheet::layout_in, crate::specs::Sheet::sheet_size))]
+fn read_layout(s: &[u8]) -> Layout
+    requires { sheet_size s.now ≤ length s.now }
+    ensures { result ≡ layout_in s.now }
 {
-    let blank = Tap {
-        position: 0,
-        address: [0u8; 6],
-    };
-    let mut all = [blank; 16];
-    let mut i: usize = 0;
-    while i < n {
-        let t = read_tap(s, at + 7 * i);
-        all[i] = t;
-        i += 1;
-    }
-    all
-}
-
-// The layout as it is written, of at most sixteen stations.
-fn read_layout(s: &[u8], z: Sizes, end: usize, count: u32) -> Layout
-    requires slot_bound { (z.slot ≤ 2) × (z.gap1 ≤ 1) × (z.gap2 ≤ 1) × (z.jam ≤ 1) × (z.limit ≤ 1) }
-    requires backoff_bound { (z.backoff ≤ 1) × (z.ends ≤ 1) }
-    requires ends_bound { (1 + z.slot + z.gap1 + z.gap2 + z.jam + z.limit + z.backoff + z.ends ≤ end)
-        × (end + 1 + 7 * count ≤ length s.now) }
-    ensures { result ≡ layout_of s.now z end count }
-{
-    let figures = read_figures(s, z);
-    let stations = read_taps(s, end + 1, sheet_layout::places(count));
+    let figures = read_figures(s);
+    let end = field_at(s, FIELDS);
+    let count = octets::wide(s[end]);
+    let tap = |i: usize| -> Tap
+        requires { end + 8 + 7 * i ≤ length s.now }
+        ensures { result ≡ taps_from s.entry.now (end + 1) i }
+    { read_tap(s, end + 1 + 7 * i) };
+    let stations = sheet_layout::taps(sheet_layout::places(count), tap);
     Layout {
         figures,
         count,
@@ -155,62 +167,26 @@ fn read_layout(s: &[u8], z: Sizes, end: usize, count: u32) -> Layout
     }
 }
 
-// What is answered with a refusal.
-fn unread_sheet(n: u32) -> Sheet
-    ensures { sheet_reading result ≡ unread n }
-{
-    let blank = Tap {
-        position: 0,
-        address: [0u8; 6],
-    };
-    let figures = Figures {
-        slot: 0,
-        gap1: 0,
-        gap2: 0,
-        jam: 0,
-        limit: 0,
-        backoff: 0,
-        ends: 0,
-    };
-    Sheet {
-        read: SheetRead::Refused(n),
-        layout: Layout {
-            figures,
-            count: 0,
-            stations: [blank; 16],
-        },
-    }
-}
-
-// The sheet at the front of s, with the octets used, or a refusal (3 to 8). More may follow it.
-pub fn read_sheet(s: &[u8]) -> Sheet
+// The sheet at the front of s, or a refusal (3 to 8). More may follow it.
+#[tactic(auto, unfolding(crate::specs::Sheet::read_sheet, crate::specs::Sheet::sheet_size, crate::specs::Sheet::layout_in))]
+pub fn read_sheet(s: &[u8]) -> Result<Sheet, Refusal>
     ensures { sheet_reading result ≡ read_sheet s.now }
 {
-    let n = s.len();
-    if n == 0 {
-        return unread_sheet(3);
+    if s.is_empty() {
+        return Err(Refusal::SheetShort);
     }
-    let map = octets::wide(s[0]);
-    let z = map_sizes(map);
-    let end = fields_end(z);
-    if n <= end {
-        return unread_sheet(3);
+    let end = field_at(s, FIELDS);
+    if s.len() <= end {
+        return Err(Refusal::SheetShort);
     }
-    let count = octets::wide(s[end]);
-    let used = end + 1 + 7 * (count as usize);
-    if n < used {
-        return unread_sheet(3);
+    let used = end + 1 + 7 * (s[end] as usize);
+    if s.len() < used {
+        return Err(Refusal::SheetShort);
     }
-    if map / 128 % 2 == 1 {
-        return unread_sheet(4);
+    if stands(s, FIELDS) {
+        return Err(Refusal::MapBits);
     }
-    let y = read_layout(s, z, end, count);
-    let number = sheet_check::refusal(y);
-    if number != 0 {
-        return unread_sheet(number);
-    }
-    Sheet {
-        read: SheetRead::Used(used),
-        layout: y,
-    }
+    let layout = read_layout(s);
+    sheet_check::check(layout)?;
+    Ok(Sheet { used, layout })
 }

@@ -2,7 +2,7 @@
 -- The fields are the rows of sheet_read's table. The laws are in WriteLaws and WriteTheorems. Assumes nothing.
 use Rattle.std.specs.Prelude.{ℕ, zero, suc, ◌+◌, ◌*◌, Bool, List, [], ◌∷◌, ◌++◌, ltb, eqb, length, get_or}
 use Rattle.std.proofs.lemmas.List.Edits.{sets}
-use Rattle.octets.specs.Base.{pick, Answer, refused, accepted, Outcome, outcome}
+use Rattle.octets.specs.Base.{pick, refused, accepted, Outcome, outcome}
 use Rattle.octets.specs.Number.{spelled}
 use Rattle.sheet_layout.specs.declared.Figures.{Figures}
 use Rattle.sheet_layout.specs.declared.Tap.{Tap}
@@ -10,8 +10,6 @@ use Rattle.sheet_layout.specs.declared.Layout.{Layout}
 use Rattle.sheet_layout.specs.Layout.{tap_at}
 use Rattle.sheet_layout.specs.Check.{refusal_of}
 use Rattle.sheet_read.specs.Sheet.{field_count, row, width}
-use Rattle.sheet_write.specs.declared.Written.{Written}
-use Rattle.sheet_write.specs.declared.Written.TheVariants.{Refused, Octets}
 
 -- n parts, one after the other
 unfoldable pub joined : (ℕ → List ℕ) → ℕ → List ℕ
@@ -67,8 +65,3 @@ sheet_written y out =
     (pick (ltb (length out) (length (written y))) (outcome (refused 15) out)
     (outcome (accepted (length (written y) ∷ [])) (sets out 0 (written y))))
     (outcome (refused (refusal_of y)) out)
-
--- what the code's answer stands for
-abbrev pub written_answer : Written → Answer
-written_answer (Refused n) = refused n
-written_answer (Octets n) = accepted (n ∷ [])

@@ -2,35 +2,34 @@
 -- layouts give equal octets, unequal ones unequal octets; a sheet read and written twice stays as after the first
 -- writing; no sheet that reads as the layout is shorter. All goes by the table's rows. Assumes nothing.
 use Prim.Native.Nat.{ℕ, zero, suc, ◌+◌, ◌-◌, ◌*◌, ◌/◌, ◌%◌, ◌^◌, ◌≤◌, ◌<◌, min}
-use Rattle.std.specs.Prelude.{◌≡◌, Bool, true, false, ltb, eqb, take, drop}
+use Rattle.std.specs.Prelude.{◌≡◌, Bool, true, false, eqb, take, drop}
 use Rattle.std.proofs.Math.Path.{refl, sym, ap, ap₂}
-use Rattle.std.proofs.Common.{◌∙◌, subst, true≢false, pow-suc, le-ltb, eq-eqb, ne_eqb, eqb-true, take_at, drop_at}
+use Rattle.std.proofs.Common.{◌∙◌, true≢false, le-ltb, eq-eqb, ne_eqb, eqb-true, take_at, drop_at}
 use mathlib.Core.List.{List, [], ◌∷◌, ◌++◌, append_assoc, append-nil}
 use Rattle.std.proofs.Math.Nat.{pow-succ', div-div-eq-div-mul}
 use native.Mathlib.Omega.{arith}
 use Rattle.std.proofs.Math.ListN.{length, get_or, length-append}
 use Rattle.std.proofs.Math.Seq.{get_or_at}
 use Rattle.octets.specs.Base.{pick, Answer, refused, accepted}
-use Rattle.octets.specs.BaseLaws.{by_test, refused_none}
+use Rattle.octets.specs.BaseLaws.{by_test}
 use Rattle.octets.specs.Filled.{filled_at, filled_same}
 use Rattle.octets.specs.Number.{get, spelled}
 use Rattle.octets.specs.NumberLaws.{length_spelled, get_spelled, get_after, get_front}
 use Rattle.octets.specs.Store.{part}
 use Rattle.sheet_layout.specs.declared.Figures.{Figures}
-use Rattle.sheet_layout.specs.declared.Tap.{Tap}
 use Rattle.sheet_layout.specs.declared.Layout.{Layout}
 use Rattle.sheet_layout.specs.Layout.{blank_tap, places_of, tap_at, position_at, address_at}
 use Rattle.sheet_layout.specs.Limits.{max_stations}
 use Rattle.sheet_layout.specs.Check.{refusal_of}
 use Rattle.sheet_layout.specs.CheckLaws.{Figured, Sound, sound, refusal_same}
 use Rattle.sheet_read.specs.Sheet.{map_of, stands, field_count, row, width, field_at, field, figures_in, count_place}
-use Rattle.sheet_read.specs.Sheet.{count_in, tap_in, taps_from, layout_in, sheet_size, Reading, unread, read_sheet}
+use Rattle.sheet_read.specs.Sheet.{count_in, tap_in, taps_from, layout_in, sheet_size, Reading, read_sheet}
 use Rattle.sheet_read.specs.SheetLaws.{width_most}
 use Rattle.sheet_read.specs.SheetTheorems.{read_sound, read_passes, read_formed, refused_empty, accepted_size}
 use Rattle.sheet_read.specs.SheetTheorems.{sheet_front}
 use Rattle.sheet_write.specs.Write.{joined, values_of, is_absent, map_from, field_octets, fields_octets, head_octets}
 use Rattle.sheet_write.specs.Write.{tap_octets, taps_octets, written}
-use Rattle.sheet_write.specs.WriteLaws.{bit_low, map_small, fields_at, tap_size, head_length, written_length}
+use Rattle.sheet_write.specs.WriteLaws.{bit_low, map_small, fields_at, field_length, tap_size, head_length, written_length}
 
 -- ---- parts, one after the other
 
@@ -105,14 +104,6 @@ stands_is vs k h = ap (λ (x : ℕ). eqb x 1) bit ∙ go (is_absent (get_or vs k
     go false = refl
 
 -- ---- the fields
-
-field_length : (v k : ℕ) → length (field_octets v k) ≡ pick (is_absent v k) 0 (width k)
-unfolding field_octets
-field_length v k = go (is_absent v k)
-  where
-    go : (b : Bool) → length (pick b [] (spelled (width k) v)) ≡ pick b 0 (width k)
-    go true = refl
-    go false = length_spelled (width k) v
 
 fields_length : (vs : List ℕ) (k : ℕ)
     → length (fields_octets vs (suc k)) ≡ length (fields_octets vs k) + pick (is_absent (get_or vs k 0) k) 0 (width k)

@@ -4,50 +4,22 @@
 
 ghost use Rattle.std.specs.Prelude.{◌≡◌, ◌+◌, ◌*◌, ◌-◌, ◌<◌, ◌≤◌, ◌++◌, length};
 ghost use Rattle.std.proofs.lemmas.List.Edits.{sets};
-ghost use Rattle.octets.specs.Base.{pick, outcome};
+ghost use Rattle.octets.specs.Base.{pick, size_answer, outcome};
 ghost use Rattle.octets.specs.Number.{spelled};
-ghost use Rattle.sheet_read.specs.Sheet.{field_count, row, width};
+ghost use Rattle.sheet_read.specs.Sheet.{field_count};
 ghost use Rattle.sheet_layout.specs.Limits.{max_stations};
 ghost use Rattle.sheet_write.specs.Write.{values_of, is_absent, map_from, field_octets, fields_octets, head_octets};
-ghost use Rattle.sheet_write.specs.Write.{taps_octets, written, sheet_written, written_answer};
+ghost use Rattle.sheet_write.specs.Write.{taps_octets, written, sheet_written};
 
+use octets::Refusal;
 use sheet_layout::{Figures, Layout};
-
-// The writer's answer: a refusal by its number, or the octets written.
-#[derive(Clone, Copy)]
-pub enum Written {
-    Refused(u32),
-    Octets(u32),
-}
-
-// How many fields a sheet may have.
-const FIELDS: usize = 7;
-
-// What each field is if absent, in the order of the map's bits.
-const ABSENT: [u32; 7] = [512, 64, 32, 32, 16, 10, 0];
+use sheet_read::{FIELDS, field_of};
 
 // The figures in the order of the map's bits.
-fn values(f: Figures) -> [u32; 7]
+fn values(f: Figures) -> [u32; FIELDS]
     ensures { result ≡ values_of f }
 {
     [f.slot, f.gap1, f.gap2, f.jam, f.limit, f.backoff, f.ends]
-}
-
-// What the field of bit k is if absent.
-fn absent(k: usize) -> u32
-    requires { k < field_count }
-    ensures { result ≡ (row k).absent }
-{
-    ABSENT[k]
-}
-
-// The octets of the field of bit k.
-fn field_width(k: usize) -> usize
-    requires { k < field_count }
-    ensures value { result ≡ width k }
-    ensures range { (1 ≤ result) × (result ≤ 2) }
-{
-    if k == 0 { 2 } else { 1 }
 }
 
 // The bit in the map of a field that holds v: 0 where that is its default.
@@ -56,7 +28,7 @@ fn bit(v: u32, k: usize) -> u32
     ensures value { result ≡ pick (is_absent v k) 0 1 }
     ensures most { result ≤ 1 }
 {
-    if v == absent(k) { 0 } else { 1 }
+    u32::from(v != field_of(k).absent)
 }
 
 // The map.
@@ -65,62 +37,56 @@ fn map_octet(f: Figures) -> u32
     ensures most { result < 128 }
 {
     let all = values(f);
-    let mut map: u32 = 0;
-    let mut k: usize = FIELDS;
-    while 0 < k {
-        k -= 1;
+    let mut map = 0;
+    for k in (0..FIELDS).rev() {
         map = bit(all[k], k) + 2 * map;
     }
     map
 }
 
 // The octets of the field of bit k that holds v.
+#[tactic(auto, using(crate::specs::WriteLaws::field_length))]
 fn field_size(v: u32, k: usize) -> usize
     requires { k < field_count }
     ensures value { result ≡ length (field_octets v k) }
     ensures most { result ≤ 2 }
 {
-    if v == absent(k) {
-        return 0;
-    }
-    field_width(k)
+    let field = field_of(k);
+    if v == field.absent { 0 } else { field.width }
 }
 
 // The octets of all fields.
+#[tactic(auto, using(crate::specs::WriteLaws::fields_size), unfolding(crate::specs::Write::joined))]
 fn fields_size(f: Figures) -> usize
     ensures value { result ≡ length (fields_octets (values_of f) field_count) }
     ensures most { result ≤ 14 }
 {
     let all = values(f);
-    let mut size: usize = 0;
-    let mut k: usize = 0;
-    while k < FIELDS {
+    let mut size = 0;
+    for k in 0..FIELDS {
         size += field_size(all[k], k);
-        k += 1;
     }
     size
 }
 
 // Writes the field of bit k that holds v at `at`. Answers where it ends.
+#[tactic(auto, using(crate::specs::WriteLaws::low_octets, octets::specs::NumberLaws::length_spelled), unfolding(crate::specs::Write::field_octets))]
 fn put_field(out: &mut [u8], at: usize, v: u32, k: usize) -> usize
     requires { (k < field_count) × (at + 2 ≤ length out.old) }
     ensures end { result ≡ at + length (field_octets v k) }
     ensures octets { out.new ≡ sets out.old at (field_octets v k) }
     ensures most { result ≤ at + 2 }
 {
-    if v == absent(k) {
+    let field = field_of(k);
+    if v == field.absent {
         return at;
     }
-    if field_width(k) == 1 {
-        out[at] = (v % 256) as u8;
-        return at + 1;
-    }
-    out[at] = (v / 256 % 256) as u8;
-    out[at + 1] = (v % 256) as u8;
-    at + 2
+    octets_copies::store(out, at, &v.to_be_bytes()[4 - field.width..]);
+    at + field.width
 }
 
 // Writes all fields from octet 1 on. Answers where they end.
+#[tactic(auto, using(crate::specs::WriteLaws::fields_on, crate::specs::WriteLaws::fields_more), unfolding(crate::specs::Write::joined))]
 fn put_fields(out: &mut [u8], f: Figures) -> usize
     requires { 15 ≤ length out.old }
     ensures end { result ≡ 1 + length (fields_octets (values_of f) field_count) }
@@ -128,16 +94,15 @@ fn put_fields(out: &mut [u8], f: Figures) -> usize
     ensures most { result ≤ 15 }
 {
     let all = values(f);
-    let mut at: usize = 1;
-    let mut k: usize = 0;
-    while k < FIELDS {
+    let mut at = 1;
+    for k in 0..FIELDS {
         at = put_field(out, at, all[k], k);
-        k += 1;
     }
     at
 }
 
 // Writes the map and the fields. Answers where they end.
+#[tactic(auto, using(crate::specs::WriteLaws::head_length, crate::specs::WriteLaws::set_past), unfolding(octets::specs::Number::spelled, crate::specs::Write::head_octets))]
 fn put_head(out: &mut [u8], f: Figures) -> usize
     requires { 15 ≤ length out.old }
     ensures end { result ≡ length (head_octets f) }
@@ -150,6 +115,7 @@ fn put_head(out: &mut [u8], f: Figures) -> usize
 }
 
 // Writes a station at `at`.
+#[tactic(auto, using(crate::specs::WriteLaws::set_past), unfolding(octets::specs::Number::spelled))]
 fn put_tap(out: &mut [u8], at: usize, position: u32, address: [u8; 6])
     requires { at + 7 ≤ length out.old }
     ensures octets { out.new ≡ sets out.old at (spelled 1 position ++ address) }
@@ -160,20 +126,19 @@ fn put_tap(out: &mut [u8], at: usize, position: u32, address: [u8; 6])
 }
 
 // Writes the first n stations from `at` on.
+#[tactic(auto, using(crate::specs::WriteLaws::taps_length, crate::specs::WriteLaws::taps_more), unfolding(crate::specs::Write::joined))]
 fn put_taps(out: &mut [u8], at: usize, y: Layout, n: usize)
     requires { (n ≤ max_stations) × (at + 7 * n ≤ length out.old) }
     ensures { out.new ≡ sets out.old at (taps_octets y n) }
 {
-    let mut i: usize = 0;
-    while i < n {
+    for i in 0..n {
         let t = y.stations[i];
-        let address = t.address;
-        put_tap(out, at + 7 * i, t.position, address);
-        i += 1;
+        put_tap(out, at + 7 * i, t.position, t.address);
     }
 }
 
 // Writes N at `at`, and the stations behind it.
+#[tactic(auto, using(crate::specs::WriteLaws::set_past), unfolding(octets::specs::Number::spelled))]
 fn put_stations(out: &mut [u8], at: usize, y: Layout)
     requires { (y.count ≤ max_stations) × (at + 1 + 7 * y.count ≤ length out.old) }
     ensures { out.new
@@ -183,7 +148,8 @@ fn put_stations(out: &mut [u8], at: usize, y: Layout)
     out[at] = (y.count % 256) as u8;
 }
 
-// The octets of a station: its position, and its address.
+// The octets of a station: its position, and its address. A proof knows the length of an array within a struct only
+// where the array is an argument: so the loop below adds up what is 7 for each station, and `put_tap` takes the fields.
 fn tap_size(address: [u8; 6]) -> usize
     ensures seven { result ≡ 7 }
     ensures six { length address ≡ 6 }
@@ -192,23 +158,21 @@ fn tap_size(address: [u8; 6]) -> usize
 }
 
 // The octets of the first n stations.
+#[tactic(auto, using(crate::specs::WriteLaws::taps_size), unfolding(crate::specs::Write::joined))]
 fn taps_size(y: Layout, n: usize) -> usize
     requires { n ≤ max_stations }
     ensures value { result ≡ length (taps_octets y n) }
     ensures seven { result ≡ 7 * n }
 {
-    let mut size: usize = 0;
-    let mut i: usize = 0;
-    while i < n {
-        let t = y.stations[i];
-        let address = t.address;
-        size += tap_size(address);
-        i += 1;
+    let mut size = 0;
+    for i in 0..n {
+        size += tap_size(y.stations[i].address);
     }
     size
 }
 
 // The octets of the sheet.
+#[tactic(auto, using(crate::specs::WriteLaws::written_length, crate::specs::WriteLaws::head_length))]
 fn sheet_size(y: Layout) -> usize
     requires { y.count ≤ max_stations }
     ensures value { result ≡ length (written y) }
@@ -220,6 +184,7 @@ fn sheet_size(y: Layout) -> usize
 }
 
 // Writes the sheet, where there is room for it.
+#[tactic(auto, using(octets::specs::Store::sets_append), unfolding(crate::specs::Write::written))]
 fn put_sheet(out: &mut [u8], y: Layout)
     requires le_count { (2 ≤ y.count) × (y.count ≤ max_stations) }
     requires count_in_bounds { length (head_octets y.figures) + 1 + 7 * y.count ≤ length out.old }
@@ -229,18 +194,16 @@ fn put_sheet(out: &mut [u8], y: Layout)
     put_stations(out, end, y);
 }
 
-// The shortest sheet that reads as the layout, at the front of `out`, or a refusal (5 to 8, 15).
-pub fn write_sheet(y: Layout, out: &mut [u8]) -> Written
-    ensures { outcome (written_answer result) out.new ≡ sheet_written y out.old }
+// The shortest sheet that reads as the layout, at the front of `out`: the octets written, or a refusal (5 to 8, 15).
+#[tactic(auto, using(crate::specs::WriteLaws::counted), unfolding(crate::specs::Write::sheet_written))]
+pub fn write_sheet(y: Layout, out: &mut [u8]) -> Result<u32, Refusal>
+    ensures { outcome (size_answer result) out.new ≡ sheet_written y out.old }
 {
-    let number = sheet_check::refusal(y);
-    if number != 0 {
-        return Written::Refused(number);
-    }
+    sheet_check::check(y)?;
     let size = sheet_size(y);
     if out.len() < size {
-        return Written::Refused(15);
+        return Err(Refusal::OutputShort);
     }
     put_sheet(out, y);
-    Written::Octets(size as u32)
+    Ok(size as u32)
 }

@@ -1,6 +1,6 @@
 -- How far the text may reach: no text of a run is longer than that many octets. The laws of the loop that writes it.
 -- Assumes nothing.
-use Rattle.std.specs.Prelude.{ℕ, Bool, Option, Result, Ok, Err, OnOk, ◌+◌, ◌-◌, ◌*◌, ◌≤◌, ◌≡◌, true, false, not, List, [], ◌++◌, length, take, drop}
+use Rattle.std.specs.Prelude.{ℕ, Bool, Option, Result, Ok, Err, OnOk, ◌+◌, ◌*◌, ◌≤◌, ◌≡◌, true, false, not, List, [], ◌++◌, length, take, drop}
 use Rattle.std.proofs.Common.{refl, sym, ◌∙◌, ap, subst, true≢false, append_assoc, append-nil, take-append-drop, drop-drop, drop_of_length-le, arith}
 use Rattle.std.proofs.lemmas.Bool.{not-true, not-false}
 use Rattle.octets.specs.Store.{part}
@@ -22,12 +22,12 @@ most = 34359873536
 
 module _ (l a c x : List ℕ) (k v : ℕ) (h : Progress) (z : k ≤ length x) (q : length a ≡ area_size)
     (e : moved (take k x) h c ≡ first_piece l a) where
-  pub first_end : v ≡ 0 + length (take (k - 0) x) → Along l v h c
+  pub first_end : v ≡ 0 + length (take k x) → Along l v h c
   first_end t =
       let m : v ≡ k = omega (arith, part_size x k z) in subst (λ (i : ℕ). Along l i h c) (sym m)
       (begun_along l a c x k h z q e)
 
-  pub first_most : length x ≡ 2048 → v ≡ 0 + length (take (k - 0) x) → v + 2048 * pieces h ≤ most
+  pub first_most : length x ≡ 2048 → v ≡ 0 + length (take k x) → v + 2048 * pieces h ≤ most
   first_most y t =
       omega (
         arith,
@@ -36,7 +36,7 @@ module _ (l a c x : List ℕ) (k v : ℕ) (h : Progress) (z : k ≤ length x) (q
             (first_pieces l a q),
       )
 
-pub first_fits : (x : List ℕ) (k : ℕ) → k ≤ length x → length x ≡ 2048 → 0 + length (take (k - 0) x) ≤ most
+pub first_fits : (x : List ℕ) (k : ℕ) → k ≤ length x → length x ≡ 2048 → 0 + length (take k x) ≤ most
 first_fits x k z y = omega (arith, part_size x k z)
 
 -- ---- a piece after it, from n on
@@ -44,15 +44,15 @@ first_fits x k z y = omega (arith, part_size x k z)
 module _ (l b c x : List ℕ) (n k : ℕ) (g h : Progress) (w : Along l n g b) (o : not g.ended ≡ true)
     (z : k ≤ length x)
     (e : moved (take k x) h c ≡ move l g b) where
-  pub next_room : length x ≡ 2048 → n + 2048 * pieces g ≤ most → n + length (take (k - 0) x) ≤ most
+  pub next_room : length x ≡ 2048 → n + 2048 * pieces g ≤ most → n + length (take k x) ≤ most
   next_room y t = omega (arith, part_size x k z, along_less l b c x n k g h w o z e)
 
-  pub next_end : (v : ℕ) → v ≡ n + length (take (k - 0) x) → Along l v h c
+  pub next_end : (v : ℕ) → v ≡ n + length (take k x) → Along l v h c
   next_end v t =
       let m : v ≡ n + k = omega (arith, part_size x k z) in subst (λ (i : ℕ). Along l i h c) (sym m)
       (along_more l b c x n k g h w o z e)
 
-  pub next_most : (v : ℕ) → length x ≡ 2048 → n + 2048 * pieces g ≤ most → v ≡ n + length (take (k - 0) x)
+  pub next_most : (v : ℕ) → length x ≡ 2048 → n + 2048 * pieces g ≤ most → v ≡ n + length (take k x)
       → v + 2048 * pieces h ≤ most
   next_most v y t u = omega (arith, part_size x k z, along_less l b c x n k g h w o z e)
 

@@ -12,30 +12,23 @@ ghost use Rattle.report_theorem.specs.Along.{Along};
 ghost use Rattle.simulate.specs.Written.{most};
 ghost use Rattle.area.specs.Offsets.{area_size};
 
-use report_spec::Progress;
+use report_spec::{Progress, ROOM};
 use std::io;
 use std::io::Write;
 
-// How many octets of the text were handed to the writer, and whether it took all of the last ones.
-#[derive(Drop)]
-struct Written {
-    at: usize,
-    done: io::Result<()>,
-}
+// The writer, the input and the area go together, but `main` lends each of them once, and a struct of three borrows
+// would be taken apart at each call.
 
 // The one call that writes. It is handed the octets of what is printed for the input from `at` on, and answers where
 // they end.
-fn write_piece<W: Write>(to: &mut W, input: &[u8], at: usize, piece: &[u8]) -> Written
+fn write_piece<W: Write>(to: &mut W, input: &[u8], at: usize, piece: &[u8]) -> io::Result<usize>
     requires piece_value { part (printed input.now) at (length piece.now) ≡ piece.now }
     requires piece_bound { at + length piece.now ≤ most }
-    ensures end { result.at ≡ at + length piece.now }
-    ensures text { OnOk result.done (Appends (W.contents to.old) (W.contents to.new) piece.now) }
+    ensures end { IfOk result (λ end. end ≡ at + length piece.now) }
+    ensures text { OnOk result (Appends (W.contents to.old) (W.contents to.new) piece.now) }
 {
-    let done = to.write_all(piece);
-    Written {
-        at: at + piece.len(),
-        done,
-    }
+    to.write_all(piece)?;
+    Ok(at + piece.len())
 }
 
 // Writes the pieces that are still to come, each as soon as it is made, until the writer fails. Answers where they end.
@@ -50,15 +43,12 @@ fn write_rest<W: Write>(
     ensures end { IfOk result (λ end. end ≡ length (printed input.now)) }
     ensures text { OnOk result (Appends (W.contents to.old) (W.contents to.new) (drop at (printed input.now))) }
 {
-    let mut buf = [0u8; 2048];
+    let mut buf = [0u8; ROOM];
     let mut at = at;
     let mut g = g;
     while !g.ended {
         let p = report_whole::parts::next(input, area, &mut buf, g);
-        let size = p.size;
-        let w = write_piece(to, input, at, &buf[0..size]);
-        w.done?;
-        at = w.at;
+        at = write_piece(to, input, at, &buf[..p.size])?;
         g = p.progress;
     }
     Ok(at)
@@ -71,13 +61,10 @@ fn write_run<W: Write>(to: &mut W, input: &[u8], area: &mut [u8]) -> io::Result<
     ensures end { IfOk result (λ end. end ≡ length (printed input.now)) }
     ensures text { OnOk result (Appends (W.contents to.old) (W.contents to.new) (printed input.now)) }
 {
-    let mut buf = [0u8; 2048];
+    let mut buf = [0u8; ROOM];
     let p = report_whole::parts::first(input, area, &mut buf);
-    let size = p.size;
-    let w = write_piece(to, input, 0, &buf[0..size]);
-    w.done?;
-    let g = p.progress;
-    write_rest(to, input, area, w.at, g)
+    let at = write_piece(to, input, 0, &buf[..p.size])?;
+    write_rest(to, input, area, at, p.progress)
 }
 
 // One octet more than an input may have is read: a longer one is refused without keeping it.
@@ -85,6 +72,6 @@ fn main(rt: HostRuntime) -> io::Result<()> {
     let mut input = [0u8; 16385];
     let mut area = [0u8; area::AREA];
     let n = reading::fill(&mut rt.stdin(), &mut input)?;
-    write_run(&mut io::writer(&rt), &input[0..n], &mut area)?;
+    write_run(&mut io::writer(&rt), &input[..n], &mut area)?;
     Ok(())
 }

@@ -1,12 +1,9 @@
 -- Initialize (4.2.7.5): all flags are down, and every process goes up to where it first waits. Nothing is said of what
 -- incomingFrame holds before the first reception. Assumes nothing.
-use Rattle.std.specs.Prelude.{ℕ, false, List, [], ◌∷◌}
+use Rattle.std.specs.Prelude.{ℕ, false, List, [], ◌∷◌, None}
 use Rattle.sheet_layout.specs.declared.Figures.{Figures}
 use Rattle.station_symbols.specs.declared.Heard.TheVariants.{Nothing}
 use Rattle.station_symbols.specs.declared.Emission.TheVariants.{Rest}
-use Rattle.station_spec.specs.declared.TransmitEvent.TheVariants.{NoTransmit}
-use Rattle.station_spec.specs.declared.ReceiveEvent.TheVariants.{NoReceive}
-use Rattle.station_spec.specs.declared.Stored.TheVariants.{NoStore}
 use Rattle.standard.specs.Language.{Variables, Draws, Store, store}
 use Rattle.standard.specs.Interpreter.{execute, enough}
 use Rattle.standard.specs.Reading.{Machine, machine}
@@ -21,8 +18,8 @@ blank = record { flags = λ x. false; numbers = λ x. 0 }
 
 abbrev pub blank_store : Draws → List ℕ → Store
 blank_store draws incoming =
-    store blank (record { variables = blank; emission = Rest; sent = NoTransmit })
-    (record { variables = blank; row = []; incoming = incoming; got = NoReceive; stored = NoStore })
+    store blank (record { variables = blank; emission = Rest; sent = None })
+    (record { variables = blank; row = []; incoming = incoming; got = None; stored = None })
     (record { heard = Nothing; emitted = false; draws = draws; offered = 0 })
 
 unfoldable pub initialize : Figures → (address : List ℕ) → Draws → (incoming : List ℕ) → Machine

@@ -1,12 +1,11 @@
 -- The interpreter: what a statement does, and how the processes run, a bit time at a time. Assumes nothing.
-use Rattle.std.specs.Prelude.{ℕ, zero, suc, ◌+◌, ◌*◌, ◌/◌, ◌%◌, ◌^◌, Bool, List, [], ◌∷◌, eqb, get_or, set}
+use Rattle.std.specs.Prelude.{ℕ, zero, suc, ◌+◌, ◌*◌, ◌/◌, ◌%◌, ◌^◌, Bool, List, [], ◌∷◌, eqb, get_or, set, Option, None, Some}
 use Rattle.octets.specs.Base.{pick}
 use Rattle.octets.specs.Bits.{digit}
 use Rattle.station_symbols.specs.declared.Emission.{Emission}
 use Rattle.station_spec.specs.declared.TransmitEvent.{TransmitEvent}
 use Rattle.station_spec.specs.declared.ReceiveEvent.{ReceiveEvent}
 use Rattle.station_spec.specs.declared.Stored.{Stored}
-use Rattle.station_spec.specs.declared.Stored.TheVariants.{NoStore, Store as Bit}
 use Rattle.standard.specs.Language.{Store, store, Moment, offer, look, bit, over, Statement, ◌≔◌, ◌≔#◌, emit}
 use Rattle.standard.specs.Language.{report, hand, keep, row, skip, ◌⨾◌, test, while, repeat, cycle, call, await}
 use Rattle.standard.specs.Language.{put_flag, put_number}
@@ -14,9 +13,10 @@ use Rattle.standard.specs.Language.{put_flag, put_number}
 -- ---- statements that write no variable
 
 -- "low bit first": the octets of a frame with bit k, and none after it in its octet
-abbrev pub kept_in : List ℕ → Stored → List ℕ
-kept_in l NoStore = l
-kept_in l (Bit k b) = set l (k / 8) (get_or l (k / 8) 0 % 2 ^ (k % 8) + digit b * 2 ^ (k % 8))
+abbrev pub kept_in : List ℕ → Option Stored → List ℕ
+kept_in l None = l
+kept_in l (Some b) =
+    set l (b.bit / 8) (get_or l (b.bit / 8) 0 % 2 ^ (b.bit % 8) + digit b.one * 2 ^ (b.bit % 8))
 
 abbrev pub with_emission : Emission → Store → Store
 with_emission e s =
@@ -28,23 +28,23 @@ with_emission e s =
 abbrev pub with_report : TransmitEvent → Store → Store
 with_report v s =
     store s.deference
-    (record { variables = s.transmission.variables; emission = s.transmission.emission; sent = v })
+    (record { variables = s.transmission.variables; emission = s.transmission.emission; sent = Some v })
     s.reception
     s.signals
 
-abbrev pub with_reception : List Bool → List ℕ → ReceiveEvent → Stored → Store → Store
+abbrev pub with_reception : List Bool → List ℕ → Option ReceiveEvent → Option Stored → Store → Store
 with_reception w l g b s =
     store s.deference s.transmission
     (record { variables = s.reception.variables; row = w; incoming = l; got = g; stored = b })
     s.signals
 
 abbrev pub with_handed : ReceiveEvent → Store → Store
-with_handed g s = with_reception s.reception.row s.reception.incoming g s.reception.stored s
+with_handed g s = with_reception s.reception.row s.reception.incoming (Some g) s.reception.stored s
 
 abbrev pub with_row : List Bool → Store → Store
 with_row w s = with_reception w s.reception.incoming s.reception.got s.reception.stored s
 
-abbrev pub with_kept : Stored → Store → Store
+abbrev pub with_kept : Option Stored → Store → Store
 with_kept b s = with_reception s.reception.row (kept_in s.reception.incoming b) s.reception.got b s
 
 -- ---- a process

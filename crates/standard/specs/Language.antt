@@ -1,7 +1,7 @@
 -- The language in which section 4.2's procedures are written down as data: variables and statements. Variables have
 -- the section's own names (4.2.7.2 to 4.2.7.4); `jamming`, `spoiled`, `overlapped`, `real_time`, `header_bits`,
 -- `outgoing_size`, `wait_left` and `drawn` are added (docs/STANDARD.md). Assumes nothing.
-use Rattle.std.specs.Prelude.{ℕ, Bool, List, ltb, eqb}
+use Rattle.std.specs.Prelude.{ℕ, Bool, List, ltb, eqb, Option}
 use Rattle.octets.specs.Base.{pick}
 use Rattle.station_symbols.specs.declared.Heard.{Heard}
 use Rattle.station_symbols.specs.declared.Emission.{Emission}
@@ -72,14 +72,14 @@ with_number x v p =
 pub record Transmission : Type 0 where
   pub variables : Variables
   pub emission : Emission
-  pub sent : TransmitEvent
+  pub sent : Option TransmitEvent
 
 pub record Reception : Type 0 where
   pub variables : Variables
   pub row : List Bool
   pub incoming : List ℕ
-  pub got : ReceiveEvent
-  pub stored : Stored
+  pub got : Option ReceiveEvent
+  pub stored : Option Stored
 
 -- What it is handed: random numbers, so many, to be used in turn; what is heard of others in this bit time, whether it
 -- emitted in the last one, the octets of a frame that is offered (0 for none).
@@ -123,7 +123,7 @@ pub data Statement : Type 0 where
   emit : (Store → Emission) → Statement
   report : (Store → TransmitEvent) → Statement
   hand : (Store → ReceiveEvent) → Statement
-  keep : (Store → Stored) → Statement
+  keep : (Store → Option Stored) → Statement
   row : (Store → List Bool) → Statement
   skip : Statement
   ◌⨾◌ : Statement → Statement → Statement

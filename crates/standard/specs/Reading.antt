@@ -2,7 +2,7 @@
 -- (4.3.3) hands to them; document 01 fixes both ("One bit time"). All of that is here, and listed in docs/STANDARD.md:
 -- the signals, the operations that take time, the four moments of a bit time, the processes' order in each.
 -- Assumes nothing.
-use Rattle.std.specs.Prelude.{ℕ, ◌+◌, ◌-◌, ◌%◌, Bool, true, false, ◌||◌, ◌&&◌, List, [], ◌∷◌, ltb, eqb, take}
+use Rattle.std.specs.Prelude.{ℕ, ◌+◌, ◌-◌, ◌%◌, Bool, true, false, ◌||◌, ◌&&◌, List, [], ◌∷◌, ltb, eqb, take, Option, None, Some}
 use Rattle.octets.specs.Base.{pick}
 use Rattle.frame_build.specs.Limits.{buffer_bits}
 use Rattle.station_symbols.specs.Packet.{hears_any, is_emission}
@@ -11,11 +11,8 @@ use Rattle.station_symbols.specs.declared.Heard.TheVariants.{Nothing, Clean, Spo
 use Rattle.station_symbols.specs.declared.Emission.{Emission}
 use Rattle.station_symbols.specs.declared.Emission.TheVariants.{Rest}
 use Rattle.station_spec.specs.declared.TransmitEvent.{TransmitEvent}
-use Rattle.station_spec.specs.declared.TransmitEvent.TheVariants.{NoTransmit}
 use Rattle.station_spec.specs.declared.ReceiveEvent.{ReceiveEvent}
-use Rattle.station_spec.specs.declared.ReceiveEvent.TheVariants.{NoReceive}
 use Rattle.station_spec.specs.declared.Stored.{Stored}
-use Rattle.station_spec.specs.declared.Stored.TheVariants.{NoStore, Store as Bit}
 use Rattle.standard.specs.Language.{with_number, Store, store, Test, Term, Statement, ◌≔◌, ◌≔#◌, emit, ◌⨾◌}
 use Rattle.standard.specs.Language.{while, await, Moment, offer, look, bit, over, flag, number, transmitting}
 use Rattle.standard.specs.Language.{spoiled, overlapped, real_time, max_back_off, wait_left, drawn}
@@ -59,8 +56,8 @@ note_symbol =
     overlapped ≔ (λ s. flag overlapped s || is_emission s.transmission.emission)
 
 -- bit n of a frame. "Bits past what the receive buffer holds are counted, not kept."
-abbrev pub kept_bit : ℕ → Bool → Stored
-kept_bit n b = pick (ltb n buffer_bits) (Bit n b) NoStore
+abbrev pub kept_bit : ℕ → Bool → Option Stored
+kept_bit n b = pick (ltb n buffer_bits) (Some (record { bit = n; one = b })) None
 
 -- Random (4.2.8). "r = draw mod 2^min(n, backoff limit)"; "Each station has its own D draws .., used in turn, then
 -- from the first again."
@@ -163,13 +160,13 @@ pub record Input : Type 0 where
 abbrev pub signalled : Input → Store → Store
 signalled i s =
     store (with_number real_time (s.deference.numbers real_time + 1) s.deference)
-    (record { variables = s.transmission.variables; emission = Rest; sent = NoTransmit })
+    (record { variables = s.transmission.variables; emission = Rest; sent = None })
     (record {
       variables = s.reception.variables;
       row = s.reception.row;
       incoming = s.reception.incoming;
-      got = NoReceive;
-      stored = NoStore;
+      got = None;
+      stored = None;
     })
     (record {
       heard = i.heard;
@@ -190,9 +187,9 @@ bit_time i x = passes moments (begins i x)
 -- what a bit time shows
 pub record Output : Type 0 where
   pub emission : Emission
-  pub sent : TransmitEvent
-  pub got : ReceiveEvent
-  pub stored : Stored
+  pub sent : Option TransmitEvent
+  pub got : Option ReceiveEvent
+  pub stored : Option Stored
 
 abbrev pub output_of : Store → Output
 output_of s =

@@ -1,6 +1,6 @@
 -- The receiver's part of a bit time, for the BitReceiver and the frame receiver: it is document 01's receiver. Assumes
 -- nothing.
-use Rattle.std.specs.Prelude.{ℕ, suc, ◌+◌, ◌-◌, ◌/◌, ◌%◌, ◌≤◌, ◌<◌, ◌≡◌, Bool, ◌||◌, List, [], ◌∷◌, ltb, eqb, get_or, take, replicate}
+use Rattle.std.specs.Prelude.{ℕ, suc, ◌+◌, ◌-◌, ◌/◌, ◌%◌, ◌≤◌, ◌<◌, ◌≡◌, Bool, ◌||◌, List, [], ◌∷◌, ltb, eqb, get_or, take, replicate, Option, None, Some}
 use Rattle.std.proofs.Math.Path.{refl, ap₂, subst}
 use Rattle.std.proofs.Common.{sym, ◌∙◌, ap, subst₂, true≢false, length-take}
 use Rattle.std.proofs.Math.Bool.{true, false, not, ◌&&◌, and-false, or-false, or-true}
@@ -18,11 +18,11 @@ use Rattle.station_symbols.specs.declared.Heard.TheVariants.{Nothing, Clean, Spo
 use Rattle.station_state.specs.declared.Receiver.{Receiver}
 use Rattle.station_state.specs.declared.Receiver.TheVariants.{Listening, Readable, Seeking, Collecting}
 use Rattle.station_spec.specs.declared.ReceiveEvent.{ReceiveEvent}
-use Rattle.station_spec.specs.declared.ReceiveEvent.TheVariants.{NoReceive, GotOk, GotTooLong, GotAlignment}
+use Rattle.station_spec.specs.declared.ReceiveEvent.TheVariants.{GotOk, GotTooLong, GotAlignment}
 use Rattle.station_spec.specs.declared.ReceiveEvent.TheVariants.{GotCheck, GotLength}
-use Rattle.station_spec.specs.declared.Stored.TheVariants.{NoStore}
 use Rattle.station_spec.specs.declared.Received.{Received}
-use Rattle.station_spec.specs.Receive.{no_row, next_row, delimiter_row, stored_bit, hearing, seek_bit, collect_bit, seek}
+use Rattle.station_spec.specs.Receive.{no_row, next_row, delimiter_row, stored_bit, hearing, seek_bit, collect_bit}
+use Rattle.station_spec.specs.Receive.{seek}
 use Rattle.station_spec.specs.Receive.{collect, hear, addressed, open_answer, got_event, readable_after, deciding}
 use Rattle.station_spec.specs.Receive.{opening, decide, ended, receive}
 use Rattle.standard.specs.Language.{excess_bits, Variables, with_flag, with_number, Transmission, Reception}
@@ -100,7 +100,7 @@ pub data ReceiveAt (v : Variables) (w : List Bool) (x : Receiver) (at : Place) :
 -- ---- the receiver's part of a bit time
 
 abbrev pub fresh_reception : Variables → List Bool → List ℕ → Reception
-fresh_reception v w l = record { variables = v; row = w; incoming = l; got = NoReceive; stored = NoStore }
+fresh_reception v w l = record { variables = v; row = w; incoming = l; got = None; stored = None }
 
 pub record ReceiveTurns (a : List ℕ) (d : Variables) (t : Transmission) (s : Signals) (v : Variables) (w : List Bool)
     (l : List ℕ) (at : Place) (o : Received) : Type 0 where
@@ -112,7 +112,8 @@ pub record ReceiveTurns (a : List ℕ) (d : Variables) (t : Transmission) (s : S
   pub take_turn : Turns bit at (store d t (fresh_reception v w l) s) (ran take_place (store d t taken s))
   pub decide_turn : (u : Transmission)
       → Turns over (at_listen a) (store d u taken s) (ran (at_listen a) (store d u decided s))
-  pub close_turn : (u : Transmission) → Turns over take_place (store d u decided s) (ran close_place (store d u closed s))
+  pub close_turn : (u : Transmission)
+      → Turns over take_place (store d u decided s) (ran close_place (store d u closed s))
   pub got : closed.got ≡ o.event
   pub stored : closed.stored ≡ o.stored
   pub keeps : closed.incoming ≡ kept_in l o.stored
@@ -151,7 +152,7 @@ module _ (a : List ℕ) {d : Variables} {u : Transmission} {r : Reception} {s : 
   client_listens = round (enter frame_listens)
 
 -- from r it reports g, and listens again
-record Decided (a : List ℕ) (d : Variables) (s : Signals) (r : Reception) (g : ReceiveEvent) : Type 0 where
+record Decided (a : List ℕ) (d : Variables) (s : Signals) (r : Reception) (g : Option ReceiveEvent) : Type 0 where
   after : Reception
   turn : (u : Transmission) → Turns over (at_listen a) (store d u r s) (ran (at_listen a) (store d u after s))
   receives : after.variables.flags receiving ≡ true
@@ -177,10 +178,10 @@ module _ (a : List ℕ) (d : Variables) (s : Signals) (v : Variables) (w : List 
   abbrev ours : Bool
   ours = equal (destination_of l) a || equal (destination_of l) (replicate 6 255)
 
-  abbrev Says : ReceiveEvent → Type 0
+  abbrev Says : Option ReceiveEvent → Type 0
   Says g = Decided a d s (fresh_reception v w l) g
 
-  short_frame : long ≡ false → Says NoReceive
+  short_frame : long ≡ false → Says None
   short_frame c =
       record {
         after = _;
@@ -194,7 +195,7 @@ module _ (a : List ℕ) (d : Variables) (s : Signals) (v : Variables) (w : List 
       }
 
   module _ (c : long ≡ true) where
-    other_frame : ours ≡ false → Says NoReceive
+    other_frame : ours ≡ false → Says None
     other_frame o =
         record {
           after = _;
@@ -210,7 +211,7 @@ module _ (a : List ℕ) (d : Variables) (s : Signals) (v : Variables) (w : List 
 
     module _ (o : ours ≡ true) where
       -- the reception that the status is read from, and with the status
-      abbrev judging : ReceiveEvent → Reception
+      abbrev judging : Option ReceiveEvent → Reception
       judging g =
           record {
             variables =
@@ -220,14 +221,14 @@ module _ (a : List ℕ) (d : Variables) (s : Signals) (v : Variables) (w : List 
             row = w;
             incoming = l;
             got = g;
-            stored = NoStore;
+            stored = None;
           }
 
-      status_says : (g : ReceiveEvent)
+      status_says : (g : Option ReceiveEvent)
           → ((u : Transmission)
           → Goes 52
           (disassemble ∷ test (flag receive_succeeding) skip (receive_frame a) ∷ frame_receiver a ∷ [])
-          (store d u (judging NoReceive) s) (ran (at_listen a) (store d u (listening (judging g)) s)))
+          (store d u (judging None) s) (ran (at_listen a) (store d u (listening (judging g)) s)))
           → Says g
       status_says g k =
           record {
@@ -243,37 +244,39 @@ module _ (a : List ℕ) (d : Variables) (s : Signals) (v : Variables) (w : List 
 
       -- the five statuses
       too_long_lem : (ltb buffer_octets octets_now || ltb (max_frame (value_of frame_now)) octets_now) ≡ true
-          → Says (GotTooLong octets_now)
+          → Says (Some (GotTooLong octets_now))
       too_long_lem e = status_says _ (λ u. yes₁ e (hands (yes₁ o (pass (client_listens a)))))
 
       module _ (e : (ltb buffer_octets octets_now || ltb (max_frame (value_of frame_now)) octets_now) ≡ false) where
         received_ok : not (check_wrong (v.flags spoiled) frame_now) ≡ true
             → not (length_wrong (value_of frame_now) (length (data_field frame_now))) ≡ true
-            → Says (GotOk (client_size (value_of frame_now) (length (data_field frame_now))))
+            → Says (Some (GotOk (client_size (value_of frame_now) (length (data_field frame_now)))))
         received_ok f g = status_says _ (λ u. no₁ e (yes₁ f (yes₁ g (hands (yes₁ o (pass (client_listens a)))))))
 
         wrong_length : not (check_wrong (v.flags spoiled) frame_now) ≡ true
-            → not (length_wrong (value_of frame_now) (length (data_field frame_now))) ≡ false → Says (GotLength octets_now)
+            → not (length_wrong (value_of frame_now) (length (data_field frame_now))) ≡ false
+            → Says (Some (GotLength octets_now))
         wrong_length f g = status_says _ (λ u. no₁ e (yes₁ f (no₁ g (hands (yes₁ o (pass (client_listens a)))))))
 
         wrong_check : not (check_wrong (v.flags spoiled) frame_now) ≡ false → eqb (v.numbers frame_size % 8) 0 ≡ true
-            → Says (GotCheck octets_now)
+            → Says (Some (GotCheck octets_now))
         wrong_check f g = status_says _ (λ u. no₁ e (no₁ f (yes₁ g (hands (yes₁ o (pass (client_listens a)))))))
 
         wrong_alignment : not (check_wrong (v.flags spoiled) frame_now) ≡ false
-            → eqb (v.numbers frame_size % 8) 0 ≡ false → Says (GotAlignment octets_now)
+            → eqb (v.numbers frame_size % 8) 0 ≡ false → Says (Some (GotAlignment octets_now))
         wrong_alignment f g = status_says _ (λ u. no₁ e (no₁ f (no₁ g (hands (yes₁ o (pass (client_listens a)))))))
 
       -- the page's choice among them
-      statuses : (e f g h : Bool) → (ltb buffer_octets octets_now || ltb (max_frame (value_of frame_now)) octets_now) ≡ e
+      statuses : (e f g h : Bool)
+          → (ltb buffer_octets octets_now || ltb (max_frame (value_of frame_now)) octets_now) ≡ e
           → not (check_wrong (v.flags spoiled) frame_now) ≡ f
           → not (length_wrong (value_of frame_now) (length (data_field frame_now))) ≡ g
           → eqb (v.numbers frame_size % 8) 0 ≡ h
           → Says
-          (pick e (GotTooLong octets_now)
+          (pick e (Some (GotTooLong octets_now))
           (pick f
-          (pick g (GotOk (client_size (value_of frame_now) (length (data_field frame_now)))) (GotLength octets_now))
-          (pick h (GotCheck octets_now) (GotAlignment octets_now))))
+          (pick g (Some (GotOk (client_size (value_of frame_now) (length (data_field frame_now))))) (Some (GotLength octets_now)))
+          (pick h (Some (GotCheck octets_now)) (Some (GotAlignment octets_now)))))
       statuses true f g h i j k m = too_long_lem i
       statuses false true true h i j k m = received_ok i j k
       statuses false true false h i j k m = wrong_length i j k
@@ -283,9 +286,9 @@ module _ (a : List ℕ) (d : Variables) (s : Signals) (v : Variables) (w : List 
   -- document 01's decision
   abbrev choice_of : (c own o : Bool) → Received
   choice_of c own o =
-      pick c (deciding Listening NoReceive)
-      (pick own (deciding Listening NoReceive)
-      (pick o (opening l (v.numbers frame_size) (v.flags spoiled)) (deciding Listening NoReceive)))
+      pick c (deciding Listening None)
+      (pick own (deciding Listening None)
+      (pick o (opening l (v.numbers frame_size) (v.flags spoiled)) (deciding Listening None)))
 
   is_long : (n x : ℕ) → x ≡ n - n % 8 → 512 ≤ n → 512 ≤ x
   is_long n x e h = omega arith
@@ -333,7 +336,7 @@ module _ (a : List ℕ) (d : Variables) (t : Transmission) (s : Signals) (v : Va
 
   module _ (rc : v.flags receiving ≡ true) (cu : v.numbers current_receive_bit ≡ 1) where
     seek_none : (y : Receiver) → is_collecting y ≡ false → row_of y ≡ 1 → spoiled_of y ≡ false → own_of y ≡ false
-        → hears_any s.heard ≡ false → All at_seek (deciding y NoReceive)
+        → hears_any s.heard ≡ false → All at_seek (deciding y None)
     seek_none y i j k m h =
         record {
           taken = _;
@@ -353,7 +356,7 @@ module _ (a : List ℕ) (d : Variables) (t : Transmission) (s : Signals) (v : Va
     module _ (sp own : Bool) (hs : (v.flags spoiled || is_spoiled s.heard) ≡ sp)
         (ho : (v.flags overlapped || is_emission t.emission) ≡ own) (h : hears_any s.heard ≡ true) where
       seek_on : (row : ℕ) → coded (next_symbols s.heard w) ≡ row → length (next_symbols s.heard w) ≤ 8
-          → eqb row delimiter_row ≡ false → All at_seek (hearing (Seeking row sp own) NoStore)
+          → eqb row delimiter_row ≡ false → All at_seek (hearing (Seeking row sp own) None)
       seek_on row e k f =
           let g : same_bits (next_symbols s.heard w) delimiter ≡ false =
           sym (same_coded (next_symbols s.heard w) delimiter) ∙ ap (λ (n : ℕ). eqb n 427) e ∙ f in
@@ -373,7 +376,7 @@ module _ (a : List ℕ) (d : Variables) (t : Transmission) (s : Signals) (v : Va
           }
 
       seek_found : (row : ℕ) → coded (next_symbols s.heard w) ≡ row → eqb row delimiter_row ≡ true
-          → All at_seek (hearing (Collecting 0 sp own) NoStore)
+          → All at_seek (hearing (Collecting 0 sp own) None)
       seek_found row e f =
           let g : same_bits (next_symbols s.heard w) delimiter ≡ true =
           sym (same_coded (next_symbols s.heard w) delimiter) ∙ ap (λ (n : ℕ). eqb n 427) e ∙ f in
@@ -420,11 +423,12 @@ module _ (a : List ℕ) (d : Variables) (t : Transmission) (s : Signals) (v : Va
         }
 
     -- the stretch is over
-    closing : (y : Receiver) (g : ReceiveEvent) → hears_any s.heard ≡ false
+    closing : (y : Receiver) (g : Option ReceiveEvent) → hears_any s.heard ≡ false
         → Decided a d s
         (fresh_reception
         (with_number frame_size (v.numbers current_receive_bit - 1) (with_flag receiving (hears_any s.heard) v)) w l) g
-        → is_collecting y ≡ false → row_of y ≡ 1 → spoiled_of y ≡ false → own_of y ≡ false → All at_collect (deciding y g)
+        → is_collecting y ≡ false → row_of y ≡ 1 → spoiled_of y ≡ false → own_of y ≡ false
+        → All at_collect (deciding y g)
     closing y g h k i j p q =
         record {
           taken = _;
@@ -484,7 +488,7 @@ module _ (a : List ℕ) (d : Variables) (t : Transmission) (s : Signals) (v : Va
     seek_clean : (row : ℕ) (b sp own : Bool) → v.flags receiving ≡ true → v.numbers current_receive_bit ≡ 1
         → s.heard ≡ Clean b → v.flags spoiled ≡ sp → (v.flags overlapped || is_emission t.emission) ≡ own
         → coded w ≡ row → length w ≤ 8 → (c : Bool) → eqb (next_row row b) delimiter_row ≡ c
-        → All at_seek (hearing (pick c (Collecting 0 sp own) (Seeking (next_row row b) sp own)) NoStore)
+        → All at_seek (hearing (pick c (Collecting 0 sp own) (Seeking (next_row row b) sp own)) None)
     seek_clean row b sp own rc cu h hs ho e k true c =
         seek_found rc cu sp own (marks sp b h hs) ho (ap hears_any h) (next_row row b) (new_row row b h e k) c
     seek_clean row b sp own rc cu h hs ho e k false c =
@@ -513,7 +517,7 @@ module _ (a : List ℕ) (d : Variables) (t : Transmission) (s : Signals) (v : Va
     abbrev length_now : ℕ
     length_now = v.numbers current_receive_bit - 1
 
-    readable : (g : Answer) (n : ℕ) (e : ReceiveEvent) → (c : Bool) → eqb (get_or (values_of g) 0 0) 5 ≡ c
+    readable : (g : Answer) (n : ℕ) (e : Option ReceiveEvent) → (c : Bool) → eqb (get_or (values_of g) 0 0) 5 ≡ c
         → ((y : Receiver) → is_collecting y ≡ false → row_of y ≡ 1 → spoiled_of y ≡ false → own_of y ≡ false
         → All at_collect (deciding y e))
         → All at_collect (deciding (readable_after g n) e)
@@ -525,22 +529,24 @@ module _ (a : List ℕ) (d : Variables) (t : Transmission) (s : Signals) (v : Va
 
     module _ (n : ℕ) (h : s.heard ≡ Nothing) (rc : v.flags receiving ≡ true)
         (cu : v.numbers current_receive_bit ≡ n + 1) where
-      closes : (y : Receiver) (g : ReceiveEvent) → Decided a d s (fresh_reception closed_now w l) g → is_collecting y ≡
+      closes : (y : Receiver) (g : Option ReceiveEvent) → Decided a d s (fresh_reception closed_now w l) g
+          → is_collecting y ≡
           false
           → row_of y ≡ 1 → spoiled_of y ≡ false → own_of y ≡ false → All at_collect (deciding y g)
       closes y g k = closing n rc cu y g (ap hears_any h) k
 
-      decided_turns : (c own o : Bool) → ltb length_now shortest_frame ≡ c → v.flags overlapped ≡ own → addressed a l ≡ o
+      decided_turns : (c own o : Bool) → ltb length_now shortest_frame ≡ c → v.flags overlapped ≡ own
+          → addressed a l ≡ o
           → All at_collect (choice_of a d s closed_now w l (ap hears_any h) c own o)
       unfolding opening
       decided_turns true own o i j k =
-          closes Listening NoReceive (decides a d s closed_now w l (ap hears_any h) hl true own o i j k) refl refl refl
+          closes Listening None (decides a d s closed_now w l (ap hears_any h) hl true own o i j k) refl refl refl
           refl
       decided_turns false true o i j k =
-          closes Listening NoReceive (decides a d s closed_now w l (ap hears_any h) hl false true o i j k) refl refl
+          closes Listening None (decides a d s closed_now w l (ap hears_any h) hl false true o i j k) refl refl
           refl refl
       decided_turns false false false i j k =
-          closes Listening NoReceive (decides a d s closed_now w l (ap hears_any h) hl false false false i j k) refl
+          closes Listening None (decides a d s closed_now w l (ap hears_any h) hl false false false i j k) refl
           refl refl refl
       decided_turns false false true i j k =
           readable (open_answer l length_now (v.flags spoiled)) (length_now / 8)

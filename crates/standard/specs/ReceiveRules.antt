@@ -1,6 +1,6 @@
 -- What the receiver's pages and document 01 have in different words: the last eight symbols, and the opening of a
 -- frame. Assumes nothing.
-use Rattle.std.specs.Prelude.{ℕ, zero, suc, ◌+◌, ◌*◌, ◌/◌, ◌%◌, ◌^◌, ◌≤◌, ◌<◌, ◌≡◌, refl, Bool, true, false, not, ◌||◌, List, [], ◌∷◌, ltb, eqb, get_or, take, length}
+use Rattle.std.specs.Prelude.{ℕ, zero, suc, ◌+◌, ◌*◌, ◌/◌, ◌%◌, ◌^◌, ◌≤◌, ◌<◌, ◌≡◌, refl, Bool, true, false, not, ◌||◌, List, [], ◌∷◌, ltb, eqb, get_or, take, length, Some}
 use Rattle.std.proofs.Common.{sym, ◌∙◌, ap, pow-suc, arith, length-take-le, lt-ltb, le-ltb, eq-eqb, ne_eqb}
 use Rattle.octets.specs.Base.{pick}
 use Rattle.octets.specs.Bits.{digit}
@@ -127,8 +127,8 @@ choices : (a c e g h : Bool) (m k : ℕ) (l : List ℕ)
     (pick c (without frame_too_long)
     (pick e (without (pick h frame_check_error alignment_error))
     (pick g (without length_error) (record { status = receive_ok k; client_data = l })))).status) m
-    ≡ pick (a || c) (GotTooLong m)
-    (pick (not e) (pick (not g) (GotOk k) (GotLength m)) (pick h (GotCheck m) (GotAlignment m)))
+    ≡ pick (a || c) (Some (GotTooLong m))
+    (pick (not e) (pick (not g) (Some (GotOk k)) (Some (GotLength m))) (pick h (Some (GotCheck m)) (Some (GotAlignment m))))
 unfolding got_event
 choices true c e g h m k l = refl
 choices false true e g h m k l = refl
@@ -137,17 +137,17 @@ choices false false true g false m k l = refl
 choices false false false true h m k l = refl
 choices false false false false h m k l = refl
 
-long_event : (m : ℕ) → got_event frame_too_long m ≡ GotTooLong m
+long_event : (m : ℕ) → got_event frame_too_long m ≡ Some (GotTooLong m)
 unfolding got_event
 long_event m = refl
 
 pub opened_is : (l : List ℕ) (n : ℕ) (spoiled : Bool) (m : ℕ) → m ≡ n / 8 → buffer_octets ≤ length l → 64 ≤ m
     → got_event (open_answer l n spoiled) (n / 8)
-    ≡ pick (ltb buffer_octets m || ltb (max_frame (value_of (take m l))) m) (GotTooLong m)
+    ≡ pick (ltb buffer_octets m || ltb (max_frame (value_of (take m l))) m) (Some (GotTooLong m))
     (pick (not (check_wrong spoiled (take m l)))
     (pick (not (length_wrong (value_of (take m l)) (length (data_field (take m l)))))
-    (GotOk (client_size (value_of (take m l)) (length (data_field (take m l))))) (GotLength m))
-    (pick (eqb (n % 8) 0) (GotCheck m) (GotAlignment m)))
+    (Some (GotOk (client_size (value_of (take m l)) (length (data_field (take m l)))))) (Some (GotLength m)))
+    (pick (eqb (n % 8) 0) (Some (GotCheck m)) (Some (GotAlignment m))))
 unfolding open_answer opened unpadded check_error
 opened_is l n spoiled m e h k =
     by_le m buffer_octets

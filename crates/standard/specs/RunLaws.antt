@@ -1,6 +1,6 @@
 -- A law for each kind of statement: what is left to do after it. A process's way between two awaits is a chain of them.
 -- Assumes nothing.
-use Rattle.std.specs.Prelude.{ℕ, suc, ◌≡◌, refl, Bool, true, false, List, [], ◌∷◌, eqb}
+use Rattle.std.specs.Prelude.{ℕ, suc, ◌≡◌, refl, Bool, true, false, List, [], ◌∷◌, eqb, Option}
 use Rattle.std.proofs.Math.Path.{ap}
 use Rattle.std.proofs.Common.{◌∙◌}
 use Rattle.octets.specs.Base.{pick}
@@ -44,7 +44,7 @@ module _ {n : ℕ} {k : List Statement} {s : Store} {r : Ran} where
   unfolding execute
   hands d = record { is = d.is }
 
-  pub keeps : {e : Store → Stored} → Goes n k (with_kept (e s) s) r → Goes (suc n) (keep e ∷ k) s r
+  pub keeps : {e : Store → Option Stored} → Goes n k (with_kept (e s) s) r → Goes (suc n) (keep e ∷ k) s r
   unfolding execute
   keeps d = record { is = d.is }
 

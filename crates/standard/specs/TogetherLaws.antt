@@ -1,5 +1,5 @@
 -- A bit time of the five processes together is a step of document 01's station. Assumes nothing.
-use Rattle.std.specs.Prelude.{ℕ, ◌≤◌, ◌+◌, ◌≡◌, Bool, true, false, not, ◌||◌, ◌&&◌, List, [], ◌∷◌, ltb, leb, eqb, length}
+use Rattle.std.specs.Prelude.{ℕ, ◌≤◌, ◌+◌, ◌≡◌, Bool, true, false, not, ◌||◌, ◌&&◌, List, [], ◌∷◌, ltb, leb, eqb, length, Option, None, Some}
 use Rattle.std.proofs.Common.{subst₂, sym, ◌∙◌, true≢false, length-set}
 use Rattle.std.proofs.Math.Path.{refl, ap, subst}
 use Rattle.std.proofs.Math.Bool.{and-false}
@@ -19,7 +19,6 @@ use Rattle.station_spec.specs.declared.Deferred.{Deferred}
 use Rattle.station_spec.specs.declared.Transmitted.{Transmitted}
 use Rattle.station_spec.specs.declared.Received.{Received}
 use Rattle.station_spec.specs.declared.Stored.{Stored}
-use Rattle.station_spec.specs.declared.Stored.TheVariants.{NoStore, Store as Bit}
 use Rattle.sheet_layout.specs.Layout.{gap_of}
 use Rattle.station_spec.specs.Defer.{defer, quiet_rule, busy_rule, gap_rule, goes_back}
 use Rattle.station_spec.specs.Defer.{gap_over as gapOverRule}
@@ -227,9 +226,9 @@ double_not : (b : Bool) → not (not b) ≡ b
 double_not true = refl
 double_not false = refl
 
-length_kept : (l : List ℕ) (b : Stored) → length (kept_in l b) ≡ length l
-length_kept l NoStore = refl
-length_kept l (Bit k b) = length-set l _ _
+length_kept : (l : List ℕ) (b : Option Stored) → length (kept_in l b) ≡ length l
+length_kept l None = refl
+length_kept l (Some b) = length-set l _ _
 
 only_waiting : (x : Transmitter) (b : Bool) → (waitsNow x && b) ≡ true → x ≡ Waiting
 only_waiting NoFrame b e = absurd (true≢false (sym e))

@@ -1,6 +1,6 @@
 -- The bit's part of a bit time, for the frame transmitter and the BitTransmitter: it is document 01's transmitter.
 -- Assumes nothing.
-use Rattle.std.specs.Prelude.{ℕ, suc, ◌+◌, ◌-◌, ◌*◌, ◌%◌, ◌^◌, ◌≤◌, ◌<◌, min, ◌≡◌, refl, Bool, not, ◌&&◌, List, [], ◌∷◌, ltb, leb, eqb}
+use Rattle.std.specs.Prelude.{ℕ, suc, ◌+◌, ◌-◌, ◌*◌, ◌%◌, ◌^◌, ◌≤◌, ◌<◌, min, ◌≡◌, refl, Bool, not, ◌&&◌, List, [], ◌∷◌, ltb, leb, eqb, Option, None, Some}
 use Rattle.std.proofs.Common.{sym, ◌∙◌, ap₂, pow-suc, arith, ltb-true, ltb-false, leb-true, leb-false, eqb-true, lt-ltb, le-ltb, le-leb, eq-eqb, ne_eqb}
 use Rattle.std.proofs.Math.Path.{ap, subst}
 use Rattle.std.proofs.Math.Bool.{true, false, and-true}
@@ -14,7 +14,7 @@ use Rattle.station_state.specs.declared.Transmitter.{Transmitter}
 use Rattle.station_state.specs.declared.Transmitter.TheVariants.{NoFrame, Waiting, BackingOff, Sending, Heading}
 use Rattle.station_state.specs.declared.Transmitter.TheVariants.{Jamming}
 use Rattle.station_spec.specs.declared.TransmitEvent.{TransmitEvent}
-use Rattle.station_spec.specs.declared.TransmitEvent.TheVariants.{NoTransmit, Collision, Late, Sent, GivenUp}
+use Rattle.station_spec.specs.declared.TransmitEvent.TheVariants.{Collision, Late, Sent, GivenUp}
 use Rattle.station_spec.specs.declared.TransmitEvent.TheVariants.{LateEnded}
 use Rattle.station_spec.specs.declared.Transmitted.{Transmitted}
 use Rattle.station_spec.specs.Transmit.{closes_frame, resting, emitting, backoff_range, last_jam, backoff_bit}
@@ -138,7 +138,7 @@ place_after k draws drew = pick drew (place_next k draws) k
 
 -- before anything is emitted or reported
 abbrev pub fresh : Variables → Transmission
-fresh v = record { variables = v; emission = Rest; sent = NoTransmit }
+fresh v = record { variables = v; emission = Rest; sent = None }
 
 pub record BitTurns (f : Figures) (d : Variables) (s : Signals) (v : Variables) (n z pl : ℕ) (at bt : Place)
     (o : Transmitted) : Type 0 where
@@ -200,7 +200,7 @@ same_trying {f} {v} {w} a b c e g i j l h =
 -- ---- at the end of a bit: the frame transmitter alone, from k to where it waits again
 
 pub record Ends (f : Figures) (d : Variables) (s : Signals) (fuel : ℕ) (k : List Statement) (t : Transmission)
-    (n z pl : ℕ) (x : Transmitter) (u : TransmitEvent) : Type 0 where
+    (n z pl : ℕ) (x : Transmitter) (u : Option TransmitEvent) : Type 0 where
   pub ended : Transmission
   pub end_place : Place
   pub goes : (r : Reception) → Goes fuel k (store d t r s) (ran end_place (store d ended r s))
@@ -313,7 +313,7 @@ module _ (f : Figures) (d : Variables) (s : Signals) (t : Transmission) (n z : �
   -- it was sent
   sent_ends : t.variables.flags transmit_succeeding ≡ true → t.variables.flags late_collision_error ≡ false
       → t.variables.numbers attempts + 1 ≡ n → Ends f d s 63 (counting ∷ behind f) t n z
-      (t.variables.numbers drawn) NoFrame (Sent n)
+      (t.variables.numbers drawn) NoFrame (Some (Sent n))
   sent_ends sc lt e =
       record {
         ended = _;
@@ -325,14 +325,14 @@ module _ (f : Figures) (d : Variables) (s : Signals) (t : Transmission) (n z : �
             ∙ middle_false (ltb (t.variables.numbers attempts + 1) f.limit) _)
             (yes₁ sc (reports (round (seq (again rest)))))))));
         keeps = refl;
-        reports = ap Sent e;
+        reports = ap (λ (a : ℕ). Some (Sent a)) e;
         stands = idle refl refl refl tr fw nc refl;
       }
 
   module _ (sc : t.variables.flags transmit_succeeding ≡ false) (e : t.variables.numbers attempts ≡ n) where
     -- it ends for a late collision, or for its attempts
     late_ends : (closes_frame f && ltb 0 (t.variables.numbers late_collision_count)) ≡ true
-        → Ends f d s 59 (behind f) t n z (t.variables.numbers drawn) NoFrame (LateEnded n)
+        → Ends f d s 59 (behind f) t n z (t.variables.numbers drawn) NoFrame (Some (LateEnded n))
     late_ends l =
         record {
           ended = _;
@@ -346,12 +346,12 @@ module _ (f : Figures) (d : Variables) (s : Signals) (t : Transmission) (n z : �
               (t.variables.flags transmit_succeeding)))
               (no₁ sc (yes₁ l (reports (round (seq (again rest))))));
           keeps = refl;
-          reports = ap LateEnded e;
+          reports = ap (λ (a : ℕ). Some (LateEnded a)) e;
           stands = idle refl refl refl tr fw nc refl;
         }
 
     gives_up : (closes_frame f && ltb 0 (t.variables.numbers late_collision_count)) ≡ false → n ≡ f.limit
-        → Ends f d s 59 (behind f) t n z (t.variables.numbers drawn) NoFrame (GivenUp n)
+        → Ends f d s 59 (behind f) t n z (t.variables.numbers drawn) NoFrame (Some (GivenUp n))
     gives_up l m =
         record {
           ended = _;
@@ -363,7 +363,7 @@ module _ (f : Figures) (d : Variables) (s : Signals) (t : Transmission) (n z : �
               (le-ltb (t.variables.numbers attempts) f.limit (omega arith)))
               (no₁ sc (no₁ l (reports (round (seq (again rest))))));
           keeps = refl;
-          reports = ap GivenUp e;
+          reports = ap (λ (a : ℕ). Some (GivenUp a)) e;
           stands = idle refl refl refl tr fw nc refl;
         }
 
@@ -489,9 +489,9 @@ module _ (f : Figures) (d : Variables) (s : Signals) (t : Transmission) (n z : �
       (ends : Bool)
       → (closes_frame f && ltb 0 (t.variables.numbers late_collision_count)) ≡ ends → n ≤ f.limit → 0 < z
       → t.variables.numbers outgoing_size ≡ z → (m : ℕ) → m + 1 ≡ n
-      → (0 < m → t.variables.numbers max_back_off ≡ 2 ^ min m f.backoff) → 0 < f.backoff → t.sent ≡ NoTransmit
+      → (0 < m → t.variables.numbers max_back_off ≡ 2 ^ min m f.backoff) → 0 < f.backoff → t.sent ≡ None
       → (c : Bool) → eqb n f.limit ≡ c
-      → (o : Transmitted) → o ≡ pick ends (emitting NoFrame JamBit (LateEnded n)) (last_jam f n (draw_of s
+      → (o : Transmitted) → o ≡ pick ends (emitting NoFrame JamBit (Some (LateEnded n))) (last_jam f n (draw_of s
       (t.variables.numbers drawn)))
       → Ends f d s 59 (behind f) t n z (place_after (t.variables.numbers drawn) s.draws.depth o.drew)
       o.phase o.event
@@ -502,25 +502,25 @@ module _ (f : Figures) (d : Variables) (s : Signals) (t : Transmission) (n z : �
   behind_ends sc e false l h some size m i k b u true g o q =
       subst (λ (a : Transmitted). Ends f d s 59 (behind f) t n z (place_after (t.variables.numbers drawn)
       s.draws.depth a.drew) a.phase a.event)
-      (sym (q ∙ ap (λ (a : Bool). pick a (emitting NoFrame JamBit (GivenUp n)) (record {
+      (sym (q ∙ ap (λ (a : Bool). pick a (emitting NoFrame JamBit (Some (GivenUp n))) (record {
         phase = backOffRule f n
             (draw_of s (t.variables.numbers drawn));
         emission = JamBit;
-        event = NoTransmit;
+        event = None;
         drew = true;
       })) g))
       (gives_up sc e l (eqb-true n f.limit g))
   behind_ends sc e false l h some size m i k b u false g o q =
       subst (λ (a : Transmitted). Ends f d s 59 (behind f) t n z (place_after (t.variables.numbers drawn)
       s.draws.depth a.drew) a.phase a.event)
-      (sym (q ∙ ap (λ (a : Bool). pick a (emitting NoFrame JamBit (GivenUp n)) (record {
+      (sym (q ∙ ap (λ (a : Bool). pick a (emitting NoFrame JamBit (Some (GivenUp n))) (record {
         phase = backOffRule f n
             (draw_of s (t.variables.numbers drawn));
         emission = JamBit;
-        event = NoTransmit;
+        event = None;
         drew = true;
       })) g))
-      (subst (λ (a : TransmitEvent). Ends f d s 59 (behind f) t n z (place_next (t.variables.numbers drawn)
+      (subst (λ (a : Option TransmitEvent). Ends f d s 59 (behind f) t n z (place_next (t.variables.numbers drawn)
       s.draws.depth) (backOffRule f n (draw_of s (t.variables.numbers drawn))) a) u
       (again_ends sc e (below n f.limit h (eqb-false n f.limit g)) some size (omega arith) l m i k b))
 
@@ -531,10 +531,10 @@ jam_ends : (f : Figures) (d : Variables) (s : Signals) (t : Transmission) (n z :
     → t.variables.numbers attempts + 1 ≡ n → n ≤ f.limit → 0 < z → t.variables.numbers outgoing_size ≡ z
     → (0 < t.variables.numbers attempts → t.variables.numbers max_back_off ≡ 2 ^ min
     (t.variables.numbers attempts) f.backoff)
-    → 0 < f.backoff → t.sent ≡ NoTransmit
+    → 0 < f.backoff → t.sent ≡ None
     → (closes_frame f && ltb 0 (t.variables.numbers late_collision_count)) ≡ false
     → (late : Bool) → t.variables.flags late_collision_error ≡ late
-    → (o : Transmitted) → o ≡ pick (closes_frame f && late) (emitting NoFrame JamBit (LateEnded n)) (last_jam f n
+    → (o : Transmitted) → o ≡ pick (closes_frame f && late) (emitting NoFrame JamBit (Some (LateEnded n))) (last_jam f n
     (draw_of s (t.variables.numbers drawn)))
     → Ends f d s 63 (counting ∷ behind f) t n z (place_after (t.variables.numbers drawn) s.draws.depth
     o.drew) o.phase o.event
@@ -617,7 +617,7 @@ module _ (f : Figures) (d : Variables) (s : Signals) (v : Variables) (n z pl : �
       }
 
   -- a bit time of backoff
-  wait_bit_lem : (x : Transmitter) → Ends f d s 64 (wait_out ∷ await_medium f ∷ behind f) (fresh v) n z pl x NoTransmit
+  wait_bit_lem : (x : Transmitter) → Ends f d s 64 (wait_out ∷ await_medium f ∷ behind f) (fresh v) n z pl x None
       → Bit (at_wait f) (at_rest f) (resting x)
   wait_bit_lem x k =
       record {
@@ -688,7 +688,7 @@ module _ (f : Figures) (d : Variables) (s : Signals) (v : Variables) (n z pl : �
     pub jam_on : (left : ℕ) (ends : Bool) → v.flags new_collision ≡ false → v.flags jamming ≡ true
         → (closes_frame f && v.flags late_collision_error) ≡ ends → v.numbers current_transmit_bit + left ≡ f.jam + 1
         → v.numbers last_transmit_bit ≡ f.jam → 1 < left
-        → Bit (at_watch f) (at_frame f) (emitting (Jamming (left - 1) ends) JamBit NoTransmit)
+        → Bit (at_watch f) (at_frame f) (emitting (Jamming (left - 1) ends) JamBit None)
     jam_on left ends nc j l c m h =
         let i : leb (v.numbers current_transmit_bit + 1) (v.numbers last_transmit_bit) ≡ true = le-leb
         (v.numbers current_transmit_bit + 1) (v.numbers last_transmit_bit) (omega arith) in
@@ -701,7 +701,7 @@ module _ (f : Figures) (d : Variables) (s : Signals) (v : Variables) (n z pl : �
     pub jam_last : (left : ℕ) → v.flags new_collision ≡ false → v.flags jamming ≡ true
         → v.numbers current_transmit_bit + left ≡ f.jam + 1 → v.numbers last_transmit_bit ≡ f.jam → left ≤ 1
         → 0 < f.backoff → (o : Transmitted) → o.emission ≡ JamBit
-        → o ≡ pick (closes_frame f && v.flags late_collision_error) (emitting NoFrame JamBit (LateEnded n))
+        → o ≡ pick (closes_frame f && v.flags late_collision_error) (emitting NoFrame JamBit (Some (LateEnded n)))
         (last_jam f n (draw_of s pl))
         → Bit (at_watch f) (at_frame f) o
     jam_last left nc j c m h b o p q =
@@ -712,14 +712,14 @@ module _ (f : Figures) (d : Variables) (s : Signals) (v : Variables) (n z pl : �
         let u : Emission = bit_out v in
         let g : u ≡ JamBit = jam_out j in
         let x =
-        jam_ends f d s (record { variables = w; emission = u; sent = NoTransmit }) n z i y.free nc sc y.tries
+        jam_ends f d s (record { variables = w; emission = u; sent = None }) n z i y.free nc sc y.tries
         y.room
         y.some y.size y.range b refl y.goeson (v.flags late_collision_error) refl o
         (q ∙ ap (λ (k : ℕ). pick (closes_frame f && v.flags late_collision_error) (emitting NoFrame JamBit
-        (LateEnded n)) (last_jam f n (draw_of s k))) (sym y.place)) in
+        (Some (LateEnded n))) (last_jam f n (draw_of s k))) (sym y.place)) in
         record {
           watched = _;
-          emitted = record { variables = w; emission = u; sent = NoTransmit };
+          emitted = record { variables = w; emission = u; sent = None };
           ended = x.ended;
           watch_place = _;
           bit_place = at_rest f;
@@ -737,7 +737,7 @@ module _ (f : Figures) (d : Variables) (s : Signals) (v : Variables) (n z pl : �
 
     pub head_on : (k : ℕ) → v.flags new_collision ≡ true → v.flags late_collision_error ≡ false
         → v.numbers current_transmit_bit ≡ k → k < 64
-        → Bit (at_watch f) (at_header f) (emitting (Heading (k + 1)) (PacketBit k) NoTransmit)
+        → Bit (at_watch f) (at_header f) (emitting (Heading (k + 1)) (PacketBit k) None)
     head_on k nc lt c h =
         let i : leb (v.numbers current_transmit_bit + 1) (v.numbers last_header_bit) ≡ true =
         le-leb (v.numbers current_transmit_bit + 1) (v.numbers last_header_bit) (omega (arith, y.header)) in
@@ -749,7 +749,7 @@ module _ (f : Figures) (d : Variables) (s : Signals) (v : Variables) (n z pl : �
 
     pub head_last : (k : ℕ) → v.flags new_collision ≡ true → v.flags late_collision_error ≡ false
         → v.numbers current_transmit_bit ≡ k → k ≡ 64 → 0 < f.jam
-        → Bit (at_watch f) (at_header f) (emitting (Jamming f.jam false) (PacketBit k) NoTransmit)
+        → Bit (at_watch f) (at_header f) (emitting (Jamming f.jam false) (PacketBit k) None)
     head_last k nc lt c h jam =
         let i : leb (v.numbers current_transmit_bit + 1) (v.numbers last_header_bit) ≡ false =
         lt-leb (v.numbers current_transmit_bit + 1) (v.numbers last_header_bit) (omega (arith, y.header)) in
@@ -772,7 +772,7 @@ module _ (f : Figures) (d : Variables) (s : Signals) (v : Variables) (n z pl : �
 
     pub header_on : (k : ℕ) → v.numbers current_transmit_bit ≡ k → v.numbers header_bits ≡ 0
         → v.numbers last_transmit_bit ≡ 8 * z → k < 64
-        → Bit (at_watch f) (at_header f) (emitting (Sending (k + 1)) (PacketBit k) NoTransmit)
+        → Bit (at_watch f) (at_header f) (emitting (Sending (k + 1)) (PacketBit k) None)
     header_on k c hb m g =
         let i : leb (v.numbers current_transmit_bit + 1) (v.numbers last_header_bit) ≡ true =
         le-leb (v.numbers current_transmit_bit + 1) (v.numbers last_header_bit) (omega (arith, y.header)) in
@@ -783,7 +783,7 @@ module _ (f : Figures) (d : Variables) (s : Signals) (v : Variables) (n z pl : �
         (same_trying refl refl refl refl refl refl refl refl y))
 
     pub header_last : (k : ℕ) → v.numbers current_transmit_bit ≡ k → v.numbers last_transmit_bit ≡ 8 * z → k ≡ 64
-        → Bit (at_watch f) (at_header f) (emitting (Sending (k + 1)) (PacketBit k) NoTransmit)
+        → Bit (at_watch f) (at_header f) (emitting (Sending (k + 1)) (PacketBit k) None)
     header_last k c m g =
         let i : leb (v.numbers current_transmit_bit + 1) (v.numbers last_header_bit) ≡ false =
         lt-leb (v.numbers current_transmit_bit + 1) (v.numbers last_header_bit) (omega (arith, y.header)) in
@@ -801,7 +801,7 @@ module _ (f : Figures) (d : Variables) (s : Signals) (v : Variables) (n z pl : �
 
     pub frame_on : (k : ℕ) → v.numbers header_bits ≡ 64 → 64 + v.numbers current_transmit_bit ≡ k
         → v.numbers last_transmit_bit ≡ 8 * z → 64 < k → k < 64 + 8 * z
-        → Bit (at_watch f) (at_frame f) (emitting (Sending (k + 1)) (PacketBit k) NoTransmit)
+        → Bit (at_watch f) (at_frame f) (emitting (Sending (k + 1)) (PacketBit k) None)
     frame_on k hb c m g a =
         let i : leb (v.numbers current_transmit_bit + 1) (v.numbers last_transmit_bit) ≡ true =
         le-leb (v.numbers current_transmit_bit + 1) (v.numbers last_transmit_bit) (omega arith) in
@@ -813,18 +813,18 @@ module _ (f : Figures) (d : Variables) (s : Signals) (v : Variables) (n z pl : �
 
     pub frame_last : (k : ℕ) → v.numbers header_bits ≡ 64 → 64 + v.numbers current_transmit_bit ≡ k
         → v.numbers last_transmit_bit ≡ 8 * z → k ≡ 64 + 8 * z
-        → Bit (at_watch f) (at_frame f) (emitting NoFrame (PacketBit k) (Sent n))
+        → Bit (at_watch f) (at_frame f) (emitting NoFrame (PacketBit k) (Some (Sent n)))
     frame_last k hb c m g =
         let i : leb (v.numbers current_transmit_bit + 1) (v.numbers last_transmit_bit) ≡ false =
         lt-leb (v.numbers current_transmit_bit + 1) (v.numbers last_transmit_bit) (omega arith) in
         let w : Variables = with_flag transmitting (leb (v.numbers current_transmit_bit + 1)
         (v.numbers last_transmit_bit)) (with_number current_transmit_bit (v.numbers current_transmit_bit + 1) v) in
         let u : Emission = bit_out v in
-        let x = sent_ends f d s (record { variables = w; emission = u; sent = NoTransmit }) n z i y.free nc sc lt
+        let x = sent_ends f d s (record { variables = w; emission = u; sent = None }) n z i y.free nc sc lt
         y.tries in
         record {
           watched = _;
-          emitted = record { variables = w; emission = u; sent = NoTransmit };
+          emitted = record { variables = w; emission = u; sent = None };
           ended = x.ended;
           watch_place = _;
           bit_place = at_rest f;
@@ -847,7 +847,7 @@ module _ (f : Figures) (d : Variables) (s : Signals) (v : Variables) (n z pl : �
     crowded = ap₂ ◌&&◌ sc (ap₂ ◌&&◌ y.goes h)
 
     pub header_hits : (k : ℕ) → v.numbers current_transmit_bit ≡ k → v.numbers header_bits ≡ 0 → k < 64 → 64 ≤ f.slot
-        → Bit (at_watch f) (at_header f) (emitting (Heading (k + 1)) (PacketBit k) (Collision k))
+        → Bit (at_watch f) (at_header f) (emitting (Heading (k + 1)) (PacketBit k) (Some (Collision k)))
     header_hits k c hb g slot =
         let i : leb (v.numbers current_transmit_bit + 1) (v.numbers last_header_bit) ≡ true =
         le-leb (v.numbers current_transmit_bit + 1) (v.numbers last_header_bit) (omega (arith, y.header)) in
@@ -856,12 +856,12 @@ module _ (f : Figures) (d : Variables) (s : Signals) (v : Variables) (n z pl : �
         let e : v.numbers header_bits + v.numbers current_transmit_bit ≡ k = omega arith in
         on_air (at_header f) (at_header f) (λ r. goes (seq (yes₁ crowded (seq (no₁ l (reports (seq (set (set rest)))))))))
         (λ r. goes (emits (num (stay i (seq (seq rest))))))
-        y.goes (ap PacketBit c) (ap Collision e)
+        y.goes (ap PacketBit c) (ap (λ (a : ℕ). Some (Collision a)) e)
         (heading (k + 1) refl refl refl refl refl lt (omega arith) (omega arith)
         (same_trying refl refl refl refl refl refl refl refl y))
 
     pub header_end_hits : (k : ℕ) → v.numbers current_transmit_bit ≡ k → v.numbers header_bits ≡ 0 → k ≡ 64 → 64 ≤ f.slot
-        → Bit (at_watch f) (at_header f) (emitting (Jamming f.jam false) (PacketBit k) (Collision k))
+        → Bit (at_watch f) (at_header f) (emitting (Jamming f.jam false) (PacketBit k) (Some (Collision k)))
     header_end_hits k c hb g slot =
         let i : leb (v.numbers current_transmit_bit + 1) (v.numbers last_header_bit) ≡ false =
         lt-leb (v.numbers current_transmit_bit + 1) (v.numbers last_header_bit) (omega (arith, y.header)) in
@@ -871,7 +871,7 @@ module _ (f : Figures) (d : Variables) (s : Signals) (v : Variables) (n z pl : �
         on_air (at_header f) (at_frame f) (λ r. goes (seq (yes₁ crowded (seq (no₁ l (reports (seq (set (set rest)))))))))
         (λ r. goes (emits (num (leave i (yes₁ refl (enter (seq (num (seq (num (seq (set (set (stay y.goes (seq
         (seq rest))))))))))))))))
-        y.goes (ap PacketBit c) (ap Collision e)
+        y.goes (ap PacketBit c) (ap (λ (a : ℕ). Some (Collision a)) e)
         (jams f.jam false refl refl refl refl refl refl (ap (λ (a : Bool). closes_frame f && a) lt ∙ last_false
         (closes_frame f)) (omega arith) refl jam (same_trying refl refl refl refl refl refl refl refl y))
 
@@ -882,7 +882,7 @@ module _ (f : Figures) (d : Variables) (s : Signals) (v : Variables) (n z pl : �
         ap₂ (λ (a : Bool) (b : ℕ). pick a JamBit (PacketBit (b + v.numbers current_transmit_bit))) nj hb ∙ ap PacketBit c
 
     pub frame_hits : (k : ℕ) → v.numbers header_bits ≡ 64 → 64 + v.numbers current_transmit_bit ≡ k → k ≤ f.slot
-        → Bit (at_watch f) (at_frame f) (emitting (Jamming f.jam false) (PacketBit k) (Collision k))
+        → Bit (at_watch f) (at_frame f) (emitting (Jamming f.jam false) (PacketBit k) (Some (Collision k)))
     frame_hits k hb c g =
         let l : ltb f.slot (v.numbers header_bits + v.numbers current_transmit_bit) ≡ false =
         le-ltb f.slot (v.numbers header_bits + v.numbers current_transmit_bit) (omega arith) in
@@ -890,13 +890,13 @@ module _ (f : Figures) (d : Variables) (s : Signals) (v : Variables) (n z pl : �
         on_air (at_frame f) (at_frame f) (λ r. goes (seq (yes₁ crowded (seq (no₁ l (reports (seq (set (set rest)))))))))
         (λ r. goes (emits (yes₁ refl (enter (seq (num (seq (num (seq (set (set (stay y.goes (seq
         (seq rest))))))))))))))
-        y.goes (frame_hit k hb c) (ap Collision e)
+        y.goes (frame_hit k hb c) (ap (λ (a : ℕ). Some (Collision a)) e)
         (jams f.jam false refl refl refl refl refl refl (ap (λ (a : Bool). closes_frame f && a) lt ∙ last_false
         (closes_frame f)) (omega arith) refl jam (same_trying refl refl refl refl refl refl refl refl y))
 
     pub frame_late : (k : ℕ) → v.numbers header_bits ≡ 64 → 64 + v.numbers current_transmit_bit ≡ k → f.slot < k
         → Bit (at_watch f) (at_frame f)
-        (emitting (Jamming f.jam (closes_frame f)) (PacketBit k) (Late k (closes_frame f)))
+        (emitting (Jamming f.jam (closes_frame f)) (PacketBit k) (Some (Late k (closes_frame f))))
     frame_late k hb c g =
         let l : ltb f.slot (v.numbers header_bits + v.numbers current_transmit_bit) ≡ true =
         lt-ltb f.slot (v.numbers header_bits + v.numbers current_transmit_bit) (omega arith) in
@@ -905,6 +905,6 @@ module _ (f : Figures) (d : Variables) (s : Signals) (v : Variables) (n z pl : �
         (set rest)))))))))))
         (λ r. goes (emits (yes₁ refl (enter (seq (num (seq (num (seq (set (set (stay y.goes (seq
         (seq rest))))))))))))))
-        y.goes (frame_hit k hb c) (ap (λ (a : ℕ). Late a (closes_frame f)) e)
+        y.goes (frame_hit k hb c) (ap (λ (a : ℕ). Some (Late a (closes_frame f))) e)
         (jams f.jam (closes_frame f) refl refl refl refl refl refl (and-true (closes_frame f))
         (omega arith) refl jam (same_trying refl refl refl refl refl refl refl refl y))

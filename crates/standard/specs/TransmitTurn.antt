@@ -1,5 +1,5 @@
 -- The transmitter's whole part of a bit time, wherever it stands. Assumes nothing.
-use Rattle.std.specs.Prelude.{ℕ, ◌+◌, ◌-◌, ◌*◌, ◌^◌, ◌≤◌, ◌<◌, min, ◌≡◌, refl, Bool, ◌&&◌, List, ltb, leb, eqb}
+use Rattle.std.specs.Prelude.{ℕ, ◌+◌, ◌-◌, ◌*◌, ◌^◌, ◌≤◌, ◌<◌, min, ◌≡◌, refl, Bool, ◌&&◌, List, ltb, leb, eqb, None, Some}
 use Rattle.std.proofs.Common.{sym, ◌∙◌, subst₂, true≢false, arith, lt-ltb, le-ltb, le-leb, eq-eqb, ne_eqb}
 use Rattle.std.proofs.Math.Path.{ap, subst}
 use Rattle.std.proofs.Math.Bool.{true, false, not}
@@ -11,7 +11,7 @@ use Rattle.sheet_layout.specs.declared.Figures.{Figures}
 use Rattle.station_state.specs.declared.Transmitter.{Transmitter}
 use Rattle.station_state.specs.declared.Transmitter.TheVariants.{NoFrame, Waiting, BackingOff, Sending, Heading}
 use Rattle.station_state.specs.declared.Transmitter.TheVariants.{Jamming}
-use Rattle.station_spec.specs.declared.TransmitEvent.TheVariants.{NoTransmit, Collision, Late, Sent, LateEnded}
+use Rattle.station_spec.specs.declared.TransmitEvent.TheVariants.{Collision, Late, Sent, LateEnded}
 use Rattle.station_spec.specs.declared.Transmitted.{Transmitted}
 use Rattle.station_spec.specs.Transmit.{closes_frame, resting, emitting, after_bit, collision, send_bit, head_bit}
 use Rattle.station_spec.specs.Transmit.{last_jam, jam_bit, backoff_bit, wait_bit, transmit}
@@ -37,36 +37,37 @@ use Rattle.standard.specs.Seen.{Ranges}
 -- ---- document 01's rules, by the place of a bit
 
 send_on : (f : Figures) (z n k : ℕ) → k < 64 + 8 * z
-    → send_bit f z n k false ≡ emitting (Sending (k + 1)) (PacketBit k) NoTransmit
+    → send_bit f z n k false ≡ emitting (Sending (k + 1)) (PacketBit k) None
 unfolding send_bit
 send_on f z n k g = rw (ne_eqb k (64 + 8 * z) (λ e. omega arith))
 
-send_last : (f : Figures) (z n k : ℕ) → k ≡ 64 + 8 * z → send_bit f z n k false ≡ emitting NoFrame (PacketBit k) (Sent n)
+send_last : (f : Figures) (z n k : ℕ) → k ≡ 64 + 8 * z
+    → send_bit f z n k false ≡ emitting NoFrame (PacketBit k) (Some (Sent n))
 unfolding send_bit
 send_last f z n k g = rw (eq-eqb k (64 + 8 * z) g)
 
 hit_header : (f : Figures) (z n k : ℕ) → k < 64 → 64 ≤ f.slot
-    → send_bit f z n k true ≡ emitting (Heading (k + 1)) (PacketBit k) (Collision k)
+    → send_bit f z n k true ≡ emitting (Heading (k + 1)) (PacketBit k) (Some (Collision k))
 unfolding send_bit collision after_bit
 hit_header f z n k g h = rw (le-ltb f.slot k (omega arith), lt-ltb k 64 g)
 
 hit_frame : (f : Figures) (z n k : ℕ) → 64 ≤ k → k ≤ f.slot
-    → send_bit f z n k true ≡ emitting (Jamming f.jam false) (PacketBit k) (Collision k)
+    → send_bit f z n k true ≡ emitting (Jamming f.jam false) (PacketBit k) (Some (Collision k))
 unfolding send_bit collision after_bit
 hit_frame f z n k g h = rw (le-ltb f.slot k h, le-ltb k 64 g)
 
 hit_late : (f : Figures) (z n k : ℕ) → 64 ≤ k → f.slot < k
-    → send_bit f z n k true ≡ emitting (Jamming f.jam (closes_frame f)) (PacketBit k) (Late k (closes_frame f))
+    → send_bit f z n k true ≡ emitting (Jamming f.jam (closes_frame f)) (PacketBit k) (Some (Late k (closes_frame f)))
 unfolding send_bit collision after_bit
 hit_late f z n k g h = rw (lt-ltb f.slot k h, le-ltb k 64 g)
 
 jam_over : (f : Figures) (n draw left : ℕ) (ends : Bool) → left ≤ 1
-    → jam_bit f n draw left ends ≡ pick ends (emitting NoFrame JamBit (LateEnded n)) (last_jam f n draw)
+    → jam_bit f n draw left ends ≡ pick ends (emitting NoFrame JamBit (Some (LateEnded n))) (last_jam f n draw)
 unfolding jam_bit
 jam_over f n draw left ends h = rw (le-leb left 1 h)
 
 jam_more : (f : Figures) (n draw left : ℕ) (ends : Bool) → 1 < left
-    → jam_bit f n draw left ends ≡ emitting (Jamming (left - 1) ends) JamBit NoTransmit
+    → jam_bit f n draw left ends ≡ emitting (Jamming (left - 1) ends) JamBit None
 unfolding jam_bit
 jam_more f n draw left ends h = rw (lt-leb left 1 h)
 
@@ -80,7 +81,8 @@ jam_emits f n draw left ends =
     by_le left 1 (λ h. ap (λ (o : Transmitted). o.emission) (jam_over f n draw left ends h) ∙ over_emits ends)
     (λ h. ap (λ (o : Transmitted). o.emission) (jam_more f n draw left ends h))
   where
-    over_emits : (b : Bool) → (pick b (emitting NoFrame JamBit (LateEnded n)) (last_jam f n draw)).emission ≡ JamBit
+    over_emits : (b : Bool)
+        → (pick b (emitting NoFrame JamBit (Some (LateEnded n))) (last_jam f n draw)).emission ≡ JamBit
     over_emits true = refl
     over_emits false = last_emits f n draw (eqb n f.limit) refl
 
@@ -134,10 +136,10 @@ module _ (f : Figures) (ok : Ranges f) (d : Variables) (s : Signals) (v : Variab
   head_turns k sc nc lt c g y =
       by_le 64 k
       (λ a. as_rule (at_header f) _ _ (ap (λ (b : Bool). emitting (pick b (Heading (k + 1)) (Jamming f.jam false))
-      (PacketBit k) NoTransmit) (le-ltb k 64 a))
+      (PacketBit k) None) (le-ltb k 64 a))
       (head_last f d s v n z pl sc y k nc lt c (omega arith) ok.jam))
       (λ a. as_rule (at_header f) _ _ (ap (λ (b : Bool). emitting (pick b (Heading (k + 1)) (Jamming f.jam false))
-      (PacketBit k) NoTransmit) (lt-ltb k 64 a))
+      (PacketBit k) None) (lt-ltb k 64 a))
       (head_on f d s v n z pl sc y k nc lt c a))
 
   jam_turns : (left : ℕ) (ends : Bool) → v.flags transmit_succeeding ≡ false → v.flags new_collision ≡ false
@@ -149,7 +151,7 @@ module _ (f : Figures) (ok : Ranges f) (d : Variables) (s : Signals) (v : Variab
       by_le left 1
       (λ a. jam_last f d s v n z pl sc y left nc j c m a ok.backoff (jam_bit f n (draw_of s pl) left ends)
       (jam_emits f n (draw_of s pl) left ends) (jam_over f n (draw_of s pl) left ends a ∙ ap (λ (b : Bool). pick b
-      (emitting NoFrame JamBit (LateEnded n)) (last_jam f n (draw_of s pl))) (sym l)))
+      (emitting NoFrame JamBit (Some (LateEnded n))) (last_jam f n (draw_of s pl))) (sym l)))
       (λ a. as_rule (at_frame f) _ _ (jam_more f n (draw_of s pl) left ends a)
       (jam_on f d s v n z pl sc y left ends nc j l c m a))
 

@@ -1,6 +1,6 @@
 -- Every station of the pair, in every step of every execution, does what section 4.2's processes do on the offers that
 -- it accepts and on what it hears. Assumes nothing.
-use Rattle.std.specs.Prelude.{ℕ, zero, suc, ◌≤◌, ◌<◌, ◌≡◌, refl, Bool, false, ◌&&◌}
+use Rattle.std.specs.Prelude.{ℕ, zero, suc, ◌≤◌, ◌<◌, ◌≡◌, refl, Bool, false, ◌&&◌, Option, None, Some}
 use Rattle.std.proofs.Math.Path.{sym, ap, ap₂, subst₂}
 use Rattle.std.proofs.Common.{◌∙◌, inl, inr, arith}
 use Rattle.std.proofs.Math.Bool.{true, and-false}
@@ -16,7 +16,6 @@ use Rattle.station_state.specs.declared.Transmitter.TheVariants.{NoFrame, Waitin
 use Rattle.station_state.specs.declared.Transmitter.TheVariants.{Jamming}
 use Rattle.station_spec.specs.declared.Stepped.{Stepped}
 use Rattle.station_spec.specs.declared.Stored.{Stored}
-use Rattle.station_spec.specs.declared.Stored.TheVariants.{NoStore, Store as Bit}
 use Rattle.station_spec.specs.Step.{stepped}
 use Rattle.bus_offer.specs.Offer.{holds, offered_station}
 use Rattle.bus_spec.specs.After.{stored_in}
@@ -85,10 +84,10 @@ one_taken s z e =
       emitted = s.emitted;
     }) e
 
-kept_is : (l : List ℕ) (b : Stored) → kept_in l b ≡ stored_in l b
+kept_is : (l : List ℕ) (b : Option Stored) → kept_in l b ≡ stored_in l b
 unfolding octet_with
-kept_is l NoStore = refl
-kept_is l (Bit k b) = refl
+kept_is l None = refl
+kept_is l (Some b) = refl
 
 nothing_new : (x : Transmitter) (z : ℕ) → pick (is_free x) (pick (holds x) z 0) 0 ≡ 0
 nothing_new NoFrame z = refl

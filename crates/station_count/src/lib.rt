@@ -2,145 +2,128 @@
 
 #![tactic(auto)]
 
-ghost use Rattle.std.specs.Prelude.{◌≡◌, ◌-◌, ◌<◌};
-ghost use Rattle.station_spec.specs.Count.{added, added_if, count_sent, count_transmit, count_receive, octets_in, counted};
+ghost use Rattle.std.specs.Prelude.{◌≡◌, ◌<◌};
+ghost use Rattle.station_spec.specs.Count.{added, added_if, count_sent, count_transmit, count_receive, octets_in};
+ghost use Rattle.station_spec.specs.Count.{counted};
+ghost use Rattle.station_count.specs.Counters.{counter_place};
 ghost use Rattle.station_state.specs.State.{counter_count};
 
 use station_spec::{ReceiveEvent, Stepped, TransmitEvent};
-use station_state::Receiver;
+use station_state::{COUNTERS, Receiver};
 
-pub const OFFERED: usize = 0;
+// The counters by name.
+#[derive(Clone, Copy, Debug, PartialEq, Eq)]
+pub enum Counter {
+    Offered,
+    Attempts,
+    Collisions,
+    Late,
+    Sent,
+    SentAfterOne,
+    SentAfterSeveral,
+    OctetsSent,
+    Deferred,
+    Excessive,
+    Received,
+    OctetsReceived,
+    TooLong,
+    CheckErrors,
+    AlignmentErrors,
+    LengthErrors,
+    LateEnded,
+}
 
-pub const ATTEMPTS: usize = 1;
+impl Counter {
+    // The place of a counter among a station's.
+    pub fn place(self) -> usize
+        ensures value { result ≡ counter_place self }
+        ensures small { result < counter_count }
+    {
+        self as usize
+    }
+}
 
-pub const COLLISIONS: usize = 2;
-
-pub const LATE: usize = 3;
-
-pub const SENT: usize = 4;
-
-pub const SENT_AFTER_ONE: usize = 5;
-
-pub const SENT_AFTER_SEVERAL: usize = 6;
-
-pub const OCTETS_SENT: usize = 7;
-
-pub const DEFERRED: usize = 8;
-
-pub const EXCESSIVE: usize = 9;
-
-pub const RECEIVED: usize = 10;
-
-pub const OCTETS_RECEIVED: usize = 11;
-
-pub const TOO_LONG: usize = 12;
-
-pub const CHECK_ERRORS: usize = 13;
-
-pub const ALIGNMENT_ERRORS: usize = 14;
-
-pub const LENGTH_ERRORS: usize = 15;
-
-pub const LATE_ENDED: usize = 16;
-
-// Counter k with n more; one that would pass its top stops at it.
-pub fn add(
-    counters: [u32; station_state::COUNTERS],
-    k: usize,
-    n: u32,
-) -> [u32; station_state::COUNTERS]
-    requires { k < counter_count }
-    ensures { result ≡ added counters k n }
+// A counter with n more; one that would pass its top stops at it.
+#[tactic(auto, unfolding(station_spec::specs::Count::added))]
+pub fn add(counters: [u32; COUNTERS], counter: Counter, n: u32) -> [u32; COUNTERS]
+    ensures { result ≡ added counters (counter_place counter) n }
 {
     let mut next = counters;
-    let c = next[k];
-    if c <= 4294967295 - n {
-        next[k] = c + n;
-        return next;
-    }
-    next[k] = 4294967295;
+    let k = counter.place();
+    next[k] = next[k].saturating_add(n);
     next
 }
 
-// Counter k with one more where the test holds.
-fn add_if(
-    test: bool,
-    counters: [u32; station_state::COUNTERS],
-    k: usize,
-) -> [u32; station_state::COUNTERS]
-    requires { k < counter_count }
-    ensures { result ≡ added_if test counters k }
+// A counter with one more where the test holds.
+#[tactic(auto, unfolding(station_spec::specs::Count::added_if))]
+fn add_if(test: bool, counters: [u32; COUNTERS], counter: Counter) -> [u32; COUNTERS]
+    ensures { result ≡ added_if test counters (counter_place counter) }
 {
     if test {
-        return add(counters, k, 1);
+        add(counters, counter, 1)
+    } else {
+        counters
     }
-    counters
 }
 
-// The octets of data and pad in a frame.
-fn data_of(frame: u32) -> u32
-    ensures { result ≡ frame - 18 }
-{
-    if frame < 18 { 0 } else { frame - 18 }
-}
+// The octets of a frame that are neither data nor pad.
+const NOT_DATA: u32 = 18;
 
 // A frame of so many octets is sent after n attempts. It counts as deferred if it did not start in its first step and
 // was sent on its first attempt.
-fn count_sent(
-    counters: [u32; station_state::COUNTERS],
-    n: u32,
-    frame: u32,
-    deferred: bool,
-) -> [u32; station_state::COUNTERS]
+#[tactic(auto, unfolding(station_spec::specs::Count::count_sent))]
+fn count_sent(counters: [u32; COUNTERS], n: u32, frame: u32, deferred: bool) -> [u32; COUNTERS]
     ensures { result ≡ count_sent counters n frame deferred }
 {
-    let a = add(counters, SENT, 1);
-    let b = add(a, OCTETS_SENT, data_of(frame));
-    let c = add_if(n == 2, b, SENT_AFTER_ONE);
-    let d = add_if(3 <= n, c, SENT_AFTER_SEVERAL);
-    add_if(octets::both(deferred, n == 1), d, DEFERRED)
+    let a = add(counters, Counter::Sent, 1);
+    let b = add(a, Counter::OctetsSent, frame.saturating_sub(NOT_DATA));
+    let c = add_if(n == 2, b, Counter::SentAfterOne);
+    let d = add_if(3 <= n, c, Counter::SentAfterSeveral);
+    add_if(deferred & (n == 1), d, Counter::Deferred)
 }
 
 // What a transmit event adds, of a frame of so many octets.
+#[tactic(auto, unfolding(station_spec::specs::Count::count_transmit))]
 fn count_transmit(
-    counters: [u32; station_state::COUNTERS],
-    event: TransmitEvent,
+    counters: [u32; COUNTERS],
+    event: Option<TransmitEvent>,
     frame: u32,
     deferred: bool,
-) -> [u32; station_state::COUNTERS]
+) -> [u32; COUNTERS]
     ensures { result ≡ count_transmit counters event frame deferred }
 {
     match event {
-        TransmitEvent::NoTransmit => counters,
-        TransmitEvent::Collision(_) => add(counters, COLLISIONS, 1),
-        TransmitEvent::Late { bit: _, closes: _ } => {
-            let a = add(counters, COLLISIONS, 1);
-            add(a, LATE, 1)
+        None => counters,
+        Some(TransmitEvent::Collision(_)) => add(counters, Counter::Collisions, 1),
+        Some(TransmitEvent::Late { .. }) => {
+            let a = add(counters, Counter::Collisions, 1);
+            add(a, Counter::Late, 1)
         }
-        TransmitEvent::Sent(n) => count_sent(counters, n, frame, deferred),
-        TransmitEvent::GivenUp(_) => add(counters, EXCESSIVE, 1),
-        TransmitEvent::LateEnded(_) => add(counters, LATE_ENDED, 1),
+        Some(TransmitEvent::Sent(n)) => count_sent(counters, n, frame, deferred),
+        Some(TransmitEvent::GivenUp(_)) => add(counters, Counter::Excessive, 1),
+        Some(TransmitEvent::LateEnded(_)) => add(counters, Counter::LateEnded, 1),
     }
 }
 
 // What a receive event adds, of a frame of so many octets.
+#[tactic(auto, unfolding(station_spec::specs::Count::count_receive))]
 fn count_receive(
-    counters: [u32; station_state::COUNTERS],
-    event: ReceiveEvent,
+    counters: [u32; COUNTERS],
+    event: Option<ReceiveEvent>,
     frame: u32,
-) -> [u32; station_state::COUNTERS]
+) -> [u32; COUNTERS]
     ensures { result ≡ count_receive counters event frame }
 {
     match event {
-        ReceiveEvent::NoReceive => counters,
-        ReceiveEvent::GotOk(_) => {
-            let a = add(counters, RECEIVED, 1);
-            add(a, OCTETS_RECEIVED, data_of(frame))
+        None => counters,
+        Some(ReceiveEvent::GotOk(_)) => {
+            let a = add(counters, Counter::Received, 1);
+            add(a, Counter::OctetsReceived, frame.saturating_sub(NOT_DATA))
         }
-        ReceiveEvent::GotTooLong(_) => add(counters, TOO_LONG, 1),
-        ReceiveEvent::GotAlignment(_) => add(counters, ALIGNMENT_ERRORS, 1),
-        ReceiveEvent::GotCheck(_) => add(counters, CHECK_ERRORS, 1),
-        ReceiveEvent::GotLength(_) => add(counters, LENGTH_ERRORS, 1),
+        Some(ReceiveEvent::GotTooLong(_)) => add(counters, Counter::TooLong, 1),
+        Some(ReceiveEvent::GotAlignment(_)) => add(counters, Counter::AlignmentErrors, 1),
+        Some(ReceiveEvent::GotCheck(_)) => add(counters, Counter::CheckErrors, 1),
+        Some(ReceiveEvent::GotLength(_)) => add(counters, Counter::LengthErrors, 1),
     }
 }
 
@@ -149,30 +132,18 @@ pub fn octets_in(r: Receiver) -> u32
     ensures { result ≡ octets_in r }
 {
     match r {
-        Receiver::Listening => 0,
         Receiver::Readable(n) => n,
-        Receiver::Seeking {
-            row: _,
-            spoiled: _,
-            own: _,
-        } => 0,
-        Receiver::Collecting {
-            bits: _,
-            spoiled: _,
-            own: _,
-        } => 0,
+        _ => 0,
     }
 }
 
 // The counters after a step.
-pub fn count(counters: [u32; station_state::COUNTERS], o: Stepped) -> [u32; station_state::COUNTERS]
+#[tactic(auto, unfolding(station_spec::specs::Count::counted))]
+pub fn count(counters: [u32; COUNTERS], o: Stepped) -> [u32; COUNTERS]
     ensures { result ≡ counted counters o }
 {
     let next = o.station;
-    let r = next.receiver;
-    let sent = o.sent;
-    let got = o.got;
-    let a = add_if(o.start, counters, ATTEMPTS);
-    let b = count_transmit(a, sent, next.frame, next.deferred);
-    count_receive(b, got, octets_in(r))
+    let a = add_if(o.start, counters, Counter::Attempts);
+    let b = count_transmit(a, o.sent, next.frame, next.deferred);
+    count_receive(b, o.got, octets_in(next.receiver))
 }

@@ -3,20 +3,28 @@
 #![tactic(auto)]
 
 ghost use Rattle.std.specs.Prelude.{◌≡◌, ◌+◌, ◌<◌};
-ghost use Rattle.station_spec.specs.Defer.{quiet_rule, busy_rule, gap_rule, goes_back, defer};
+ghost use Rattle.station_spec.specs.Defer.{to, quiet_rule, busy_rule, gap_rule, goes_back, defer};
 
 use sheet_layout::Figures;
 use station_spec::Deferred;
 use station_state::Deference;
 
+// The next phase, with no frame started.
+fn to(phase: Deference) -> Deferred
+    ensures { result ≡ to phase }
+{
+    Deferred {
+        phase,
+        start: false,
+    }
+}
+
+#[tactic(auto, unfolding(station_spec::specs::Defer::quiet_rule))]
 fn quiet_rule(hears: bool, emitted: bool, waits: bool) -> Deferred
     ensures { result ≡ quiet_rule hears emitted waits }
 {
-    if octets::either(hears, emitted) {
-        return Deferred {
-            phase: Deference::Busy(emitted),
-            start: false,
-        };
+    if hears | emitted {
+        return to(Deference::Busy(emitted));
     }
     Deferred {
         phase: Deference::Quiet,
@@ -24,28 +32,25 @@ fn quiet_rule(hears: bool, emitted: bool, waits: bool) -> Deferred
     }
 }
 
+#[tactic(auto, unfolding(station_spec::specs::Defer::busy_rule))]
 fn busy_rule(own: bool, hears: bool, emitted: bool) -> Deferred
     ensures { result ≡ busy_rule own hears emitted }
 {
-    if octets::either(hears, emitted) {
-        return Deferred {
-            phase: Deference::Busy(octets::either(own, emitted)),
-            start: false,
-        };
+    if hears | emitted {
+        return to(Deference::Busy(own | emitted));
     }
-    Deferred {
-        phase: Deference::Gap { count: 1, own },
-        start: false,
-    }
+    to(Deference::Gap { count: 1, own })
 }
 
 // Whether a gap goes back to busy: others are heard in its first part, and the station did not emit in the stretch.
+#[tactic(auto, unfolding(station_spec::specs::Defer::goes_back))]
 pub fn goes_back(gap1: u32, count: u32, own: bool, hears: bool) -> bool
     ensures { result ≡ goes_back gap1 count own hears }
 {
-    octets::both(hears, octets::both(count < gap1, !own))
+    hears & ((count < gap1) & !own)
 }
 
+#[tactic(auto, unfolding(station_spec::specs::Defer::gap_rule, station_spec::specs::Defer::gap_over, sheet_layout::specs::Layout::gap_of))]
 fn gap_rule(f: Figures, count: u32, own: bool, hears: bool, emitted: bool, waits: bool) -> Deferred
     requires { f.gap1 + f.gap2 < 65536 }
     ensures { result ≡ gap_rule f count own hears emitted waits }
@@ -60,22 +65,17 @@ fn gap_rule(f: Figures, count: u32, own: bool, hears: bool, emitted: bool, waits
         return quiet_rule(hears, emitted, false);
     }
     if goes_back(f.gap1, count, own, hears) {
-        return Deferred {
-            phase: Deference::Busy(own),
-            start: false,
-        };
+        return to(Deference::Busy(own));
     }
-    Deferred {
-        phase: Deference::Gap {
-            count: count + 1,
-            own,
-        },
-        start: false,
-    }
+    to(Deference::Gap {
+        count: count + 1,
+        own,
+    })
 }
 
 // Deference in one step: whether others are heard, whether the station emitted in the step before, whether a frame
 // waits.
+#[tactic(auto, unfolding(station_spec::specs::Defer::defer))]
 pub fn defer(f: Figures, d: Deference, hears: bool, emitted: bool, waits: bool) -> Deferred
     requires { f.gap1 + f.gap2 < 65536 }
     ensures { result ≡ defer f d hears emitted waits }

@@ -1,15 +1,15 @@
 -- Counters (document 01, "Counters, 32 bits, per station"), sixteen in the document's order; then N1's.
--- The laws are in CountLaws. Assumes nothing.
-use Rattle.std.specs.Prelude.{ℕ, ◌+◌, ◌-◌, min, Bool, ◌&&◌, List, leb, eqb, get_or, set}
+-- Assumes nothing.
+use Rattle.std.specs.Prelude.{ℕ, ◌+◌, ◌-◌, min, Bool, ◌&&◌, List, leb, eqb, get_or, set, Option, None, Some}
 use Rattle.octets.specs.Base.{pick}
 use Rattle.station_state.specs.declared.Receiver.{Receiver}
 use Rattle.station_state.specs.declared.Receiver.TheVariants.{Listening, Readable, Seeking, Collecting}
 use Rattle.station_spec.specs.declared.Stepped.{Stepped}
 use Rattle.station_spec.specs.declared.TransmitEvent.{TransmitEvent}
-use Rattle.station_spec.specs.declared.TransmitEvent.TheVariants.{NoTransmit, Collision, Late, Sent, GivenUp}
+use Rattle.station_spec.specs.declared.TransmitEvent.TheVariants.{Collision, Late, Sent, GivenUp}
 use Rattle.station_spec.specs.declared.TransmitEvent.TheVariants.{LateEnded}
 use Rattle.station_spec.specs.declared.ReceiveEvent.{ReceiveEvent}
-use Rattle.station_spec.specs.declared.ReceiveEvent.TheVariants.{NoReceive, GotOk, GotTooLong, GotAlignment}
+use Rattle.station_spec.specs.declared.ReceiveEvent.TheVariants.{GotOk, GotTooLong, GotAlignment}
 use Rattle.station_spec.specs.declared.ReceiveEvent.TheVariants.{GotCheck, GotLength}
 
 -- "Offered, attempts, collisions, late (also counted as collisions), sent, sent after one collision, sent after
@@ -92,22 +92,22 @@ count_sent cs n z wasDeferred =
     deferred_frames
 
 -- what a transmit event adds, of a frame of z octets
-unfoldable pub count_transmit : List ℕ → TransmitEvent → (z : ℕ) → (wasDeferred : Bool) → List ℕ
-count_transmit cs NoTransmit z wasDeferred = cs
-count_transmit cs (Collision k) z wasDeferred = added cs collisions 1
-count_transmit cs (Late k closes) z wasDeferred = added (added cs collisions 1) late 1
-count_transmit cs (Sent n) z wasDeferred = count_sent cs n z wasDeferred
-count_transmit cs (GivenUp n) z wasDeferred = added cs excessive 1
-count_transmit cs (LateEnded n) z wasDeferred = added cs late_ended 1
+unfoldable pub count_transmit : List ℕ → Option TransmitEvent → (z : ℕ) → (wasDeferred : Bool) → List ℕ
+count_transmit cs None z wasDeferred = cs
+count_transmit cs (Some (Collision k)) z wasDeferred = added cs collisions 1
+count_transmit cs (Some (Late k closes)) z wasDeferred = added (added cs collisions 1) late 1
+count_transmit cs (Some (Sent n)) z wasDeferred = count_sent cs n z wasDeferred
+count_transmit cs (Some (GivenUp n)) z wasDeferred = added cs excessive 1
+count_transmit cs (Some (LateEnded n)) z wasDeferred = added cs late_ended 1
 
 -- what a receive event adds, of a frame of z octets
-unfoldable pub count_receive : List ℕ → ReceiveEvent → (z : ℕ) → List ℕ
-count_receive cs NoReceive z = cs
-count_receive cs (GotOk n) z = added (added cs received 1) octets_received (z - 18)
-count_receive cs (GotTooLong n) z = added cs too_long 1
-count_receive cs (GotAlignment n) z = added cs alignment_errors 1
-count_receive cs (GotCheck n) z = added cs check_errors 1
-count_receive cs (GotLength n) z = added cs length_errors 1
+unfoldable pub count_receive : List ℕ → Option ReceiveEvent → (z : ℕ) → List ℕ
+count_receive cs None z = cs
+count_receive cs (Some (GotOk n)) z = added (added cs received 1) octets_received (z - 18)
+count_receive cs (Some (GotTooLong n)) z = added cs too_long 1
+count_receive cs (Some (GotAlignment n)) z = added cs alignment_errors 1
+count_receive cs (Some (GotCheck n)) z = added cs check_errors 1
+count_receive cs (Some (GotLength n)) z = added cs length_errors 1
 
 -- the octets of a frame that can be read
 abbrev pub octets_in : Receiver → ℕ

@@ -1,6 +1,6 @@
 -- Deference: when a station may start (document 01, "One bit time").
 -- "Each station is in just one of quiet, busy or gap, and a gap carries its count of quiet bits; busy and gap also
--- remember whether the station itself emitted in that busy stretch." The laws are in DeferLaws. Assumes nothing.
+-- remember whether the station itself emitted in that busy stretch." Assumes nothing.
 use Rattle.std.specs.Prelude.{ℕ, ◌+◌, Bool, true, false, not, ◌||◌, ◌&&◌, ltb, leb}
 use Rattle.octets.specs.Base.{pick}
 use Rattle.sheet_layout.specs.declared.Figures.{Figures}

@@ -1,10 +1,8 @@
 pub mod Defer
-pub mod DeferLaws
 pub mod Transmit
-pub mod TransmitLaws
 pub mod Receive
 pub mod ReceiveLaws
 pub mod Step
 pub mod StepLaws
 pub mod Count
-pub mod CountLaws
+pub mod TransmitLaws

@@ -1,10 +1,8 @@
--- A law for each way through the step's code. Assumes nothing.
-use Rattle.std.specs.Prelude.{ℕ, ◌+◌, ◌≡◌, refl, Bool, true, false, not, ◌||◌, ◌&&◌, List, eqb}
+-- The step from its three parts, as the code puts them together. Assumes nothing.
+use Rattle.std.specs.Prelude.{ℕ, ◌+◌, ◌≡◌, refl, Bool, true, false, List}
 use Rattle.std.proofs.Common.{◌∙◌, ap}
-use borrow.Author.Tests.{eq-eqb, ne_eqb}
 use Rattle.sheet_layout.specs.declared.Figures.{Figures}
 use Rattle.station_symbols.specs.declared.Heard.{Heard}
-use Rattle.station_symbols.specs.declared.Emission.{Emission}
 use Rattle.station_spec.specs.declared.Deferred.{Deferred}
 use Rattle.station_spec.specs.declared.Transmitted.{Transmitted}
 use Rattle.station_spec.specs.declared.Received.{Received}
@@ -13,7 +11,9 @@ use Rattle.station_spec.specs.declared.Stepped.{Stepped}
 use Rattle.station_symbols.specs.Packet.{hears_any, is_emission}
 use Rattle.station_spec.specs.Defer.{defer}
 use Rattle.station_spec.specs.Transmit.{waits, octets_held, transmit}
-use Rattle.station_spec.specs.TransmitLaws.{held_transmits}
+use Rattle.station_state.specs.declared.Transmitter.{Transmitter}
+use Rattle.station_state.specs.declared.Transmitter.TheVariants.{NoFrame, Waiting, BackingOff, Sending, Heading}
+use Rattle.station_state.specs.declared.Transmitter.TheVariants.{Jamming}
 use Rattle.station_spec.specs.Receive.{receive}
 use Rattle.station_spec.specs.Step.{tries_after, draw_after, deferred_after, deferring, sending, receiving}
 use Rattle.station_spec.specs.Step.{next_station, stepped}
@@ -25,24 +25,6 @@ tries_more n start p = rw p
 pub tries_same : (n : ℕ) (start : Bool) → start ≡ false → n ≡ tries_after n start
 unfolding tries_after
 tries_same n start p = rw p
-
-module _ (place draws : ℕ) (drew : Bool) where
-  pub draw_first : drew ≡ true → place + 1 ≡ draws → 0 ≡ draw_after place draws drew
-  unfolding draw_after
-  draw_first p q = rw (p, eq-eqb (place + 1) draws q)
-
-  pub draw_next : drew ≡ true → (place + 1 ≡ draws → ⊥) → place + 1 ≡ draw_after place draws drew
-  unfolding draw_after
-  draw_next p q = rw (p, ne_eqb (place + 1) draws q)
-
-  pub draw_same : drew ≡ false → place ≡ draw_after place draws drew
-  unfolding draw_after
-  draw_same p = rw p
-
-pub deferred_is : (d w start b c r : Bool) (n : ℕ) → r ≡ (d || b) → b ≡ (w && c) → c ≡ (eqb n 0 && not start)
-    → r ≡ deferred_after d w n start
-unfolding deferred_after
-deferred_is d w start b c r n p q e = p ∙ rw (q, e)
 
 -- the next state and the rest, from the three parts
 unfoldable pub finished : Station → ℕ → Deferred → Transmitted → Received → ℕ → Bool → Stepped
@@ -66,48 +48,16 @@ finished s draws d o q tries emits =
       stored = q.stored;
     }
 
-pub finished_is : (s : Station) (draws : ℕ) (d : Deferred) (o : Transmitted) (q : Received) (tries : ℕ)
-    (emits w b : Bool) (p : ℕ)
-    → b ≡ deferred_after s.deferred w s.attempts d.start → w ≡ waits s.transmitter
-    → p ≡ draw_after s.draw draws o.drew
-    → record {
-      station = record {
-        address = s.address;
-        deference = d.phase;
-        transmitter = o.phase;
-        receiver = q.receiver;
-        frame = s.frame;
-        attempts = tries;
-        draw = p;
-        deferred = b;
-        emitted = emits;
-      };
-      emission = o.emission;
-      start = d.start;
-      sent = o.event;
-      got = q.event;
-      stored = q.stored;
-    } ≡ finished s draws d o q tries emits
-unfolding finished
-finished_is s draws d o q tries emits w b p e f g =
-    λ i. record {
-      station = record {
-        address = s.address;
-        deference = d.phase;
-        transmitter = o.phase;
-        receiver = q.receiver;
-        frame = s.frame;
-        attempts = tries;
-        draw = g i;
-        deferred = (e ∙ ap (λ (x : Bool). deferred_after s.deferred x s.attempts d.start) f) i;
-        emitted = emits;
-      };
-      emission = o.emission;
-      start = d.start;
-      sent = o.event;
-      got = q.event;
-      stored = q.stored;
-    }
+-- a step looks at the octets of a frame only where one is held
+held_transmits : (f : Figures) (t : Transmitter) (z n draw : ℕ) (start hears : Bool)
+    → transmit f t (octets_held t z) n draw start hears ≡ transmit f t z n draw start hears
+unfolding transmit
+held_transmits f NoFrame z n draw start hears = refl
+held_transmits f Waiting z n draw start hears = refl
+held_transmits f (BackingOff w) z n draw start hears = refl
+held_transmits f (Sending k) z n draw start hears = refl
+held_transmits f (Heading k) z n draw start hears = refl
+held_transmits f (Jamming left ends) z n draw start hears = refl
 
 -- the three parts one after the other are the step
 parts : (f : Figures) (s : Station) (draws draw : ℕ) (buffer : List ℕ) (h : Heard)

@@ -1,10 +1,10 @@
 -- The transmitter (document 01, "One bit time").
--- The laws are in TransmitLaws. Assumes nothing.
-use Rattle.std.specs.Prelude.{ℕ, ◌+◌, ◌-◌, ◌*◌, ◌%◌, ◌^◌, min, Bool, true, false, ltb, leb, eqb}
+-- Assumes nothing.
+use Rattle.std.specs.Prelude.{ℕ, ◌+◌, ◌-◌, ◌*◌, ◌%◌, ◌^◌, min, Bool, true, false, ltb, leb, eqb, Option, None, Some}
 use Rattle.octets.specs.Base.{pick}
 use Rattle.sheet_layout.specs.declared.Figures.{Figures}
 use Rattle.station_spec.specs.declared.TransmitEvent.{TransmitEvent}
-use Rattle.station_spec.specs.declared.TransmitEvent.TheVariants.{NoTransmit, Collision, Late, Sent, GivenUp}
+use Rattle.station_spec.specs.declared.TransmitEvent.TheVariants.{Collision, Late, Sent, GivenUp}
 use Rattle.station_spec.specs.declared.TransmitEvent.TheVariants.{LateEnded}
 use Rattle.station_symbols.specs.declared.Emission.{Emission}
 use Rattle.station_symbols.specs.declared.Emission.TheVariants.{Rest, PacketBit, JamBit}
@@ -33,9 +33,9 @@ octets_held (Jamming n ends) z = z
 
 -- a step that emits nothing, and one that emits without an event
 abbrev pub resting : Transmitter → Transmitted
-resting t = record { phase = t; emission = Rest; event = NoTransmit; drew = false }
+resting t = record { phase = t; emission = Rest; event = None; drew = false }
 
-abbrev pub emitting : Transmitter → Emission → TransmitEvent → Transmitted
+abbrev pub emitting : Transmitter → Emission → Option TransmitEvent → Transmitted
 emitting t e v = record { phase = t; emission = e; event = v; drew = false }
 
 -- "64 header bits, then 512..12,144": the bits of a packet whose frame has so many octets
@@ -58,19 +58,19 @@ closes_frame f = eqb f.ends 1
 -- slot."
 unfoldable pub collision : Figures → ℕ → Transmitted
 collision f k =
-    pick (ltb f.slot k) (emitting (after_bit f.jam k (closes_frame f)) (PacketBit k) (Late k (closes_frame f)))
-    (emitting (after_bit f.jam k false) (PacketBit k) (Collision k))
+    pick (ltb f.slot k) (emitting (after_bit f.jam k (closes_frame f)) (PacketBit k) (Some (Late k (closes_frame f))))
+    (emitting (after_bit f.jam k false) (PacketBit k) (Some (Collision k)))
 
 -- "With no collision, the step of the last bit reports sent", with the attempts. Else the next bit follows.
 unfoldable pub send_bit : Figures → (frame n k : ℕ) → (hears : Bool) → Transmitted
 send_bit f frame n k hears =
     pick hears (collision f k)
-    (pick (eqb k (packet_length frame)) (emitting NoFrame (PacketBit k) (Sent n))
-    (emitting (Sending (k + 1)) (PacketBit k) NoTransmit))
+    (pick (eqb k (packet_length frame)) (emitting NoFrame (PacketBit k) (Some (Sent n)))
+    (emitting (Sending (k + 1)) (PacketBit k) None))
 
 -- a header bit after a collision
 unfoldable pub head_bit : Figures → ℕ → Transmitted
-head_bit f k = emitting (after_bit f.jam k false) (PacketBit k) NoTransmit
+head_bit f k = emitting (after_bit f.jam k false) (PacketBit k) None
 
 -- "2^min(n, backoff limit)"; N6: "Work the range out as a power of two from the attempt and the backoff limit."
 unfoldable pub backoff_range : (n backoff : ℕ) → ℕ
@@ -85,14 +85,14 @@ back_off f n draw =
 -- "At the last jam bit, after attempt n: n = limit reports excessiveCollisionError; else r = .."
 unfoldable pub last_jam : Figures → (n draw : ℕ) → Transmitted
 last_jam f n draw =
-    pick (eqb n f.limit) (emitting NoFrame JamBit (GivenUp n))
-    (record { phase = back_off f n draw; emission = JamBit; event = NoTransmit; drew = true })
+    pick (eqb n f.limit) (emitting NoFrame JamBit (Some (GivenUp n)))
+    (record { phase = back_off f n draw; emission = JamBit; event = None; drew = true })
 
 -- N1: "1 reports lateCollisionError at the last jam bit, before the attempt limit is looked at"
 unfoldable pub jam_bit : Figures → (n draw left : ℕ) → (ends : Bool) → Transmitted
 jam_bit f n draw left ends =
-    pick (leb left 1) (pick ends (emitting NoFrame JamBit (LateEnded n)) (last_jam f n draw))
-    (emitting (Jamming (left - 1) ends) JamBit NoTransmit)
+    pick (leb left 1) (pick ends (emitting NoFrame JamBit (Some (LateEnded n))) (last_jam f n draw))
+    (emitting (Jamming (left - 1) ends) JamBit None)
 
 -- a step of backoff: after the last of them the frame waits
 unfoldable pub backoff_bit : ℕ → Transmitted

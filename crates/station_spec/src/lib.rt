@@ -13,11 +13,10 @@ pub struct Deferred {
     pub start: bool,
 }
 
-// What a transmitter reports in a step, at most one: a collision with its bit, or a late one, which closes the frame
-// or not; sent, given up or ended after a late collision with the frame's attempts.
+// What a transmitter reports in a step: a collision with its bit, or a late one, which closes the frame or not; sent,
+// given up or ended after a late collision with the frame's attempts.
 #[derive(Clone, Copy)]
 pub enum TransmitEvent {
-    NoTransmit,
     Collision(u32),
     Late { bit: u32, closes: bool },
     Sent(u32),
@@ -25,20 +24,20 @@ pub enum TransmitEvent {
     LateEnded(u32),
 }
 
-// What a step of the transmitter leads to: the next phase, the emission, the event, and whether a draw was used.
+// What a step of the transmitter leads to: the next phase, the emission, at most one event, and whether a draw was
+// used.
 #[derive(Clone, Copy)]
 pub struct Transmitted {
     pub phase: Transmitter,
     pub emission: Emission,
-    pub event: TransmitEvent,
+    pub event: Option<TransmitEvent>,
     pub drew: bool,
 }
 
-// What a receiver reports in a step, at most one: a frame got: with receiveOK the octets of client data, else the whole
-// octets collected.
+// What a receiver reports in a step, a frame got: with receiveOK the octets of client data, else the whole octets
+// collected.
 #[derive(Clone, Copy)]
 pub enum ReceiveEvent {
-    NoReceive,
     GotOk(u32),
     GotTooLong(u32),
     GotAlignment(u32),
@@ -48,27 +47,27 @@ pub enum ReceiveEvent {
 
 // The collected bit that a step stores: its number, counted from 0, and its value.
 #[derive(Clone, Copy)]
-pub enum Stored {
-    NoStore,
-    Store { bit: u32, one: bool },
+pub struct Stored {
+    pub bit: u32,
+    pub one: bool,
 }
 
-// What a step of the receiver leads to.
+// What a step of the receiver leads to: the next state, at most one event, and the collected bit to store, if any.
 #[derive(Clone, Copy)]
 pub struct Received {
     pub receiver: Receiver,
-    pub event: ReceiveEvent,
-    pub stored: Stored,
+    pub event: Option<ReceiveEvent>,
+    pub stored: Option<Stored>,
 }
 
 // What a step leads to: the next state, what is emitted, whether a frame started, the events, the collected bit to
-// store.
+// store, if any.
 #[derive(Clone, Copy)]
 pub struct Stepped {
     pub station: Station,
     pub emission: Emission,
     pub start: bool,
-    pub sent: TransmitEvent,
-    pub got: ReceiveEvent,
-    pub stored: Stored,
+    pub sent: Option<TransmitEvent>,
+    pub got: Option<ReceiveEvent>,
+    pub stored: Option<Stored>,
 }

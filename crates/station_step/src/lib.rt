@@ -7,11 +7,12 @@ ghost use Rattle.station_spec.specs.Step.{Roomy, tries_after, draw_after, deferr
 ghost use Rattle.station_spec.specs.StepLaws.{finished};
 
 use sheet_layout::Figures;
-use station_spec::{Deferred, ReceiveEvent, Received, Stepped, Stored, TransmitEvent, Transmitted};
+use station_spec::{Deferred, Received, Stepped, Transmitted};
 use station_state::Station;
 use station_symbols::{Emission, Heard};
 
 // The attempts of a frame, with one that starts in this step.
+#[tactic(auto, unfolding(station_spec::specs::Step::tries_after))]
 fn tries_after(attempts: u32, start: bool) -> u32
     requires { attempts < 4294967295 }
     ensures { result ≡ tries_after attempts start }
@@ -20,6 +21,7 @@ fn tries_after(attempts: u32, start: bool) -> u32
 }
 
 // The place of the next draw: in turn, then from the first again.
+#[tactic(auto, unfolding(station_spec::specs::Step::draw_after))]
 fn draw_after(place: u32, draws: u32, drew: bool) -> u32
     requires { place < 4294967295 }
     ensures { result ≡ draw_after place draws drew }
@@ -34,16 +36,15 @@ fn draw_after(place: u32, draws: u32, drew: bool) -> u32
 }
 
 // Whether the frame did not start in its first step: it waits, was never tried, and does not start now.
+#[tactic(auto, unfolding(station_spec::specs::Step::deferred_after))]
 fn deferred_after(deferred: bool, waits: bool, attempts: u32, start: bool) -> bool
     ensures { result ≡ deferred_after deferred waits attempts start }
 {
-    octets::either(
-        deferred,
-        octets::both(waits, octets::both(attempts == 0, !start)),
-    )
+    deferred | (waits & ((attempts == 0) & !start))
 }
 
 // The next state and what the step leads to, from its three parts.
+#[tactic(auto, unfolding(station_spec::specs::StepLaws::finished))]
 fn finish(
     s: Station,
     draws: u32,
@@ -56,34 +57,23 @@ fn finish(
     requires { s.draw < 4294967295 }
     ensures { result ≡ finished s draws d o q tries emits }
 {
-    let waiting = s.transmitter;
-    let waits = station_transmit::is_waiting(waiting);
-    let address = s.address;
-    let deference = d.phase;
-    let transmitter = o.phase;
-    let receiver = q.receiver;
-    let station = Station {
-        address,
-        deference,
-        transmitter,
-        receiver,
-        frame: s.frame,
-        attempts: tries,
-        draw: draw_after(s.draw, draws, o.drew),
-        deferred: deferred_after(s.deferred, waits, s.attempts, d.start),
-        emitted: emits,
-    };
-    let emission = o.emission;
-    let sent = o.event;
-    let got = q.event;
-    let stored = q.stored;
+    let waits = station_transmit::is_waiting(s.transmitter);
     Stepped {
-        station,
-        emission,
+        station: Station {
+            deference: d.phase,
+            transmitter: o.phase,
+            receiver: q.receiver,
+            attempts: tries,
+            draw: draw_after(s.draw, draws, o.drew),
+            deferred: deferred_after(s.deferred, waits, s.attempts, d.start),
+            emitted: emits,
+            ..s
+        },
+        emission: o.emission,
         start: d.start,
-        sent,
-        got,
-        stored,
+        sent: o.event,
+        got: q.event,
+        stored: q.stored,
     }
 }
 
@@ -92,18 +82,13 @@ pub fn step(f: Figures, s: Station, draws: u32, draw: u32, buffer: &[u8], h: Hea
     requires { Roomy f s (length buffer.now) }
     ensures { result ≡ stepped f s draws draw buffer.now h }
 {
-    let phase = s.deference;
-    let t = s.transmitter;
-    let r = s.receiver;
-    let address = s.address;
     let hears = station_symbols::hears_any(h);
-    let waits = station_transmit::is_waiting(t);
-    let d = station_defer::defer(f, phase, hears, s.emitted, waits);
+    let waits = station_transmit::is_waiting(s.transmitter);
+    let d = station_defer::defer(f, s.deference, hears, s.emitted, waits);
     let tries = tries_after(s.attempts, d.start);
-    let frame = station_transmit::octets_held(t, s.frame);
-    let o = station_send::transmit(f, t, frame, tries, draw, d.start, hears);
-    let emission = o.emission;
-    let emits = station_symbols::is_emission(emission);
-    let q = station_end::receive(address, buffer, r, h, emits);
+    let frame = station_transmit::octets_held(s.transmitter, s.frame);
+    let o = station_send::transmit(f, s.transmitter, frame, tries, draw, d.start, hears);
+    let emits = station_symbols::is_emission(o.emission);
+    let q = station_end::receive(s.address, buffer, s.receiver, h, emits);
     finish(s, draws, d, o, q, tries, emits)
 }

@@ -1,17 +1,16 @@
 -- The bits of a packet, by number. Assumes nothing.
-use Rattle.std.specs.Prelude.{ℕ, zero, suc, ◌+◌, ◌-◌, ◌/◌, ◌%◌, ◌^◌, ◌≤◌, ◌<◌, ◌≡◌, refl, Bool, true, false, List, [], ◌∷◌, ◌++◌, leb, eqb, length, get_or}
+use Rattle.std.specs.Prelude.{ℕ, ◌+◌, ◌-◌, ◌/◌, ◌%◌, ◌^◌, ◌≤◌, ◌<◌, ◌≡◌, Bool, true, false, List, ◌∷◌, ◌++◌, leb, eqb, length, get_or}
 use Rattle.std.proofs.Math.Path.{sym}
-use Rattle.std.proofs.Common.{◌∙◌, ap, append_assoc, arith, le-leb, get_or-append-add}
+use Rattle.std.proofs.Common.{◌∙◌, ap, arith, le-leb, get_or-append-add}
 use Rattle.std.proofs.lemmas.Bool.{lt-leb}
 use Rattle.std.proofs.Math.ListN.{get_or-append}
 use Rattle.octets.specs.Base.{pick}
 use Rattle.octets.specs.Bits.{bits_of}
 use Rattle.octets.specs.BitsLaws.{octet_bit, octet_bit_past}
-use Rattle.octets.specs.Table.{tabulated, entry}
-use Rattle.station_symbols.specs.declared.Symbol.{Symbol}
-use Rattle.station_symbols.specs.declared.Symbol.TheVariants.{Silence, Bit, Jam}
+use Rattle.octets.specs.Table.{entry}
+use Rattle.station_symbols.specs.declared.Symbol.TheVariants.{Bit}
 use Rattle.station_symbols.specs.declared.Emission.{Emission}
-use Rattle.station_symbols.specs.declared.Emission.TheVariants.{Rest, PacketBit, JamBit}
+use Rattle.station_symbols.specs.declared.Emission.TheVariants.{PacketBit}
 use Rattle.station_symbols.specs.Packet.{preamble, delimiter, packet_bits, frame_bit, packet_bit, symbol_of}
 
 -- ---- a frame's bits

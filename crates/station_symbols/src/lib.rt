@@ -33,21 +33,13 @@ pub enum Emission {
 pub fn hears_any(h: Heard) -> bool
     ensures { result ≡ hears_any h }
 {
-    match h {
-        Heard::Nothing => false,
-        Heard::Clean(_) => true,
-        Heard::Spoiled => true,
-    }
+    !matches!(h, Heard::Nothing)
 }
 
 pub fn is_emission(e: Emission) -> bool
     ensures { result ≡ is_emission e }
 {
-    match e {
-        Emission::Rest => false,
-        Emission::PacketBit(_) => true,
-        Emission::JamBit => true,
-    }
+    !matches!(e, Emission::Rest)
 }
 
 // Bit j of the octets, low bit first; 0 past their end.
@@ -58,8 +50,7 @@ fn frame_bit(frame: &[u8], j: usize) -> bool
     if frame.len() <= at {
         return false;
     }
-    let place = (j % 8) as u32;
-    (octets::wide(frame[at]) >> place) % 2 == 1
+    (frame[at] >> (j % 8)) % 2 == 1
 }
 
 // Bit k of the packet that carries a frame, counted from 1: 64 header bits, then the frame's.

@@ -1,7 +1,7 @@
 -- On a layout that fits no frame ends after a late collision: only one that closes the frame leads there. Assumes
 -- nothing.
 use Prim.Native.Nat.{ℕ, zero, suc, ◌+◌, ◌*◌, ◌%◌, ◌≤◌, ◌<◌}
-use Rattle.std.specs.Prelude.{◌≡◌, Bool, false, List, ◌⊎◌, ltb, leb, eqb}
+use Rattle.std.specs.Prelude.{◌≡◌, Bool, false, List, ◌⊎◌, ltb, leb, eqb, Option, None, Some}
 use Rattle.std.proofs.Common.{sym, ◌∙◌, true≢false, inl, inr, arith}
 use Rattle.std.proofs.Math.Path.{ap}
 use Rattle.std.proofs.Math.Bool.{true}
@@ -14,7 +14,7 @@ use Rattle.station_state.specs.declared.Transmitter.TheVariants.{Jamming}
 use Rattle.station_state.specs.declared.Station.{Station}
 use Rattle.station_symbols.specs.Packet.{hears_any}
 use Rattle.station_spec.specs.declared.TransmitEvent.{TransmitEvent}
-use Rattle.station_spec.specs.declared.TransmitEvent.TheVariants.{NoTransmit, Collision, Late, Sent, GivenUp}
+use Rattle.station_spec.specs.declared.TransmitEvent.TheVariants.{Collision, Late, Sent, GivenUp}
 use Rattle.station_spec.specs.declared.TransmitEvent.TheVariants.{LateEnded}
 use Rattle.station_spec.specs.Transmit.{closes_frame, packet_length, after_bit, collision, send_bit, head_bit, back_off}
 use Rattle.station_spec.specs.Transmit.{backoff_range, last_jam, jam_bit, backoff_bit, wait_bit, transmit}
@@ -37,24 +37,24 @@ closing (Heading k) = false
 closing (Jamming n ends) = ends
 
 -- a late collision that closes the frame
-abbrev closed : TransmitEvent → Bool
-closed NoTransmit = false
-closed (Collision k) = false
-closed (Late k closes) = closes
-closed (Sent n) = false
-closed (GivenUp n) = false
-closed (LateEnded n) = false
+abbrev closed : Option TransmitEvent → Bool
+closed None = false
+closed (Some (Collision k)) = false
+closed (Some (Late k closes)) = closes
+closed (Some (Sent n)) = false
+closed (Some (GivenUp n)) = false
+closed (Some (LateEnded n)) = false
 
 no : {C : Type 0} → ◌≡◌ {A = Bool} false true → C
 no e = absurd (true≢false (sym e))
 
-closed_late : (v : TransmitEvent) → closed v ≡ true → (k : ℕ) × (v ≡ Late k true)
-closed_late NoTransmit e = no e
-closed_late (Collision k) e = no e
-closed_late (Late k closes) e = (k, ap (Late k) e)
-closed_late (Sent n) e = no e
-closed_late (GivenUp n) e = no e
-closed_late (LateEnded n) e = no e
+closed_late : (v : Option TransmitEvent) → closed v ≡ true → (k : ℕ) × (v ≡ Some (Late k true))
+closed_late None e = no e
+closed_late (Some (Collision k)) e = no e
+closed_late (Some (Late k closes)) e = (k, ap (λ (b : Bool). Some (Late k b)) e)
+closed_late (Some (Sent n)) e = no e
+closed_late (Some (GivenUp n)) e = no e
+closed_late (Some (LateEnded n)) e = no e
 
 after_closing : (jam k : ℕ) (ends : Bool) → closing (after_bit jam k ends) ≡ true → ends ≡ true
 unfolding after_bit
@@ -98,7 +98,7 @@ send_closing f (Heading k) z n draw start h p = no (after_closing f.jam k false 
 send_closing f (Jamming left ends) z n draw start h p = inl (jam_closing f n draw left ends p)
 
 -- and only from there a frame ends so
-bit_not_ended : (f : Figures) (z n k : ℕ) (h : Bool) (m : ℕ) → (send_bit f z n k h).event ≡ LateEnded m → ⊥
+bit_not_ended : (f : Figures) (z n k : ℕ) (h : Bool) (m : ℕ) → (send_bit f z n k h).event ≡ Some (LateEnded m) → ⊥
 unfolding send_bit collision
 bit_not_ended f z n k true m e =
     by_test (ltb f.slot k) (λ c. let z : ◌≡◌ {A = ℕ} 0 1 = cc (rw c at e) in omega arith)
@@ -107,7 +107,8 @@ bit_not_ended f z n k false m e =
     by_test (eqb k (packet_length z)) (λ c. let z : ◌≡◌ {A = ℕ} 0 1 = cc (rw c at e) in omega arith)
     (λ c. let z : ◌≡◌ {A = ℕ} 0 1 = cc (rw c at e) in omega arith)
 
-jam_ended : (f : Figures) (n draw left : ℕ) (ends : Bool) (m : ℕ) → (jam_bit f n draw left ends).event ≡ LateEnded m
+jam_ended : (f : Figures) (n draw left : ℕ) (ends : Bool) (m : ℕ)
+    → (jam_bit f n draw left ends).event ≡ Some (LateEnded m)
     → ends ≡ true
 unfolding jam_bit last_jam
 jam_ended f n draw left ends m e =
@@ -119,7 +120,7 @@ jam_ended f n draw left ends m e =
     (λ c. let z : ◌≡◌ {A = ℕ} 0 1 = cc (rw c at e) in omega arith)))
 
 send_ended : (f : Figures) (x : Transmitter) (z n draw : ℕ) (start h : Bool) (m : ℕ)
-    → (transmit f x z n draw start h).event ≡ LateEnded m → closing x ≡ true
+    → (transmit f x z n draw start h).event ≡ Some (LateEnded m) → closing x ≡ true
 unfolding transmit wait_bit head_bit backoff_bit
 send_ended f NoFrame z n draw start h m e = absurd (let z : ◌≡◌ {A = ℕ} 0 1 = cc in omega arith)
 send_ended f Waiting z n draw true h m e = absurd (bit_not_ended f z n 1 h m e)
@@ -155,7 +156,7 @@ module _ (P : Net) (inp : ℕ → List (Offer P)) (span : ℕ) (L : Sound P span
       never_late P inp span L g fits i t w.0 true hi w.1)
 
   -- No frame ends after a late collision.
-  pub never_ended : (t m : ℕ) → (out_at P inp i t).sent ≡ LateEnded m → ⊥
+  pub never_ended : (t m : ℕ) → (out_at P inp i t).sent ≡ Some (LateEnded m) → ⊥
   unfolding send_at defer_at
   never_ended t m e =
       let s = state P inp t i in

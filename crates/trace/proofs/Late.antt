@@ -1,5 +1,5 @@
 -- No collision is late, and none comes after bit 2 × S. Assumes nothing.
-use Rattle.std.specs.Prelude.{ℕ, ◌+◌, ◌*◌, ◌≤◌, ◌<◌, max, ◌≡◌, refl, Bool, List, ltb, leb, eqb}
+use Rattle.std.specs.Prelude.{ℕ, ◌+◌, ◌*◌, ◌≤◌, ◌<◌, max, ◌≡◌, refl, Bool, List, ltb, leb, eqb, Option, None, Some}
 use Rattle.std.proofs.Common.{sym, ◌∙◌, subst, inr, arith, ltb-true}
 use Rattle.std.proofs.Math.Path.{ap}
 use Rattle.std.proofs.Math.Bool.{true, false}
@@ -8,7 +8,7 @@ use Rattle.sheet_layout.specs.declared.Figures.{Figures}
 use Rattle.sheet_layout.specs.Layout.{gap_of}
 use Rattle.station_symbols.specs.Packet.{hears_any, is_emission}
 use Rattle.station_spec.specs.declared.TransmitEvent.{TransmitEvent}
-use Rattle.station_spec.specs.declared.TransmitEvent.TheVariants.{NoTransmit, Late}
+use Rattle.station_spec.specs.declared.TransmitEvent.TheVariants.{Late}
 use Rattle.station_state.specs.declared.Transmitter.{Transmitter}
 use Rattle.station_state.specs.declared.Transmitter.TheVariants.{NoFrame, Waiting, BackingOff, Sending, Heading}
 use Rattle.station_state.specs.declared.Transmitter.TheVariants.{Jamming}
@@ -25,7 +25,7 @@ use Rattle.trace.specs.Keep.{says, emits_is, unheard_in, flags}
 use Rattle.trace.proofs.Keep.{lawful}
 use Rattle.trace.specs.Late.{Struck}
 
-not_struck : (k : ℕ) (closes : Bool) → Struck NoTransmit k closes → ⊥
+not_struck : (k : ℕ) (closes : Bool) → Struck None k closes → ⊥
 not_struck k closes e =
     either e (λ q. let z : ◌≡◌ {A = ℕ} 0 1 = cc in omega arith) (λ q. let z : ◌≡◌ {A = ℕ} 0 1 = cc in omega arith)
 
@@ -61,7 +61,7 @@ jam_struck f n draw left ends m closes e =
 
 -- "late if k > slot"
 bit_late : (f : Figures) (z n k : ℕ) (h : Bool) (m : ℕ) (closes : Bool)
-    → (send_bit f z n k h).event ≡ Late m closes → f.slot < m
+    → (send_bit f z n k h).event ≡ Some (Late m closes) → f.slot < m
 unfolding send_bit collision
 bit_late f z n k true m closes e =
     by_test (ltb f.slot k)
@@ -70,7 +70,7 @@ bit_late f z n k true m closes e =
 bit_late f z n k false m closes e = absurd (let q = bit_struck f z n k false m closes (inr e) in clash q.0 refl)
 
 past_slot : (f : Figures) (x : Transmitter) (z n draw : ℕ) (start h : Bool) (m : ℕ) (closes : Bool)
-    → (transmit f x z n draw start h).event ≡ Late m closes → f.slot < m
+    → (transmit f x z n draw start h).event ≡ Some (Late m closes) → f.slot < m
 unfolding transmit wait_bit head_bit backoff_bit
 past_slot f NoFrame z n draw start h m closes e = absurd (not_struck m closes (inr e))
 past_slot f Waiting z n draw true h m closes e = bit_late f z n 1 h m closes e
@@ -120,11 +120,11 @@ module _ (P : Net) (inp : ℕ → List (Offer P)) (span : ℕ) (L : Sound P span
       (tries_after s.attempts (defer_at P inp i t).start) (P.draw i s.draw) (defer_at P inp i t).start
       (hears_any (sees P inp i t)) k closes
       hi (flags P inp span L i t hi v).hy (emits_is P inp span L i t hi) v.tx
-      (subst (λ (x : TransmitEvent). Struck x k closes) (out_sent P inp span L i hi t) e)
+      (subst (λ (x : Option TransmitEvent). Struck x k closes) (out_sent P inp span L i hi t) e)
 
   -- No collision is late.
   pub never_late : 2 * span ≤ P.fig.slot → (i t k : ℕ) (closes : Bool) → i < P.n
-      → (out_at P inp i t).sent ≡ Late k closes → ⊥
+      → (out_at P inp i t).sent ≡ Some (Late k closes) → ⊥
   unfolding send_at defer_at
   never_late fits i t k closes hi e =
       let s = state P inp t i in

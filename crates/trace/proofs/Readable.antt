@@ -1,13 +1,13 @@
 -- A readable frame: it is the one last got, octet for octet, from the step after until the station hears another.
 -- Assumes nothing.
-use Rattle.std.specs.Prelude.{ℕ, zero, suc, ◌+◌, ◌-◌, ◌*◌, ◌≤◌, ◌<◌, true, List, length, take}
+use Rattle.std.specs.Prelude.{ℕ, zero, suc, ◌+◌, ◌-◌, ◌*◌, ◌≤◌, ◌<◌, true, List, length, take, None, Some}
 use Rattle.std.proofs.Math.Path.{◌≡◌}
 use Rattle.std.proofs.Common.{sym, ◌∙◌, ap, subst, add-zero, add-suc}
 use native.Mathlib.Omega.{arith}
 use Rattle.octets.specs.BaseLaws.{by_eq}
 use Rattle.sheet_layout.specs.Layout.{gap_of}
 use Rattle.station_symbols.specs.declared.Heard.TheVariants.{Nothing}
-use Rattle.station_spec.specs.declared.ReceiveEvent.TheVariants.{NoReceive, GotOk}
+use Rattle.station_spec.specs.declared.ReceiveEvent.TheVariants.{GotOk}
 use Rattle.station_state.specs.declared.Receiver.TheVariants.{Readable}
 use Rattle.station_spec.specs.declared.Received.{Received}
 use Rattle.station_spec.specs.Receive.{addressed, deciding, ended, receive}
@@ -27,7 +27,7 @@ use Rattle.trace.specs.Readable.{Reads, Read}
 
 module _ (P : Net) (inp : ℕ → List (Offer P)) (span : ℕ) (L : Sound P span) (j : ℕ) (hj : j < P.n) where
   -- a decision changes no octet
-  decided : (t : ℕ) (F : List ℕ) (m : ℕ) → reception_at P inp j t ≡ deciding (Readable (length F)) (GotOk m)
+  decided : (t : ℕ) (F : List ℕ) (m : ℕ) → reception_at P inp j t ≡ deciding (Readable (length F)) (Some (GotOk m))
       → take (length F) (buffer_in P inp j t) ≡ F → Reads P inp j (suc t) F
   decided t F m q b =
       record {
@@ -38,7 +38,7 @@ module _ (P : Net) (inp : ℕ → List (Offer P)) (span : ℕ) (L : Sound P span
       }
 
   still : (t n : ℕ) → (state P inp t j).receiver ≡ Readable n → sees P inp j t ≡ Nothing
-      → reception_at P inp j t ≡ deciding (Readable n) NoReceive
+      → reception_at P inp j t ≡ deciding (Readable n) None
   still t n r e =
       reception_nothing P inp span L j hj t e ∙ ap (ended (P.address j) (buffer_in P inp j t)) r
       ∙ ended_readable (P.address j) (buffer_in P inp j t) n
@@ -72,7 +72,7 @@ module _ (P : Net) (inp : ℕ → List (Offer P)) (span : ℕ) (L : Sound P span
       (sym (receiver_next P inp span L j hj t) ∙ e)
 
   got_by : (t m : ℕ) → (receive (P.address j) (buffer_in P inp j t) (state P inp t j).receiver (sees P inp j t)
-      (emits P inp j t)).event ≡ GotOk m → (out_at P inp j t).got ≡ GotOk m
+      (emits P inp j t)).event ≡ Some (GotOk m) → (out_at P inp j t).got ≡ Some (GotOk m)
   unfolding reception_at
   got_by t m e = got_is P inp span L j hj t ∙ e
 
@@ -107,13 +107,13 @@ module _ (P : Net) (inp : ℕ → List (Offer P)) (span : ℕ) (L : Sound P span
       let r = sender_came P inp span L g fits j u hj s in subst (Reads P inp j t) r.1
       (readable u r.0 r.2 t l q)
 
-  pub got_readable : (u t m : ℕ) → (out_at P inp j u).got ≡ GotOk m → u < t
+  pub got_readable : (u t m : ℕ) → (out_at P inp j u).got ≡ Some (GotOk m) → u < t
       → ((x : ℕ) → u ≤ x → x < t → sees P inp j x ≡ Nothing)
       → (s : Sender P inp j u) × Reads P inp j t (frame_in P inp s.from s.at)
   got_readable u t m v l q = let s = (received P inp span L g fits j u m hj v).0 in (s, sent_readable u t s l q)
 
   read_new : (t n m : ℕ) → (state P inp (suc t) j).receiver ≡ Readable n → sees P inp j t ≡ Nothing
-      → (out_at P inp j t).got ≡ GotOk m → Read P inp j (suc t) n
+      → (out_at P inp j t).got ≡ Some (GotOk m) → Read P inp j (suc t) n
   read_new t n m e q v =
       let w = got_whole P inp span L g fits j t m hj v in
       let r = reads_next t w.0 w.1 in

@@ -1,6 +1,6 @@
 -- "receiveOK" and "sent": a station reports a frame got exactly when another sent it one. No hypothesis about the slot
 -- is used. Assumes nothing.
-use Rattle.std.specs.Prelude.{ℕ, suc, ◌+◌, ◌*◌, ◌≤◌, ◌<◌, ◌≡◌, refl, Bool, true, false, List, length}
+use Rattle.std.specs.Prelude.{ℕ, suc, ◌+◌, ◌*◌, ◌≤◌, ◌<◌, ◌≡◌, refl, Bool, true, false, List, length, None, Some}
 use Rattle.std.proofs.Common.{sym, ◌∙◌, ap, subst, inl, arith}
 use Rattle.octets.specs.BaseLaws.{by_test, by_eq}
 use Rattle.frame_open.specs.Open.{receive_ok, opened}
@@ -10,7 +10,7 @@ use Rattle.station_symbols.specs.declared.Heard.TheVariants.{Clean}
 use Rattle.station_symbols.specs.declared.Symbol.TheVariants.{Bit}
 use Rattle.station_symbols.specs.Packet.{packet_bit}
 use Rattle.station_spec.specs.declared.TransmitEvent.TheVariants.{Sent}
-use Rattle.station_spec.specs.declared.ReceiveEvent.TheVariants.{NoReceive, GotOk}
+use Rattle.station_spec.specs.declared.ReceiveEvent.TheVariants.{GotOk}
 use Rattle.station_state.specs.declared.Receiver.TheVariants.{Listening, Readable}
 use Rattle.station_spec.specs.declared.Received.{Received}
 use Rattle.station_spec.specs.Receive.{addressed, deciding, decide, ended}
@@ -52,14 +52,14 @@ module _ (P : Net) (inp : ℕ → List (Offer P)) (span : ℕ) (L : Sound P span
     -- what station j decides of it
     pub whole_for : addressed (P.address j) w.frame ≡ true
         → reception_at P inp j (suc (e + P.d i j)) ≡ deciding (Readable (length w.frame))
-        (GotOk (client_in w.frame))
+        (Some (GotOk (client_in w.frame)))
     whole_for d =
         whole_decided
         ∙ decide_for (P.address j) (buffer_in P inp j (suc (e + P.d i j))) w.frame (client_in w.frame)
         w.size.0 w.size.1 complete.buffer status d
 
     pub whole_else : addressed (P.address j) w.frame ≡ false
-        → reception_at P inp j (suc (e + P.d i j)) ≡ deciding Listening NoReceive
+        → reception_at P inp j (suc (e + P.d i j)) ≡ deciding Listening None
     whole_else d =
         whole_decided
         ∙ decide_else (P.address j) (buffer_in P inp j (suc (e + P.d i j))) w.frame (client_in w.frame)
@@ -67,14 +67,14 @@ module _ (P : Net) (inp : ℕ → List (Offer P)) (span : ℕ) (L : Sound P span
 
     -- A whole packet is got by the stations that it is addressed to, with the octets of its client data.
     pub whole_got : addressed (P.address j) w.frame ≡ true
-        → (out_at P inp j (suc (e + P.d i j))).got ≡ GotOk (client_in w.frame)
+        → (out_at P inp j (suc (e + P.d i j))).got ≡ Some (GotOk (client_in w.frame))
     whole_got d = got_is P inp span L j hj (suc (e + P.d i j)) ∙ ap (λ (r : Received). r.event) (whole_for d)
 
     -- and by no other
-    pub whole_not : addressed (P.address j) w.frame ≡ false → (out_at P inp j (suc (e + P.d i j))).got ≡ NoReceive
+    pub whole_not : addressed (P.address j) w.frame ≡ false → (out_at P inp j (suc (e + P.d i j))).got ≡ None
     whole_not d = got_is P inp span L j hj (suc (e + P.d i j)) ∙ ap (λ (r : Received). r.event) (whole_else d)
 
-    got_for : (m : ℕ) → (out_at P inp j (suc (e + P.d i j))).got ≡ GotOk m
+    got_for : (m : ℕ) → (out_at P inp j (suc (e + P.d i j))).got ≡ Some (GotOk m)
         → (addressed (P.address j) w.frame ≡ true) × (m ≡ client_in w.frame)
     got_for m v =
         by_test (addressed (P.address j) w.frame)
@@ -100,12 +100,12 @@ module _ (P : Net) (inp : ℕ → List (Offer P)) (span : ℕ) (L : Sound P span
         (λ z. clash (w.ran.on e (omega (arith, w.long)) (omega arith)) (ap on (o.rest i e hi ne z q)))
 
   -- A frame that is got was sent whole, and is addressed to the station that got it.
-  pub got_whole : (j u m : ℕ) → j < P.n → (out_at P inp j u).got ≡ GotOk m
+  pub got_whole : (j u m : ℕ) → j < P.n → (out_at P inp j u).got ≡ Some (GotOk m)
       → (c : Came P inp j u) × (addressed (P.address j) c.whole.frame ≡ true) × (m ≡ client_in c.whole.frame)
   got_whole j u m hj v =
       let c = got_came P inp span L j u m hj v in
       let r = got_for c.from c.start c.at c.station c.whole j hj c.other m
-      (subst (λ (x : ℕ). (out_at P inp j x).got ≡ GotOk m) c.delay v) in
+      (subst (λ (x : ℕ). (out_at P inp j x).got ≡ Some (GotOk m)) c.delay v) in
       (c, r.0, r.1)
 
   -- such a frame in document 01's words
@@ -127,7 +127,7 @@ module _ (P : Net) (inp : ℕ → List (Offer P)) (span : ℕ) (L : Sound P span
       )
 
   -- Received means sent: a receiveOK is of a frame addressed to the station, which another reported sent.
-  pub received : (j u m : ℕ) → j < P.n → (out_at P inp j u).got ≡ GotOk m
+  pub received : (j u m : ℕ) → j < P.n → (out_at P inp j u).got ≡ Some (GotOk m)
       → (s : Sender P inp j u) × (m ≡ client_in (frame_in P inp s.from s.at))
   received j u m hj v =
       let r = got_whole j u m hj v in
@@ -155,24 +155,26 @@ module _ (P : Net) (inp : ℕ → List (Offer P)) (span : ℕ) (L : Sound P span
 
   -- Sent means received: where another reported sent a frame addressed to the station, it reports receiveOK.
   pub delivered : (j u : ℕ) → j < P.n → (s : Sender P inp j u)
-      → (out_at P inp j u).got ≡ GotOk (client_in (frame_in P inp s.from s.at))
+      → (out_at P inp j u).got ≡ Some (GotOk (client_in (frame_in P inp s.from s.at)))
   delivered j u hj s =
       let r = sender_came j u hj s in
       let c = r.0 in
-      subst (λ (x : ℕ). (out_at P inp j x).got ≡ GotOk (client_in (frame_in P inp s.from s.at))) (sym c.delay)
+      subst (λ (x : ℕ). (out_at P inp j x).got ≡ Some (GotOk (client_in (frame_in P inp s.from s.at)))) (sym c.delay)
       (whole_got c.from c.start c.at c.station c.whole j hj c.other r.2
-      ∙ ap (λ (f : List ℕ). GotOk (client_in f)) r.1)
+      ∙ ap (λ (f : List ℕ). Some (GotOk (client_in f))) r.1)
 
   -- Both: step u of station j reports receiveOK, with m octets, exactly when another reported sent a frame with m
   -- octets addressed to j that comes to its end there in step u.
   pub exactly : (j u m : ℕ) → j < P.n
-      → ((out_at P inp j u).got ≡ GotOk m → (s : Sender P inp j u) × (m ≡ client_in (frame_in P inp s.from s.at)))
-      × ((s : Sender P inp j u) → m ≡ client_in (frame_in P inp s.from s.at) → (out_at P inp j u).got ≡ GotOk m)
-  exactly j u m hj = (λ v. received j u m hj v, λ s z. delivered j u hj s ∙ ap GotOk (sym z))
+      → ((out_at P inp j u).got ≡ Some (GotOk m)
+      → (s : Sender P inp j u) × (m ≡ client_in (frame_in P inp s.from s.at)))
+      × ((s : Sender P inp j u) → m ≡ client_in (frame_in P inp s.from s.at) → (out_at P inp j u).got ≡ Some (GotOk m))
+  exactly j u m hj = (λ v. received j u m hj v, λ s z. delivered j u hj s ∙ ap (λ (a : ℕ). Some (GotOk a)) (sym z))
 
   -- Two that reported sent frames which end in the same step at a third station are one.
   pub one_sender : (j i e m i' e' m' : ℕ) → j < P.n → i < P.n → i' < P.n → (i ≡ j → ⊥) → (i' ≡ j → ⊥)
-      → (out_at P inp i e).sent ≡ Sent m → (out_at P inp i' e').sent ≡ Sent m' → e + P.d i j ≡ e' + P.d i' j → i ≡ i'
+      → (out_at P inp i e).sent ≡ Some (Sent m) → (out_at P inp i' e').sent ≡ Some (Sent m')
+      → e + P.d i j ≡ e' + P.d i' j → i ≡ i'
   one_sender j i e m i' e' m' hj hi hi' ne ne' v v' z =
       let r = sent_run P inp span L i e m hi v in
       let r' = sent_run P inp span L i' e' m' hi' v' in

@@ -12,8 +12,8 @@ use Rattle.station_symbols.specs.PacketLaws.{bit_of_frame}
 use Rattle.station_state.specs.declared.Receiver.{Receiver}
 use Rattle.station_state.specs.declared.Receiver.TheVariants.{Listening, Readable, Seeking, Collecting}
 use Rattle.station_spec.specs.declared.Received.{Received}
-use Rattle.station_spec.specs.declared.Stored.TheVariants.{Store}
 use Rattle.station_spec.specs.Receive.{next_row, stored_bit, hearing, seek_bit, seek, collect_bit, collect, hear}
+use Rattle.station_spec.specs.Receive.{storing}
 use Rattle.bus_spec.specs.After.{stored_in}
 use Rattle.bus_meeting.specs.Net.{Net}
 use Rattle.trace.specs.World.{Offer}
@@ -54,7 +54,7 @@ along_header (Seeking row spoiled own) v = absurd v
 along_header (Collecting n spoiled own) v = absurd v
 
 collect_clean : (n : ℕ) (b : Bool) → n < buffer_bits
-    → hear (Collecting n false false) true b false ≡ hearing (Collecting (suc n) false false) (Store n b)
+    → hear (Collecting n false false) true b false ≡ hearing (Collecting (suc n) false false) (storing n b)
 unfolding hear collect collect_bit stored_bit
 collect_clean n b h = let e : n + 1 ≡ suc n = omega arith in rw (e, lt-ltb n buffer_bits h)
 
@@ -143,7 +143,7 @@ module _ (P : Net) (inp : ℕ → List (Offer P)) (span : ℕ) (L : Sound P span
         → Collects (suc n) (suc (a + P.d i j + (64 + n)))
     collect_step n l v =
         let t : ℕ = a + P.d i j + (64 + n) in
-        let q : reception_at P inp j t ≡ hearing (Collecting (suc n) false false) (Store n (frame_bit w.frame n)) =
+        let q : reception_at P inp j t ≡ hearing (Collecting (suc n) false false) (storing n (frame_bit w.frame n)) =
         clean_step (64 + n) (frame_bit w.frame n) (omega arith) (body_bit w.frame n)
         ∙ ap (λ (r : Receiver). hear r true (frame_bit w.frame n) false) v.receiver
         ∙ collect_clean n (frame_bit w.frame n) (omega (arith, w.size)) in

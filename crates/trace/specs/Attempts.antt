@@ -1,6 +1,6 @@
 -- Attempts: those that a frame's end reports are the starts since its offer was accepted, and no more than the limit.
 -- Assumes nothing.
-use Rattle.std.specs.Prelude.{ℕ, zero, suc, ◌+◌, ◌≤◌, ◌<◌, ◌≡◌, Bool, true, false, List, ltb, leb, eqb, length}
+use Rattle.std.specs.Prelude.{ℕ, zero, suc, ◌+◌, ◌≤◌, ◌<◌, ◌≡◌, Bool, true, false, List, ltb, leb, eqb, length, Some}
 use Rattle.std.proofs.Math.Path.{refl, ap}
 use Rattle.std.proofs.Common.{sym, ◌∙◌, ap₂, subst, arith, eqb-true}
 use Rattle.std.proofs.Math.Nat.{add-zero}
@@ -27,7 +27,7 @@ use Rattle.trace.specs.Keep.{held_back}
 use Rattle.trace.specs.Sent.{Ends, end_next}
 
 -- "n = limit reports excessiveCollisionError"
-bit_not_up : (f : Figures) (z n k : ℕ) (h : Bool) (m : ℕ) → (send_bit f z n k h).event ≡ GivenUp m → ⊥
+bit_not_up : (f : Figures) (z n k : ℕ) (h : Bool) (m : ℕ) → (send_bit f z n k h).event ≡ Some (GivenUp m) → ⊥
 unfolding send_bit collision
 bit_not_up f z n k true m e =
     by_test (ltb f.slot k) (λ c. let z : ◌≡◌ {A = ℕ} 0 1 = cc (rw c at e) in omega arith)
@@ -36,7 +36,7 @@ bit_not_up f z n k false m e =
     by_test (eqb k (packet_length z)) (λ c. let z : ◌≡◌ {A = ℕ} 0 1 = cc (rw c at e) in omega arith)
     (λ c. let z : ◌≡◌ {A = ℕ} 0 1 = cc (rw c at e) in omega arith)
 
-jam_up : (f : Figures) (n draw left : ℕ) (ends : Bool) (m : ℕ) → (jam_bit f n draw left ends).event ≡ GivenUp m
+jam_up : (f : Figures) (n draw left : ℕ) (ends : Bool) (m : ℕ) → (jam_bit f n draw left ends).event ≡ Some (GivenUp m)
     → m ≡ f.limit
 unfolding jam_bit last_jam
 jam_up f n draw left ends m e =
@@ -48,7 +48,7 @@ jam_up f n draw left ends m e =
     (λ c. absurd (let z : ◌≡◌ {A = ℕ} 0 1 = cc (rw c at e) in omega arith))
 
 up_limit : (f : Figures) (x : Transmitter) (z n draw : ℕ) (start h : Bool) (m : ℕ)
-    → (transmit f x z n draw start h).event ≡ GivenUp m → m ≡ f.limit
+    → (transmit f x z n draw start h).event ≡ Some (GivenUp m) → m ≡ f.limit
 unfolding transmit wait_bit head_bit backoff_bit
 up_limit f NoFrame z n draw start h m e = absurd (let z : ◌≡◌ {A = ℕ} 0 1 = cc in omega arith)
 up_limit f Waiting z n draw true h m e = absurd (bit_not_up f z n 1 h m e)
@@ -197,7 +197,7 @@ module _ (P : Net) (inp : ℕ → List (Offer P)) (span : ℕ) (L : Sound P span
       (fine_before P inp span L (suc e) i hi).attempts in
       omega (arith, q.1, next_attempts P inp span L i hi e)
 
-  pub given_up : (e m : ℕ) → (out_at P inp i e).sent ≡ GivenUp m → m ≡ P.fig.limit
+  pub given_up : (e m : ℕ) → (out_at P inp i e).sent ≡ Some (GivenUp m) → m ≡ P.fig.limit
   unfolding send_at defer_at
   given_up e m v =
       let s = state P inp e i in

@@ -12,14 +12,14 @@ use Rattle.octets.specs.BitsLaws.{octet_bit}
 use Rattle.octets.specs.BaseLaws.{by_eq}
 use Rattle.octets.specs.NumberLaws.{Octets}
 use Rattle.station_symbols.specs.Packet.{frame_bit}
-use Rattle.station_spec.specs.declared.Stored.TheVariants.{Store}
 use Rattle.area.specs.Area.{octet_with}
 use Rattle.bus_spec.specs.After.{stored_in}
+use Rattle.station_spec.specs.Receive.{storing}
 
 -- the buffer b after the first n bits of F
 unfoldable pub collected : List ℕ → List ℕ → ℕ → List ℕ
 collected b F zero = b
-collected b F (suc n) = stored_in (collected b F n) (Store n (frame_bit F n))
+collected b F (suc n) = stored_in (collected b F n) (storing n (frame_bit F n))
 
 -- The first n bits in b are those of F: whole octets, and the low bits of the next one.
 pub record Filled (F : List ℕ) (n : ℕ) (b : List ℕ) : Type 0 where
@@ -48,7 +48,7 @@ bit_is F n h = octet_bit F n h
 
 module _ (F : List ℕ) (o : Octets F) (n : ℕ) (b : List ℕ) (v : Filled F n b) (h : n < 8 * length F) where
   next : List ℕ
-  next = stored_in b (Store n (frame_bit F n))
+  next = stored_in b (storing n (frame_bit F n))
 
   next_octet : get_or next (n / 8) 0 ≡ get_or F (n / 8) 0 % 2 ^ (1 + n % 8)
   unfolding next
@@ -95,7 +95,7 @@ module _ (F : List ℕ) (o : Octets F) (n : ℕ) (b : List ℕ) (v : Filled F n 
       }
 
   -- One bit more is stored.
-  pub filled_more : Filled F (suc n) (stored_in b (Store n (frame_bit F n)))
+  pub filled_more : Filled F (suc n) (stored_in b (storing n (frame_bit F n)))
   unfolding next
   filled_more = by_eq (n % 8) 7 last_bit inner_bit
 

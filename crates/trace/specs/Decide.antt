@@ -1,6 +1,6 @@
 -- The receiver's step by itself: what it decides of a frame that was collected whole, what a receiveOK says of the step
 -- and of the one before it, and what leaves a frame readable. Assumes nothing.
-use Rattle.std.specs.Prelude.{ℕ, ◌*◌, ◌/◌, ◌%◌, ◌≤◌, ◌≡◌, refl, Bool, true, false, ◌||◌, List, ◌⊎◌, ltb, eqb, get_or}
+use Rattle.std.specs.Prelude.{ℕ, ◌*◌, ◌/◌, ◌%◌, ◌≤◌, ◌≡◌, refl, Bool, true, false, ◌||◌, List, ◌⊎◌, ltb, eqb, get_or, None, Some}
 use Rattle.std.proofs.Math.Path.{sym, ap}
 use Rattle.std.proofs.Common.{◌∙◌, ap₂, subst, inl, inr, take-take}
 use native.Mathlib.Omega.{arith}
@@ -8,12 +8,13 @@ use Rattle.std.proofs.Math.ListN.{length, take}
 use borrow.Author.Tests.{le-ltb, eqb-true}
 use Rattle.octets.specs.Base.{pick, Answer, refused, values_of}
 use Rattle.octets.specs.BaseLaws.{by_test}
-use Rattle.frame_open.specs.Open.{destination_of, value_of, fragment, frame_too_long, frame_check_error, alignment_error}
+use Rattle.frame_open.specs.Open.{destination_of, value_of, fragment, frame_too_long, frame_check_error}
+use Rattle.frame_open.specs.Open.{alignment_error}
 use Rattle.frame_open.specs.Open.{receive_ok, Opening, check_wrong, check_error, opened}
 use Rattle.frame_build.specs.Limits.{max_frame, buffer_octets, shortest_frame}
 use Rattle.station_symbols.specs.declared.Heard.{Heard}
 use Rattle.station_symbols.specs.declared.Heard.TheVariants.{Nothing, Clean, Spoiled}
-use Rattle.station_spec.specs.declared.ReceiveEvent.TheVariants.{NoReceive, GotOk}
+use Rattle.station_spec.specs.declared.ReceiveEvent.TheVariants.{GotOk}
 use Rattle.station_state.specs.declared.Receiver.{Receiver}
 use Rattle.station_state.specs.declared.Receiver.TheVariants.{Listening, Readable, Seeking, Collecting}
 use Rattle.station_spec.specs.Receive.{seek_bit, seek, collect_bit, collect, hear, addressed, open_answer, got_event}
@@ -39,16 +40,16 @@ module _ (A B F : List ℕ) (k : ℕ) (lo : 64 ≤ length F) (hi : length F ≤ 
       rw (whole_octets, r, le-ltb buffer_octets (length F) hi, b) s
 
   opening_is : (opened false F 0).status ≡ receive_ok k
-      → opening B (8 * length F) false ≡ deciding (Readable (length F)) (GotOk k)
+      → opening B (8 * length F) false ≡ deciding (Readable (length F)) (Some (GotOk k))
   unfolding opening got_event readable_after
   opening_is s = rw (answer_is s, whole_octets)
 
   pub decide_for : (opened false F 0).status ≡ receive_ok k → addressed A F ≡ true
-      → decide A B (8 * length F) false false ≡ deciding (Readable (length F)) (GotOk k)
+      → decide A B (8 * length F) false false ≡ deciding (Readable (length F)) (Some (GotOk k))
   unfolding decide
   decide_for s d = rw (le-ltb (8 * length F) shortest_frame (omega arith), destination_same, d) (opening_is s)
 
-  pub decide_else : addressed A F ≡ false → decide A B (8 * length F) false false ≡ deciding Listening NoReceive
+  pub decide_else : addressed A F ≡ false → decide A B (8 * length F) false false ≡ deciding Listening None
   unfolding decide
   decide_else d = rw (le-ltb (8 * length F) shortest_frame (omega arith), destination_same, d)
 
@@ -58,12 +59,12 @@ ended_collecting A B n s o = refl
 
 -- ---- what a receiveOK says of the step
 
-pub no_ok : (m : ℕ) → NoReceive ≡ GotOk m → ⊥
+pub no_ok : (m : ℕ) → None ≡ Some (GotOk m) → ⊥
 no_ok m e = let z : ◌≡◌ {A = ℕ} 0 1 = cc in omega arith
 
 -- an answer that is not reported as receiveOK
 abbrev Not : ℕ → Answer → Type 0
-Not m r = (n : ℕ) → got_event r n ≡ GotOk m → ⊥
+Not m r = (n : ℕ) → got_event r n ≡ Some (GotOk m) → ⊥
 
 not_status : (m : ℕ) (r : Answer) → eqb (get_or (values_of r) 0 0) 5 ≡ false → Not m r
 unfolding got_event
@@ -98,12 +99,13 @@ spoiled_answer m B n =
     by_test (ltb buffer_octets (n / 8)) (λ c. rw c (not_status m frame_too_long refl))
     (λ c. rw c (spoiled_not m (take (n / 8) B) (n % 8)))
 
-opening_clean : (m : ℕ) (B : List ℕ) (n : ℕ) (s : Bool) → (opening B n s).event ≡ GotOk m → s ≡ false
+opening_clean : (m : ℕ) (B : List ℕ) (n : ℕ) (s : Bool) → (opening B n s).event ≡ Some (GotOk m) → s ≡ false
 unfolding opening
 opening_clean m B n true e = absurd (spoiled_answer m B n (n / 8) e)
 opening_clean m B n false e = refl
 
-decide_ok : (A B : List ℕ) (n : ℕ) (s o : Bool) (m : ℕ) → (decide A B n s o).event ≡ GotOk m → (s ≡ false) × (o ≡ false)
+decide_ok : (A B : List ℕ) (n : ℕ) (s o : Bool) (m : ℕ) → (decide A B n s o).event ≡ Some (GotOk m)
+    → (s ≡ false) × (o ≡ false)
 unfolding decide
 decide_ok A B n s o m e =
     by_test (ltb n shortest_frame) (λ c. absurd (no_ok m (rw c at e)))
@@ -112,12 +114,12 @@ decide_ok A B n s o m e =
     (λ f. absurd (no_ok m (rw (c, d, f) at e)))))
 
 -- in a reception nothing is reported
-seek_none : (row : ℕ) (s o c b : Bool) → (seek row s o c b).event ≡ NoReceive
+seek_none : (row : ℕ) (s o c b : Bool) → (seek row s o c b).event ≡ None
 unfolding seek seek_bit
 seek_none row s o true b = refl
 seek_none row s o false b = refl
 
-hear_none : (r : Receiver) (c b e : Bool) → (hear r c b e).event ≡ NoReceive
+hear_none : (r : Receiver) (c b e : Bool) → (hear r c b e).event ≡ None
 unfolding hear collect collect_bit
 hear_none Listening c b e = seek_none 1 false e c b
 hear_none (Readable n) c b e = seek_none 1 false e c b
@@ -130,7 +132,7 @@ pub record Ok (r : Receiver) (h : Heard) : Type 0 where
   pub silence : h ≡ Nothing
   pub collected : r ≡ Collecting bits false false
 
-ended_ok : (A B : List ℕ) (r : Receiver) (m : ℕ) → (ended A B r).event ≡ GotOk m → Ok r Nothing
+ended_ok : (A B : List ℕ) (r : Receiver) (m : ℕ) → (ended A B r).event ≡ Some (GotOk m) → Ok r Nothing
 unfolding ended
 ended_ok A B Listening m e = absurd (no_ok m e)
 ended_ok A B (Readable n) m e = absurd (no_ok m e)
@@ -138,7 +140,8 @@ ended_ok A B (Seeking row s o) m e = absurd (no_ok m e)
 ended_ok A B (Collecting n s o) m e =
     let d = decide_ok A B n s o m e in record { bits = n; silence = refl; collected = ap₂ (Collecting n) d.0 d.1 }
 
-pub receive_ok_lem : (A B : List ℕ) (r : Receiver) (h : Heard) (x : Bool) (m : ℕ) → (receive A B r h x).event ≡ GotOk m
+pub receive_ok_lem : (A B : List ℕ) (r : Receiver) (h : Heard) (x : Bool) (m : ℕ)
+    → (receive A B r h x).event ≡ Some (GotOk m)
     → Ok r h
 unfolding receive
 receive_ok_lem A B r Nothing x m e = ended_ok A B r m e
@@ -169,15 +172,15 @@ last_clean A B r Spoiled x n o e = absurd (spoils r x n o e)
 -- what leaves the receiver with n readable octets: nothing is heard, and they were so before, or a frame is got
 pub record Leaves (A B : List ℕ) (r : Receiver) (h : Heard) (x : Bool) (n : ℕ) : Type 0 where
   pub silence : h ≡ Nothing
-  pub why : (r ≡ Readable n) ⊎ ((m : ℕ) × ((receive A B r h x).event ≡ GotOk m))
+  pub why : (r ≡ Readable n) ⊎ ((m : ℕ) × ((receive A B r h x).event ≡ Some (GotOk m)))
 
 got_five : (B : List ℕ) (n : ℕ) (s : Bool) → get_or (values_of (open_answer B n s)) 0 0 ≡ 5
-    → (opening B n s).event ≡ GotOk (get_or (values_of (open_answer B n s)) 1 0)
+    → (opening B n s).event ≡ Some (GotOk (get_or (values_of (open_answer B n s)) 1 0))
 unfolding opening got_event
 got_five B n s e = rw e
 
 opening_reads : (B : List ℕ) (n : ℕ) (s : Bool) (k : ℕ) → (opening B n s).receiver ≡ Readable k
-    → (m : ℕ) × ((opening B n s).event ≡ GotOk m)
+    → (m : ℕ) × ((opening B n s).event ≡ Some (GotOk m))
 unfolding opening readable_after
 opening_reads B n s k e =
     by_test (eqb (get_or (values_of (open_answer B n s)) 0 0) 5)
@@ -189,7 +192,7 @@ opening_reads B n s k e =
     (λ c. absurd (let z : ◌≡◌ {A = ℕ} 0 1 = cc (rw c at e) in omega arith))
 
 decide_reads : (A B : List ℕ) (n : ℕ) (s o : Bool) (k : ℕ) → (decide A B n s o).receiver ≡ Readable k
-    → (m : ℕ) × ((decide A B n s o).event ≡ GotOk m)
+    → (m : ℕ) × ((decide A B n s o).event ≡ Some (GotOk m))
 unfolding decide
 decide_reads A B n s o k e =
     by_test (ltb n shortest_frame) (λ c. absurd (let z : ◌≡◌ {A = ℕ} 0 1 = cc (rw c at e) in omega arith))
@@ -214,7 +217,7 @@ hear_reads (Seeking row s o) c b x k e = seek_reads row s (o || x) c b k e
 hear_reads (Collecting n s o) c b x k e = let z : ◌≡◌ {A = ℕ} 0 1 = cc in omega arith
 
 ended_reads : (A B : List ℕ) (r : Receiver) (k : ℕ) → (ended A B r).receiver ≡ Readable k
-    → (r ≡ Readable k) ⊎ ((m : ℕ) × ((ended A B r).event ≡ GotOk m))
+    → (r ≡ Readable k) ⊎ ((m : ℕ) × ((ended A B r).event ≡ Some (GotOk m)))
 unfolding ended
 ended_reads A B Listening k e = absurd (let z : ◌≡◌ {A = ℕ} 0 1 = cc in omega arith)
 ended_reads A B (Readable n) k e = inl e
@@ -228,6 +231,6 @@ receive_reads A B r Nothing x k e = record { silence = refl; why = ended_reads A
 receive_reads A B r (Clean b) x k e = absurd (hear_reads r true b x k e)
 receive_reads A B r Spoiled x k e = absurd (hear_reads r false false x k e)
 
-pub ended_readable : (A B : List ℕ) (n : ℕ) → ended A B (Readable n) ≡ deciding (Readable n) NoReceive
+pub ended_readable : (A B : List ℕ) (n : ℕ) → ended A B (Readable n) ≡ deciding (Readable n) None
 unfolding ended
 ended_readable A B n = refl

@@ -1,6 +1,7 @@
 -- The frame of an accepted offer: each of its octets is below 256, the check sequence's too, and it opens with
 -- receiveOK; a whole packet carries such a frame. Assumes nothing.
 use Rattle.std.specs.Prelude.{ℕ, zero, suc, ◌+◌, ◌-◌, ◌/◌, ◌%◌, ◌<◌, ◌≡◌, refl, ◌||◌, length, get_or, replicate}
+use Rattle.std.specs.Int.{byte_at, bytes_low_first}
 use Rattle.std.proofs.Common.{sym, ◌∙◌, inl, arith, get_or-append-add}
 use Rattle.std.proofs.Math.Path.{ap, subst}
 use Rattle.std.proofs.Math.Bool.{false}
@@ -9,7 +10,6 @@ use Rattle.std.proofs.Math.ListN.{get_or-append}
 use Rattle.octets.specs.Equal.{equal}
 use Rattle.octets.specs.Number.{spelled}
 use Rattle.octets.specs.NumberLaws.{Octets}
-use Rattle.octets.specs.BitsLaws.{low_octets}
 use Rattle.frame_crc.specs.Crc.{crc_of, check_sequence}
 use Rattle.frame_crc.specs.Division.{sequence_is}
 use Rattle.frame_build.specs.Build.{header, padded, covered, frame_of}
@@ -54,12 +54,16 @@ octets_spelled (suc w) v =
     octets_append (spelled w (v / 256)) (v % 256 ∷ []) (octets_spelled w (v / 256))
     (octets_cons (v % 256) [] (omega arith) octets_none)
 
-octets_low : (n x : ℕ) → Octets (low_octets n x)
-octets_low zero x = octets_none
-octets_low (suc n) x = octets_cons (x % 256) (low_octets n (x / 256)) (omega arith) (octets_low n (x / 256))
+byte_small : (i v : ℕ) → byte_at i v < 256
+byte_small zero v = omega arith
+byte_small (suc i) v = omega arith
+
+octets_low : (k i v : ℕ) → Octets (bytes_low_first i k v)
+octets_low zero i v = octets_none
+octets_low (suc k) i v = octets_cons (byte_at i v) (bytes_low_first (suc i) k v) (byte_small i v) (octets_low k (suc i) v)
 
 octets_check : (l : List ℕ) → Octets (check_sequence l)
-octets_check l = subst Octets (sequence_is l (crc_of l) refl) (octets_low 4 (crc_of l))
+octets_check l = subst Octets (sequence_is l (crc_of l) refl) (octets_low 4 0 (crc_of l))
 
 octets_frame : (d s : List ℕ) (v : ℕ) (x : List ℕ) → Octets d → Octets s → Octets x → Octets (frame_of d s v x)
 unfolding frame_of covered header padded

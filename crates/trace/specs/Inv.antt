@@ -1,6 +1,6 @@
 -- What the transmitter's phase says of the trace: kept by every step. Assumes nothing.
 use Prim.Native.Nat.{ℕ, suc, ◌+◌, ◌*◌, ◌%◌, ◌≤◌, ◌<◌}
-use Rattle.std.specs.Prelude.{◌≡◌, Bool, List, ◌⊎◌, ltb, leb, eqb, length}
+use Rattle.std.specs.Prelude.{◌≡◌, Bool, List, ◌⊎◌, ltb, leb, eqb, length, Some}
 use Rattle.std.proofs.Math.Path.{refl, ap, subst}
 use Rattle.std.proofs.Common.{sym, ◌∙◌}
 use Rattle.std.proofs.Math.Bool.{true, false}
@@ -47,7 +47,7 @@ pub record Ran (P : Net) (inp : ℕ → List (Offer P)) (i a t : ℕ) : Type 0 w
 pub record Whole (P : Net) (inp : ℕ → List (Offer P)) (i a e : ℕ) : Type 0 where
   pub frame : List ℕ
   pub attempts : ℕ
-  pub sent : (out_at P inp i e).sent ≡ Sent attempts
+  pub sent : (out_at P inp i e).sent ≡ Some (Sent attempts)
   pub size : (64 ≤ length frame) × (length frame ≤ buffer_octets)
   pub long : a + packet_length (length frame) ≡ suc e
   pub ran : Ran P inp i a (suc e)

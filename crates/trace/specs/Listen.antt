@@ -1,6 +1,6 @@
 -- The receiver's step in the words of the trace: what it is of, what it leaves, and that a step without others ends a
 -- reception. Assumes nothing.
-use Rattle.std.specs.Prelude.{ℕ, zero, suc, ◌/◌, ◌<◌, ◌≡◌, Bool, true, false, ltb, eqb, length, get_or}
+use Rattle.std.specs.Prelude.{ℕ, zero, suc, ◌/◌, ◌<◌, ◌≡◌, Bool, true, false, ltb, eqb, length, get_or, Option, None, Some}
 use Rattle.std.proofs.Math.Path.{refl, ap, ap₂}
 use Rattle.std.proofs.Common.{sym, ◌∙◌, length-set}
 use mathlib.Core.List.{List}
@@ -13,7 +13,6 @@ use Rattle.station_state.specs.declared.Receiver.{Receiver}
 use Rattle.station_state.specs.declared.Receiver.TheVariants.{Listening, Readable, Seeking, Collecting}
 use Rattle.station_spec.specs.declared.Received.{Received}
 use Rattle.station_spec.specs.declared.Stored.{Stored}
-use Rattle.station_spec.specs.declared.Stored.TheVariants.{NoStore, Store}
 use Rattle.station_spec.specs.Receive.{hear, addressed, open_answer, readable_after, opening, decide, ended, receive}
 use Rattle.station_state.specs.declared.Station.{Station}
 use Rattle.bus_offer.specs.Offer.{offered_station}
@@ -39,9 +38,9 @@ unfolding offered_station
 kept_receiver P i os s r F G k =
     either k (λ x. ap (λ (q : Station). q.receiver) x.0) (λ x. ap (λ (q : Station). q.receiver) x.1)
 
-stored_length : (b : List ℕ) (s : Stored) → length (stored_in b s) ≡ length b
-stored_length b NoStore = refl
-stored_length b (Store k v) = length-set b (k / 8) _
+stored_length : (b : List ℕ) (s : Option Stored) → length (stored_in b s) ≡ length b
+stored_length b None = refl
+stored_length b (Some s) = length-set b (s.bit / 8) _
 
 module _ (P : Net) (inp : ℕ → List (Offer P)) where
   -- offers leave a receiver as it is

@@ -1,6 +1,6 @@
 -- What a readable frame is: the one last got, octet for octet. That it stays so from the step after until the station
 -- hears another is in proofs/Readable. Assumes nothing.
-use Rattle.std.specs.Prelude.{ℕ, ◌≤◌, ◌<◌, true, List, length, take}
+use Rattle.std.specs.Prelude.{ℕ, ◌≤◌, ◌<◌, true, List, length, take, Some}
 use Rattle.std.proofs.Math.Path.{◌≡◌}
 use Rattle.station_symbols.specs.declared.Heard.TheVariants.{Nothing}
 use Rattle.station_spec.specs.declared.ReceiveEvent.TheVariants.{GotOk}
@@ -22,7 +22,7 @@ pub record Read (P : Net) (inp : ℕ → List (Offer P)) (j t n : ℕ) : Type 0 
   pub at : ℕ
   pub size : ℕ
   pub past : at < t
-  pub got : (out_at P inp j at).got ≡ GotOk size
+  pub got : (out_at P inp j at).got ≡ Some (GotOk size)
   pub came : Came P inp j at
   pub for : addressed (P.address j) came.whole.frame ≡ true
   pub octets : n ≡ length came.whole.frame

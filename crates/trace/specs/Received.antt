@@ -1,6 +1,6 @@
 -- Frames that came, and the sender of one; what a report says of the step. That a station reports a frame got exactly
 -- when another sent it one is in proofs/Received. Assumes nothing.
-use Rattle.std.specs.Prelude.{ℕ, zero, suc, ◌+◌, ◌<◌, ◌≡◌, Bool, true, false, List}
+use Rattle.std.specs.Prelude.{ℕ, zero, suc, ◌+◌, ◌<◌, ◌≡◌, Bool, true, false, List, Some}
 use Rattle.std.proofs.Common.{sym, ◌∙◌, ap, arith}
 use Rattle.station_symbols.specs.declared.Heard.TheVariants.{Nothing, Clean}
 use Rattle.station_spec.specs.declared.TransmitEvent.TheVariants.{Sent}
@@ -35,7 +35,7 @@ pub record Sender (P : Net) (inp : ℕ → List (Offer P)) (j u : ℕ) : Type 0 
   pub station : from < P.n
   pub other : from ≡ j → ⊥
   pub delay : u ≡ suc (at + P.d from j)
-  pub sent : (out_at P inp from at).sent ≡ Sent attempts
+  pub sent : (out_at P inp from at).sent ≡ Some (Sent attempts)
   pub for : addressed (P.address j) (frame_in P inp from at) ≡ true
 
 module _ (P : Net) (inp : ℕ → List (Offer P)) (span : ℕ) (L : Sound P span) where
@@ -43,14 +43,15 @@ module _ (P : Net) (inp : ℕ → List (Offer P)) (span : ℕ) (L : Sound P span
   unfolding before fresh fresh_station
   fresh_receiver j = receiver_ready P inp 0 j
 
-  ok_now : (j u m : ℕ) → j < P.n → (out_at P inp j u).got ≡ GotOk m → Ok (state P inp u j).receiver (sees P inp j u)
+  ok_now : (j u m : ℕ) → j < P.n → (out_at P inp j u).got ≡ Some (GotOk m)
+      → Ok (state P inp u j).receiver (sees P inp j u)
   unfolding reception_at
   ok_now j u m hj e =
       receive_ok_lem (P.address j) (buffer_in P inp j u) (state P inp u j).receiver (sees P inp j u) (emits P inp j u) m
       (sym (got_is P inp span L j hj u) ∙ e)
 
   -- the step that reports it hears nothing
-  pub got_silent : (j u m : ℕ) → j < P.n → (out_at P inp j u).got ≡ GotOk m → sees P inp j u ≡ Nothing
+  pub got_silent : (j u m : ℕ) → j < P.n → (out_at P inp j u).got ≡ Some (GotOk m) → sees P inp j u ≡ Nothing
   got_silent j u m hj e = (ok_now j u m hj e).silence
 
   clean_last : (j t n : ℕ) (o : Bool) → j < P.n → (state P inp (suc t) j).receiver ≡ Collecting n false o
@@ -84,5 +85,5 @@ module _ (P : Net) (inp : ℕ → List (Offer P)) (span : ℕ) (L : Sound P span
       let c = clean_last j t k.bits false hj k.collected in last_whole j t c.0 c.1 k.silence
 
   -- A frame that is got was sent.
-  pub got_came : (j u m : ℕ) → j < P.n → (out_at P inp j u).got ≡ GotOk m → Came P inp j u
+  pub got_came : (j u m : ℕ) → j < P.n → (out_at P inp j u).got ≡ Some (GotOk m) → Came P inp j u
   got_came j u m hj e = came_step j u hj (ok_now j u m hj e)

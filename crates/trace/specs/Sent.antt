@@ -1,5 +1,5 @@
 -- The run behind a sent frame, and how a run ends. Assumes nothing.
-use Rattle.std.specs.Prelude.{ℕ, suc, ◌<◌, ◌≡◌, refl, Bool, true, false, List, ◌⊎◌, ltb, leb, eqb, length}
+use Rattle.std.specs.Prelude.{ℕ, suc, ◌<◌, ◌≡◌, refl, Bool, true, false, List, ◌⊎◌, ltb, leb, eqb, length, Option, None, Some}
 use Rattle.std.proofs.Common.{sym, ◌∙◌, subst, arith}
 use Rattle.std.proofs.Math.Path.{ap}
 use Rattle.std.proofs.Math.Logic.{inl, inr}
@@ -10,7 +10,7 @@ use Rattle.station_symbols.specs.declared.Symbol.TheVariants.{Silence, Bit, Jam}
 use Rattle.station_symbols.specs.declared.Emission.TheVariants.{PacketBit}
 use Rattle.station_symbols.specs.Packet.{packet_bit, symbol_of, hears_any, is_emission}
 use Rattle.station_spec.specs.declared.TransmitEvent.{TransmitEvent}
-use Rattle.station_spec.specs.declared.TransmitEvent.TheVariants.{NoTransmit, Collision, Late, Sent, GivenUp}
+use Rattle.station_spec.specs.declared.TransmitEvent.TheVariants.{Collision, Late, Sent, GivenUp}
 use Rattle.station_spec.specs.declared.TransmitEvent.TheVariants.{LateEnded}
 use Rattle.station_state.specs.declared.Transmitter.{Transmitter}
 use Rattle.station_state.specs.declared.Transmitter.TheVariants.{NoFrame, Waiting, BackingOff, Sending, Heading}
@@ -33,26 +33,27 @@ use Rattle.trace.specs.Keep.{says, says_before, emits_is, fresh_before, ended}
 -- ---- the transmitter's step that ends a frame
 
 -- The event v ends a frame after m attempts: sent, given up, or ended after a late collision.
-abbrev pub Ends : TransmitEvent → ℕ → Type 0
-Ends v m = (v ≡ Sent m) ⊎ ((v ≡ GivenUp m) ⊎ (v ≡ LateEnded m))
+abbrev pub Ends : Option TransmitEvent → ℕ → Type 0
+Ends v m = (v ≡ Some (Sent m)) ⊎ ((v ≡ Some (GivenUp m)) ⊎ (v ≡ Some (LateEnded m)))
 
-by_end : {C : Type 0} (v : TransmitEvent) (m : ℕ) → Ends v m → (v ≡ Sent m → C) → (v ≡ GivenUp m → C)
-    → (v ≡ LateEnded m → C) → C
+by_end : {C : Type 0} (v : Option TransmitEvent) (m : ℕ) → Ends v m → (v ≡ Some (Sent m) → C)
+    → (v ≡ Some (GivenUp m) → C)
+    → (v ≡ Some (LateEnded m) → C) → C
 by_end v m e f g h = either e f (λ q. either q g h)
 
-no_end : (m : ℕ) → Ends NoTransmit m → ⊥
+no_end : (m : ℕ) → Ends None m → ⊥
 no_end m e =
-    by_end NoTransmit m e (λ q. let z : ◌≡◌ {A = ℕ} 0 1 = cc in omega arith)
+    by_end None m e (λ q. let z : ◌≡◌ {A = ℕ} 0 1 = cc in omega arith)
     (λ q. let z : ◌≡◌ {A = ℕ} 0 1 = cc in omega arith) (λ q. let z : ◌≡◌ {A = ℕ} 0 1 = cc in omega arith)
 
-late_end : (k : ℕ) (closes : Bool) (m : ℕ) → Ends (Late k closes) m → ⊥
+late_end : (k : ℕ) (closes : Bool) (m : ℕ) → Ends (Some (Late k closes)) m → ⊥
 late_end k closes m e =
-    by_end (Late k closes) m e (λ q. let z : ◌≡◌ {A = ℕ} 0 1 = cc in omega arith)
+    by_end (Some (Late k closes)) m e (λ q. let z : ◌≡◌ {A = ℕ} 0 1 = cc in omega arith)
     (λ q. let z : ◌≡◌ {A = ℕ} 0 1 = cc in omega arith) (λ q. let z : ◌≡◌ {A = ℕ} 0 1 = cc in omega arith)
 
-early_end : (k m : ℕ) → Ends (Collision k) m → ⊥
+early_end : (k m : ℕ) → Ends (Some (Collision k)) m → ⊥
 early_end k m e =
-    by_end (Collision k) m e (λ q. let z : ◌≡◌ {A = ℕ} 0 1 = cc in omega arith)
+    by_end (Some (Collision k)) m e (λ q. let z : ◌≡◌ {A = ℕ} 0 1 = cc in omega arith)
     (λ q. let z : ◌≡◌ {A = ℕ} 0 1 = cc in omega arith) (λ q. let z : ◌≡◌ {A = ℕ} 0 1 = cc in omega arith)
 
 bit_end : (f : Figures) (z n k : ℕ) (h : Bool) (m : ℕ) → Ends (send_bit f z n k h).event m
@@ -65,7 +66,7 @@ bit_end f z n k false m e =
     by_test (eqb k (packet_length z))
     (λ c. rw c (
       refl,
-      by_end (Sent n) m (rw c at e) (λ q. cc) (λ q. absurd (let z : ◌≡◌ {A = ℕ} 0 1 = cc in omega arith))
+      by_end (Some (Sent n)) m (rw c at e) (λ q. cc) (λ q. absurd (let z : ◌≡◌ {A = ℕ} 0 1 = cc in omega arith))
           (λ q. absurd (let z : ◌≡◌ {A = ℕ} 0 1 = cc in omega arith)),
     ))
     (λ c. absurd (no_end m (rw c at e)))
@@ -78,13 +79,13 @@ jam_end f n draw left ends m e =
     (λ c. by_test ends
     (λ b. rw (c, b) (
       refl,
-      by_end (LateEnded n) m (rw (c, b) at e) (λ q. absurd (let z : ◌≡◌ {A = ℕ} 0 1 = cc in omega arith))
+      by_end (Some (LateEnded n)) m (rw (c, b) at e) (λ q. absurd (let z : ◌≡◌ {A = ℕ} 0 1 = cc in omega arith))
           (λ q. absurd (let z : ◌≡◌ {A = ℕ} 0 1 = cc in omega arith)) (λ q. cc),
     ))
     (λ b. by_test (eqb n f.limit)
     (λ d. rw (c, b, d) (
       refl,
-      by_end (GivenUp n) m (rw (c, b, d) at e) (λ q. absurd (let z : ◌≡◌ {A = ℕ} 0 1 = cc in omega arith)) (λ q. cc)
+      by_end (Some (GivenUp n)) m (rw (c, b, d) at e) (λ q. absurd (let z : ◌≡◌ {A = ℕ} 0 1 = cc in omega arith)) (λ q. cc)
           (λ q. absurd (let z : ◌≡◌ {A = ℕ} 0 1 = cc in omega arith)),
     ))
     (λ d. absurd (no_end m (rw (c, b, d) at e)))))
@@ -105,7 +106,8 @@ end_phase f (Heading k) z n draw start h m e = absurd (no_end m e)
 end_phase f (Jamming left ends) z n draw start h m e = let r = jam_end f n draw left ends m e in (r.0, r.1, refl)
 
 -- a sent frame's last step emits a packet bit
-jam_not_sent : (f : Figures) (n draw left : ℕ) (ends : Bool) (m : ℕ) → (jam_bit f n draw left ends).event ≡ Sent m → ⊥
+jam_not_sent : (f : Figures) (n draw left : ℕ) (ends : Bool) (m : ℕ)
+    → (jam_bit f n draw left ends).event ≡ Some (Sent m) → ⊥
 unfolding jam_bit last_jam
 jam_not_sent f n draw left ends m e =
     by_test (leb left 1)
@@ -116,7 +118,7 @@ jam_not_sent f n draw left ends m e =
     (λ c. let z : ◌≡◌ {A = ℕ} 0 1 = cc (rw c at e) in omega arith)
 
 sent_bit : (f : Figures) (x : Transmitter) (z n draw : ℕ) (start h : Bool) (m : ℕ)
-    → (transmit f x z n draw start h).event ≡ Sent m
+    → (transmit f x z n draw start h).event ≡ Some (Sent m)
     → (k : ℕ) × ((transmit f x z n draw start h).emission ≡ PacketBit k)
 unfolding transmit wait_bit head_bit backoff_bit
 sent_bit f NoFrame z n draw start h m e = absurd (no_end m (inl e))
@@ -152,10 +154,10 @@ module _ (P : Net) (inp : ℕ → List (Offer P)) (span : ℕ) (L : Sound P span
       let s = state P inp e i in
       let r = end_phase P.fig s.transmitter s.frame (tries_after s.attempts (defer_at P inp i e).start)
       (P.draw i s.draw) (defer_at P inp i e).start (hears_any (sees P inp i e)) m
-      (subst (λ (x : TransmitEvent). Ends x m) (out_sent P inp span L i hi e) v)
+      (subst (λ (x : Option TransmitEvent). Ends x m) (out_sent P inp span L i hi e) v)
       in (next_transmitter P inp span L i hi e ∙ r.0, r.1, r.2)
 
-  sent_symbol : (i e m : ℕ) → i < P.n → (out_at P inp i e).sent ≡ Sent m → (b : Bool) × (sig P inp i e ≡ Bit b)
+  sent_symbol : (i e m : ℕ) → i < P.n → (out_at P inp i e).sent ≡ Some (Sent m) → (b : Bool) × (sig P inp i e ≡ Bit b)
   unfolding send_at defer_at
   sent_symbol i e m hi v =
       let s = state P inp e i in
@@ -165,7 +167,7 @@ module _ (P : Net) (inp : ℕ → List (Offer P)) (span : ℕ) (L : Sound P span
       in (packet_bit (frame_in P inp i e) r.0, sig_is P inp span L i hi e ∙ ap (symbol_of (frame_in P inp i e)) r.1)
 
   -- A frame that is sent in step e went out whole, in one run, and its station heard nothing meanwhile.
-  pub sent_run : (i e m : ℕ) → i < P.n → (out_at P inp i e).sent ≡ Sent m → (a : ℕ) × Whole P inp i a e
+  pub sent_run : (i e m : ℕ) → i < P.n → (out_at P inp i e).sent ≡ Some (Sent m) → (a : ℕ) × Whole P inp i a e
   sent_run i e m hi v =
       let y = sent_symbol i e m hi v in
       let q = end_next i e m hi (inl v) in
@@ -207,7 +209,7 @@ module _ (P : Net) (inp : ℕ → List (Offer P)) (span : ℕ) (L : Sound P span
 
   -- A run ends in a jam bit, or its frame is sent.
   pub ends : (i b : ℕ) → i < P.n → emits P inp i b ≡ true → emits P inp i (suc b) ≡ false
-      → (sig P inp i b ≡ Jam) ⊎ ((m : ℕ) × ((out_at P inp i b).sent ≡ Sent m))
+      → (sig P inp i b ≡ Jam) ⊎ ((m : ℕ) × ((out_at P inp i b).sent ≡ Some (Sent m)))
   ends i b hi o e = either (ended P inp span L i b hi o e).how (λ j. inl j) (λ w. inr (w.attempts, w.sent))
 
   -- one that does not end in a jam bit is a whole packet

@@ -1,4 +1,5 @@
-// The calls, by their letters. What is handed is octets: numbers high octet first, addresses as eight octets.
+// The calls, by their letters. What is handed is octets: numbers high octet first, addresses as eight octets. A line
+// that hands too few of them answers 0.
 //
 // | letter | call | handed |
 // |---|---|---|
@@ -15,188 +16,156 @@
 // | g | a reading | station (1), room of the output (2) |
 // | c | counters | station (1) |
 
-fn address(a: &[u8], at: usize) -> u64 {
-    if a.len() < 8 {
-        return 0;
-    }
-    if a.len() - 8 < at {
-        return 0;
-    }
-    octets_words::get32(a, at) as u64 * 4294967296 + octets_words::get32(a, at + 4) as u64
+use octets::Refusal;
+
+// What a line asks for.
+#[derive(Clone, Copy, Debug, PartialEq, Eq)]
+pub(crate) enum Question {
+    CheckSequence,
+    Build,
+    Status,
+    Spoiled,
+    Sheet,
+    Fits,
+    Start,
+    Poked,
+    Offer,
+    Step,
+    ShortStep,
+    Run,
+    Reading,
+    Counters,
 }
 
-fn number(a: &[u8], at: usize) -> u16 {
-    if a.len() < 2 {
-        return 0;
-    }
-    if a.len() - 2 < at {
-        return 0;
-    }
-    (octets::wide(a[at]) * 256 + octets::wide(a[at + 1])) as u16
-}
-
-// Refusal n as the C interface has it.
-fn refused(n: u32) -> u32 {
-    if n < 0x80000000 { n + 0x80000000 } else { n }
-}
-
-fn build(a: &[u8], out: &mut [u8]) -> u32 {
-    let room = number(a, 0) as usize;
-    if a.len() < 20 {
-        return 0;
-    }
-    if out.len() < room {
-        return 0;
-    }
-    c_calls::build(
-        address(a, 2),
-        address(a, 10),
-        number(a, 18),
-        &a[20..],
-        &mut out[0..room],
-    )
-}
-
-fn status(a: &[u8], out: &mut [u8]) -> u32 {
-    if a.len() < 1 {
-        return 0;
-    }
-    c_calls::client_data(&a[1..], octets::wide(a[0]), out)
-}
-
-fn spoiled(a: &[u8]) -> u32 {
-    if a.len() < 1 {
-        return 0;
-    }
-    let s = frame_open::reception_status(&a[1..], octets::wide(a[0]), true);
-    let refusal = c_words::numbers::status_number(s);
-    if refusal != 0 {
-        return refused(refusal);
-    }
-    c_words::numbers::status_value(s)
-}
-
-fn of_octets(call: u8, a: &[u8], out: &mut [u8]) -> u32 {
-    match call {
-        b'k' => frame_crc::crc_of(a),
-        b'b' => build(a, out),
-        b'v' => status(a, out),
-        b'x' => spoiled(a),
-        b's' => c_calls::read_sheet(a, out),
-        _ => c_calls::fits(a),
-    }
-}
-
-fn start(area: &mut [u8], a: &[u8]) -> u32 {
-    if a.len() < 2 {
-        return 0;
-    }
-    let end = 2 + octets::wide(a[1]) as usize;
-    if a.len() < end {
-        return 0;
-    }
-    c_calls::start(area, &a[2..end], octets::wide(a[0]), &a[end..])
-}
-
-fn poke(area: &mut [u8], at: usize, v: u32) {
-    if at <= 57340 {
-        if area::AREA <= area.len() {
-            octets_words::put32(area, at, v);
+impl Question {
+    // The question of a letter. Any other letter asks as f does.
+    pub(crate) fn of(letter: u8) -> Question {
+        match letter {
+            b'k' => Question::CheckSequence,
+            b'b' => Question::Build,
+            b'v' => Question::Status,
+            b'x' => Question::Spoiled,
+            b's' => Question::Sheet,
+            b'a' => Question::Start,
+            b'p' => Question::Poked,
+            b'o' => Question::Offer,
+            b't' => Question::Step,
+            b'u' => Question::ShortStep,
+            b'r' => Question::Run,
+            b'g' => Question::Reading,
+            b'c' => Question::Counters,
+            _ => Question::Fits,
         }
     }
 }
 
+// The answer of a call, where enough is handed to make it.
+type Asked = Option<Result<u32, Refusal>>;
+
+fn build(a: &[u8], out: &mut [u8]) -> Asked {
+    let (room, a) = a.split_first_chunk::<2>()?;
+    let (destination, a) = a.split_first_chunk::<8>()?;
+    let (source, a) = a.split_first_chunk::<8>()?;
+    let (value, data) = a.split_first_chunk::<2>()?;
+    let out = out.get_mut(..usize::from(u16::from_be_bytes(*room)))?;
+    Some(c_calls::build(
+        u64::from_be_bytes(*destination),
+        u64::from_be_bytes(*source),
+        u16::from_be_bytes(*value),
+        data,
+        out,
+    ))
+}
+
+fn status(a: &[u8], out: &mut [u8]) -> Asked {
+    let (excess, frame) = a.split_first()?;
+    Some(c_calls::client_data(frame, u32::from(*excess), out))
+}
+
+fn spoiled(a: &[u8]) -> Asked {
+    let (excess, frame) = a.split_first()?;
+    Some(c_checks::reception_status(frame, u32::from(*excess), 1))
+}
+
+fn start(area: &mut [u8], a: &[u8]) -> Asked {
+    let ([depth, size], a) = a.split_first_chunk::<2>()?;
+    let (sheet, draws) = a.split_at_checked(usize::from(*size))?;
+    Some(c_calls::start(area, sheet, u32::from(*depth), draws))
+}
+
+// Each word over the area, where it lies in it.
 fn poke_all(area: &mut [u8], words: &[u8]) {
-    let n = words.len() / 8;
-    let mut k: usize = 0;
-    while k < n {
-        let at = octets_words::get32(words, 8 * k) as usize;
-        poke(area, at, octets_words::get32(words, 8 * k + 4));
-        k += 1;
+    for word in words.chunks_exact(8) {
+        let at = octets_words::get32(word, 0) as usize;
+        if at + 4 <= area.len() {
+            octets_words::put32(area, at, octets_words::get32(word, 4));
+        }
     }
 }
 
-fn check(area: &mut [u8], a: &[u8], out: &mut [u8]) -> u32 {
+fn poked(area: &mut [u8], words: &[u8], out: &mut [u8]) -> Asked {
     let sheet = b"\x00\x02\x00\x02\x00\x00\x00\x00\x01\x0a\x02\x00\x00\x00\x00\x02";
-    c_calls::start(area, sheet, 2, &[0u8, 0, 0, 0, 0, 1, 0, 0]);
-    poke_all(area, a);
-    c_calls::counters(area, 0, out)
+    let _ = c_calls::start(area, sheet, 2, &[0u8, 0, 0, 0, 0, 1, 0, 0]);
+    poke_all(area, words);
+    Some(c_calls::counters(area, 0, out))
 }
 
-fn offer(area: &mut [u8], a: &[u8]) -> u32 {
-    if a.len() < 11 {
-        return 0;
-    }
-    c_calls::offer(
+fn offer(area: &mut [u8], a: &[u8]) -> Asked {
+    let (station, a) = a.split_first()?;
+    let (destination, a) = a.split_first_chunk::<8>()?;
+    let (value, data) = a.split_first_chunk::<2>()?;
+    Some(c_calls::offer(
         area,
-        octets::wide(a[0]),
-        address(a, 1),
-        number(a, 9),
-        &a[11..],
-    )
+        u32::from(*station),
+        u64::from_be_bytes(*destination),
+        u16::from_be_bytes(*value),
+        data,
+    ))
 }
 
-fn short_step(area: &mut [u8], out: &mut [u8]) -> u32 {
-    if area.len() < 57343 {
-        return 0;
-    }
-    c_calls::step(&mut area[0..57343], out)
+fn short_step(area: &mut [u8], out: &mut [u8]) -> Asked {
+    let (_, area) = area.split_last_mut()?;
+    Some(c_calls::step(area, out))
 }
 
-// As `wisavulome_run` has it.
-fn run(area: &mut [u8], a: &[u8], out: &mut [u8]) -> u32 {
-    if a.len() < 4 {
-        return 0;
-    }
-    if out.len() < c_words::RUN_OUT {
-        return 0;
-    }
-    let r = fast_run::run(area, octets_words::get32(a, 0));
-    let done = r.done;
-    let words = r.words;
-    let ended = r.ended;
-    c_tables::write_run(out, words, ended);
-    let refusal = c_words::numbers::done_number(done);
-    if refusal != 0 {
-        return refused(refusal);
-    }
-    r.steps
+fn run(area: &mut [u8], a: &[u8], out: &mut [u8]) -> Asked {
+    let n = a.first_chunk::<4>()?;
+    Some(c_calls::run(fast_run::run, area, u32::from_be_bytes(*n), out))
 }
 
-fn read(area: &[u8], a: &[u8], out: &mut [u8]) -> u32 {
-    let room = number(a, 1) as usize;
-    if a.len() < 3 {
-        return 0;
-    }
-    if out.len() < room {
-        return 0;
-    }
-    c_calls::read_frame(area, octets::wide(a[0]), &mut out[0..room])
+fn read(area: &[u8], a: &[u8], out: &mut [u8]) -> Asked {
+    let (station, a) = a.split_first()?;
+    let room = a.first_chunk::<2>()?;
+    let out = out.get_mut(..usize::from(u16::from_be_bytes(*room)))?;
+    Some(c_calls::read_frame(area, u32::from(*station), out))
 }
 
-fn counters(area: &[u8], a: &[u8], out: &mut [u8]) -> u32 {
-    if a.len() < 1 {
-        return 0;
-    }
-    c_calls::counters(area, octets::wide(a[0]), out)
+fn counters(area: &[u8], a: &[u8], out: &mut [u8]) -> Asked {
+    let station = a.first()?;
+    Some(c_calls::counters(area, u32::from(*station), out))
 }
 
-fn of_area(area: &mut [u8], call: u8, a: &[u8], out: &mut [u8]) -> u32 {
-    match call {
-        b'c' => counters(area, a, out),
-        b'g' => read(area, a, out),
-        b'r' => run(area, a, out),
-        b't' => c_calls::step(area, out),
-        b'u' => short_step(area, out),
-        _ => of_octets(call, a, out),
-    }
-}
-
-pub(crate) fn ask(area: &mut [u8], call: u8, a: &[u8], out: &mut [u8]) -> u32 {
-    match call {
-        b'a' => start(area, a),
-        b'o' => offer(area, a),
-        b'p' => check(area, a, out),
-        _ => of_area(area, call, a, out),
-    }
+pub(crate) fn ask(
+    area: &mut [u8],
+    question: Question,
+    a: &[u8],
+    out: &mut [u8],
+) -> Result<u32, Refusal> {
+    let asked = match question {
+        Question::CheckSequence => Some(Ok(frame_crc::crc_of(a))),
+        Question::Build => build(a, out),
+        Question::Status => status(a, out),
+        Question::Spoiled => spoiled(a),
+        Question::Sheet => Some(c_calls::read_sheet(a, out)),
+        Question::Fits => Some(c_calls::fits(a)),
+        Question::Start => start(area, a),
+        Question::Poked => poked(area, a, out),
+        Question::Offer => offer(area, a),
+        Question::Step => Some(c_calls::step(area, out)),
+        Question::ShortStep => short_step(area, out),
+        Question::Run => run(area, a, out),
+        Question::Reading => read(area, a, out),
+        Question::Counters => counters(area, a, out),
+    };
+    asked.unwrap_or(Ok(0))
 }

@@ -2,15 +2,17 @@
 
 ghost use Rattle.std.specs.Prelude.{◌<◌, ◌≤◌, length};
 
+use crate::asks::{self, Question};
+use crate::show;
 use std::io;
 
 // What a hexadecimal digit, 0 to 9 or a to f, stands for; 0 for any other octet.
-fn digit(c: u8) -> u32
+fn digit(c: u8) -> u8
     ensures { result < 16 }
 {
     match c {
-        48..=57 => octets::wide(c - 48),
-        97..=102 => octets::wide(c - 87),
+        b'0'..=b'9' => c - b'0',
+        b'a'..=b'f' => c - b'a' + 10,
         _ => 0,
     }
 }
@@ -19,70 +21,51 @@ fn digit(c: u8) -> u32
 fn decode(line: &[u8], out: &mut [u8]) -> usize
     ensures { result ≤ length out.new }
 {
-    let n = line.len() / 2;
-    let mut i: usize = 0;
-    while i < n {
-        if out.len() <= i {
-            return i;
-        }
-        out[i] = (digit(line[2 * i]) * 16 + digit(line[2 * i + 1])) as u8;
-        i += 1;
+    for (octet, pair) in out.iter_mut().zip(line.chunks_exact(2)) {
+        *octet = digit(pair[0]) * 16 + digit(pair[1]);
     }
-    i
-}
-
-// Where the mark stands next, from `at` on; the end where it does not.
-fn find(s: &[u8], at: usize, mark: u8) -> usize
-    requires { at ≤ length s.now }
-    ensures { (at ≤ result) × (result ≤ length s.now) }
-{
-    let mut i = at;
-    while i < s.len() {
-        if s[i] == mark {
-            return i;
-        }
-        i += 1;
-    }
-    i
+    out.len().min(line.len() / 2)
 }
 
 // A call with what is spelled behind it.
-fn run_call(rt: &impl Print, area: &mut [u8], call: u8, spelled: &[u8]) -> io::Result<()> {
+fn run_call(
+    rt: &impl Print,
+    area: &mut [u8],
+    question: Question,
+    spelled: &[u8],
+) -> io::Result<()> {
     let mut handed = [0u8; 4096];
     let mut out = [0u8; 1600];
     let n = decode(spelled, &mut handed);
-    let r = crate::asks::ask(area, call, &handed[0..n], &mut out);
-    crate::show::print_answer(rt, call, r, &out)
+    let answer = asks::ask(area, question, &handed[..n], &mut out);
+    show::print_answer(rt, question, answer, &out)
 }
 
 // The call's letter and its name, then the answer.
-fn run_line(rt: &impl Print, area: &mut [u8], call: u8, rest: &[u8]) -> io::Result<()> {
-    let end = find(rest, 0, b' ');
-    rt.write_all(&[call])?;
-    rt.write_all(&rest[end..])?;
+fn run_line(rt: &impl Print, area: &mut [u8], letter: u8, rest: &[u8]) -> io::Result<()> {
+    let end = rest.iter().position(|c| *c == b' ').unwrap_or(rest.len());
+    let (spelled, name) = rest.split_at(end);
+    rt.write_all(&[letter])?;
+    rt.write_all(name)?;
     rt.write_all(b": ")?;
-    run_call(rt, area, call, &rest[0..end])?;
+    run_call(rt, area, Question::of(letter), spelled)?;
     rt.write_all(b"\n")
 }
 
 fn run_one(rt: &impl Print, area: &mut [u8], line: &[u8]) -> io::Result<()> {
-    if line.len() > 0 {
-        let call = line[0];
-        if call != b'#' {
-            return run_line(rt, area, call, &line[1..]);
+    match line {
+        [letter, rest @ ..] if *letter != b'#' => run_line(rt, area, *letter, rest),
+        _ => {
+            rt.write_all(line)?;
+            rt.write_all(b"\n")
         }
     }
-    rt.write_all(line)?;
-    rt.write_all(b"\n")
 }
 
 fn run_lines(rt: &impl Print, text: &[u8]) -> io::Result<()> {
     let mut area = [0x55u8; area::AREA];
-    let mut at: usize = 0;
-    while at < text.len() {
-        let end = find(text, at, b'\n');
-        run_one(rt, &mut area, &text[at..end])?;
-        at = end + 1;
+    for line in text.split_inclusive(|c| *c == b'\n') {
+        run_one(rt, &mut area, line.strip_suffix(b"\n").unwrap_or(line))?;
     }
     Ok(())
 }

@@ -4,8 +4,8 @@ use Rattle.area_check.specs.AreaCheckLaws.{gap_small, slot_small}
 use native.Mathlib.Omega.{arith}
 use Rattle.area_check.proofs.area_wrong.Goals as goal
 
-pub returns-then-refusal-ne0 : goal.returns-then-refusal-ne0
-returns-then-refusal-ne0 c = search wrong_layout
+pub returns-then-is_err : goal.returns-then-is_err
+returns-then-is_err c = search wrong_layout
 
 pub returns-then-out_of : goal.returns-then-out_of
 returns-then-out_of c = search wrong_depth

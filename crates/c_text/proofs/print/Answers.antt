@@ -1,12 +1,12 @@
 -- `c_text::print` meets its contract. Assumes nothing.
-use Rattle.c_text.specs.TextCallLaws.{print_low, print_few, print_made}
+use Rattle.c_text.specs.TextCallLaws.{print_few, print_refused, print_made}
 use Rattle.c_text.proofs.print.Goals as goal
 
-pub piece_size-requires : goal.piece_size-requires
-piece_size-requires c = search print_few
+pub returns-in_err-size : goal.returns-in_err-size
+returns-in_err-size c = search (print_refused, c.in_err-size.ensures)
 
-pub reply-requires : goal.reply-requires
-reply-requires c = search print_low
+pub overflow_cast-result : goal.overflow_cast-result
+overflow_cast-result c = search (print_few, c.in_ok-size.ensures)
 
 pub returns : goal.returns
-returns c = search print_made
+returns c = search (print_made, c.in_ok-size.ensures)

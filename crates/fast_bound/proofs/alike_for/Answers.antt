@@ -1,5 +1,4 @@
 -- `fast_bound::alike_for` meets its contract. Assumes nothing.
-use Prim.Native.Nat.{◌-◌}
 use native.Mathlib.Omega.{arith}
 use Rattle.fast_bound.specs.WindowLaws.{alike_none, alike_more}
 use Rattle.fast_bound.proofs.alike_for.Goals as goal

@@ -5,8 +5,8 @@ use Rattle.fast_bound.proofs.emit_bound.Goals as goal
 pub emit_steps-requires : goal.emit_steps-requires
 emit_steps-requires c = search frame_small
 
-pub returns-then-quiet-gt0-clause-calm : goal.returns-then-quiet-gt0-clause-calm
-returns-then-quiet-gt0-clause-calm c = search emit_calm
+pub returns-then-silent-gt0-clause-calm : goal.returns-then-silent-gt0-clause-calm
+returns-then-silent-gt0-clause-calm c = search emit_calm
 
 pub emit_steps-requires-2 : goal.emit_steps-requires-2
 emit_steps-requires-2 c = search frame_small

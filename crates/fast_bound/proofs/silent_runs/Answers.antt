@@ -1,5 +1,4 @@
 -- `fast_bound::silent_runs` meets its contract. Assumes nothing.
-use Prim.Native.Nat.{◌-◌}
 use native.Mathlib.Omega.{arith}
 use Rattle.fast_bound.specs.WindowLaws.{calm_end, under_again, calm_on}
 use Rattle.fast_bound.proofs.silent_runs.Goals as goal

@@ -1,18 +1,20 @@
 -- `fast_hear::next_heard` meets its contract. Assumes nothing.
-use Rattle.fast_hear.specs.ListedLaws.{next_none, next_more, next_end, next_bound}
-use Prim.Native.Nat.{◌-◌}
 use borrow.Author.Rules.{rules}
 use native.Mathlib.Omega.{arith}
+use mathlib.Core.Path.{refl}
+use Rattle.fast_hear.specs.ListedLaws.{fits_each, next_none, next_more, next_bound}
 use Rattle.fast_hear.proofs.next_heard.Goals as goal
 
-pub loop-k-init : goal.loop-k-init
-loop-k-init c = (omega arith, search rules, search next_none)
+pub loop-stretch-init : goal.loop-stretch-init
+loop-stretch-init c = search next_none
 
-pub loop-k-preserved : goal.loop-k-preserved
-loop-k-preserved c = (omega arith, search rules, search next_more)
+pub arrival-at-requires : goal.arrival-at-requires
+arrival-at-requires c =
+    (omega arith, fits_each _ _ _ _ _ c.requires.area_size_in_bounds.2 c.loop-stretch-test.true refl, search rules)
 
-pub returns-clause-value : goal.returns-clause-value
-returns-clause-value c = search next_end
+pub loop-stretch-preserved : goal.loop-stretch-preserved
+loop-stretch-preserved c =
+    next_more _ _ _ _ _ _ _ _ _ _ _ c.min-r.ensures c.after.ensures c.arrival-at.ensures refl c.loop-stretch.invariant
 
 pub returns-clause-bound : goal.returns-clause-bound
-returns-clause-bound c = search next_bound
+returns-clause-bound c = next_bound _ _ _ _ _ _ _ c.requires.s_lt_m c.loop-stretch.invariant

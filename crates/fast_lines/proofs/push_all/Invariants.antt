@@ -2,15 +2,9 @@ use Rattle.fast_lines.specs.Lines.{plan_by}
 use Rattle.fast_plan.specs.Push.{ways_to}
 use lib.ListN.{length}
 use mathlib.Core.Path.{◌≡◌}
-use Prim.Native.Nat.{◌≤◌, ◌-◌}
-use Rattle.fast_lines.proofs.push_all.Reads as reads
-use Rattle.fast_lines.proofs.push_all.Lts as lts
-use Rattle.fast_lines.proofs.push_from.Reads as push-from-reads
+use Prim.Native.Nat.{◌≤◌}
 use Rattle.fast_lines.proofs.push_all.Given as goal
 
 abbrev pub invariant-loop-i : goal.invariant-loop-i
 invariant-loop-i l =
     (l.i ≤ l.n) × (length l.area ≡ length l.initial.area) × (l.area ≡ ways_to l.initial.area (plan_by l.initial.area l.from) l.steps l.j l.i l.initial.area)
-
-abbrev pub decreases-loop-i : goal.decreases-loop-i
-decreases-loop-i l = l.n - l.i

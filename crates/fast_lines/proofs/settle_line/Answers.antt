@@ -1,9 +1,5 @@
 use Rattle.fast_lines.specs.LinesLaws.{line_codes, line_asks, line_coded, line_made}
 use native.Mathlib.Omega.{arith}
-use Rattle.fast_lines.proofs.settle_line.Reads as reads
-use Rattle.fast_lines.proofs.settle_line.Lts as lts
-use Rattle.fast_lines.proofs.clear_line.Reads as clear-line-reads
-use Rattle.fast_lines.proofs.push_all.Reads as push-all-reads
 use Rattle.fast_lines.proofs.settle_line.Goals as goal
 
 -- src/lib.rt:163:5

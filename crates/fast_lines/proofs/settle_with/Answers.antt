@@ -1,12 +1,7 @@
 use Rattle.fast_lines.specs.LinesLaws.{all_enough, lines_none, lines_asks, lines_coded, lines_more, lines_end}
 use mathlib.Core.Path.{refl}
-use Prim.Native.Nat.{◌-◌}
 use borrow.Author.Rules.{rules}
 use native.Mathlib.Omega.{arith}
-use Rattle.fast_lines.proofs.settle_with.Reads as reads
-use Rattle.fast_lines.proofs.settle_with.Lts as lts
-use Rattle.fast_lines.proofs.note_all.Reads as note-all-reads
-use Rattle.fast_lines.proofs.settle_line.Reads as settle-line-reads
 use Rattle.fast_lines.proofs.settle_with.Goals as goal
 
 -- src/lib.rt:180:5

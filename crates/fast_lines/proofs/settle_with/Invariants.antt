@@ -2,17 +2,10 @@ use Rattle.fast_lines.specs.Lines.{plan_by, AllCoded}
 use Rattle.fast_plan.specs.Placed.{lines_done}
 use lib.ListN.{length}
 use mathlib.Core.Path.{◌≡◌}
-use Prim.Native.Nat.{◌≤◌, ◌-◌}
-use Rattle.fast_lines.proofs.settle_with.Reads as reads
-use Rattle.fast_lines.proofs.settle_with.Lts as lts
-use Rattle.fast_lines.proofs.note_all.Reads as note-all-reads
-use Rattle.fast_lines.proofs.settle_line.Reads as settle-line-reads
+use Prim.Native.Nat.{◌≤◌}
 use Rattle.fast_lines.proofs.settle_with.Given as goal
 
 abbrev pub invariant-loop-j : goal.invariant-loop-j
 invariant-loop-j l =
     (l.j ≤ l.n) × (length l.area ≡ length l.initial.area) × (l.area ≡ lines_done l.initial.area (plan_by l.initial.area l.from) l.steps l.j l.initial.area)
     × AllCoded l.codes l.steps l.from l.initial.area l.n
-
-abbrev pub decreases-loop-j : goal.decreases-loop-j
-decreases-loop-j l = l.n - l.j

@@ -2,14 +2,6 @@ use mathlib.Core.Path.{refl}
 use native.Mathlib.Omega.{arith}
 use Rattle.fast_move.specs.AdvanceLaws.{moving_able, moving_movable, moving_held, advance_all, advance_one}
 use borrow.Author.Rules.{rules}
-use Rattle.fast_move.proofs.advance.Reads as reads
-use Rattle.fast_move.proofs.advance.Lts as lts
-use Rattle.area.proofs.read_station.Reads as read-station-reads
-use Rattle.fast_move.proofs.can_move.Reads as can-move-reads
-use Rattle.fast_move.proofs.heard_first.Reads as heard-first-reads
-use Rattle.fast_move.proofs.is_emitting.Reads as is-emitting-reads
-use Rattle.fast_move.proofs.move_at_once.Reads as move-at-once-reads
-use Rattle.fast_own.proofs.turn_alone.Reads as turn-alone-reads
 use Rattle.fast_move.proofs.advance.Goals as goal
 
 -- src/lib.rt:196:8

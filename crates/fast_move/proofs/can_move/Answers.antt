@@ -1,13 +1,5 @@
 use native.Mathlib.Omega.{arith}
 use Rattle.fast_move.specs.AdvanceLaws.{held_here, report_room, can_emits, can_hears, can_rests}
-use Rattle.fast_move.proofs.can_move.Reads as reads
-use Rattle.fast_move.proofs.can_move.Lts as lts
-use Rattle.fast_move.proofs.emits_all.Reads as emits-all-reads
-use Rattle.fast_move.proofs.hears_all.Reads as hears-all-reads
-use Rattle.fast_move.proofs.is_emitting.Reads as is-emitting-reads
-use Rattle.fast_move.proofs.is_heard.Reads as is-heard-reads
-use Rattle.fast_move.proofs.rests_all.Reads as rests-all-reads
-use Rattle.fast_receive.proofs.may_report.Reads as may-report-reads
 use Rattle.fast_move.proofs.can_move.Goals as goal
 
 -- src/lib.rt:127:9

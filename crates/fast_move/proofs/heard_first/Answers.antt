@@ -1,8 +1,4 @@
 use Rattle.fast_move.specs.AdvanceLaws.{first_line_lem, first_from_lem, first_spoiled}
-use Rattle.fast_move.proofs.heard_first.Reads as reads
-use Rattle.fast_move.proofs.heard_first.Lts as lts
-use Rattle.area_line.proofs.arrival.Reads as arrival-reads
-use Rattle.station_symbols.proofs.packet_bit.Reads as packet-bit-reads
 use Rattle.fast_move.proofs.heard_first.Goals as goal
 
 -- src/lib.rt:161:1

@@ -1,12 +1,6 @@
 use native.Mathlib.Omega.{arith}
 use Rattle.fast_move.specs.AdvanceLaws.{line_audible, once_silent, once_line, once_from, once_spoiled}
 use borrow.Author.Rules.{rules}
-use Rattle.fast_move.proofs.move_at_once.Reads as reads
-use Rattle.fast_move.proofs.move_at_once.Lts as lts
-use Rattle.fast_stretch.proofs.hear_line.Reads as hear-line-reads
-use Rattle.fast_stretch.proofs.hear_nothing.Reads as hear-nothing-reads
-use Rattle.fast_stretch.proofs.hear_packet.Reads as hear-packet-reads
-use Rattle.fast_stretch.proofs.hear_spoiled.Reads as hear-spoiled-reads
 use Rattle.fast_move.proofs.move_at_once.Goals as goal
 
 -- src/lib.rt:154:23

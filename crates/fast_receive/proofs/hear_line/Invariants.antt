@@ -1,16 +1,13 @@
-use Rattle.fast_receive.specs.Received.{taken, heard_all, line_from}
+-- The invariants and measures of `fast_receive::hear_line`.
 use Rattle.station_spec.specs.Receive.{row_in, bits_in, row_limit}
-use lib.ListN.{length}
 use mathlib.Core.Path.{◌≡◌}
 use Prim.Native.Nat.{◌≤◌, ◌<◌, ◌-◌, ◌+◌}
-use Rattle.fast_receive.proofs.hear_line.Reads as reads
-use Rattle.fast_receive.proofs.hear_line.Lts as lts
-use Rattle.fast_receive.proofs.hear_some.Reads as hear-some-reads
+use Rattle.fast_receive.specs.Received.{taken, heard_all, line_from}
 use Rattle.fast_receive.proofs.hear_line.Given as goal
 
 abbrev pub invariant-loop-s : goal.invariant-loop-s
 invariant-loop-s l =
-    (l.s ≤ l.m) × (length l.area ≡ length l.initial.area) × (taken l.q l.area ≡ heard_all l.j l.e (line_from l.initial.area l.j l.u) l.s (taken l.initial.q l.initial.area))
+    (l.s ≤ l.m) × (taken l.q l.area ≡ heard_all l.j l.e (line_from l.initial.area l.j l.u) l.s (taken l.initial.q l.initial.area))
     × (row_in l.q < row_limit) × (bits_in l.q ≤ bits_in l.initial.q + l.s)
 
 abbrev pub decreases-loop-s : goal.decreases-loop-s

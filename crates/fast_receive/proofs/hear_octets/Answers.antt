@@ -1,19 +1,10 @@
 -- `fast_receive::hear_octets` meets its contract. Assumes nothing.
-use Rattle.fast_receive.specs.CodeLaws.{all_none, collecting_room, collecting_most, collecting_heard}
 use native.Mathlib.Omega.{arith}
+use Rattle.fast_receive.specs.CodeLaws.{octets_heard}
 use Rattle.fast_receive.proofs.hear_octets.Goals as goal
 
-pub returns-in_default-clause-heard : goal.returns-in_default-clause-heard
-returns-in_default-clause-heard c = search all_none
-
-pub returns-in_default-clause-range : goal.returns-in_default-clause-range
-returns-in_default-clause-range c = (omega arith, omega arith, omega arith)
-
-pub collect_octets-requires : goal.collect_octets-requires
-collect_octets-requires c = (omega arith, omega arith, omega arith, search collecting_room)
-
 pub returns-clause-heard : goal.returns-clause-heard
-returns-clause-heard c = search collecting_heard
-
-pub returns-clause-range : goal.returns-clause-range
-returns-clause-range c = (omega arith, omega arith, search collecting_most)
+returns-clause-heard c =
+    octets_heard _ _ _ _ _ _ _ _ _ _ _ _ c.in-Collecting.is c.requires.0 c.requires.1
+    (λ k. omega (arith, c.type_inv.frame k)) c.if-a-lt65.false c.if-a-ne1.false c.if-bits-ne0.false
+    c.octets_left-n.ensures c.if-n-eq0.false c.copy_octets.ensures

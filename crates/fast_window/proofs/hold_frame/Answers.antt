@@ -1,9 +1,5 @@
 use Rattle.fast_window.specs.MovedLaws.{frame_room_lem}
 use Rattle.fast_window.specs.MovedLaws.{held_frame}
-use Rattle.fast_window.proofs.hold_frame.Reads as reads
-use Rattle.fast_window.proofs.hold_frame.Lts as lts
-use Rattle.area_buffers.proofs.frame.Reads as frame-reads
-use Rattle.octets_copies.proofs.store.Reads as store-reads
 use Rattle.fast_window.proofs.hold_frame.Goals as goal
 
 -- src/lib.rt:79:5

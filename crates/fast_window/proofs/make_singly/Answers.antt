@@ -2,11 +2,7 @@ use Rattle.fast_window.specs.WindowLaws.{single_none, single_more, single_end}
 use Rattle.bus_spec.specs.RunLaws.{run_first, run_ready, run_clock}
 use Rattle.bus_spec.proofs.RunLaws.{run_next}
 use mathlib.Core.Path.{refl}
-use Prim.Native.Nat.{◌-◌}
 use native.Mathlib.Omega.{arith}
-use Rattle.fast_window.proofs.make_singly.Reads as reads
-use Rattle.fast_window.proofs.make_singly.Lts as lts
-use Rattle.bus_turn.proofs.step.step.Reads as step-reads
 use Rattle.fast_window.proofs.make_singly.Goals as goal
 
 -- src/lib.rt:206:5

@@ -1,19 +1,13 @@
--- `frame_crc::crc_of` meets its contract. Assumes nothing.
-use Prim.Native.Nat.{◌≤◌, ◌-◌}
+-- The invariants of `frame_crc::crc_of`.
+use Prim.Native.Nat.{◌*◌}
 use mathlib.Core.Path.{◌≡◌}
-use lib.ListN.{length, drop}
+use lib.ListN.{drop}
 use Rattle.octets.specs.Bits.{bits_of}
 use Rattle.frame_crc.specs.Division.{register, ones}
 use Rattle.frame_crc.proofs.crc_of.Given as goal
 
-abbrev pub invariant-loop-i : goal.invariant-loop-i
-invariant-loop-i l = (l.i ≤ length l.s) × (register (bits_of (drop l.i l.s)) l.c ≡ register (bits_of l.s) ones)
+abbrev pub invariant-loop-eight : goal.invariant-loop-eight
+invariant-loop-eight l = register (bits_of (drop (8 * l.eight-index) l.s)) l.c ≡ register (bits_of l.s) ones
 
-abbrev pub decreases-loop-i : goal.decreases-loop-i
-decreases-loop-i l = length l.s - l.i
-
-abbrev pub invariant-loop-i-2 : goal.invariant-loop-i-2
-invariant-loop-i-2 l = (l.i ≤ length l.s) × (register (bits_of (drop l.i l.s)) l.c ≡ register (bits_of l.s) ones)
-
-abbrev pub decreases-loop-i-2 : goal.decreases-loop-i-2
-decreases-loop-i-2 l = length l.s - l.i
+abbrev pub invariant-loop-x : goal.invariant-loop-x
+invariant-loop-x l = register (bits_of (drop l.x-index l.rest)) l.c ≡ register (bits_of l.s) ones

@@ -1,5 +1,5 @@
 -- `marks::is_wrong` meets its contract. Assumes nothing.
-use Rattle.marks.specs.MarkLaws.{wrong_is}
+use Rattle.marks.proofs.MarkLaws.{wrong_is}
 use Rattle.marks.proofs.is_wrong.Goals as goal
 
 pub returns : goal.returns

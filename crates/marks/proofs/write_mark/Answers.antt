@@ -1,5 +1,5 @@
 -- `marks::write_mark` meets its contract. Assumes nothing.
-use Rattle.marks.specs.MarkLaws.{mark_is}
+use Rattle.marks.proofs.MarkLaws.{mark_is}
 use Rattle.marks.proofs.write_mark.Goals as goal
 
 pub returns : goal.returns

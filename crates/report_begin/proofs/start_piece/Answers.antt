@@ -9,8 +9,8 @@ read_draws-draws-requires c = (search start_few, search start_shallow, search st
 pub write_fresh-requires : goal.write_fresh-requires
 write_fresh-requires c = (search start_few, search start_shallow, search rules)
 
-pub put_heading-end-requires : goal.put_heading-end-requires
-put_heading-end-requires c = (search start_some, search start_few, search rules)
+pub put_heading-requires : goal.put_heading-requires
+put_heading-requires c = (search start_some, search start_few, search rules)
 
 pub returns : goal.returns
 returns c = search start_is

@@ -1,17 +1,14 @@
 -- `sheet_check::addresses_wrong` meets its contract. Assumes nothing.
-use native.Mathlib.Omega.{arith}
-use Prim.Native.Nat.{◌-◌}
-use Rattle.octets.specs.BaseLaws.{some_none, some_more, some_hit, some_end}
+use borrow.Author.Tests.{tests}
+use Rattle.std.proofs.Common.{rules, refl, ◌≡◌, true, false, ℕ, length, arith}
+use Rattle.std.proofs.lemmas.Iterator.{cases_from_any, YieldsList-from_range}
+use Rattle.sheet_check.specs.Any.{some_below}
+use Rattle.sheet_check.specs.Taps.{wrong}
 use Rattle.sheet_check.proofs.addresses_wrong.Goals as goal
 
-pub loop-i-init : goal.loop-i-init
-loop-i-init c = (omega arith, search some_none)
-
-pub returns-then-address_wrong : goal.returns-then-address_wrong
-returns-then-address_wrong c = search some_hit
-
-pub loop-i-preserved : goal.loop-i-preserved
-loop-i-preserved c = (omega arith, search some_more)
-
 pub returns : goal.returns
-returns c = search some_end
+returns c =
+    some_below (wrong c.args.taps.now) (length c.args.taps.now) _
+    (cases_from_any _ _ _ (λ (i : ℕ). wrong c.args.taps.now i ≡ true) (λ (i : ℕ). wrong c.args.taps.now i ≡ false)
+    c.any.ensures.ran (YieldsList-from_range 0 (length c.args.taps.now) (length c.args.taps.now) refl (omega arith))
+    (λ x q k. search (rules, tests)) (λ x q k. search (rules, tests)))

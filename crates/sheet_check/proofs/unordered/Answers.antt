@@ -1,18 +1,14 @@
 -- `sheet_check::unordered` meets its contract. Assumes nothing.
-use native.Mathlib.Omega.{arith}
-use Prim.Native.Nat.{◌-◌}
-use Rattle.octets.specs.BaseLaws.{some_none, some_end}
-use Rattle.sheet_check.specs.PlainLaws.{drops_more, drops_hit}
+use borrow.Author.Tests.{tests}
+use Rattle.std.proofs.Common.{rules, refl, ◌≡◌, true, false, ℕ, arith}
+use Rattle.std.proofs.lemmas.Iterator.{cases_from_any, YieldsList-from_range}
+use Rattle.sheet_check.specs.Any.{some_below}
+use Rattle.sheet_check.specs.Taps.{drops}
 use Rattle.sheet_check.proofs.unordered.Goals as goal
 
-pub loop-i-init : goal.loop-i-init
-loop-i-init c = (omega arith, search some_none)
-
-pub returns-then-positions-i : goal.returns-then-positions-i
-returns-then-positions-i c = search drops_hit
-
-pub loop-i-preserved : goal.loop-i-preserved
-loop-i-preserved c = (omega arith, search drops_more)
-
 pub returns : goal.returns
-returns c = search some_end
+returns c =
+    some_below (drops c.args.taps.now) c.args.n _
+    (cases_from_any _ _ _ (λ (i : ℕ). drops c.args.taps.now i ≡ true) (λ (i : ℕ). drops c.args.taps.now i ≡ false)
+    c.any.ensures.ran (YieldsList-from_range 0 c.args.n c.args.n refl (omega arith)) (λ x q k. search (rules, tests))
+    (λ x q k. search (rules, tests)))

@@ -1,5 +1,5 @@
 -- `sheet_fit::outward` meets its contract. Assumes nothing.
-use Rattle.sheet_fit.specs.MarginLaws.{slot_left, position_left, outward_slot, outward_position}
+use Rattle.sheet_fit.specs.MarginLaws.{slot_left, position_left}
 use Rattle.sheet_fit.proofs.outward.Goals as goal
 
 pub overflow_sub-half : goal.overflow_sub-half
@@ -7,9 +7,3 @@ overflow_sub-half c = search slot_left
 
 pub overflow_sub-end : goal.overflow_sub-end
 overflow_sub-end c = search position_left
-
-pub returns-then-half-end : goal.returns-then-half-end
-returns-then-half-end c = search outward_slot
-
-pub returns-else-half-end : goal.returns-else-half-end
-returns-else-half-end c = search outward_position

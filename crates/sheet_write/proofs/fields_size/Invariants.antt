@@ -1,12 +1,9 @@
 -- `sheet_write::fields_size` meets its contract. Assumes nothing.
 use lib.ListN.{length}
 use mathlib.Core.Path.{◌≡◌}
-use Prim.Native.Nat.{◌-◌, ◌*◌, ◌≤◌}
+use Prim.Native.Nat.{◌*◌, ◌≤◌}
 use Rattle.sheet_write.specs.Write.{fields_octets}
 use Rattle.sheet_write.proofs.fields_size.Given as goal
 
 abbrev pub invariant-loop-k : goal.invariant-loop-k
-invariant-loop-k l = (l.k ≤ 7) × (l.size ≡ length (fields_octets l.all l.k)) × (l.size ≤ 2 * l.k)
-
-abbrev pub decreases-loop-k : goal.decreases-loop-k
-decreases-loop-k l = 7 - l.k
+invariant-loop-k l = (l.size ≡ length (fields_octets l.all l.k)) × (l.size ≤ 2 * l.k)

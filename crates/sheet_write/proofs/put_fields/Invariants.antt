@@ -2,14 +2,10 @@
 use lib.Seq.{sets}
 use lib.ListN.{length}
 use mathlib.Core.Path.{◌≡◌}
-use Prim.Native.Nat.{◌+◌, ◌-◌, ◌*◌, ◌≤◌}
+use Prim.Native.Nat.{◌+◌, ◌*◌, ◌≤◌}
 use Rattle.sheet_write.specs.Write.{fields_octets}
 use Rattle.sheet_write.proofs.put_fields.Given as goal
 
 abbrev pub invariant-loop-k : goal.invariant-loop-k
-invariant-loop-k l = (l.k ≤ 7) × (l.at ≡ 1 + length (fields_octets l.all l.k)) × (l.at ≤ 1 + 2 * l.k)
-    × (length l.out ≡ length l.initial.out)
+invariant-loop-k l = (l.at ≡ 1 + length (fields_octets l.all l.k)) × (l.at ≤ 1 + 2 * l.k)
     × (l.out ≡ sets l.initial.out 1 (fields_octets l.all l.k))
-
-abbrev pub decreases-loop-k : goal.decreases-loop-k
-decreases-loop-k l = 7 - l.k

@@ -1,5 +1,5 @@
 -- `write_rest` meets its contract: each piece that was written stands behind the ones before it.
-use Rattle.std.proofs.Common.{◌≡◌, ◌-◌, ◌++◌, length, take, subst, arith}
+use Rattle.std.proofs.Common.{◌≡◌, ◌++◌, length, take, subst, arith}
 use Rattle.std.proofs.KnownBytes.{Appends-trans}
 use Rattle.std.specs.Io.KnownBytes.{Appends}
 use Rattle.octets.specs.Store.{part}
@@ -11,8 +11,8 @@ use Rattle.simulate.proofs.write_rest.Goals as goal
 pub next-p-requires : goal.next-p-requires
 next-p-requires g c = (search may_advance, omega arith)
 
-pub write_piece-w-requires : goal.write_piece-w-requires
-write_piece-w-requires g c =
+pub write_piece-requires : goal.write_piece-requires
+write_piece-requires g c =
     record {
       piece_value =
           along_part _ _ _ _ _ _ _ _ c.loop-g.invariant.0 c.loop-g-test.true c.next-p.ensures.size
@@ -26,14 +26,14 @@ loop-g-smaller g c = search along_less
 pub loop-g-preserved : goal.loop-g-preserved
 loop-g-preserved g c =
     let (d, e, w) = c.loop-g.invariant.3 in
-    let piece = take (c.next-p.result.size - 0) c.next-p.new.buf in
+    let piece = take c.next-p.result.size c.next-p.new.buf in
     let here : part (printed c.args.input.now) c.loop-g.at (length piece) ≡ piece =
     along_part _ _ _ _ _ _ _ _ c.loop-g.invariant.0 c.loop-g-test.true c.next-p.ensures.size c.next-p.ensures.piece in
-    let text = rw c.in_ok-w.was at c.write_piece-w.ensures.text in (
-      search next_end,
-      search next_most,
+    let text = c.in_ok-at.ensures.text in (
+      search (next_end, c.in_ok-at.ensures.end),
+      search (next_most, c.in_ok-at.ensures.end),
       omega arith,
-      (d ++ piece, next_text _ d piece _ _ _ e here c.write_piece-w.ensures.end, Appends-trans _ _ _ _ _ w text),
+      (d ++ piece, next_text _ d piece _ _ _ e here c.in_ok-at.ensures.end, Appends-trans _ _ _ _ _ w text),
     )
 
 pub returns-clause-end : goal.returns-clause-end

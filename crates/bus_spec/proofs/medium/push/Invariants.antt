@@ -1,5 +1,5 @@
 -- `bus_spec::medium::push` meets its contract. Assumes nothing.
-use Prim.Native.Nat.{◌≤◌, ◌-◌}
+use Prim.Native.Nat.{◌≤◌}
 use mathlib.Core.Path.{◌≡◌}
 use lib.ListN.{length}
 use Rattle.octets.specs.Turns.{turns}
@@ -9,6 +9,3 @@ use Rattle.bus_spec.proofs.medium.push.Given as goal
 abbrev pub invariant-loop-j : goal.invariant-loop-j
 invariant-loop-j l =
     (l.j ≤ l.n) × (length l.area ≡ length l.initial.area) × (l.area ≡ turns (code_to l.t l.i l.code) l.j l.initial.area)
-
-abbrev pub decreases-loop-j : goal.decreases-loop-j
-decreases-loop-j l = l.n - l.j

@@ -1,7 +1,6 @@
 -- `bus_turn::step::turn_all` meets its contract. Assumes nothing.
 use borrow.Author.Rules.{rules}
 use native.Mathlib.Omega.{arith}
-use Prim.Native.Nat.{◌-◌}
 use mathlib.Core.Path.{refl}
 use lib.ListN.{length-set}
 use Rattle.bus_spec.specs.CodeLaws.{turned_none, turned_end, events_none, events_end}
@@ -11,8 +10,8 @@ use Rattle.bus_turn.proofs.step.turn_all.Goals as goal
 pub loop-i-init : goal.loop-i-init
 loop-i-init c = (omega arith, refl, refl, search turned_none, search events_none)
 
-pub turn-e-requires : goal.turn-e-requires
-turn-e-requires c = (omega arith, omega arith, omega arith, omega arith, search turn_able)
+pub turn-requires : goal.turn-requires
+turn-requires c = (omega arith, omega arith, omega arith, omega arith, search turn_able)
 
 pub loop-i-preserved : goal.loop-i-preserved
 loop-i-preserved c = (omega arith, omega arith, simp length-set (search rules), search turn_next, search events_next)

@@ -1,20 +1,14 @@
 -- `fast_advance::until::is_eventful` meets its contract. Assumes nothing.
-use native.Mathlib.Omega.{arith}
-use Prim.Native.Nat.{◌-◌}
-use Rattle.bus_spec.specs.UntilLaws.{calm_none, calm_more, calm_hit, calm_end}
+use Rattle.std.specs.Prelude.{◌≡◌, true, false}
+use Rattle.std.proofs.Common.{rules}
+use Rattle.std.proofs.lemmas.Iterator.{YieldsList-from_slice, cases_from_any}
+use borrow.Author.Tests.{tests}
+use Rattle.bus_spec.specs.Until.{has_event}
+use Rattle.fast_advance.specs.OnwardLaws.{any_eventful}
 use Rattle.fast_advance.proofs.until.is_eventful.Goals as goal
 
-pub loop-i-init : goal.loop-i-init
-loop-i-init c = (omega arith, search calm_none)
-
-pub has_event-requires : goal.has_event-requires
-has_event-requires c = tt
-
-pub returns-then-has_event : goal.returns-then-has_event
-returns-then-has_event c = search calm_hit
-
-pub loop-i-preserved : goal.loop-i-preserved
-loop-i-preserved c = (omega arith, search calm_more)
-
 pub returns : goal.returns
-returns c = search calm_end
+returns c =
+    any_eventful _ _ (search rules)
+    (cases_from_any _ _ _ (λ e. has_event e ≡ true) (λ e. has_event e ≡ false) c.any.ensures.ran
+    (YieldsList-from_slice c.args.events cc) (λ x q k. search (rules, tests)) (λ x q k. search (rules, tests)))

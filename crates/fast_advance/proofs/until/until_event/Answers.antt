@@ -1,10 +1,10 @@
 -- `fast_advance::until::until_event` meets its contract. Assumes nothing.
 use native.Mathlib.Omega.{arith}
-use Prim.Native.Nat.{◌-◌}
 use mathlib.Core.Path.{refl}
 use Rattle.bus_spec.specs.RunLaws.{run_first}
 use Rattle.bus_spec.specs.UntilLaws.{stretch_first}
-use Rattle.fast_advance.specs.AdvanceLaws.{advance_runs, until_hit, until_on}
+use Rattle.bus_run.specs.AdvanceLaws.{advance_runs}
+use Rattle.fast_advance.specs.AdvanceLaws.{until_hit, until_on}
 use Rattle.fast_advance.specs.OnwardLaws.{onward_end}
 use Rattle.fast_advance.proofs.until.until_event.Goals as goal
 

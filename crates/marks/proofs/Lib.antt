@@ -1,0 +1,2 @@
+-- The laws of the code over the definitions of specs/.
+pub mod MarkLaws
