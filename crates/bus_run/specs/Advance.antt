@@ -1,15 +1,12 @@
 -- How a run goes on: many steps at once, in which no station has an event, or one step. Assumes nothing.
-use Rattle.std.specs.Prelude.{ℕ, ◌+◌, ◌<◌, ◌≡◌, List, Option, true, replicate}
-use Rattle.std.specs.Option.{MatchOption}
+use Rattle.std.specs.Prelude.{ℕ, ◌+◌, ◌<◌, ◌≡◌, List, replicate}
 use Rattle.area.specs.Area.{clock_at}
 use Rattle.bus_spec.specs.declared.Events.{Events}
 use Rattle.bus_spec.specs.BitTime.{no_events, events_at, step_area}
 use Rattle.bus_spec.specs.Ready.{Readiness}
-use Rattle.bus_spec.specs.Run.{run_of, late_at}
-use Rattle.bus_spec.specs.RunLaws.{NoneLate}
+use Rattle.bus_spec.specs.Run.{run_of}
 use Rattle.bus_spec.specs.Until.{until_event}
 use Rattle.bus_spec.specs.UntilLaws.{plus}
-use Rattle.sheet_layout.specs.Limits.{max_stations}
 
 -- b is what r steps leave of a, none of which has an event: a run counts nothing in them, and a stretch until an event
 -- goes on past them
@@ -24,12 +21,6 @@ pub data Advance (r : ℕ) (es : List Events) (a b : List ℕ) : Type 0 where
   quiet : es ≡ replicate 16 no_events → Quiet r a b → Advance r es a b
   stepped : r ≡ 1 → es ≡ events_at a → b ≡ step_area a → Advance r es a b
 
--- both shut, so that a search does not enter them
+-- shut, so that a search does not enter it
 unfoldable pub Advanced : (r : ℕ) → List Events → (a b : List ℕ) → Type 0
 Advanced r es a b = Advance r es a b
-
--- the first station that has a late collision, if one has
-unfoldable pub FirstLate : List Events → Option ℕ → Type 0
-FirstLate es p =
-    MatchOption p (NoneLate es max_stations)
-    (λ i. (i < max_stations) × NoneLate es i × (late_at es i ≡ true))

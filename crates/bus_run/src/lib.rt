@@ -5,7 +5,7 @@
 ghost use Rattle.std.specs.Prelude.{◌≡◌, ◌<◌, ◌≤◌, length};
 ghost use Rattle.bus_spec.specs.Run.{course_of, run_of, run_outcome, ran};
 ghost use Rattle.bus_spec.specs.RunLaws.{Runnable};
-ghost use Rattle.bus_run.specs.Advance.{Advanced, FirstLate};
+ghost use Rattle.bus_run.specs.Advance.{Advanced};
 ghost use Rattle.station_tally.specs.TallyLaws.{Bounded};
 ghost use Rattle.sheet_layout.specs.Limits.{last_clock};
 ghost use Rattle.area.specs.Offsets.{area_size};
@@ -36,13 +36,6 @@ impl GoesOn for Singly {
     }
 }
 
-// The first station that has a late collision.
-fn first_late(events: [Events; 16]) -> Option<usize>
-    ensures { FirstLate events result }
-{
-    events.iter().position(|e| station_tally::ends_run(e.sent))
-}
-
 // At most n steps, on an area that is ready for them, counted into `words`.
 fn run_steps<G: GoesOn>(area: &mut [u8], words: &mut [u32], n: u32) -> Course
     requires runnable { Runnable n area.old × (area_size ≤ length area.old) × (n ≤ last_clock) }
@@ -50,24 +43,21 @@ fn run_steps<G: GoesOn>(area: &mut [u8], words: &mut [u32], n: u32) -> Course
     ensures { course_of result words.new area.new
         ≡ run_of n 0 words.old area.old }
 {
+    let mut late = None;
     let mut t: u32 = 0;
     // No range: the way to go on says how many steps were made.
-    while t < n {
+    'steps: while t < n {
         let s = G::go_on(area, n - t);
-        let events = s.events;
-        bus_spec::course::count_events(words, events, 32 * t);
+        bus_spec::course::count_events(words, &s.events, 32 * t);
         t += s.steps;
-        if let Some(station) = first_late(events) {
-            return Course {
-                steps: t,
-                late: Some(bus_spec::course::late_end(t, station as u32)),
-            };
+        for i in 0..sheet_layout::MAX_STATIONS {
+            if station_tally::ends_run(s.events[i].sent) {
+                late = Some(bus_spec::course::late_end(t, i as u32));
+                break 'steps;
+            }
         }
     }
-    Course {
-        steps: t,
-        late: None,
-    }
+    Course { steps: t, late }
 }
 
 // A run of n bit times that goes on in this way. Refusals 1, 2, 13.

@@ -49,9 +49,9 @@ pub fn late_end(steps: u32, station: u32) -> LateEnd
 }
 
 // The events of a step, counted into `words`. No word is past `top` yet.
-pub fn count_events(words: &mut [u32], events: [Events; 16], top: u32)
+pub fn count_events(words: &mut [u32], events: &[Events; 16], top: u32)
     requires { (length words.old ≡ word_count) × Bounded words.old top × (top + 32 < 4294967295) }
-    ensures { words.new ≡ tallied events 16 words.old }
+    ensures { words.new ≡ tallied events.now 16 words.old }
 {
     for i in 0..sheet_layout::MAX_STATIONS {
         let high = top + 2 * i as u32;

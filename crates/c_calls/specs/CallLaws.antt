@@ -10,6 +10,7 @@ use Rattle.octets.specs.Base.{pick, outside, Answer, Outcome, outcome, size_answ
 use Rattle.octets.specs.BaseLaws.{within, refusal_numbered}
 use Rattle.octets.specs.declared.Refusal.{Refusal}
 use Rattle.octets.specs.Number.{spelled}
+use Rattle.octets.specs.NumberLaws.{length_spelled}
 use Rattle.sheet_read.specs.declared.Sheet.{Sheet}
 use Rattle.sheet_read.specs.Sheet.{Reading, read_sheet, sheet_reading}
 use Rattle.frame_open.specs.declared.ReceiveStatus.{ReceiveStatus}
@@ -22,9 +23,10 @@ use Rattle.bus_spec.specs.BitTime.{events_at, step_area}
 use Rattle.bus_spec.specs.declared.course.RunAnswer.{RunAnswer}
 use Rattle.bus_spec.specs.Run.{tallied, Ran, run_of, run_outcome, unrun, ran, stops}
 use Rattle.bus_spec.specs.RunLaws.{clock_within}
-use Rattle.c_words.specs.Answers.{value_of, reply_of}
+use Rattle.c_words.specs.Answers.{value_of, reply_of, refusal_bit}
+use Rattle.c_words.specs.AnswersLaws.{below_refused}
 use Rattle.c_calls.specs.Calls.{left, run_left, time_refusal}
-use Rattle.c_calls.specs.Numbers.{sheet_small, sheet_few, open_small, build_small}
+use Rattle.c_calls.specs.Numbers.{sheet_small, sheet_few, open_small, build_size, build_small}
 use Rattle.sheet_layout.specs.Limits.{last_clock, max_stations, max_draws}
 use Rattle.station_tally.specs.Words.{word_count}
 
@@ -39,6 +41,11 @@ module _ (l : List ℕ) (s : Sheet) (p : sheet_reading (Ok s) ≡ read_sheet l) 
       let u : s.used ≡ value_of (read_sheet l).answer = ap (λ (z : Reading). value_of z.answer) p
       in omega (arith, sheet_small l)
 
+  pub sheet_told : s.used < refusal_bit
+  sheet_told =
+      let u : s.used ≡ value_of (read_sheet l).answer = ap (λ (z : Reading). value_of z.answer) p
+      in omega (arith, sheet_small l)
+
 -- ---- frames
 
 pub build_value : (out o d s x : List ℕ) (dn sn v n : ℕ) → outcome (size_answer (Ok n)) o ≡ built out d s v x
@@ -47,6 +54,13 @@ build_value out o d s x dn sn v n p e f =
     let q : outcome (size_answer (Ok n)) o ≡ built out (spelled 6 dn) (spelled 6 sn) v x = p ∙ rw (e, f) in
     let u : n ≡ value_of (built out (spelled 6 dn) (spelled 6 sn) v x).answer = ap (λ (z : Outcome). value_of z.answer) q
     in omega (arith, build_small out dn sn v x)
+
+pub build_told : (out o d s x : List ℕ) (dn sn v n : ℕ) → outcome (size_answer (Ok n)) o ≡ built out d s v x
+    → d ≡ spelled 6 dn → s ≡ spelled 6 sn → n < refusal_bit
+build_told out o d s x dn sn v n p e f =
+    let q : outcome (size_answer (Ok n)) o ≡ built out (spelled 6 dn) (spelled 6 sn) v x = p ∙ rw (e, f) in
+    let u : n ≡ value_of (built out (spelled 6 dn) (spelled 6 sn) v x).answer = ap (λ (z : Outcome). value_of z.answer) q
+    in omega (arith, build_size out (spelled 6 dn) (spelled 6 sn) v x (length_spelled 6 dn) (length_spelled 6 sn))
 
 pub client_value : (f : List ℕ) (x : ℕ) (s : ReceiveStatus) → status_answer (Ok s) ≡ (opened false f x).status
     → get_or (values_of (status_answer (Ok s))) 1 0 < 4294967296
@@ -114,7 +128,7 @@ run_refused a b out n r s e p h q =
 
 -- ---- by the functions
 
-pub ruleset starts = (nat_tests, err_from_is_err_and, refusal_numbered, draws_few, draws_deep, draws_room)
+pub ruleset starts = (nat_tests, err_from_is_err_and, refusal_numbered, below_refused, draws_few, draws_deep, draws_room)
 
 pub ruleset times = (nat_tests, err_from_is_err_and, refusal_numbered, passes_long, clock_within)
 

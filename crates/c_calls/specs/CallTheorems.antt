@@ -1,8 +1,9 @@
 -- What a caller may rely on: a reply with bit 31 is a refusal, and what was lent is then as it was. So no answer
 -- reaches that bit. Assumes nothing.
-use Rattle.std.specs.Prelude.{ℕ, zero, suc, ◌+◌, ◌≤◌, ◌<◌, ◌≡◌, refl, true, false, List, ltb, leb, eqb, length, replicate}
-use Rattle.std.proofs.Common.{sym, arith, eq-eqb, ltb-false, leb-false, eqb-true}
-use Rattle.octets.specs.Base.{pick, outside, Outcome, number_of}
+use Rattle.std.specs.Prelude.{ℕ, zero, suc, ◌+◌, ◌≤◌, ◌<◌, ◌≡◌, refl, true, false, List, ltb, leb, eqb, length, replicate, Result, Ok, Err}
+use Rattle.std.proofs.Common.{sym, ap, arith, eq-eqb, ltb-false, leb-false, eqb-true}
+use Rattle.octets.specs.Base.{pick, outside, Outcome, outcome, size_answer, number_of}
+use Rattle.octets.specs.declared.Refusal.{Refusal}
 use Rattle.octets.specs.BaseLaws.{by_test, by_eq}
 use Rattle.octets.specs.NumberLaws.{Octets, length_spelled}
 use Rattle.octets.specs.Number.{spelled}
@@ -23,10 +24,11 @@ use Rattle.bus_start.specs.Start.{started}
 use Rattle.bus_offer.specs.Offer.{holds, offered}
 use Rattle.bus_step.specs.Step.{stepped_once}
 use Rattle.bus_step.specs.Counters.{counters_read}
-use Rattle.bus_spec.specs.Run.{tallied, run_of, ran, stops}
+use Rattle.bus_spec.specs.declared.course.RunAnswer.{RunAnswer}
+use Rattle.bus_spec.specs.Run.{tallied, Ran, run_of, run_outcome, ran, stops}
 use Rattle.bus_read.specs.Read.{is_readable, frame_read}
 use Rattle.bus_read.specs.ReadLaws.{read_room}
-use Rattle.c_words.specs.Answers.{refusal_bit, value_of, layout_put, client_words, events_put}
+use Rattle.c_words.specs.Answers.{refusal_bit, Below, value_of, layout_put, client_words, events_put}
 use Rattle.c_words.specs.Answers.{counters_out, run_out, sheet_out}
 use Rattle.c_tables.specs.RunWords.{run_put}
 use Rattle.c_calls.specs.Calls.{Given, given, Left, left, code_given, unless, kept, both_kept, short, sheet_given}
@@ -182,6 +184,14 @@ run_small a n =
     (λ q. rw (p, q) (omega (arith, steps_most n 0 (replicate word_count 0) a, ltb-false last_clock (clock_at a + n) q))))
     (λ p. rw p (omega arith))
 
+-- so what a run answers is below the bit
+pub run_told : (a b : List ℕ) (n : ℕ) (r : Result RunAnswer Refusal) (w : RunAnswer) → r ≡ Ok w
+    → run_outcome r b ≡ ran a n → w.steps < refusal_bit
+run_told a b n r w p q =
+    let o : run_outcome (Ok w) b ≡ ran a n = rw p at q in
+    let k : w.steps ≡ (ran a n).steps = ap (λ (z : Ran). z.steps) o in
+    omega (arith, run_small a n)
+
 pub run_keeps : (a : List ℕ) (n : ℕ) (out : List ℕ) → BothKept a out (run_left a n out)
 unfolding run_left
 run_keeps a n out =
@@ -208,6 +218,14 @@ frame_told a i out o =
     size p q =
         read_room a (count_at a) i (octets_in (station_at a i).receiver) (station_at a i)
         (sym (eqb-true (area_refusal a) 0 p)) o refl (leb-false (count_at a) i q) refl refl
+
+-- so what is answered is below the bit
+pub frame_below : (a out x : List ℕ) (i : ℕ) (r : Result ℕ Refusal) → outcome (size_answer r) x ≡ frame_read a i out
+    → Octets a → Below r
+frame_below a out x i (Err e) p o = tt
+frame_below a out x i (Ok n) p o =
+    let u : n ≡ value_of (frame_read a i out).answer = ap (λ (z : Outcome). value_of z.answer) p in
+    omega (arith, (frame_told a i out o).0)
 
 -- the area holds octets, as every lent slice of them does
 pub frame_keeps : (a : List ℕ) (i : ℕ) (out : List ℕ) → Octets a → Keeps out (frame_given a i out)

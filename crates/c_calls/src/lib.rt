@@ -8,7 +8,7 @@
 ghost use Rattle.std.specs.Prelude.{◌≡◌, ◌<◌, ◌≤◌};
 ghost use Rattle.octets.specs.Base.{refusal_in};
 ghost use Rattle.bus_spec.specs.Run.{ran, run_outcome};
-ghost use Rattle.c_words.specs.Answers.{reply_of};
+ghost use Rattle.c_words.specs.Answers.{reply_of, Below};
 ghost use Rattle.c_calls.specs.Calls.{given, left, short, sheet_given, fits_given, build_given, status_given};
 ghost use Rattle.c_calls.specs.Calls.{client_given, drawn_given, start_given, offer_given, step_left, time_refusal};
 ghost use Rattle.c_calls.specs.Calls.{run_left, frame_given, counters_given};
@@ -33,7 +33,8 @@ pub fn check_room(out: &[u8], octets: usize) -> Result<(), Refusal>
 #[tactic(auto, using(crate::specs::CallLaws::starts), unfolding(crate::specs::Calls::drawn_given, crate::specs::Calls::draws_refusal))]
 fn start_drawn(area: &mut [u8], y: Layout, depth: u32, draws: &[u8]) -> Result<u32, Refusal>
     requires { y.count ≤ max_stations }
-    ensures { given (reply_of result) area.new ≡ drawn_given area.old y depth draws.now }
+    ensures number { given (reply_of result) area.new ≡ drawn_given area.old y depth draws.now }
+    ensures told { Below result }
 {
     if octets::out_of(depth, 1, 16) {
         return Err(Refusal::Draws);
@@ -64,7 +65,8 @@ pub fn check_time(area: &[u8], n: u32) -> Result<(), Refusal>
 // Reads a sheet: the octets used. Refusals 3 to 8, 15.
 #[tactic(auto, using(c_words::specs::AnswersLaws::replies), unfolding(crate::specs::Calls::sheet_given))]
 pub fn read_sheet(sheet: &[u8], out: &mut [u8]) -> Result<u32, Refusal>
-    ensures { given (reply_of result) out.new ≡ sheet_given sheet.now out.old }
+    ensures number { given (reply_of result) out.new ≡ sheet_given sheet.now out.old }
+    ensures told { Below result }
 {
     let read = sheet_read::read_sheet(sheet)?;
     check_room(out, c_words::SHEET_OUT)?;
@@ -75,7 +77,8 @@ pub fn read_sheet(sheet: &[u8], out: &mut [u8]) -> Result<u32, Refusal>
 // Whether the layout of a sheet fits: 1 or 0. Refusals 3 to 8.
 #[tactic(auto, using(c_words::specs::AnswersLaws::replies), unfolding(crate::specs::Calls::fits_given))]
 pub fn fits(sheet: &[u8]) -> Result<u32, Refusal>
-    ensures { reply_of result ≡ fits_given sheet.now }
+    ensures number { reply_of result ≡ fits_given sheet.now }
+    ensures told { Below result }
 {
     let read = sheet_read::read_sheet(sheet)?;
     let fit = sheet_fit::fits(read.layout)?;
@@ -91,8 +94,9 @@ pub fn build(
     payload: &[u8],
     out: &mut [u8],
 ) -> Result<u32, Refusal>
-    ensures { given (reply_of result) out.new
+    ensures number { given (reply_of result) out.new
         ≡ build_given destination source value payload.now out.old }
+    ensures told { Below result }
 {
     let d = numbers::low_octets::<6>(destination);
     let s = numbers::low_octets::<6>(source);
@@ -103,7 +107,8 @@ pub fn build(
 // The status of a frame's octets and excess bits: 0 to 5. Refusal 5.
 #[tactic(auto, using(c_words::specs::AnswersLaws::replies), unfolding(crate::specs::Calls::status_given))]
 pub fn status(frame: &[u8], excess: u32) -> Result<u32, Refusal>
-    ensures { reply_of result ≡ status_given frame.now excess }
+    ensures number { reply_of result ≡ status_given frame.now excess }
+    ensures told { Below result }
 {
     let s = frame_open::status(frame, excess)?;
     Ok(numbers::status_code(s))
@@ -112,7 +117,8 @@ pub fn status(frame: &[u8], excess: u32) -> Result<u32, Refusal>
 // The status, and where the client data lie. Refusals 5, 15.
 #[tactic(auto, using(c_words::specs::AnswersLaws::replies), unfolding(crate::specs::Calls::client_given))]
 pub fn client_data(frame: &[u8], excess: u32, out: &mut [u8]) -> Result<u32, Refusal>
-    ensures { given (reply_of result) out.new ≡ client_given frame.now excess out.old }
+    ensures number { given (reply_of result) out.new ≡ client_given frame.now excess out.old }
+    ensures told { Below result }
 {
     let s = frame_open::status(frame, excess)?;
     check_room(out, 8)?;
@@ -124,8 +130,9 @@ pub fn client_data(frame: &[u8], excess: u32, out: &mut [u8]) -> Result<u32, Ref
 // A fresh start: 0. Refusals 1, 3 to 8, 9.
 #[tactic(auto, using(c_words::specs::AnswersLaws::replies), unfolding(crate::specs::Calls::start_given))]
 pub fn start(area: &mut [u8], sheet: &[u8], depth: u32, draws: &[u8]) -> Result<u32, Refusal>
-    ensures { given (reply_of result) area.new
+    ensures number { given (reply_of result) area.new
         ≡ start_given area.old sheet.now depth draws.now }
+    ensures told { Below result }
 {
     if area.len() < area::AREA {
         return Err(Refusal::AreaShort);
@@ -143,8 +150,9 @@ pub fn offer(
     value: u16,
     payload: &[u8],
 ) -> Result<u32, Refusal>
-    ensures { given (reply_of result) area.new
+    ensures number { given (reply_of result) area.new
         ≡ offer_given area.old station destination value payload.now }
+    ensures told { Below result }
 {
     let d = numbers::low_octets::<6>(destination);
     bus_offer::offer(area, station as usize, d, value, payload)?;
@@ -154,7 +162,8 @@ pub fn offer(
 // One bit time: 0, and the events of each station. Refusals 1, 2, 13, 15.
 #[tactic(auto, using(c_words::specs::AnswersLaws::replies), unfolding(crate::specs::Calls::step_left, crate::specs::Calls::time_refusal, bus_step::specs::Step::stepped_once))]
 pub fn step(area: &mut [u8], out: &mut [u8]) -> Result<u32, Refusal>
-    ensures { left (reply_of result) area.new out.new ≡ step_left area.old out.old }
+    ensures number { left (reply_of result) area.new out.new ≡ step_left area.old out.old }
+    ensures told { Below result }
 {
     if out.len() < 256 {
         check_time(area, 1)?;
@@ -176,7 +185,8 @@ pub fn run<F: FnOnce(&mut [u8], u32) -> Result<RunAnswer, Refusal>>(
     requires called { F.IsAlwaysCallable engine }
     requires runs { (s : _) (r : _) (t : _) → F.post engine s n r t
         → run_outcome r t.now ≡ ran s.now n }
-    ensures { left (reply_of result) area.new out.new ≡ run_left area.old n out.old }
+    ensures number { left (reply_of result) area.new out.new ≡ run_left area.old n out.old }
+    ensures told { Below result }
 {
     if out.len() < c_words::RUN_OUT {
         check_time(area, n)?;
@@ -190,7 +200,8 @@ pub fn run<F: FnOnce(&mut [u8], u32) -> Result<RunAnswer, Refusal>>(
 // Reads the frame that a station received: its octets. Refusals 1, 2, 10, 14, 15.
 #[tactic(auto, unfolding(crate::specs::Calls::frame_given))]
 pub fn read_frame(area: &[u8], station: u32, out: &mut [u8]) -> Result<u32, Refusal>
-    ensures { given (reply_of result) out.new ≡ frame_given area.now station out.old }
+    ensures number { given (reply_of result) out.new ≡ frame_given area.now station out.old }
+    ensures told { Below result }
 {
     bus_read::read_frame(area, station as usize, out)
 }
@@ -198,7 +209,8 @@ pub fn read_frame(area: &[u8], station: u32, out: &mut [u8]) -> Result<u32, Refu
 // The counters of a station: 0. Refusals 1, 2, 10, 15.
 #[tactic(auto, using(c_words::specs::AnswersLaws::replies), unfolding(crate::specs::Calls::counters_given))]
 pub fn counters(area: &[u8], station: u32, out: &mut [u8]) -> Result<u32, Refusal>
-    ensures { given (reply_of result) out.new ≡ counters_given area.now station out.old }
+    ensures number { given (reply_of result) out.new ≡ counters_given area.now station out.old }
+    ensures told { Below result }
 {
     let words = bus_step::read_counters(area, station as usize)?;
     check_room(out, c_words::COUNTERS_OUT)?;

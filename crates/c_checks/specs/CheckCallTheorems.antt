@@ -1,16 +1,18 @@
 -- What a caller may rely on: a reply with bit 31 is a refusal, and the lent output is then as it was. Assumes nothing.
-use Rattle.std.specs.Prelude.{List, ℕ, ◌≤◌, ◌≡◌, refl, ltb, eqb, length}
-use Rattle.std.proofs.Common.{arith, eqb-true}
-use Rattle.octets.specs.Base.{number_of}
+use Rattle.std.specs.Prelude.{List, ℕ, ◌≤◌, ◌≡◌, refl, ltb, eqb, length, Result, Ok, Err}
+use Rattle.std.proofs.Common.{ap, arith, eqb-true}
+use Rattle.octets.specs.Base.{Outcome, outcome, size_answer, number_of}
+use Rattle.octets.specs.declared.Refusal.{Refusal}
 use Rattle.octets.specs.BaseLaws.{by_test}
 use Rattle.octets.specs.Words.{put_words}
 use Rattle.sheet_layout.specs.declared.Layout.{Layout}
 use Rattle.sheet_layout.specs.Check.{refusal_of}
-use Rattle.sheet_read.specs.Sheet.{read_sheet}
+use Rattle.sheet_read.specs.declared.Sheet.{Sheet}
+use Rattle.sheet_read.specs.Sheet.{Reading, read_sheet, sheet_reading}
 use Rattle.sheet_write.specs.Write.{written, sheet_written}
 use Rattle.sheet_write.specs.WriteTheorems.{Formed, written_most, always_formed}
 use Rattle.plan_read.specs.Plan.{plan_as_read}
-use Rattle.c_words.specs.Answers.{value_of, layout_put, plan_out, sheet_out}
+use Rattle.c_words.specs.Answers.{Below, value_of, layout_put, plan_out, sheet_out}
 use Rattle.c_calls.specs.Calls.{short}
 use Rattle.c_calls.specs.CallTheorems.{Keeps, checks, answers, coded}
 use Rattle.c_checks.specs.CheckCalls.{plan_words, plan_given, write_given}
@@ -38,6 +40,16 @@ write_small y out f =
     (λ p. by_test (ltb (length out) (length (written y))) (λ q. rw (p, q) (omega arith))
     (λ q. rw (p, q) (written_most y (record { passes = eqb-true (refusal_of y) 0 p; formed = f }))))
     (λ p. rw p (omega arith))
+
+-- so what is answered is below the bit
+pub write_below : (l out x : List ℕ) (s : Sheet) (r : Result ℕ Refusal) → sheet_reading (Ok s) ≡ read_sheet l
+    → outcome (size_answer r) x ≡ sheet_written s.layout out → Below r
+write_below l out x s (Err e) p q = tt
+write_below l out x s (Ok n) p q =
+    let e : s.layout ≡ (read_sheet l).layout = ap (λ (z : Reading). z.layout) p in
+    let u : n ≡ value_of (sheet_written s.layout out).answer = ap (λ (z : Outcome). value_of z.answer) q in
+    let w : value_of (sheet_written s.layout out).answer ≤ 128 =
+    rw e (write_small (read_sheet l).layout out (always_formed l)) in omega arith
 
 pub write_keeps : (l out : List ℕ) → Keeps out (write_given l out)
 unfolding write_given

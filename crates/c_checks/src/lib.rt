@@ -5,7 +5,7 @@
 
 ghost use Rattle.std.specs.Prelude.{◌≡◌, ◌<◌, ◌≤◌, Ok, length};
 ghost use Rattle.plan_read.specs.Plan.{plan_reading};
-ghost use Rattle.c_words.specs.Answers.{reply_of, sheet_out};
+ghost use Rattle.c_words.specs.Answers.{reply_of, sheet_out, Below};
 ghost use Rattle.c_calls.specs.Calls.{given};
 ghost use Rattle.c_checks.specs.CheckCalls.{reception_given, area_given, figures_written, tap_written, layout_written};
 ghost use Rattle.c_checks.specs.CheckCalls.{layout_given, plan_words, plan_given, write_given};
@@ -20,7 +20,8 @@ use sheet_layout::{Figures, Layout, Tap};
 // The status of a reception: 0 to 5. Refusal 5.
 #[tactic(auto, using(c_words::specs::AnswersLaws::replies), unfolding(crate::specs::CheckCalls::reception_given))]
 pub fn reception_status(frame: &[u8], excess: u32, spoiled: u32) -> Result<u32, Refusal>
-    ensures { reply_of result ≡ reception_given frame.now excess spoiled }
+    ensures number { reply_of result ≡ reception_given frame.now excess spoiled }
+    ensures told { Below result }
 {
     let s = frame_open::reception_status(frame, excess, spoiled != 0)?;
     Ok(numbers::status_code(s))
@@ -29,7 +30,8 @@ pub fn reception_status(frame: &[u8], excess: u32, spoiled: u32) -> Result<u32, 
 // Checks a work area: 0. Refusals 1, 2.
 #[tactic(auto, using(c_words::specs::AnswersLaws::replies), unfolding(crate::specs::CheckCalls::area_given))]
 pub fn check_area(area: &[u8]) -> Result<u32, Refusal>
-    ensures { reply_of result ≡ area_given area.now }
+    ensures number { reply_of result ≡ area_given area.now }
+    ensures told { Below result }
 {
     area_check::check(area)?;
     Ok(0)
@@ -83,7 +85,8 @@ fn read_layout(s: &[u8]) -> Layout
 // Checks a layout: 0. Refusals 3, 5 to 8.
 #[tactic(auto, using(c_words::specs::AnswersLaws::replies), unfolding(crate::specs::CheckCalls::layout_given))]
 pub fn check_layout(layout: &[u8]) -> Result<u32, Refusal>
-    ensures { reply_of result ≡ layout_given layout.now }
+    ensures number { reply_of result ≡ layout_given layout.now }
+    ensures told { Below result }
 {
     if layout.len() < c_words::SHEET_OUT {
         return Err(Refusal::SheetShort);
@@ -104,7 +107,8 @@ fn plan_words(p: Plan) -> [u32; 5]
 // Reads a run input: 0. Refusals 3 to 9, 13, 15, 16.
 #[tactic(auto, using(c_words::specs::AnswersLaws::replies), unfolding(crate::specs::CheckCalls::plan_given))]
 pub fn read_plan(input: &[u8], out: &mut [u8]) -> Result<u32, Refusal>
-    ensures { given (reply_of result) out.new ≡ plan_given input.now out.old }
+    ensures number { given (reply_of result) out.new ≡ plan_given input.now out.old }
+    ensures told { Below result }
 {
     let plan = plan_read::read_plan(input)?;
     check_room(out, c_words::PLAN_OUT)?;
@@ -117,7 +121,8 @@ pub fn read_plan(input: &[u8], out: &mut [u8]) -> Result<u32, Refusal>
 // Writes the shortest sheet that reads as a sheet does: its octets. Refusals 3 to 8, 15.
 #[tactic(auto, using(c_words::specs::AnswersLaws::replies), unfolding(crate::specs::CheckCalls::write_given))]
 pub fn write_sheet(sheet: &[u8], out: &mut [u8]) -> Result<u32, Refusal>
-    ensures { given (reply_of result) out.new ≡ write_given sheet.now out.old }
+    ensures number { given (reply_of result) out.new ≡ write_given sheet.now out.old }
+    ensures told { Below result }
 {
     let read = sheet_read::read_sheet(sheet)?;
     sheet_write::write_sheet(read.layout, out)

@@ -4,7 +4,7 @@
 #![tactic(auto)]
 
 ghost use Rattle.std.specs.Prelude.{◌≡◌};
-ghost use Rattle.c_words.specs.Answers.{reply_of};
+ghost use Rattle.c_words.specs.Answers.{reply_of, Below};
 ghost use Rattle.c_calls.specs.Calls.{given};
 ghost use Rattle.c_log.specs.LogCalls.{windows_given};
 
@@ -14,8 +14,9 @@ use octets::Refusal;
 // 15.
 #[tactic(auto, using(c_words::specs::AnswersLaws::replies), unfolding(crate::specs::LogCalls::windows_given))]
 pub fn windows(log: &[u8], stations: u32, windows: &[u32], out: &mut [u32]) -> Result<u32, Refusal>
-    ensures { given (reply_of result) out.new
+    ensures number { given (reply_of result) out.new
         ≡ windows_given log.now stations windows.now out.old }
+    ensures told { Below result }
 {
     log_octets::look_up_octets(log, stations, windows, out)?;
     Ok(0)

@@ -13,7 +13,7 @@ use Rattle.report_spec.specs.Printed.{printed}
 use Rattle.report_spec.specs.Pieces.{Hand, handing, no_progress, move_refusal, advanced_on, advanced, begun}
 use Rattle.report_theorem.specs.Whole.{move_size, first_room}
 use Rattle.report_whole.specs.Print.{Print, print, printed_into}
-use Rattle.c_words.specs.Answers.{value_of, code_of, reply_of}
+use Rattle.c_words.specs.Answers.{refusal_bit, value_of, code_of, reply_of}
 use Rattle.c_calls.specs.Calls.{left}
 use Rattle.c_text.specs.TextCalls.{plan_octets, most_told, progress_words, progress_in, progress_put, lent, hand_lent}
 use Rattle.c_text.specs.TextCalls.{advanced_lent, print_left}
@@ -46,8 +46,16 @@ module _ (l a o b x : List ℕ) (h : Handed) where
   begun_few e = let n : h.size ≡ value_of (begun l a o).answer = ap (λ (z : Hand). value_of z.answer) e
       in omega (arith, begun_small l a o)
 
+  pub begun_below : handing no_progress (Ok h) b x ≡ begun l a o → h.size < refusal_bit
+  begun_below e = let n : h.size ≡ value_of (begun l a o).answer = ap (λ (z : Hand). value_of z.answer) e
+      in omega (arith, begun_small l a o)
+
   pub advanced_few : (g : Progress) → handing g (Ok h) b x ≡ advanced l a o g → h.size < 4294967296
   advanced_few g e = let n : h.size ≡ value_of (advanced l a o g).answer = ap (λ (z : Hand). value_of z.answer) e
+      in omega (arith, advanced_small l a o g)
+
+  pub advanced_below : (g : Progress) → handing g (Ok h) b x ≡ advanced l a o g → h.size < refusal_bit
+  advanced_below g e = let n : h.size ≡ value_of (advanced l a o g).answer = ap (λ (z : Hand). value_of z.answer) e
       in omega (arith, advanced_small l a o g)
 
 -- ---- the front of a slice is lent
@@ -75,6 +83,12 @@ into_fits l a o =
 pub print_few : (l a b o x : List ℕ) (n m : ℕ) → print (size_answer (Ok m)) b x ≡ printed_into l a (take n o)
     → n ≡ min (length o) most_told → m < 4294967296
 print_few l a b o x n m e p =
+    let k : m ≡ value_of (printed_into l a (take n o)).answer = ap (λ (z : Print). value_of z.answer) e in
+    omega (arith, into_fits l a (take n o), length-take n o)
+
+pub print_below : (l a b o x : List ℕ) (n m : ℕ) → print (size_answer (Ok m)) b x ≡ printed_into l a (take n o)
+    → n ≡ min (length o) most_told → m < refusal_bit
+print_below l a b o x n m e p =
     let k : m ≡ value_of (printed_into l a (take n o)).answer = ap (λ (z : Print). value_of z.answer) e in
     omega (arith, into_fits l a (take n o), length-take n o)
 

@@ -6,7 +6,7 @@
 
 ghost use Rattle.std.specs.Prelude.{◌≡◌, ◌≤◌, length};
 ghost use Rattle.octets.specs.Words.{put_words};
-ghost use Rattle.c_words.specs.Answers.{reply_of};
+ghost use Rattle.c_words.specs.Answers.{reply_of, Below};
 ghost use Rattle.c_calls.specs.Calls.{left};
 ghost use Rattle.c_text.specs.TextCalls.{progress_words, progress_in, lent, begun_lent, advanced_lent, print_left};
 
@@ -57,8 +57,9 @@ pub fn begin(
     progress: &mut [u8],
     out: &mut [u8],
 ) -> Result<u32, Refusal>
-    ensures { lent (reply_of result) area.new progress.new out.new
+    ensures number { lent (reply_of result) area.new progress.new out.new
         ≡ begun_lent input.now area.old progress.old out.old }
+    ensures told { Below result }
 {
     if progress.len() < PROGRESS {
         if area.len() < area::AREA {
@@ -79,8 +80,9 @@ pub fn advance(
     progress: &mut [u8],
     out: &mut [u8],
 ) -> Result<u32, Refusal>
-    ensures { lent (reply_of result) area.new progress.new out.new
+    ensures number { lent (reply_of result) area.new progress.new out.new
         ≡ advanced_lent input.now area.old progress.old out.old }
+    ensures told { Below result }
 {
     if progress.len() < PROGRESS {
         area_check::check(area)?;
@@ -95,8 +97,9 @@ pub fn advance(
 
 // The whole text of an input: its octets. Refusals 1, 15.
 pub fn print(input: &[u8], area: &mut [u8], out: &mut [u8]) -> Result<u32, Refusal>
-    ensures { left (reply_of result) area.new out.new
+    ensures number { left (reply_of result) area.new out.new
         ≡ print_left input.now area.old out.old }
+    ensures told { Below result }
 {
     let end = out.len().min(MOST_TOLD);
     let size = report_whole::print(input, area, &mut out[..end])?;

@@ -7,7 +7,7 @@ ghost use Rattle.std.specs.Prelude.{◌≡◌, ◌<◌, ◌≤◌, length};
 ghost use Rattle.octets.specs.Base.{refusal_in};
 ghost use Rattle.sheet_layout.specs.Limits.{max_stations};
 ghost use Rattle.area.specs.Offsets.{area_size};
-ghost use Rattle.c_words.specs.Answers.{reply_of};
+ghost use Rattle.c_words.specs.Answers.{reply_of, Below};
 ghost use Rattle.c_calls.specs.Calls.{given};
 ghost use Rattle.c_views.specs.Views.{station_out, station_refusal, station_put, station_given, margin_given};
 
@@ -48,7 +48,8 @@ fn write_station(area: &[u8], i: usize, out: &mut [u8])
 // The state of a station: 0. Refusals 1, 2, 10, 15.
 #[tactic(auto, using(crate::specs::ViewLaws::looks), unfolding(crate::specs::Views::station_given))]
 pub fn station(area: &[u8], station: u32, out: &mut [u8]) -> Result<u32, Refusal>
-    ensures { given (reply_of result) out.new ≡ station_given area.now station out.old }
+    ensures number { given (reply_of result) out.new ≡ station_given area.now station out.old }
+    ensures told { Below result }
 {
     check_station(area, station)?;
     check_room(out, STATION_OUT)?;
@@ -60,7 +61,8 @@ pub fn station(area: &[u8], station: u32, out: &mut [u8]) -> Result<u32, Refusal
 // does not fit. Refusals 3 to 8.
 #[tactic(auto, using(c_words::specs::AnswersLaws::replies), unfolding(crate::specs::Views::margin_given))]
 pub fn margin(sheet: &[u8]) -> Result<u32, Refusal>
-    ensures { reply_of result ≡ margin_given sheet.now }
+    ensures number { reply_of result ≡ margin_given sheet.now }
+    ensures told { Below result }
 {
     let read = sheet_read::read_sheet(sheet)?;
     let outward = sheet_fit::margin(read.layout)?;

@@ -1,6 +1,6 @@
 -- The answers of the calls as numbers, and the words that are written into a lent output: of four octets, high octet
 -- first. The laws are in AnswersLaws. Assumes nothing.
-use Rattle.std.specs.Prelude.{ℕ, ◌+◌, ◌*◌, ◌-◌, List, [], ◌∷◌, eqb, get_or, Option, Result}
+use Rattle.std.specs.Prelude.{ℕ, ◌+◌, ◌*◌, ◌-◌, ◌<◌, List, [], ◌∷◌, eqb, get_or, Option, Result, IfOk}
 use Rattle.std.proofs.lemmas.List.Edits.{sets}
 use Rattle.octets.specs.Base.{pick, Answer, number_of, values_of, size_answer}
 use Rattle.octets.specs.declared.Refusal.{Refusal}
@@ -41,6 +41,10 @@ counters_out = 4 * counter_count
 abbrev pub refusal_bit : ℕ
 refusal_bit = 2147483648
 
+-- the highest number of a refusal
+abbrev pub max_refusal : ℕ
+max_refusal = 21
+
 -- refusal n, or where n is 0 the value
 abbrev pub replied : (n value : ℕ) → ℕ
 replied n v = pick (eqb n 0) v (refusal_bit + n)
@@ -56,6 +60,10 @@ code_of r = replied (number_of r) (value_of r)
 -- what it returns for the code's answer
 abbrev pub reply_of : Result ℕ Refusal → ℕ
 reply_of r = code_of (size_answer r)
+
+-- an answer's value does not reach that bit, so that its number is never a refusal's
+abbrev pub Below : Result ℕ Refusal → Type 0
+Below r = IfOk r (λ v. v < refusal_bit)
 
 -- ---- a layout
 

@@ -36,7 +36,8 @@ pub fn low_octets<const N: usize>(x: u64) -> [u8; N]
 
 // The status's number.
 pub fn status_code(s: ReceiveStatus) -> u32
-    ensures { result ≡ value_of (status_answer (Ok s)) }
+    ensures value { result ≡ value_of (status_answer (Ok s)) }
+    ensures few { result ≤ 5 }
 {
     match s {
         ReceiveStatus::Fragment => 0,

@@ -105,9 +105,13 @@ module _ (a : List ℕ) (m r : ℕ) where
             (calm_holds a (plan_of a) r calm));
       }
 
-  pub pass_singly : (b : List ℕ) → AllCalm a (plan_of a) r → r ≤ m → 2 ≤ r → b ≡ steps r a → Passed m (Some r) a b
+  pub pass_singly : (b : List ℕ) → AllCalm a (plan_of a) r → r ≤ m → 0 < r → b ≡ steps r a → Passed m (Some r) a b
   unfolding Passed
-  pass_singly b calm h pos eb = record { some = omega arith; within = h; calm = calm; made = eb }
+  pass_singly b calm h pos eb = record { some = pos; within = h; calm = calm; made = eb }
+
+  -- where there are as many as a window has at the least
+  pub pass_least : (b : List ℕ) → AllCalm a (plan_of a) r → r ≤ m → 2 ≤ r → b ≡ steps r a → Passed m (Some r) a b
+  pass_least b calm h two eb = pass_singly b calm h (omega arith) eb
 
 pub single_runs : (a : List ℕ) (f : Figures) (d n t m r : ℕ) → Begins a f d n t → t + m ≤ last_clock → r ≤ m
     → Runnable r a

@@ -10,7 +10,7 @@ use Rattle.log_entry.specs.declared.State.{State}
 use Rattle.octets.specs.Base.{some, outcome, done_answer}
 use Rattle.log_windows.specs.Grow.{entered_of, over, opened_of}
 use Rattle.octets.specs.BaseLaws.{some_none, some_more, some_hit, some_end, outside_is}
-use Rattle.log_lookup.proofs.Looked.{looked}
+use Rattle.log_lookup.proofs.Looked.{whole}
 use Rattle.log_octets.specs.Octets.{entry_at, unknown_at, entries_of, octets_looked_up}
 
 -- ---- the loop: where the entries from k to m are left
@@ -44,7 +44,7 @@ pub ruleset searches = (some_none, some_end, known_more, unknown_hit)
 
 pub ruleset entries = (left_next, left_none)
 
-pub ruleset answers = (looked, nat_tests)
+pub ruleset answers = (whole, nat_tests)
 
 -- ---- a lookup in octets is the lookup of their entries
 
@@ -55,4 +55,4 @@ unfolding octets_looked_up over
 octets_made n ws l out new o s b r e p f g h =
     rw (sym p, f)
     (e ∙ ap (λ (x : State). closed_of ws x out) (h ∙ ap (λ (x : State). over ws x (entries_of l)) g)
-    ∙ looked n ws (entries_of l) out)
+    ∙ whole n ws (entries_of l) out)

@@ -2,7 +2,7 @@
 -- Its laws: the length stays; a part stored is read back; a part apart from it is as it was; two stores in a row are
 -- one. Assumes nothing.
 use Rattle.std.specs.Prelude.{ℕ, zero, suc, ◌+◌, ◌≤◌, ◌<◌, ◌≡◌, refl, List, [], ◌∷◌, ◌++◌, length, get_or, set, take, drop}
-use Rattle.std.proofs.Common.{◌∙◌, ap, sym, add-zero, arith, length-set, length-drop, get_or-set_same, get_or-set_other, get_or-take, get_or-drop, ext_get_or, length-take-le}
+use Rattle.std.proofs.Common.{◌∙◌, ap, sym, add-zero, add-one, arith, length-set, length-drop, take-suc, take_all, get_or-set_same, get_or-set_other, get_or-take, get_or-drop, ext_get_or, length-take-le}
 use Rattle.std.proofs.lemmas.List.Edits.{sets}
 use Rattle.std.proofs.Math.Seq.{length-sets}
 
@@ -75,3 +75,14 @@ take_sets vs l n p h = rw p (part_same vs l 0 (omega arith))
 pub sets_append : (xs ys l : List ℕ) (at e : ℕ) → e ≡ at + length xs → sets (sets l at xs) e ys ≡ sets l at (xs ++ ys)
 sets_append [] ys l at e p = let q : e ≡ at = omega arith in rw q
 sets_append (x ∷ xs) ys l at e p = sets_append xs ys (set l at x) (suc at) e (omega arith)
+
+-- ---- the loop of `store`: after i turns the first i octets of src are stored
+
+pub stored_more : (s l src : List ℕ) (at i : ℕ) → i < length src → s ≡ sets l at (take i src)
+    → set s (at + i) (get_or src i 0) ≡ sets l at (take (i + 1) src)
+stored_more s l src at i h e =
+    rw (e, add-one i, take-suc src i 0 h)
+    (sets_append (take i src) (get_or src i 0 ∷ []) l at (at + i) (omega (arith, length-take-le i src (omega arith))))
+
+pub stored_all_lem : (s l src : List ℕ) (at i : ℕ) → length src ≤ i → s ≡ sets l at (take i src) → s ≡ sets l at src
+stored_all_lem s l src at i h e = rw (take_all i src h) at e

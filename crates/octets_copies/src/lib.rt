@@ -16,12 +16,15 @@ pub fn blank(s: &mut [u8], n: usize)
     s[..n].fill(0);
 }
 
-// Stores all of `src` into `s` from index `at` on.
+// Stores all of `src` into `s` from index `at` on. Octet by octet, which becomes one `memcpy`: `copy_from_slice` becomes
+// a `memmove`, which the archive for C would need besides.
 pub fn store(s: &mut [u8], at: usize, src: &[u8])
     requires { at + length src.now ≤ length s.old }
     ensures { s.new ≡ sets s.old at src.now }
 {
-    s[at..at + src.len()].copy_from_slice(src);
+    for i in 0..src.len() {
+        s[at + i] = src[i];
+    }
 }
 
 // The N octets from `at` on.

@@ -1,13 +1,14 @@
 -- Laws of the reader of run inputs: the walk over the offers, what an input that passes is known to have, and the parts
 -- of what is read. Assumes nothing.
-use Rattle.std.specs.Prelude.{ℕ, zero, suc, ◌+◌, ◌-◌, ◌≤◌, ◌<◌, ◌≡◌, Bool, List, ltb, eqb, Ok}
+use Rattle.std.specs.Prelude.{ℕ, zero, suc, ◌+◌, ◌-◌, ◌≤◌, ◌<◌, ◌≡◌, Bool, List, ltb, eqb, Ok, Err}
 use Rattle.std.proofs.Math.Path.{refl, sym, ap}
 use Rattle.std.proofs.Common.{◌∙◌, ap₂, add-one, arith}
 use Rattle.std.proofs.Math.Bool.{true, false, not, or-true}
 use borrow.Author.Tests.{lt-ltb, le-ltb, eq-eqb, ne_eqb, ltb-false, eqb-true}
 use Rattle.std.proofs.Math.ListN.{length}
-use Rattle.octets.specs.Base.{pick, some, number_of}
-use Rattle.octets.specs.BaseLaws.{by_eq, neither, some_more, some_hit}
+use Rattle.octets.specs.Base.{pick, some, number_of, refusal_number}
+use Rattle.octets.specs.BaseLaws.{by_eq, neither, some_more, some_hit, refusal_numbered}
+use Rattle.octets.specs.declared.Refusal.{Refusal}
 use Rattle.octets.specs.Number.{get}
 use Rattle.sheet_layout.specs.declared.Layout.{Layout}
 use Rattle.sheet_read.specs.declared.Sheet.{Sheet}
@@ -161,7 +162,10 @@ sheet_number : (l : List ℕ) (n : ℕ) → sheet_refusal l ≡ n → (n ≡ 0 �
 unfolding plan_refusal
 sheet_number l n p h = rw (p, ne_eqb n 0 h)
 
-pub plan_refused : (l : List ℕ) (n : ℕ) → unread n ≡ read_sheet l → (n ≡ 0 → ⊥) → unplanned n ≡ plan_as_read l
+pub plan_refused : (l : List ℕ) (e : Refusal) → sheet_reading (Err e) ≡ read_sheet l
+    → unplanned (refusal_number e) ≡ plan_as_read l
 unfolding plan_as_read
-plan_refused l n p h =
+plan_refused l e p =
+    let n = refusal_number e in
+    let h = refusal_numbered e in
     rw (sheet_number l n (ap (λ (r : Reading). number_of r.answer) (sym p)) h, ne_eqb n 0 h)

@@ -1,5 +1,3 @@
-pub mod Taps
 pub mod Any
-pub mod TapsLaws
 pub mod Plain
 pub mod PlainLaws

@@ -7,6 +7,7 @@ ghost use Rattle.frame_open.specs.Open.{status_answer};
 ghost use Rattle.station_state.specs.declared.Receiver.TheVariants.{Listening};
 ghost use Rattle.station_spec.specs.Receive.{row_in, bits_in, hear, addressed, open_answer, opening, deciding, decide};
 ghost use Rattle.station_spec.specs.Receive.{ended, receive, row_limit};
+ghost use Rattle.station_spec.specs.ReceiveLaws.{got_error};
 ghost use Rattle.frame_build.specs.Limits.{buffer_octets};
 
 use frame_open::ReceiveStatus;
@@ -55,24 +56,35 @@ fn open_buffer(buffer: &[u8], n: u32, spoiled: bool) -> Result<ReceiveStatus, Re
     frame_open::reception_status(&buffer[0..octets], n % 8, spoiled)
 }
 
-// The opening rules on n collected bits: it leaves on a fragment or an error, with the octets collected.
-#[tactic(auto, unfolding(station_spec::specs::Receive::opening, station_spec::specs::Receive::readable_after, station_spec::specs::Receive::got_event))]
+// The event of a status that is no receiveOK, with the octets collected.
+fn got_error(status: ReceiveStatus, octets: u32) -> Option<ReceiveEvent>
+    ensures { result ≡ got_error status octets }
+{
+    match status {
+        ReceiveStatus::Fragment => None,
+        ReceiveStatus::FrameTooLong => Some(ReceiveEvent::GotTooLong(octets)),
+        ReceiveStatus::FrameCheckError => Some(ReceiveEvent::GotCheck(octets)),
+        ReceiveStatus::AlignmentError => Some(ReceiveEvent::GotAlignment(octets)),
+        ReceiveStatus::LengthError => Some(ReceiveEvent::GotLength(octets)),
+        ReceiveStatus::ReceiveOk(_) => None,
+    }
+}
+
+// The opening rules on n collected bits: it leaves on a fragment or an error.
 fn open_reception(buffer: &[u8], n: u32, spoiled: bool) -> Received
     requires { buffer_octets ≤ length buffer.now }
     ensures { result ≡ opening buffer.now n spoiled }
 {
-    let octets = n / 8;
-    match open_buffer(buffer, n, spoiled) {
-        Ok(ReceiveStatus::ReceiveOk(size)) => deciding(
-            Receiver::Readable(octets),
-            Some(ReceiveEvent::GotOk(size as u32)),
-        ),
-        Ok(ReceiveStatus::FrameTooLong) => left(Some(ReceiveEvent::GotTooLong(octets))),
-        Ok(ReceiveStatus::FrameCheckError) => left(Some(ReceiveEvent::GotCheck(octets))),
-        Ok(ReceiveStatus::AlignmentError) => left(Some(ReceiveEvent::GotAlignment(octets))),
-        Ok(ReceiveStatus::LengthError) => left(Some(ReceiveEvent::GotLength(octets))),
-        Ok(ReceiveStatus::Fragment) | Err(_) => left(None),
-    }
+    let Ok(status) = open_buffer(buffer, n, spoiled) else {
+        return left(None);
+    };
+    let ReceiveStatus::ReceiveOk(size) = status else {
+        return left(got_error(status, n / 8));
+    };
+    deciding(
+        Receiver::Readable(n / 8),
+        Some(ReceiveEvent::GotOk(size as u32)),
+    )
 }
 
 // The step after a reception of n collected bits.

@@ -5,4 +5,5 @@ pub mod ReceiveLaws
 pub mod Step
 pub mod StepLaws
 pub mod Count
+pub mod CountLaws
 pub mod TransmitLaws

@@ -11,9 +11,7 @@ use Rattle.station_spec.specs.declared.Stepped.{Stepped}
 use Rattle.station_symbols.specs.Packet.{hears_any, is_emission}
 use Rattle.station_spec.specs.Defer.{defer}
 use Rattle.station_spec.specs.Transmit.{waits, octets_held, transmit}
-use Rattle.station_state.specs.declared.Transmitter.{Transmitter}
-use Rattle.station_state.specs.declared.Transmitter.TheVariants.{NoFrame, Waiting, BackingOff, Sending, Heading}
-use Rattle.station_state.specs.declared.Transmitter.TheVariants.{Jamming}
+use Rattle.station_spec.specs.TransmitLaws.{held_transmits}
 use Rattle.station_spec.specs.Receive.{receive}
 use Rattle.station_spec.specs.Step.{tries_after, draw_after, deferred_after, deferring, sending, receiving}
 use Rattle.station_spec.specs.Step.{next_station, stepped}
@@ -47,17 +45,6 @@ finished s draws d o q tries emits =
       got = q.event;
       stored = q.stored;
     }
-
--- a step looks at the octets of a frame only where one is held
-held_transmits : (f : Figures) (t : Transmitter) (z n draw : ℕ) (start hears : Bool)
-    → transmit f t (octets_held t z) n draw start hears ≡ transmit f t z n draw start hears
-unfolding transmit
-held_transmits f NoFrame z n draw start hears = refl
-held_transmits f Waiting z n draw start hears = refl
-held_transmits f (BackingOff w) z n draw start hears = refl
-held_transmits f (Sending k) z n draw start hears = refl
-held_transmits f (Heading k) z n draw start hears = refl
-held_transmits f (Jamming left ends) z n draw start hears = refl
 
 -- the three parts one after the other are the step
 parts : (f : Figures) (s : Station) (draws draw : ℕ) (buffer : List ℕ) (h : Heard)

@@ -1,7 +1,12 @@
 -- `octets_copies::store` meets its contract. Assumes nothing.
 use native.Mathlib.Omega.{arith}
-use Rattle.octets.specs.Lent.{put_all}
+use borrow.Author.Rules.{rules}
+use lib.ListN.{length-set}
+use Rattle.octets.specs.Store.{stored_more, stored_all_lem}
 use Rattle.octets_copies.proofs.store.Goals as goal
 
+pub loop-i-preserved : goal.loop-i-preserved
+loop-i-preserved c = (simp length-set (search rules), search stored_more)
+
 pub returns : goal.returns
-returns c = rw c.copy_from_slice.ensures.after (put_all _ _ _ _ (omega arith) c.requires)
+returns c = search stored_all_lem

@@ -1,16 +1,15 @@
 -- `sheet_check::positions_out` meets its contract. Assumes nothing.
 use borrow.Author.Tests.{tests}
-use Rattle.std.proofs.Common.{rules, refl, [], ltb, ◌≡◌, true, false}
-use Rattle.std.proofs.lemmas.Iterator.{cases_from_any, YieldsList-from_slice}
-use Rattle.sheet_layout.specs.declared.Tap.{Tap}
-use Rattle.sheet_layout.specs.Limits.{max_position}
-use Rattle.sheet_check.specs.Any.{some_any}
+use Rattle.std.proofs.Common.{rules, refl, ◌≡◌, true, false, ℕ, arith}
+use Rattle.std.proofs.lemmas.Iterator.{cases_from_any, YieldsList-from_range}
+use Rattle.sheet_check.specs.Any.{some_below}
+use Rattle.sheet_check.specs.Plain.{high_at}
 use Rattle.sheet_check.proofs.positions_out.Goals as goal
 
 pub returns : goal.returns
 returns c =
-    some_any (λ (t : Tap). ltb max_position t.position) c.args.taps.now _ (record { position = 0; address = [] }) _
-    (λ i h. refl)
-    (cases_from_any _ _ _ (λ (t : Tap). ltb max_position t.position ≡ true)
-    (λ (t : Tap). ltb max_position t.position ≡ false) c.any.ensures.ran (YieldsList-from_slice c.args.taps.now cc)
-    (λ x q k. search (rules, tests)) (λ x q k. search (rules, tests)))
+    some_below (high_at c.args.positions.now) c.args.n _
+    (cases_from_any _ _ _ (λ (i : ℕ). high_at c.args.positions.now i ≡ true)
+    (λ (i : ℕ). high_at c.args.positions.now i ≡ false) c.any.ensures.ran
+    (YieldsList-from_range 0 c.args.n c.args.n refl (omega arith)) (λ x q k. search (rules, tests))
+    (λ x q k. search (rules, tests)))

@@ -1,6 +1,6 @@
 use native.Mathlib.Omega.{arith}
 use Rattle.fast_window.specs.MovedLaws.{begins_gap}
-use Rattle.fast_window.specs.WindowLaws.{seen_few, seen_read, seen_begins, seen_sighted, lasting, pass_none, single_runs, pass_singly, pass_some}
+use Rattle.fast_window.specs.WindowLaws.{seen_few, seen_read, seen_begins, seen_sighted, lasting, pass_none, single_runs, pass_least, pass_some}
 use borrow.Author.Rules.{rules}
 use Rattle.fast_window.proofs.Start.pass.Goals as goal
 
@@ -20,7 +20,7 @@ pub make_singly-requires : goal.make_singly-requires
 make_singly-requires c = (omega arith, search single_runs)
 
 pub returns-then-r-lt-SHORT : goal.returns-then-r-lt-SHORT
-returns-then-r-lt-SHORT c = search pass_singly
+returns-then-r-lt-SHORT c = search pass_least
 
 pub make-requires : goal.make-requires
 make-requires c = (search seen_few, omega arith, omega arith, search seen_begins, search seen_sighted, search lasting)
