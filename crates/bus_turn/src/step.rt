@@ -1,14 +1,25 @@
 // One bit time of the whole pair, in place: station after station takes its turn.
 
-ghost use Rattle.std.specs.Prelude.{◌≡◌, ◌+◌, ◌<◌, ◌≤◌, length};
+ghost use Rattle.std.specs.Prelude.{◌≡◌, ◌+◌, ◌<◌, ◌≤◌, length, get_or, set};
 ghost use Rattle.area.specs.Area.{clock_at};
-ghost use Rattle.bus_spec.specs.BitTime.{turned_in, events_in, advanced_in, step_area, events_at};
+ghost use Rattle.bus_spec.specs.BitTime.{turned_in, events_in, advanced_in, step_area, events_at, no_events};
 ghost use Rattle.bus_spec.specs.Ready.{AllAble, Ready};
 ghost use Rattle.sheet_layout.specs.Limits.{last_clock, max_stations};
 ghost use Rattle.area.specs.Offsets.{area_size};
 
 use bus_spec::Events;
 use sheet_layout::Figures;
+
+// The events of a station at place i, where none stand yet. Only those that are there are copied: few steps have one.
+#[tactic(auto, using(crate::specs::EventLaws::none_kept), unfolding(bus_spec::specs::Until::has_event))]
+fn keep_events(all: &mut [Events], i: usize, e: Events)
+    requires { (i < length all.old) × (get_or all.old i no_events ≡ no_events) }
+    ensures { all.new ≡ set all.old i e }
+{
+    if e.sent.is_some() | e.got.is_some() {
+        all[i] = e;
+    }
+}
 
 // The turns of n stations, and the events of each.
 fn turn_all(area: &mut [u8], n: usize, depth: u32, t: usize, f: Figures) -> [Events; 16]
@@ -18,7 +29,8 @@ fn turn_all(area: &mut [u8], n: usize, depth: u32, t: usize, f: Figures) -> [Eve
 {
     let mut all = [bus_spec::NO_EVENTS; 16];
     for i in 0..n {
-        all[i] = crate::turn(area, n, depth, t, f, i);
+        let e = crate::turn(area, n, depth, t, f, i);
+        keep_events(&mut all, i, e);
     }
     all
 }
