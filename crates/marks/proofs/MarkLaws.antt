@@ -1,7 +1,7 @@
 -- A law for each way through the code of the marks. Assumes nothing.
 use Prim.Native.Nat.{ℕ, suc, ◌+◌, ◌-◌, ◌≤◌, ◌<◌}
 use Rattle.std.specs.Prelude.{◌≡◌, refl, Bool, true, false, List, eqb, length, drop, Option, Some, None, IfSome, MatchOption, Result, Ok, Err, ⊤}
-use Rattle.std.specs.Result.{is_err}
+use Rattle.std.specs.Result.{is_err, result_eq}
 use Rattle.std.proofs.Common.{sym, ◌∙◌, subst}
 use Rattle.std.proofs.Math.Path.{ap}
 use Rattle.std.proofs.Math.Bool.{not}
@@ -14,6 +14,8 @@ use Rattle.std.proofs.lemmas.List.Edits.{sets}
 use Rattle.octets.specs.Base.{refusal_number, refusal_in}
 use Rattle.octets.specs.BaseLaws.{by_test, refusal_numbered}
 use Rattle.octets.specs.declared.Refusal.{Refusal}
+use Rattle.octets.specs.declared.Refusal.TheVariants.{AreaWrong}
+use Rattle.octets.specs.contracts.RefusalPartialEq.TheImpl.{eq-value}
 use Rattle.octets.specs.Store.{length_part}
 use Rattle.area.specs.Offsets.{area_size}
 use Rattle.area_check.specs.Valid.{area_wrong, area_refusal}
@@ -112,6 +114,29 @@ refusal_so : (a : List ℕ) → area_size ≤ length a → not (eqb (area_refusa
 unfolding area_refusal
 refusal_so a h = rw (le-ltb (length a) area_size h) (by_test (area_wrong a) (λ p. rw p) (λ p. rw p))
 
+-- whether a refusal is the second, by the test that is derived for refusals
+second_is : (e : Refusal) → eq-value.it e AreaWrong ≡ eqb (refusal_number e) 2
+second_is AreaWrong = refl
+second_is e = refl
+
+second_in : (f : ⊤ → ⊤ → Bool) (r : Result ⊤ Refusal) → result_eq f eq-value.it r (Err AreaWrong) ≡ eqb (refusal_in r) 2
+second_in f (Ok x) = refl
+second_in f (Err e) = second_is e
+
+-- a check of an area that is long enough refuses by the second or not at all
+second_only : (a : List ℕ) → area_size ≤ length a → eqb (area_refusal a) 2 ≡ not (eqb (area_refusal a) 0)
+unfolding area_refusal
+second_only a h = rw (le-ltb (length a) area_size h) (by_test (area_wrong a) (λ p. rw p) (λ p. rw p))
+
+second_so : (a : List ℕ) (f : ⊤ → ⊤ → Bool) (r : Result ⊤ Refusal) → refusal_in r ≡ area_refusal a → area_size ≤ length a
+    → result_eq f eq-value.it r (Err AreaWrong) ≡ is_err r
+second_so a f r p h =
+    second_in f r
+    ∙ ap (λ (i : ℕ). eqb i 2) p
+    ∙ second_only a h
+    ∙ ap (λ (i : ℕ). not (eqb i 0)) (sym p)
+    ∙ sym (err_is r)
+
 module _ (s : List ℕ) (k : ℕ) where
   copy_part : take ((copy_from k + area_size) - copy_from k) (drop (copy_from k) s) ≡ copy_at s k
   unfolding copy_at
@@ -130,6 +155,14 @@ module _ (s : List ℕ) (k : ℕ) where
       e ∙ err_is r
       ∙ ap (λ (i : ℕ). not (eqb i 0)) (p ∙ ap area_refusal copy_part)
       ∙ refusal_so (copy_at s k) (omega (arith, length_copy h l))
+
+  pub second_wrong : (f : ⊤ → ⊤ → Bool) (r : Result ⊤ Refusal) (b : Bool)
+      → b ≡ result_eq f eq-value.it r (Err AreaWrong)
+      → refusal_in r ≡ area_refusal (take ((copy_from k + area_size) - copy_from k) (drop (copy_from k) s))
+      → k < mark_count → store_size ≤ length s → b ≡ area_wrong (copy_at s k)
+  second_wrong f r b e p h l =
+      let q : refusal_in r ≡ area_refusal (copy_at s k) = p ∙ ap area_refusal copy_part in
+      e ∙ second_so (copy_at s k) f r q (omega (arith, length_copy h l)) ∙ wrong_is r (is_err r) refl p h l
 
   pub back_is : (a x : List ℕ) → x ≡ sets a 0 (take ((copy_from k + area_size) - copy_from k) (drop (copy_from k) s))
       → x ≡ sets a 0 (copy_at s k)

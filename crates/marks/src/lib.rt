@@ -117,7 +117,7 @@ fn is_wrong(store: &[u8], k: usize) -> bool
     ensures { result ≡ area_wrong (copy_at store.now k) }
 {
     let at = MARK * k + COPY_AT;
-    area_check::check(&store[at..at + area::AREA]).is_err()
+    area_check::check(&store[at..at + area::AREA]) == Err(Refusal::AreaWrong)
 }
 
 // Marks a work area under a name. Refusals 1, 2, 15, 18.

@@ -2,7 +2,7 @@
 -- Its laws: the length stays; a part stored is read back; a part apart from it is as it was; two stores in a row are
 -- one. Assumes nothing.
 use Rattle.std.specs.Prelude.{ℕ, zero, suc, ◌+◌, ◌≤◌, ◌<◌, ◌≡◌, refl, List, [], ◌∷◌, ◌++◌, length, get_or, set, take, drop}
-use Rattle.std.proofs.Common.{◌∙◌, ap, sym, add-zero, add-one, arith, length-set, length-drop, take-suc, take_all, get_or-set_same, get_or-set_other, get_or-take, get_or-drop, ext_get_or, length-take-le}
+use Rattle.std.proofs.Common.{◌∙◌, ap, sym, add-zero, add-one, arith, length-set, length-drop, drop-cons, take-suc, take_all, get_or-set_same, get_or-set_other, get_or-take, get_or-drop, ext_get_or, length-take-le}
 use Rattle.std.proofs.lemmas.List.Edits.{sets}
 use Rattle.std.proofs.Math.Seq.{length-sets}
 
@@ -68,6 +68,14 @@ part_same vs l at h =
 -- what was stored at the front is the front
 pub take_sets : (vs l : List ℕ) (n : ℕ) → n ≡ length vs → length vs ≤ length l → take n (sets l 0 vs) ≡ vs
 take_sets vs l n p h = rw p (part_same vs l 0 (omega arith))
+
+-- two octets, read one by one
+pub two_octets : (l : List ℕ) (at : ℕ) → at + 2 ≤ length l → get_or l at 0 ∷ get_or l (at + 1) 0 ∷ [] ≡ part l at 2
+two_octets l at h =
+    let e : at + 1 ≡ suc at = omega arith in
+    let h₀ : at < length l = omega arith in
+    let h₁ : suc at < length l = omega arith in
+    rw (e, drop-cons l at 0 h₀, drop-cons l (suc at) 0 h₁)
 
 -- ---- stores in a row
 

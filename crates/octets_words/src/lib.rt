@@ -8,13 +8,13 @@ ghost use Rattle.octets.specs.Number.{get, put};
 ghost use Rattle.octets.specs.Words.{put_words, words_at};
 
 // The number of two octets at `at`, high octet first.
-#[tactic(auto, using(octets::specs::NumberLaws::get_two))]
+#[tactic(auto, using(octets::specs::NumberLaws::get_two, octets::specs::Store::two_octets))]
 pub fn get16(s: &[u8], at: usize) -> u32
     requires { at + 2 ≤ length s.now }
     ensures value { result ≡ get 2 s.now at }
     ensures small { result < 65536 }
 {
-    u32::from(u16::from_be_bytes(octets_copies::array_at(s, at)))
+    u32::from(u16::from_be_bytes([s[at], s[at + 1]]))
 }
 
 // The number of four octets at `at`, high octet first.
