@@ -1,18 +1,18 @@
 -- Laws of the reader of run inputs: the walk over the offers, what an input that passes is known to have, and the parts
 -- of what is read. Assumes nothing.
-use Rattle.std.specs.Prelude.{ℕ, zero, suc, ◌+◌, ◌-◌, ◌≤◌, ◌<◌, ◌≡◌, Bool, List, ltb, eqb, Ok, Err}
+use Rattle.std.specs.Prelude.{ℕ, zero, suc, ◌+◌, ◌-◌, ◌≤◌, ◌<◌, ◌≡◌, Bool, List, [], ◌∷◌, ltb, eqb, Ok}
 use Rattle.std.proofs.Math.Path.{refl, sym, ap}
 use Rattle.std.proofs.Common.{◌∙◌, ap₂, add-one, arith}
 use Rattle.std.proofs.Math.Bool.{true, false, not, or-true}
-use borrow.Author.Tests.{lt-ltb, le-ltb, eq-eqb, ne_eqb, ltb-false, eqb-true}
+use borrow.Author.Tests.{lt-ltb, le-ltb, eq-eqb, ne_eqb, ltb-false, eqb-true, eqb-false}
 use Rattle.std.proofs.Math.ListN.{length}
-use Rattle.octets.specs.Base.{pick, some, number_of, refusal_number}
-use Rattle.octets.specs.BaseLaws.{by_eq, neither, some_more, some_hit, refusal_numbered}
-use Rattle.octets.specs.declared.Refusal.{Refusal}
+use Rattle.octets.specs.Base.{pick, some, Answer, refused, accepted, number_of, values_of}
+use Rattle.octets.specs.BaseLaws.{by_eq, neither, some_more, some_hit}
 use Rattle.octets.specs.Number.{get}
 use Rattle.sheet_layout.specs.declared.Layout.{Layout}
+use Rattle.sheet_layout.specs.Check.{refusal_of}
 use Rattle.sheet_read.specs.declared.Sheet.{Sheet}
-use Rattle.sheet_read.specs.Sheet.{layout_in, Reading, unread, read_sheet}
+use Rattle.sheet_read.specs.Sheet.{map_of, stands, layout_in, sheet_size, Reading, unread, read_sheet}
 use Rattle.sheet_read.specs.Sheet.{sheet_reading}
 use Rattle.sheet_read.specs.SheetTheorems.{Read, read_sound}
 use Rattle.plan_read.specs.Plan.{offers_in, offer_place, times_place, times_in}
@@ -162,10 +162,26 @@ sheet_number : (l : List ℕ) (n : ℕ) → sheet_refusal l ≡ n → (n ≡ 0 �
 unfolding plan_refusal
 sheet_number l n p h = rw (p, ne_eqb n 0 h)
 
-pub plan_refused : (l : List ℕ) (e : Refusal) → sheet_reading (Err e) ≡ read_sheet l
-    → unplanned (refusal_number e) ≡ plan_as_read l
+-- a refusal of the sheet has a number
+refused_number : (l : List ℕ) (n : ℕ) → (read_sheet l).answer ≡ refused n → n ≡ 0 → ⊥
+unfolding read_sheet
+refused_number l n =
+    go (ltb (length l) (sheet_size l)) (stands (map_of l) 7) (eqb (refusal_of (layout_in l)) 0) refl
+  where
+    go : (s t u : Bool) → eqb (refusal_of (layout_in l)) 0 ≡ u
+        → (pick s (unread 3) (pick t (unread 4) (pick u (record {
+          answer = accepted (sheet_size l ∷ []);
+          layout = layout_in l;
+        }) (unread (refusal_of (layout_in l)))))).answer ≡ refused n
+        → n ≡ 0 → ⊥
+    go true t u q h z = let e : 3 ≡ n = ap number_of h in omega arith
+    go false true u q h z = let e : 4 ≡ n = ap number_of h in omega arith
+    go false false true q h z =
+        let e : length (sheet_size l ∷ []) ≡ 0 = ap (λ (a : Answer). length (values_of a)) h in omega arith
+    go false false false q h z = eqb-false (refusal_of (layout_in l)) 0 q (ap number_of h ∙ z)
+
+pub plan_refused : (l : List ℕ) (n : ℕ) → unread n ≡ read_sheet l → unplanned n ≡ plan_as_read l
 unfolding plan_as_read
-plan_refused l e p =
-    let n = refusal_number e in
-    let h = refusal_numbered e in
+plan_refused l n p =
+    let h : n ≡ 0 → ⊥ = refused_number l n (ap (λ (r : Reading). r.answer) (sym p)) in
     rw (sheet_number l n (ap (λ (r : Reading). number_of r.answer) (sym p)) h, ne_eqb n 0 h)
