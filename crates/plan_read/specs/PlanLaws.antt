@@ -6,8 +6,8 @@ use Rattle.std.proofs.Common.{◌∙◌, ap₂, add-one, arith}
 use Rattle.std.proofs.Math.Bool.{true, false, not, or-true}
 use borrow.Author.Tests.{lt-ltb, le-ltb, eq-eqb, ne_eqb, ltb-false, eqb-true, eqb-false}
 use Rattle.std.proofs.Math.ListN.{length}
-use Rattle.octets.specs.Base.{pick, some, Answer, refused, accepted, number_of, values_of}
-use Rattle.octets.specs.BaseLaws.{by_eq, neither, some_more, some_hit}
+use Rattle.octets.specs.Base.{pick, some, refused, accepted, number_of}
+use Rattle.octets.specs.BaseLaws.{by_eq, neither, some_more, some_hit, refused_none}
 use Rattle.octets.specs.Number.{get}
 use Rattle.sheet_layout.specs.declared.Layout.{Layout}
 use Rattle.sheet_layout.specs.Check.{refusal_of}
@@ -162,23 +162,30 @@ sheet_number : (l : List ℕ) (n : ℕ) → sheet_refusal l ≡ n → (n ≡ 0 �
 unfolding plan_refusal
 sheet_number l n p h = rw (p, ne_eqb n 0 h)
 
--- a refusal of the sheet has a number
-refused_number : (l : List ℕ) (n : ℕ) → (read_sheet l).answer ≡ refused n → n ≡ 0 → ⊥
+-- where the sheet has no refusal, the answer is the octets used
+pub sheet_accepts : (l : List ℕ) → sheet_refusal l ≡ 0 → (read_sheet l).answer ≡ accepted (sheet_size l ∷ [])
 unfolding read_sheet
-refused_number l n =
-    go (ltb (length l) (sheet_size l)) (stands (map_of l) 7) (eqb (refusal_of (layout_in l)) 0) refl
+sheet_accepts l =
+    go (ltb (length l) (sheet_size l)) (stands (map_of l) 7)
+    (eqb (refusal_of (layout_in l)) 0) 0 refl refl
   where
-    go : (s t u : Bool) → eqb (refusal_of (layout_in l)) 0 ≡ u
+    go : (s t u : Bool) (x : ℕ) → x ≡ 0 → eqb (refusal_of (layout_in l)) 0 ≡ u
+        → number_of (pick s (unread 3) (pick t (unread 4) (pick u (record {
+          answer = accepted (sheet_size l ∷ []);
+          layout = layout_in l;
+        }) (unread (refusal_of (layout_in l)))))).answer ≡ x
         → (pick s (unread 3) (pick t (unread 4) (pick u (record {
           answer = accepted (sheet_size l ∷ []);
           layout = layout_in l;
-        }) (unread (refusal_of (layout_in l)))))).answer ≡ refused n
-        → n ≡ 0 → ⊥
-    go true t u q h z = let e : 3 ≡ n = ap number_of h in omega arith
-    go false true u q h z = let e : 4 ≡ n = ap number_of h in omega arith
-    go false false true q h z =
-        let e : length (sheet_size l ∷ []) ≡ 0 = ap (λ (a : Answer). length (values_of a)) h in omega arith
-    go false false false q h z = eqb-false (refusal_of (layout_in l)) 0 q (ap number_of h ∙ z)
+        }) (unread (refusal_of (layout_in l)))))).answer ≡ accepted (sheet_size l ∷ [])
+    go true t u x z q h = absurd (omega arith)
+    go false true u x z q h = absurd (omega arith)
+    go false false true x z q h = refl
+    go false false false x z q h = absurd (eqb-false (refusal_of (layout_in l)) 0 q (h ∙ z))
+
+-- a refusal of the sheet has a number
+refused_number : (l : List ℕ) (n : ℕ) → (read_sheet l).answer ≡ refused n → n ≡ 0 → ⊥
+refused_number l n p z = refused_none n (sheet_size l ∷ []) (sym p ∙ sheet_accepts l (ap number_of p ∙ z))
 
 pub plan_refused : (l : List ℕ) (n : ℕ) → unread n ≡ read_sheet l → unplanned n ≡ plan_as_read l
 unfolding plan_as_read

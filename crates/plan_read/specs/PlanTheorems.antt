@@ -16,7 +16,7 @@ use Rattle.plan_read.specs.Plan.{draws_wrong, time_before, time_falls, offers_wr
 use Rattle.plan_read.specs.Plan.{after_sheet, sheet_refusal, plan_refusal, Planned, unplanned, whole_from, unless}
 use Rattle.plan_read.specs.Plan.{plan_as_read, plan_reading}
 use Rattle.plan_read.specs.declared.Plan.{Plan}
-use Rattle.plan_read.specs.PlanLaws.{past, offer_next}
+use Rattle.plan_read.specs.PlanLaws.{past, offer_next, sheet_accepts}
 use Rattle.sheet_layout.specs.Limits.{last_clock, max_draws}
 
 pub record Right (l : List ℕ) (r : Planned) : Type 0 where
@@ -43,26 +43,6 @@ accepts n r = go (eqb n 0) refl
     go : (b : Bool) → eqb n 0 ≡ b → number_of (pick b r (unplanned n)).answer ≡ 0 → n ≡ 0
     go true e p = eqb-true n 0 e
     go false e p = p
-
-sheet_accepts : (l : List ℕ) → sheet_refusal l ≡ 0 → (read_sheet l).answer ≡ accepted (sheet_size l ∷ [])
-unfolding read_sheet
-sheet_accepts l =
-    go (ltb (length l) (sheet_size l)) (stands (map_of l) 7)
-    (eqb (refusal_of (layout_in l)) 0) 0 refl refl
-  where
-    go : (s t u : Bool) (x : ℕ) → x ≡ 0 → eqb (refusal_of (layout_in l)) 0 ≡ u
-        → number_of (pick s (unread 3) (pick t (unread 4) (pick u (record {
-          answer = accepted (sheet_size l ∷ []);
-          layout = layout_in l;
-        }) (unread (refusal_of (layout_in l)))))).answer ≡ x
-        → (pick s (unread 3) (pick t (unread 4) (pick u (record {
-          answer = accepted (sheet_size l ∷ []);
-          layout = layout_in l;
-        }) (unread (refusal_of (layout_in l)))))).answer ≡ accepted (sheet_size l ∷ [])
-    go true t u x z q h = absurd (omega arith)
-    go false true u x z q h = absurd (omega arith)
-    go false false true x z q h = refl
-    go false false false x z q h = absurd (eqb-false (refusal_of (layout_in l)) 0 q (h ∙ z))
 
 both_right : (l : List ℕ) → plan_refusal l ≡ 0 → (sheet_refusal l ≡ 0) × (after_sheet l (sheet_size l) (count_in l) ≡ 0)
 unfolding plan_refusal
